@@ -1,0 +1,3 @@
+pub mod Spelling
+pub mod File
+pub mod WellFormed

@@ -1,0 +1,1 @@
+// The bytes of a mesh file and of a claim file into numbers.

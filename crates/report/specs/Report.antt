@@ -1,0 +1,46 @@
+-- The report line (document 01, 'Verdict and report'): "The report is 113 bytes: four columns of 28, right-justified, and byte 10."
+use mathlib.Core.List.{List, [], _∷_, _++_}
+use Prim.Native.Nat.{ℕ, zero, suc, _^_}
+use lib.IntN.{ℤ, pos, negsuc, _*ℤ_}
+use Rattle.integer.specs.Decimal.{digits, rightJustified}
+use Rattle.integer.specs.Round.{floorDiv, ceilDiv}
+use Rattle.rows.specs.declared.Place.{Place}
+use Rattle.rows.specs.declared.Load.{Load}
+use Rattle.rows.specs.declared.Load.the-variants.{Absent, Exact}
+use Rattle.rows.specs.declared.OpenRows.{OpenRows}
+use Rattle.rows.specs.declared.OpenRows.the-variants.{Absent as NoCount, Count}
+use Rattle.rows.specs.declared.Verdict.{Verdict}
+use Rattle.rows.specs.declared.Verdict.the-variants.{Accepted, Refused}
+use Rattle.rows.specs.Answer.{placeNumber}
+use Rattle.report.specs.Text.{fixed, noneText}
+
+-- a load with d decimals, rounded once by `round`; a load whose denominator is not above 0 is none (an accepted claim has no such load)
+unfoldable pub loadText : (ℤ → ℕ → ℤ) → ℕ → Load → List ℕ
+loadText round d Absent = noneText
+loadText round d (Exact num (pos zero)) = noneText
+loadText round d (Exact num (pos (suc k))) = fixed d (round (num *ℤ pos (10 ^ d)) (suc k))
+loadText round d (Exact num (negsuc k)) = noneText
+
+-- "The lower goes towards minus infinity, the upper towards plus infinity"
+unfoldable pub lowerText : ℕ → Load → List ℕ
+lowerText = loadText floorDiv
+
+unfoldable pub upperText : ℕ → Load → List ℕ
+upperText = loadText ceilDiv
+
+unfoldable pub openText : OpenRows → List ℕ
+openText NoCount = noneText
+openText (Count k) = digits k
+
+unfoldable pub fourColumns : List ℕ → List ℕ → List ℕ → List ℕ → List ℕ
+fourColumns a b c e =
+    rightJustified 28 a ++ (rightJustified 28 b ++ (rightJustified 28 c ++ (rightJustified 28 e ++ (10 ∷ []))))
+
+-- "Accepted .. reports: 0; the open rows ..; l/n; W/m"; "Refused: number, place, none, none"
+unfoldable pub reportLine : ℕ → Verdict → List ℕ
+reportLine d (Accepted o lower upper) = fourColumns (digits 0) (openText o) (lowerText d lower) (upperText d upper)
+reportLine d (Refused k place) = fourColumns (digits k) (digits (placeNumber place)) noneText noneText
+
+-- "Both loads have six decimals"
+unfoldable pub decimals : ℕ
+decimals = 6

@@ -1,0 +1,82 @@
+-- How the report spells a load (document 01, 'Verdict and report'): "Both loads have six decimals and at least one digit before the point; a zero has no minus."
+-- The number of decimals d is a parameter: six in the report. And what such a text says, read with no look at how it was written.
+use mathlib.Core.Bool.{Bool, true, false, cond, _&&_}
+use mathlib.Core.List.{List, [], _∷_, _++_}
+use mathlib.Core.Option.{Option, none, some, Option·map}
+use Prim.Native.Nat.{ℕ, zero, suc, _+_, _*_, _/_, _%_, _^_}
+use lib.IntN.{ℤ, pos, negsuc, negℤ}
+use lib.Dec.{eqb}
+use lib.ListN.{length}
+use Rattle.integer.specs.Decimal.{digits, lastDigits, properDigits, allDigits, valueAfter}
+
+-- ---- writing
+
+-- k/10^d with d decimals, and no point where d is 0; byte 46 is the point
+unfoldable pub pointed : ℕ → ℕ → List ℕ
+pointed zero k = digits k
+pointed (suc d) k = digits (k / 10 ^ suc d) ++ (46 ∷ lastDigits (suc d) k)
+
+-- v/10^d with d decimals
+unfoldable pub fixed : ℕ → ℤ → List ℕ
+fixed d (pos k) = pointed d k
+fixed d (negsuc k) = 45 ∷ pointed d (suc k)
+
+-- "the four letters none"
+unfoldable pub noneText : List ℕ
+noneText = 110 ∷ 111 ∷ 110 ∷ 101 ∷ []
+
+-- ---- reading
+
+-- what a column says: the word none, or the number v/10^d written with d decimals
+pub data Said : Type 0 where
+  word : Said
+  number : ℤ → ℕ → Said
+
+-- the bytes before the first point, and those after it where there is a point
+unfoldable pub beforePoint : List ℕ → List ℕ
+beforePoint [] = []
+beforePoint (b ∷ bs) = elim (eqb b 46) [ true ↦ [] | false ↦ b ∷ beforePoint bs ]
+
+unfoldable pub afterPoint : List ℕ → Option (List ℕ)
+afterPoint [] = none
+afterPoint (b ∷ bs) = elim (eqb b 46) [ true ↦ some bs | false ↦ afterPoint bs ]
+
+-- digits, or digits, a point and at least one digit
+unfoldable pub decimal : List ℕ → Option (ℕ × ℕ)
+decimal bs =
+    let whole : List ℕ = beforePoint bs in
+    elim (afterPoint bs) [
+      | none ↦ cond (properDigits whole) (some (valueAfter 0 whole, 0)) none
+      | some [] ↦ none
+      | some (c ∷ cs) ↦
+          cond (properDigits whole && allDigits (c ∷ cs)) (some (valueAfter (valueAfter 0 whole) (c ∷ cs), length (c ∷ cs))) none
+    ]
+
+unfoldable pub saidNumber : (ℕ → ℤ) → ℕ × ℕ → Said
+saidNumber sign vd = number (sign (vd .0)) (vd .1)
+
+-- a minus and a number, or a number
+unfoldable pub signedDecimal : List ℕ → Option Said
+signedDecimal [] = none
+signedDecimal (b ∷ bs) =
+    elim (eqb b 45) [
+      | true ↦ Option·map (saidNumber (λ k. negℤ (pos k))) (decimal bs)
+      | false ↦ Option·map (saidNumber (λ k. pos k)) (decimal (b ∷ bs))
+    ]
+
+unfoldable pub isNone : List ℕ → Bool
+isNone [] = false
+isNone (a ∷ []) = false
+isNone (a ∷ b ∷ []) = false
+isNone (a ∷ b ∷ c ∷ []) = false
+isNone (a ∷ b ∷ c ∷ d ∷ []) = eqb a 110 && eqb b 111 && eqb c 110 && eqb d 101
+isNone (a ∷ b ∷ c ∷ d ∷ e ∷ rest) = false
+
+-- a report's column: spaces, then the word none or a number
+unfoldable pub said : List ℕ → Option Said
+said [] = none
+said (b ∷ bs) =
+    elim (eqb b 32) [
+      | true ↦ said bs
+      | false ↦ cond (isNone (b ∷ bs)) (some word) (signedDecimal (b ∷ bs))
+    ]

@@ -1,0 +1,1 @@
+// A verdict into the report line of 113 bytes.
