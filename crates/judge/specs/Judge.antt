@@ -1,0 +1,25 @@
+-- The verdict on the bytes of a mesh file and of a claim file (document 01, 'What the product does'): the verdict on their numbers.
+use mathlib.Core.List.{List}
+use Prim.Native.Nat.{ℕ}
+use lib.IntN.{ℤ}
+use Rattle.rows.specs.declared.Verdict.{Verdict}
+use Rattle.rows.specs.Mesh.{meshLayout}
+use Rattle.rows.specs.Claim.{claimLayout}
+use Rattle.rows.specs.Verdict.{verdict}
+use Rattle.reader.specs.File.{numbersOf}
+
+-- the numbers of a mesh file, in columns of w bytes
+unfoldable pub meshNumbers : ℕ → List ℕ → List ℤ
+meshNumbers w mesh = numbersOf w meshLayout mesh
+
+-- the numbers of a claim file on the mesh with the numbers m
+unfoldable pub claimNumbers : ℕ → List ℤ → List ℕ → List ℤ
+claimNumbers w m claim = numbersOf w (claimLayout m) claim
+
+-- "Every number is .. in a column of 12 characters"
+unfoldable pub fileWidth : ℕ
+fileWidth = 12
+
+-- the verdict on two files with columns of w bytes
+unfoldable pub filesVerdict : ℕ → List ℕ → List ℕ → Verdict
+filesVerdict w mesh claim = verdict (meshNumbers w mesh) (claimNumbers w (meshNumbers w mesh) claim)

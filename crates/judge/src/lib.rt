@@ -1,0 +1,1 @@
+// Two byte strings into a verdict.

@@ -1,0 +1,153 @@
+-- "a longer file is too long for any mesh or claim and is refused as its first 65,536 bytes are": by its header's limits no mesh and no claim has so many bytes, and a file's numbers depend on no byte after the first beyond its lines.
+use mathlib.Core.Path.{_≡_, refl, sym, ap, _∙_}
+use mathlib.Core.Logic.{_⊎_, inl, inr, _≢_}
+use mathlib.Core.Bool.{Bool, true, false}
+use mathlib.Core.List.{List, []}
+use Prim.Native.Nat.{ℕ, _+_, _*_, _≤_, _<_}
+use native.Mathlib.Nat.{mul-le-mul}
+use native.Mathlib.Omega.{arith}
+use lib.Dec.{ltb}
+use lib.IntN.{ℤ, pos, negsuc}
+use lib.Signed.{_≤ℤ_}
+use lib.ListN.{length, take, getD, length-replicate}
+use borrow.Table.Steps.{cases}
+use Rattle.integer.specs.Order.{≤ℤ-pos}
+use Rattle.rows.specs.declared.Place.the-variants.{Line}
+use Rattle.rows.specs.declared.Outcome.{Outcome}
+use Rattle.rows.specs.declared.Outcome.the-variants.{Passed, Refused as Fails}
+use Rattle.rows.specs.Columns.{free, at, hasField, hasMultipliers}
+use Rattle.rows.specs.Layout.{count, width, lineCheck, linesCheck}
+use Rattle.rows.specs.Mesh.{meshLayout, meshHeader, soilLines, nodeLines, elementLines, edgeLines, nodes, elements, soils, edges, sides}
+use Rattle.rows.specs.Claim.{claimLayout, claimHeader, ifThere, stressLines, elementMultipliers, edgeMultipliers, strengthMultipliers}
+use Rattle.rows.specs.Sound.{Within}
+use Rattle.rows.specs.Facts.{Counts}
+use Rattle.rows.specs.Answer.{numberOf}
+use Rattle.rows.specs.Verdict.{verdict}
+use Rattle.rows.proofs.Sound.{lines-passed}
+use Rattle.rows.proofs.Exactly.{returns-zero}
+use Rattle.rows.proofs.Facts.{counts}
+use Rattle.rows.proofs.Lines.{within-at}
+use Rattle.rows.proofs.InOrder.{line-check-passed}
+use Rattle.reader.specs.File.{lineBytes, widths, numbersOf}
+use Rattle.reader.specs.WellFormed.{bytesOf}
+use Rattle.reader.proofs.Regular.{mesh-regular, claim-regular}
+use Rattle.reader.proofs.Cut.{numbers-cut, passed-length, group-bytes, no-bytes}
+use Rattle.judge.specs.Judge.{fileWidth, meshNumbers, claimNumbers, filesVerdict}
+use Rattle.judge.proofs.Numbers.{mesh-lines-refused, some-side}
+use Rattle.pechuvo.specs.Check.{reportBytes, check}
+
+count-most : (z : ℤ) {k : ℕ} → z ≤ℤ pos k → count z ≤ k
+unfolding count
+count-most (pos n) h = ≤ℤ-pos h
+count-most (negsuc n) h = omega arith
+
+-- ---- how long a mesh and a claim can be
+
+-- the bytes of the lines after a mesh's header
+mesh-bytes : (h : List ℤ) → bytesOf 12 (widths (meshLayout .body h)) ≡ soils h * 97 + (nodes h * 25 + (elements h * 61 + edges h * 85))
+unfolding meshLayout soilLines nodeLines elementLines edgeLines lineBytes
+mesh-bytes h = simp (group-bytes, no-bytes) (omega arith)
+
+mesh-short : (h : List ℤ) → soils h ≤ 16 → nodes h ≤ 100 → elements h ≤ 100 → edges h ≤ 60 → lineBytes 12 (width (meshLayout .header)) + bytesOf 12 (widths (meshLayout .body h)) < 65536
+unfolding meshLayout meshHeader lineBytes
+mesh-short h s n e g = rw (mesh-bytes h) (omega arith)
+
+-- a mesh whose header passes
+mesh-header-short : (h : List ℤ) → lineCheck meshLayout (meshLayout .header) h (Line 1) ≡ Passed → lineBytes 12 (width (meshLayout .header)) + bytesOf 12 (widths (meshLayout .body h)) < 65536
+unfolding meshLayout meshHeader soils nodes elements edges
+mesh-header-short h e =
+    let p = line-check-passed meshLayout meshHeader h (Line 1) .says e in
+    let w : (c : ℕ) → c < 5 → Within (getD (meshHeader .limits) c free) (at h c) = λ c l. within-at (meshHeader .limits) h c (p .0) l (p .1) in
+    mesh-short h
+    (count-most (at h 2) (w 2 (omega arith) .1))
+    (count-most (at h 0) (w 0 (omega arith) .1))
+    (count-most (at h 1) (w 1 (omega arith) .1))
+    (count-most (at h 3) (w 3 (omega arith) .1))
+
+mesh-header-line : lineBytes 12 (width (meshLayout .header)) ≤ 65536
+unfolding meshLayout meshHeader lineBytes
+mesh-header-line = omega arith
+
+-- the bytes of the lines after a claim's header
+claim-bytes : (m c : List ℤ) → bytesOf 12 (widths (claimLayout m .body c)) ≡ ifThere (hasField c) (nodes m) * 37 + (ifThere (hasMultipliers c) (elements m) * 25 + (ifThere (hasMultipliers c) (edges m) * 49 + ifThere (hasMultipliers c) (nodes m) * (sides m * 12 + 1)))
+unfolding claimLayout stressLines elementMultipliers edgeMultipliers strengthMultipliers lineBytes
+claim-bytes m c = simp (group-bytes, no-bytes, length-replicate) (omega arith)
+
+there-most : (b : Bool) (k : ℕ) → ifThere b k ≤ k
+unfolding ifThere
+there-most true k = omega arith
+there-most false k = omega arith
+
+claim-short : (m c : List ℤ) → Counts m → lineBytes 12 (width (claimLayout m .header)) + bytesOf 12 (widths (claimLayout m .body c)) < 65536
+unfolding claimLayout claimHeader lineBytes
+claim-short m c k =
+    let ns = k .nodesMost in
+    let es = k .elementsMost in
+    let gs = k .edgesMost in
+    let ss = sides-most (k .sidesListed) in
+    let a = there-most (hasField c) (nodes m) in
+    let b = there-most (hasMultipliers c) (elements m) in
+    let d = there-most (hasMultipliers c) (edges m) in
+    let e = there-most (hasMultipliers c) (nodes m) in
+    let p : ifThere (hasMultipliers c) (nodes m) * (sides m * 12 + 1) ≤ 100 * 433 = mul-le-mul {n₂ = 100} {m₂ = 433} (omega arith) (omega arith) in
+    rw (claim-bytes m c) (omega arith)
+  where
+    sides-most : (sides m ≡ 12) ⊎ ((sides m ≡ 20) ⊎ (sides m ≡ 36)) → sides m ≤ 36
+    sides-most (inl h) = omega arith
+    sides-most (inr (inl h)) = omega arith
+    sides-most (inr (inr h)) = omega arith
+
+-- ---- two files, or their first 65,536 bytes
+
+files-cut : (mesh claim : List ℕ) → filesVerdict 12 (take 65536 mesh) (take 65536 claim) ≡ filesVerdict 12 mesh claim
+unfolding filesVerdict meshNumbers claimNumbers
+files-cut mesh claim = by (linesCheck meshLayout m) refl
+  where
+    m : List ℤ
+    m = numbersOf 12 meshLayout mesh
+
+    same : numbersOf 12 meshLayout (take 65536 mesh) ≡ m
+    same = numbers-cut 12 meshLayout 65536 mesh mesh-header-line mesh-header-short
+
+    by : (o : Outcome) → linesCheck meshLayout m ≡ o → filesVerdict 12 (take 65536 mesh) (take 65536 claim) ≡ filesVerdict 12 mesh claim
+    by Passed e =
+        let k = counts m (lines-passed meshLayout m .says e) in
+        rw same (ap (verdict m) (numbers-cut 12 (claimLayout m) 65536 claim (omega (arith, claim-short m [] k)) (λ c p. claim-short m c k)))
+    by (Fails k p) e =
+        rw same (mesh-lines-refused m (numbersOf 12 (claimLayout m) (take 65536 claim)) k p e ∙ sym (mesh-lines-refused m (numbersOf 12 (claimLayout m) claim) k p e))
+
+-- the check of two files is the check of each file cut to 65,536 bytes
+pub check-cut : (mesh claim buffer : List ℕ) → check mesh claim buffer ≡ check (take 65536 mesh) (take 65536 claim) buffer
+unfolding check fileWidth
+check-cut mesh claim buffer =
+    cases (ltb (length buffer) reportBytes)
+    (λ t. rw (t, check))
+    (λ t. rw (t, check) (rw (files-cut mesh claim)))
+
+-- ---- a longer file
+
+accepted-short : (mesh claim : List ℕ) → numberOf (filesVerdict 12 mesh claim) ≡ 0 → (length mesh < 65536) × (length claim < 65536)
+unfolding filesVerdict meshNumbers claimNumbers
+accepted-short mesh claim e =
+    let m = numbersOf 12 meshLayout mesh in
+    let c = numbersOf 12 (claimLayout m) claim in
+    let a = returns-zero m c .0 e in
+    let p = lines-passed meshLayout m .passed (a .mesh .lines) in
+    let k = counts m (a .mesh .lines) in
+    let q = lines-passed (claimLayout m) c .passed (a .lines) in
+    let s = some-side m p in (
+      rw (passed-length 12 meshLayout mesh-regular mesh p) (mesh-short m (k .soilsMost) (k .nodesMost) (k .elementsMost) (k .edgesMost)),
+      rw (passed-length 12 (claimLayout m) (claim-regular m s) claim q) (claim-short m c k),
+    )
+
+-- "a longer file is too long for any mesh or claim": it is never accepted
+pub longer-refused : (mesh claim buffer : List ℕ) → (65536 < length mesh) ⊎ (65536 < length claim) → check mesh claim buffer .number ≢ 0
+unfolding check fileWidth
+longer-refused mesh claim buffer l e =
+    cases (ltb (length buffer) reportBytes)
+    (λ t. let z : _≡_ {A = ℕ} 41 0 = rw (t, check) at e in omega arith)
+    (λ t. by l (accepted-short mesh claim (rw (t, check) at e)))
+  where
+    by : (65536 < length mesh) ⊎ (65536 < length claim) → (length mesh < 65536) × (length claim < 65536) → ⊥
+    by (inl g) h = omega arith
+    by (inr g) h = omega arith

@@ -1,0 +1,5 @@
+pub mod Sheets
+pub mod Check
+pub mod Held
+pub mod Words
+pub mod OpenColumn

@@ -1,0 +1,31 @@
+-- The whole check (document 01, 'What the product does' and 'Verdict and report'): from two byte strings and a buffer to what is returned and what the buffer then holds.
+use mathlib.Core.Bool.{Bool, true, false}
+use mathlib.Core.List.{List, _++_}
+use Prim.Native.Nat.{ℕ}
+use lib.Dec.{ltb}
+use lib.ListN.{length, drop}
+use Rattle.rows.specs.Answer.{numberOf, placeOf}
+use Rattle.judge.specs.Judge.{fileWidth, filesVerdict}
+use Rattle.report.specs.Report.{reportLine, decimals}
+
+-- "The report is 113 bytes"
+unfoldable pub reportBytes : ℕ
+reportBytes = 113
+
+-- what is returned and what the buffer holds afterwards
+pub record Answered : Type 0 where
+  pub number : ℕ
+  pub place : ℕ
+  pub buffer : List ℕ
+
+-- "41, place 0, untouched: buffer under 113 bytes"; else the report at the buffer's front: "Bytes beyond 113 are never written"
+unfoldable pub check : List ℕ → List ℕ → List ℕ → Answered
+check mesh claim buffer =
+    elim (ltb (length buffer) reportBytes) [
+      | true ↦ record { number = 41; place = 0; buffer = buffer }
+      | false ↦ record {
+        number = numberOf (filesVerdict fileWidth mesh claim);
+        place = placeOf (filesVerdict fileWidth mesh claim);
+        buffer = reportLine decimals (filesVerdict fileWidth mesh claim) ++ drop reportBytes buffer;
+      }
+    ]

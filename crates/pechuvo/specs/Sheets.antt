@@ -1,0 +1,134 @@
+-- Document 01's sheets, 'A whole sheet, and its neighbours', each with the line that is printed; and small sheets of our own that notice what those do not.
+-- Lines are shown with one space between numbers and a stroke between lines; the files are written from them with columns of 12 characters.
+use mathlib.Core.List.{List, [], _∷_, _++_}
+use Prim.Native.Nat.{ℕ}
+use Prim.Native.String.{String}
+use lib.IntN.{ℤ}
+use lib.ListN.{replicate}
+use Rattle.rows.specs.Mesh.{meshLayout}
+use Rattle.rows.specs.Claim.{claimLayout}
+use Rattle.reader.specs.File.{fileOf}
+use Rattle.judge.specs.Judge.{fileWidth}
+use Rattle.pechuvo.specs.Bytes.{bytes, numbers}
+use Rattle.pechuvo.specs.Check.{reportBytes, check}
+
+-- the bytes of two files, and the line that they give
+pub record Sheet : Type 0 where
+  pub mesh : List ℕ
+  pub claim : List ℕ
+  pub line : List ℕ
+
+-- a sheet from its mesh, its claim and its line
+unfoldable pub sheet : String → String → String → Sheet
+sheet m c line = record {
+  mesh = fileOf fileWidth meshLayout (numbers m);
+  claim = fileOf fileWidth (claimLayout (numbers m)) (numbers c);
+  line = bytes line;
+}
+
+-- what the check writes into a buffer of 113 bytes
+unfoldable pub printed : Sheet → List ℕ
+printed s = check (s .mesh) (s .claim) (replicate reportBytes 0) .buffer
+
+-- ---- the starred sheets
+
+unfoldable pub workedMesh : String
+workedMesh = "4 1 1 3 12 / 0 1 1 10 0 0 0 0 / 0 0 / 1 0 / 1 1 / 0 1 / 1 2 3 4 1 / 3 4 3 0 0 -1 0 / 2 3 3 0 0 0 0 / 4 1 3 0 0 0 0"
+
+-- "the bytes of the worked mesh's first line"
+unfoldable pub workedFirstLine : List ℕ
+workedFirstLine = bytes "           4           1           1           3          12\n"
+
+unfoldable pub starred : List Sheet
+starred =
+    -- the sheet; m = 30, W = 600
+    sheet workedMesh
+    "1 1 1 20 / 0 -20 0 / 0 -20 0 / 0 -20 0 / 0 -20 0 / 0 0 / 30 0 0 0 / 0 0 -30 0 / 0 0 0 0 / 0 0 0 0 0 0 0 0 0 0 0 0 / 0 0 0 0 0 0 0 0 0 0 0 0 / 1 0 0 0 0 0 0 0 0 0 0 1 / 0 0 0 0 0 0 0 0 0 0 0 0"
+    "                           0                           0                   20.000000                   20.000000\n"
+    -- l 19, sy -19: two open rows
+    ∷ sheet workedMesh
+    "1 1 1 19 / 0 -19 0 / 0 -19 0 / 0 -19 0 / 0 -19 0 / 0 0 / 30 0 0 0 / 0 0 -30 0 / 0 0 0 0 / 0 0 0 0 0 0 0 0 0 0 0 0 / 0 0 0 0 0 0 0 0 0 0 0 0 / 1 0 0 0 0 0 0 0 0 0 0 1 / 0 0 0 0 0 0 0 0 0 0 0 0"
+    "                           0                           2                   19.000000                   20.000000\n"
+    -- l 21, sy -21: 22, row 1
+    ∷ sheet workedMesh
+    "1 1 1 21 / 0 -21 0 / 0 -21 0 / 0 -21 0 / 0 -21 0 / 0 0 / 30 0 0 0 / 0 0 -30 0 / 0 0 0 0 / 0 0 0 0 0 0 0 0 0 0 0 0 / 0 0 0 0 0 0 0 0 0 0 0 0 / 1 0 0 0 0 0 0 0 0 0 0 1 / 0 0 0 0 0 0 0 0 0 0 0 0"
+    "                          22                           1                        none                        none\n"
+    -- l 20, sy -21: 21, row 3
+    ∷ sheet workedMesh
+    "1 1 1 20 / 0 -21 0 / 0 -21 0 / 0 -21 0 / 0 -21 0 / 0 0 / 30 0 0 0 / 0 0 -30 0 / 0 0 0 0 / 0 0 0 0 0 0 0 0 0 0 0 0 / 0 0 0 0 0 0 0 0 0 0 0 0 / 1 0 0 0 0 0 0 0 0 0 0 1 / 0 0 0 0 0 0 0 0 0 0 0 0"
+    "                          21                           3                        none                        none\n"
+    -- the -30 as -29: 32, column 7
+    ∷ sheet workedMesh
+    "1 1 1 20 / 0 -20 0 / 0 -20 0 / 0 -20 0 / 0 -20 0 / 0 0 / 30 0 0 0 / 0 0 -29 0 / 0 0 0 0 / 0 0 0 0 0 0 0 0 0 0 0 0 / 0 0 0 0 0 0 0 0 0 0 0 0 / 1 0 0 0 0 0 0 0 0 0 0 1 / 0 0 0 0 0 0 0 0 0 0 0 0"
+    "                          32                           7                        none                        none\n"
+    -- empty mesh: 1, line 1
+    ∷ sheet ""
+    ""
+    "                           1                           1                        none                        none\n"
+    -- soil 3 4 6: 3, line 2
+    ∷ sheet "4 1 1 3 12 / 3 4 6 10 0 0 0 0 / 0 0 / 1 0 / 1 1 / 0 1 / 1 2 3 4 1 / 3 4 3 0 0 -1 0 / 2 3 3 0 0 0 0 / 4 1 3 0 0 0 0"
+    ""
+    "                           3                           2                        none                        none\n"
+    -- 1/3 as lower 0.333333, as upper 0.333334, with 0 open rows: a live pressure of 60
+    ∷ sheet "4 1 1 3 12 / 0 1 1 10 0 0 0 0 / 0 0 / 1 0 / 1 1 / 0 1 / 1 2 3 4 1 / 3 4 3 0 0 -60 0 / 2 3 3 0 0 0 0 / 4 1 3 0 0 0 0"
+    "1 1 3 1 / 0 -60 0 / 0 -60 0 / 0 -60 0 / 0 -60 0 / 0 0 / 30 0 0 0 / 0 0 -30 0 / 0 0 0 0 / 0 0 0 0 0 0 0 0 0 0 0 0 / 0 0 0 0 0 0 0 0 0 0 0 0 / 1 0 0 0 0 0 0 0 0 0 0 1 / 0 0 0 0 0 0 0 0 0 0 0 0"
+    "                           0                           0                    0.333333                    0.333334\n"
+    -- -1/3 as lower -0.333334, as upper -0.333333: a dead pull of 40 and a live pull of 60
+    ∷ sheet "4 1 1 3 12 / 0 1 1 10 0 0 0 0 / 0 0 / 1 0 / 1 1 / 0 1 / 1 2 3 4 1 / 3 4 3 40 0 60 0 / 2 3 3 0 0 0 0 / 4 1 3 0 0 0 0"
+    "1 1 3 -1 / 0 60 0 / 0 60 0 / 0 60 0 / 0 60 0 / 0 0 / -30 0 0 0 / 0 0 30 0 / 0 0 0 0 / 0 0 0 0 0 0 0 0 0 0 0 0 / 0 0 0 0 0 0 0 0 0 0 0 0 / 0 0 0 0 0 1 1 0 0 0 0 0 / 0 0 0 0 0 0 0 0 0 0 0 0"
+    "                           0                           0                   -0.333334                   -0.333333\n"
+    -- -1/3000000 as upper 0.000000: a dead pull of 1 on a side of length 1 against a live force of 1,000 on 3,000 units of area
+    ∷ sheet "6 2 1 6 12 / 0 1 1 10 0 0 1000 0 / 0 0 / 1000 0 / 1000 1 / 0 1 / 1000 3 / 0 3 / 1 2 3 4 1 / 4 3 5 6 1 / 1 2 3 0 0 0 0 / 2 3 3 1 0 0 0 / 3 5 3 0 0 0 0 / 5 6 3 0 0 0 0 / 6 4 3 0 0 0 0 / 4 1 3 0 0 0 0"
+    "0 1 0 0 / 1000 0 / 1000 0 / 0 -1 0 -1 / -1000 0 -1000 0 / -500 0 -500 0 / 0 1 0 1 / 500 0 500 0 / 1000 0 1000 0 / 0 0 0 0 0 0 0 0 0 0 0 0 / 0 0 0 0 0 0 0 0 0 0 0 0 / 0 0 0 0 0 0 0 0 0 0 0 0 / 0 0 0 0 0 0 0 0 0 0 0 0 / 0 0 0 0 0 0 0 0 0 0 0 0 / 0 0 0 0 0 0 0 0 0 0 0 0"
+    "                           0                        none                        none                    0.000000\n"
+    ∷ []
+
+-- ---- sheets of our own
+
+unfoldable pub noticing : List Sheet
+noticing =
+    -- a dead and a live body force, on an element with no parallel sides, with stresses linear in x and y
+    sheet "4 1 1 0 12 / 0 1 1 10000 2 3 5 7 / 0 0 / 4 1 / 6 5 / 1 3 / 1 2 3 4 1"
+    "1 0 2 3 / 0 0 0 / -84 -30 14 / -126 -150 28 / -21 -90 9"
+    "                           0                        none                    1.500000                        none\n"
+    -- a dead pull and a live shear on a sloping side
+    ∷ sheet "4 1 1 1 12 / 0 1 1 10000 0 0 0 0 / 0 0 / 4 1 / 6 5 / 1 3 / 1 2 3 4 1 / 2 3 3 4 0 0 7"
+    "1 0 1 1 / 10 0 5 / 10 0 5 / 10 0 5 / 10 0 5"
+    "                           0                        none                    1.000000                        none\n"
+    -- friction: at its strength, and one unit beyond it
+    ∷ sheet "4 1 1 0 12 / 3 4 5 10 0 0 0 0 / 0 0 / 1 0 / 1 1 / 0 1 / 1 2 3 4 1"
+    "1 0 1 0 / -10 -80 0 / -10 -80 0 / -10 -80 0 / -10 -80 0"
+    "                           0                        none                    0.000000                        none\n"
+    ∷ sheet "4 1 1 0 12 / 3 4 5 10 0 0 0 0 / 0 0 / 1 0 / 1 1 / 0 1 / 1 2 3 4 1"
+    "1 0 1 0 / -10 -81 0 / -10 -81 0 / -10 -81 0 / -10 -81 0"
+    "                          22                           1                        none                        none\n"
+    -- an unfixed shear: the field may have any, and a multiplier on it is refused
+    ∷ sheet "4 1 1 1 12 / 0 1 1 10 0 0 0 0 / 0 0 / 1 0 / 1 1 / 0 1 / 1 2 3 4 1 / 2 3 1 0 0 0 0"
+    "1 0 1 0 / 0 0 3 / 0 0 3 / 0 0 3 / 0 0 3"
+    "                           0                        none                    0.000000                        none\n"
+    ∷ sheet "4 1 1 1 12 / 0 1 1 10 0 0 0 0 / 0 0 / 1 0 / 1 1 / 0 1 / 1 2 3 4 1 / 2 3 1 0 0 0 0"
+    "0 1 0 0 / 0 0 / 0 1 0 0 / 0 0 0 0 0 0 0 0 0 0 0 0 / 0 0 0 0 0 0 0 0 0 0 0 0 / 0 0 0 0 0 0 0 0 0 0 0 0 / 0 0 0 0 0 0 0 0 0 0 0 0"
+    "                          31                           4                        none                        none\n"
+    -- two soils at a node: nodes 2 and 3 have the first element's, which is the stronger
+    ∷ sheet "6 2 2 0 12 / 0 1 1 10 0 0 0 0 / 0 1 1 5 0 0 0 0 / 0 0 / 1 0 / 1 1 / 0 1 / 2 0 / 2 1 / 1 2 3 4 1 / 2 5 6 3 2"
+    "1 0 1 0 / 0 -20 0 / 0 -20 0 / 0 -20 0 / 0 -20 0 / 0 -10 0 / 0 -10 0"
+    "                           0                        none                    0.000000                        none\n"
+    -- 20 sides: at the third corner, and beyond it
+    ∷ sheet "4 1 1 0 20 / 0 1 1 25 0 0 0 0 / 0 0 / 1 0 / 1 1 / 0 1 / 1 2 3 4 1"
+    "1 0 1 0 / 40 0 15 / 40 0 15 / 40 0 15 / 40 0 15"
+    "                           0                        none                    0.000000                        none\n"
+    ∷ sheet "4 1 1 0 20 / 0 1 1 25 0 0 0 0 / 0 0 / 1 0 / 1 1 / 0 1 / 1 2 3 4 1"
+    "1 0 1 0 / 40 0 16 / 40 0 16 / 40 0 16 / 40 0 16"
+    "                          22                           2                        none                        none\n"
+    -- 36 sides: at the third corner, and beyond it
+    ∷ sheet "4 1 1 0 36 / 0 1 1 65 0 0 0 0 / 0 0 / 1 0 / 1 1 / 0 1 / 1 2 3 4 1"
+    "1 0 1 0 / 120 0 25 / 120 0 25 / 120 0 25 / 120 0 25"
+    "                           0                        none                    0.000000                        none\n"
+    ∷ sheet "4 1 1 0 36 / 0 1 1 65 0 0 0 0 / 0 0 / 1 0 / 1 1 / 0 1 / 1 2 3 4 1"
+    "1 0 1 0 / 120 0 26 / 120 0 26 / 120 0 26 / 120 0 26"
+    "                          22                           2                        none                        none\n"
+    -- an element clockwise: 5, element 1
+    ∷ sheet "4 1 1 0 12 / 0 1 1 10 0 0 0 0 / 0 0 / 1 0 / 1 1 / 0 1 / 1 4 3 2 1"
+    ""
+    "                           5                           1                        none                        none\n"
+    ∷ []

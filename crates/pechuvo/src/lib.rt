@@ -1,0 +1,1 @@
+// The check of a mesh file and a claim file, as C calls it.
