@@ -43,6 +43,7 @@ header-counts m s =
       elementsMost = es .1;
       soilsLeast = ss .0;
       soilsMost = ss .1;
+      edgesLeast = w 3 (omega arith) .0;
       edgesMost = gs .1;
       sidesListed = listed (at m 4) (w 4 (omega arith));
     }
@@ -102,15 +103,31 @@ module _ (m : List ℤ) (s : LinesSound meshLayout m) where
       subst (λ (z : ℤ). count z - 1 < k) (at-lineIn (groups meshLayout m) m j i c l)
       (named (at (lineIn (groups meshLayout m) m j i) c) k (r .0) (r .1))
 
+  -- column c of line i of group j counts from 1
+  abbrev FromOne : ℕ → ℕ → ℕ → Type 0
+  FromOne j i c = pos 1 ≤ℤ entry (groups meshLayout m) m j i c
+
+  from-one : (j i c : ℕ) → c < width (group (groups meshLayout m) j) → pos 1 ≤ℤ at (lineIn (groups meshLayout m) m j i) c → FromOne j i c
+  from-one j i c l h = subst (λ (z : ℤ). pos 1 ≤ℤ z) (at-lineIn (groups meshLayout m) m j i c l) h
+
   element-facts : (e : ℕ) → e < elements m → ElementFacts m e
   unfolding meshLayout groups meshGroups meshHeader soilLines nodeLines elementLines corner elementSoil
   element-facts e l =
       let r = line-facts meshLayout m s 3 e l (omega arith) .rules .0 in
       record {
+        fromOne = λ c h. five c h (from-one 3 e 0 (omega arith) (r .0 .0)) (from-one 3 e 1 (omega arith) (r .1 .0 .0)) (from-one 3 e 2 (omega arith) (r .1 .1 .0 .0)) (from-one 3 e 3 (omega arith) (r .1 .1 .1 .0 .0)) (from-one 3 e 4 (omega arith) (r .1 .1 .1 .1 .0 .0));
         cornerThere = λ i h. four i h (names 3 e 0 (nodes m) (omega arith) (r .0)) (names 3 e 1 (nodes m) (omega arith) (r .1 .0)) (names 3 e 2 (nodes m) (omega arith) (r .1 .1 .0)) (names 3 e 3 (nodes m) (omega arith) (r .1 .1 .1 .0));
         soilThere = names 3 e 4 (soils m) (omega arith) (r .1 .1 .1 .1 .0);
       }
     where
+      five : (c : ℕ) → c < 5 → FromOne 3 e 0 → FromOne 3 e 1 → FromOne 3 e 2 → FromOne 3 e 3 → FromOne 3 e 4 → FromOne 3 e c
+      five zero h a b c d f = a
+      five (suc zero) h a b c d f = b
+      five (suc (suc zero)) h a b c d f = c
+      five (suc (suc (suc zero))) h a b c d f = d
+      five (suc (suc (suc (suc zero)))) h a b c d f = f
+      five (suc (suc (suc (suc (suc k))))) h a b c d f = absurd (omega arith)
+
       four : (i : ℕ) → i < 4 → corner m e 0 < nodes m → corner m e 1 < nodes m → corner m e 2 < nodes m → corner m e 3 < nodes m → corner m e i < nodes m
       four zero h a b c d = a
       four (suc zero) h a b c d = b
@@ -124,12 +141,18 @@ module _ (m : List ℤ) (s : LinesSound meshLayout m) where
       let f : LineFacts (groups meshLayout m) m 4 g = line-facts meshLayout m s 4 g l (omega arith) in
       let w = f .within in
       record {
+        fromOne = λ c h. two c h (from-one 4 g 0 (omega arith) (f .rules .0 .0 .0)) (from-one 4 g 1 (omega arith) (f .rules .0 .1 .0 .0));
         fromThere = names 4 g 0 (nodes m) (omega arith) (f .rules .0 .0);
         toThere = names 4 g 1 (nodes m) (omega arith) (f .rules .0 .1 .0);
         fixedRange = record { least = w 2 (omega arith) .0; most = w 2 (omega arith) .1 };
         loadRange = λ c h. load c h (w (3 + c) (omega arith));
       }
     where
+      two : (c : ℕ) → c < 2 → FromOne 4 g 0 → FromOne 4 g 1 → FromOne 4 g c
+      two zero h a b = a
+      two (suc zero) h a b = b
+      two (suc (suc c)) h a b = absurd (omega arith)
+
       load : (c : ℕ) → c < 4 → Within (getD (edgeLines (edges m) (nodes m) .limits) (3 + c) free) (edgeEntry m g (3 + c)) → Between (negℤ (pos 10000)) (pos 10000) (edgeEntry m g (3 + c))
       load zero h w = record { least = w .0; most = w .1 }
       load (suc zero) h w = record { least = w .0; most = w .1 }

@@ -22,11 +22,11 @@ noGroup = record { lines = 0; limits = []; rules = [] }
 abbrev pub group : List Group → ℕ → Group
 group gs j = getD gs j noGroup
 
-line-here : (g : Group) (gs : List Group) (from k : ℕ) → k < g .lines → lineOf from (g ∷ gs) k ≡ record { group = g; first = from + k * width g }
+pub line-here : (g : Group) (gs : List Group) (from k : ℕ) → k < g .lines → lineOf from (g ∷ gs) k ≡ record { group = g; first = from + k * width g }
 unfolding lineOf
 line-here g gs from k h = rw (lt-ltb k (g .lines) h, lineOf)
 
-line-after : (g : Group) (gs : List Group) (from k : ℕ) → g .lines ≤ k → lineOf from (g ∷ gs) k ≡ lineOf (from + g .lines * width g) gs (k - g .lines)
+pub line-after : (g : Group) (gs : List Group) (from k : ℕ) → g .lines ≤ k → lineOf from (g ∷ gs) k ≡ lineOf (from + g .lines * width g) gs (k - g .lines)
 unfolding lineOf
 line-after g gs from k h = rw (le-ltb k (g .lines) h, lineOf)
 

@@ -16,7 +16,7 @@ use Rattle.rows.specs.Checks.{demand, _then_, lowest}
 use Rattle.rows.specs.Columns.{Rule, ruleNumber, allWithin}
 use Rattle.rows.specs.Layout.{Layout, width, groups, lineCount, numberCount, rulesHold, lineCheck, lineAt, linesCheck}
 use Rattle.rows.specs.Mesh.{meshLayout, nodes, elements, edges, edgeLine}
-use Rattle.rows.specs.Verdict.{leftTurns, ownSides, inElement, meshCheck}
+use Rattle.rows.specs.Verdict.{turnsCheck, sidesCheck, nodesCheck, edgesCheck, shapeCheck, meshCheck}
 use Rattle.rows.specs.Sound.{Says, AllSay, numbersAt, groupAt, Complete, InLimits, LineSound, LinesSound, LeftTurns, OwnSides, InElement, OuterEdge}
 use Rattle.rows.specs.Refusals.{Below, FirstFailing, LineRefusal, missing, outside, broken, left-over, MeshRefusal, in-line, no-left-turn, side-again, in-none, no-edge}
 use Rattle.rows.proofs.Checks.{passed-is-not-refused}
@@ -110,51 +110,50 @@ phase-refusal d number place n =
     lowest-refusal (λ k. one-check (d k) number (place k)) (λ k. one-refusal (d k) number (place k)) n
 
 module _ (m : List ℤ) where
+  abbrev InShape : ℕ → Place → Type 0
+  InShape c p =
+      ((AtPlace 5 (λ e. Element (suc e)) (LeftTurns m) (elements m) c p
+      ⊎ (Below (elements m) (LeftTurns m) × AtPlace 6 (λ e. Element (suc e)) (OwnSides m) (elements m) c p))
+      ⊎ ((Below (elements m) (LeftTurns m) × Below (elements m) (OwnSides m)) × AtPlace 7 (λ v. Node (suc v)) (InElement m) (nodes m) c p))
+      ⊎ (((Below (elements m) (LeftTurns m) × Below (elements m) (OwnSides m)) × Below (nodes m) (InElement m)) × AtPlace 8 (λ g. Line (suc (edgeLine m g))) (OuterEdge m) (edges m) c p)
+
+  shape-refusal : Refuses (shapeCheck m) InShape
+  unfolding turnsCheck sidesCheck nodesCheck edgesCheck shapeCheck
+  shape-refusal =
+      then-refusal (and-then (and-then turns sides) inside)
+      (then-refusal (and-then turns sides)
+      (then-refusal turns
+      (phase-refusal (left-turns m) 5 (λ e. Element (suc e)) (elements m))
+      (phase-refusal (own-sides m) 6 (λ e. Element (suc e)) (elements m)))
+      (phase-refusal (in-element m) 7 (λ v. Node (suc v)) (nodes m)))
+      (phase-refusal (outer-edge m) 8 (λ g. Line (suc (edgeLine m g))) (edges m))
+    where
+      turns : Passes (turnsCheck m) (Below (elements m) (LeftTurns m))
+      turns = at-each (λ e. one-check (left-turns m e) 5 (Element (suc e))) (elements m)
+
+      sides : Passes (sidesCheck m) (Below (elements m) (OwnSides m))
+      sides = at-each (λ e. one-check (own-sides m e) 6 (Element (suc e))) (elements m)
+
+      inside : Passes (nodesCheck m) (Below (nodes m) (InElement m))
+      inside = at-each (λ v. one-check (in-element m v) 7 (Node (suc v))) (nodes m)
+
   abbrev InMesh : ℕ → Place → Type 0
-  InMesh c p =
-      (((LineRefusal meshLayout m c p
-      ⊎ (LinesSound meshLayout m × AtPlace 5 (λ e. Element (suc e)) (LeftTurns m) (elements m) c p))
-      ⊎ ((LinesSound meshLayout m × Below (elements m) (LeftTurns m)) × AtPlace 6 (λ e. Element (suc e)) (OwnSides m) (elements m) c p))
-      ⊎ (((LinesSound meshLayout m × Below (elements m) (LeftTurns m)) × Below (elements m) (OwnSides m)) × AtPlace 7 (λ v. Node (suc v)) (InElement m) (nodes m) c p))
-      ⊎ ((((LinesSound meshLayout m × Below (elements m) (LeftTurns m)) × Below (elements m) (OwnSides m)) × Below (nodes m) (InElement m)) × AtPlace 8 (λ g. Line (suc (edgeLine m g))) (OuterEdge m) (edges m) c p)
+  InMesh c p = LineRefusal meshLayout m c p ⊎ (LinesSound meshLayout m × InShape c p)
 
   pub mesh-refusal : Refuses (meshCheck m) (MeshRefusal m)
   unfolding meshCheck
-  mesh-refusal =
-      told-as
-      (then-refusal (and-then (and-then (and-then lines turns) sides) inside)
-      (then-refusal (and-then (and-then lines turns) sides)
-      (then-refusal (and-then lines turns)
-      (then-refusal lines (lines-refusal meshLayout m)
-      (phase-refusal (left-turns m) 5 (λ e. Element (suc e)) (elements m)))
-      (phase-refusal (own-sides m) 6 (λ e. Element (suc e)) (elements m)))
-      (phase-refusal (in-element m) 7 (λ v. Node (suc v)) (nodes m)))
-      (phase-refusal (outer-edge m) 8 (λ g. Line (suc (edgeLine m g))) (edges m)))
-      to
-      from
+  mesh-refusal = told-as (then-refusal (lines-passed meshLayout m) (lines-refusal meshLayout m) shape-refusal) to from
     where
-      lines : Passes (linesCheck meshLayout m) (LinesSound meshLayout m)
-      lines = lines-passed meshLayout m
-
-      turns : Passes (lowest (λ e. demand (leftTurns m e) 5 (Element (suc e))) (elements m)) (Below (elements m) (LeftTurns m))
-      turns = at-each (λ e. one-check (left-turns m e) 5 (Element (suc e))) (elements m)
-
-      sides : Passes (lowest (λ e. demand (ownSides m e) 6 (Element (suc e))) (elements m)) (Below (elements m) (OwnSides m))
-      sides = at-each (λ e. one-check (own-sides m e) 6 (Element (suc e))) (elements m)
-
-      inside : Passes (lowest (λ v. demand (inElement m v) 7 (Node (suc v))) (nodes m)) (Below (nodes m) (InElement m))
-      inside = at-each (λ v. one-check (in-element m v) 7 (Node (suc v))) (nodes m)
-
       to : (c : ℕ) (p : Place) → InMesh c p → MeshRefusal m c p
-      to c p (inl (inl (inl (inl h)))) = in-line c p h
-      to c p (inl (inl (inl (inr (s, (k, l, b, h)))))) = at-place (MeshRefusal m) (no-left-turn k s l b (h .0)) (h .1) (h .2)
-      to c p (inl (inl (inr ((s, t), (k, l, b, h))))) = at-place (MeshRefusal m) (side-again k s t l b (h .0)) (h .1) (h .2)
-      to c p (inl (inr (((s, t), u), (k, l, b, h)))) = at-place (MeshRefusal m) (in-none k s t u l b (h .0)) (h .1) (h .2)
-      to c p (inr ((((s, t), u), v), (k, l, b, h))) = at-place (MeshRefusal m) (no-edge k s t u v l b (h .0)) (h .1) (h .2)
+      to c p (inl h) = in-line c p h
+      to c p (inr (s, inl (inl (inl (k, l, b, h))))) = at-place (MeshRefusal m) (no-left-turn k s l b (h .0)) (h .1) (h .2)
+      to c p (inr (s, inl (inl (inr (t, (k, l, b, h)))))) = at-place (MeshRefusal m) (side-again k s t l b (h .0)) (h .1) (h .2)
+      to c p (inr (s, inl (inr ((t, u), (k, l, b, h))))) = at-place (MeshRefusal m) (in-none k s t u l b (h .0)) (h .1) (h .2)
+      to c p (inr (s, inr (((t, u), v), (k, l, b, h)))) = at-place (MeshRefusal m) (no-edge k s t u v l b (h .0)) (h .1) (h .2)
 
       from : (c : ℕ) (p : Place) → MeshRefusal m c p → InMesh c p
-      from c p (in-line _ _ h) = inl (inl (inl (inl h)))
-      from c p (no-left-turn k s l b h) = inl (inl (inl (inr (s, (k, l, b, (h, refl, refl))))))
-      from c p (side-again k s t l b h) = inl (inl (inr ((s, t), (k, l, b, (h, refl, refl)))))
-      from c p (in-none k s t u l b h) = inl (inr (((s, t), u), (k, l, b, (h, refl, refl))))
-      from c p (no-edge k s t u v l b h) = inr ((((s, t), u), v), (k, l, b, (h, refl, refl)))
+      from c p (in-line _ _ h) = inl h
+      from c p (no-left-turn k s l b h) = inr (s, inl (inl (inl (k, l, b, (h, refl, refl)))))
+      from c p (side-again k s t l b h) = inr (s, inl (inl (inr (t, (k, l, b, (h, refl, refl))))))
+      from c p (in-none k s t u l b h) = inr (s, inl (inr ((t, u), (k, l, b, (h, refl, refl)))))
+      from c p (no-edge k s t u v l b h) = inr (s, inr (((t, u), v), (k, l, b, (h, refl, refl))))

@@ -21,7 +21,7 @@ use Rattle.rows.specs.Mesh.{meshLayout, nodes, elements, edges, corner, 
 use Rattle.rows.specs.Rows as R
 use Rattle.rows.specs.Rows.{node, hasCorner}
 use Rattle.rows.specs.Sums.{leftSide, rightSide, rowHolds, zeroIfUnfixed, columnSum, liveSum}
-use Rattle.rows.specs.Verdict.{turn, leftTurnAt, leftTurns, hasSide, ownSides, inElement, outerEdge, meshCheck, rowAt, fieldCheck, multipliersCheck}
+use Rattle.rows.specs.Verdict.{turn, leftTurnAt, leftTurns, hasSide, ownSides, inElement, outerEdge, turnsCheck, sidesCheck, nodesCheck, edgesCheck, shapeCheck, meshCheck, rowAt, fieldCheck, multipliersCheck}
 use Rattle.rows.specs.Sound.{OneOf, Within, AllWithin, AllNamed, PartsFit, Says, AllSay, numbersAt, groupAt, Complete, InLimits, RulesHold, LineSound, LinesSound, LeftTurns, SideAt, OwnSides, InElement, IsSide, OuterEdge, MeshSound, NoneOnUnfixed, MeetsColumns}
 use Rattle.rows.specs.Meets.{RowMet, FieldMeets}
 use Rattle.rows.proofs.Lists.{each-++, row-in, by-place}
@@ -162,25 +162,25 @@ outer-edge m g =
 
 -- a mesh passes 1 to 8 exactly when it is sound
 pub mesh-passed : (m : List ℤ) → Passes (meshCheck m) (MeshSound m)
-unfolding meshCheck
+unfolding turnsCheck sidesCheck nodesCheck edgesCheck shapeCheck meshCheck
 mesh-passed m =
     put-as
-    (and-then
-    (and-then
-    (and-then
     (and-then (lines-passed meshLayout m)
-    (at-each (λ e. one-check (left-turns m e) 5 (Element (suc e))) (elements m)))
+    (and-then
+    (and-then
+    (and-then
+    (at-each (λ e. one-check (left-turns m e) 5 (Element (suc e))) (elements m))
     (at-each (λ e. one-check (own-sides m e) 6 (Element (suc e))) (elements m)))
     (at-each (λ v. one-check (in-element m v) 7 (Node (suc v))) (nodes m)))
-    (at-each (λ g. one-check (outer-edge m g) 8 (Line (suc (edgeLine m g)))) (edges m)))
+    (at-each (λ g. one-check (outer-edge m g) 8 (Line (suc (edgeLine m g)))) (edges m))))
     (λ h. record {
-      lines = h .0 .0 .0 .0;
-      leftTurns = h .0 .0 .0 .1;
-      ownSides = h .0 .0 .1;
-      inElement = h .0 .1;
-      outerEdges = h .1;
+      lines = h .0;
+      leftTurns = h .1 .0 .0 .0;
+      ownSides = h .1 .0 .0 .1;
+      inElement = h .1 .0 .1;
+      outerEdges = h .1 .1;
     })
-    (λ h. ((((h .lines, h .leftTurns), h .ownSides), h .inElement), h .outerEdges))
+    (λ h. (h .lines, (((h .leftTurns, h .ownSides), h .inElement), h .outerEdges)))
 
 -- ---- the parts
 

@@ -7,8 +7,8 @@ use Rattle.rows.specs.Polygon.{sidesTo, polygonSides, quarterTurn, fourQ
 use Rattle.rows.specs.Rows.{sx, sy, t, countFrom, joined, node, riseAcross, runAcross, crossAt, twiceArea, balanceX, balanceY, balanceRows, stepX, stepY, stepSquare, fixedIf, normalRow, shearRow, sideRows, firstWhere, hasCorner, nodeSoil, strengthPairs, cross, strengthRow, pairRows, strengthRows, equalityRows, rowsOf}
 use Rattle.rows.specs.Sums.{weightedSum, leftSide, rightSide, rowHolds, weighed, unit, coefficient, columnSum, liveSum, limitSum, zeroIfUnfixed, isOpen, howMany, openRows}
 use Rattle.rows.specs.Claim.{claimHeader, ifThere, stressLines, elementMultipliers, edgeMultipliers, strengthMultipliers, claimLayout, stress, multiplier}
-use Rattle.rows.specs.Verdict.{turn, leftTurnAt, leftTurns, hasSide, ownSides, inElement, outerEdge, meshCheck, claimCheck, rowAt, fieldCheck, multipliersCheck, ifPart, partsCheck, lowerLoad, upperLoad, openCount, answer, claimVerdict, verdict}
+use Rattle.rows.specs.Verdict.{turn, leftTurnAt, leftTurns, hasSide, ownSides, inElement, outerEdge, turnsCheck, sidesCheck, nodesCheck, edgesCheck, shapeCheck, meshCheck, claimCheck, rowAt, fieldCheck, multipliersCheck, ifPart, partsCheck, lowerLoad, upperLoad, openCount, answer, claimVerdict, verdict}
 
 unfoldable pub computed : Unit {0}
-unfolding lowest isOneOf within allWithin lineCount numberCount linesBefore numbersBefore lineOf groups rulesHold lineCheck lineNumbers lineAt linesCheck count at entry upTo meshHeader nodes elements soils edges sides soilLines nodeLines elementLines edgeLines meshLayout meshGroups soilEntry p q h cohesion deadX deadY liveX liveY x y corner elementSoil edgeEntry fromNode toNode edgeLine sidesTo polygonSides quarterTurn fourQuadrants twelve twenty thirtySix polygonOf sx sy t countFrom joined node riseAcross runAcross crossAt twiceArea balanceX balanceY balanceRows stepX stepY stepSquare fixedIf normalRow shearRow sideRows firstWhere hasCorner nodeSoil strengthPairs cross strengthRow pairRows strengthRows equalityRows rowsOf weightedSum leftSide rightSide rowHolds weighed unit coefficient columnSum liveSum limitSum zeroIfUnfixed isOpen howMany openRows hasField hasMultipliers n l ruleNumber names allNamed ruleTest claimHeader ifThere stressLines elementMultipliers edgeMultipliers strengthMultipliers claimLayout stress multiplier someBelow allBelow turn leftTurnAt leftTurns hasSide ownSides inElement outerEdge meshCheck claimCheck rowAt fieldCheck multipliersCheck ifPart partsCheck lowerLoad upperLoad openCount answer claimVerdict verdict
+unfolding lowest isOneOf within allWithin lineCount numberCount linesBefore numbersBefore lineOf groups rulesHold lineCheck lineNumbers lineAt linesCheck count at entry upTo meshHeader nodes elements soils edges sides soilLines nodeLines elementLines edgeLines meshLayout meshGroups soilEntry p q h cohesion deadX deadY liveX liveY x y corner elementSoil edgeEntry fromNode toNode edgeLine sidesTo polygonSides quarterTurn fourQuadrants twelve twenty thirtySix polygonOf sx sy t countFrom joined node riseAcross runAcross crossAt twiceArea balanceX balanceY balanceRows stepX stepY stepSquare fixedIf normalRow shearRow sideRows firstWhere hasCorner nodeSoil strengthPairs cross strengthRow pairRows strengthRows equalityRows rowsOf weightedSum leftSide rightSide rowHolds weighed unit coefficient columnSum liveSum limitSum zeroIfUnfixed isOpen howMany openRows hasField hasMultipliers n l ruleNumber names allNamed ruleTest claimHeader ifThere stressLines elementMultipliers edgeMultipliers strengthMultipliers claimLayout stress multiplier someBelow allBelow turn leftTurnAt leftTurns hasSide ownSides inElement outerEdge turnsCheck sidesCheck nodesCheck edgesCheck shapeCheck meshCheck claimCheck rowAt fieldCheck multipliersCheck ifPart partsCheck lowerLoad upperLoad openCount answer claimVerdict verdict
 computed = tt

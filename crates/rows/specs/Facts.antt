@@ -7,9 +7,10 @@ use lib.IntN.{ℤ, pos, _+ℤ_, _*ℤ_, negℤ}
 use lib.Signed.{_≤ℤ_}
 use lib.ListN.{length}
 use Rattle.rows.specs.Columns.{at, hasField, hasMultipliers, n, l}
+use Rattle.rows.specs.Layout.{entry}
 use Rattle.rows.specs.Claim.{ifThere, stress, multiplier}
 use Rattle.rows.specs.Sound.{PartsFit}
-use Rattle.rows.specs.Mesh.{nodes, elements, soils, edges, sides, p, q, h, cohesion, soilEntry, x, y, corner, elementSoil, edgeEntry, fromNode, toNode}
+use Rattle.rows.specs.Mesh.{meshGroups, nodes, elements, soils, edges, sides, p, q, h, cohesion, soilEntry, x, y, corner, elementSoil, edgeEntry, fromNode, toNode}
 
 -- z is from lo to hi
 pub record Between (lo hi z : ℤ) : Type 0 where
@@ -24,6 +25,7 @@ pub record Counts (m : List ℤ) : Type 0 where
   pub elementsMost : elements m ≤ 100
   pub soilsLeast : 1 ≤ soils m
   pub soilsMost : soils m ≤ 16
+  pub edgesLeast : pos 0 ≤ℤ at m 3
   pub edgesMost : edges m ≤ 60
   pub sidesListed : (sides m ≡ 12) ⊎ ((sides m ≡ 20) ⊎ (sides m ≡ 36))
 
@@ -41,13 +43,15 @@ pub record NodeFacts (m : List ℤ) (v : ℕ) : Type 0 where
   pub xRange : Between (pos 0) (pos 1000) (x m v)
   pub yRange : Between (pos 0) (pos 1000) (y m v)
 
--- element e
+-- element e: its numbers count from 1
 pub record ElementFacts (m : List ℤ) (e : ℕ) : Type 0 where
+  pub fromOne : (c : ℕ) → c < 5 → pos 1 ≤ℤ entry (meshGroups m) m 3 e c
   pub cornerThere : (i : ℕ) → i < 4 → corner m e i < nodes m
   pub soilThere : elementSoil m e < soils m
 
--- edge g
+-- edge g: its nodes count from 1
 pub record EdgeFacts (m : List ℤ) (g : ℕ) : Type 0 where
+  pub fromOne : (c : ℕ) → c < 2 → pos 1 ≤ℤ edgeEntry m g c
   pub fromThere : fromNode m g < nodes m
   pub toThere : toNode m g < nodes m
   pub fixedRange : Between (pos 1) (pos 3) (edgeEntry m g 2)

@@ -15,6 +15,8 @@ pub mod Sound
 pub mod Refusals
 pub mod Accepted
 pub mod Facts
+pub mod Contracts
+pub mod LineContracts
 pub mod PolygonRule
 pub mod Printed
 pub mod Meaning

@@ -59,13 +59,24 @@ outerEdge m g =
     && not (someBelow (hasSide m (toNode m g) (fromNode m g)) (elements m))
     && not (someBelow (λ k. eqb (fromNode m k) (fromNode m g) && eqb (toNode m k) (toNode m g)) g)
 
+-- 5, 6, 7, 8, each "lowest place first"
+unfoldable pub turnsCheck : List ℤ → Outcome
+turnsCheck m = lowest (λ e. demand (leftTurns m e) 5 (Element (suc e))) (elements m)
+
+unfoldable pub sidesCheck : List ℤ → Outcome
+sidesCheck m = lowest (λ e. demand (ownSides m e) 6 (Element (suc e))) (elements m)
+
+unfoldable pub nodesCheck : List ℤ → Outcome
+nodesCheck m = lowest (λ v. demand (inElement m v) 7 (Node (suc v))) (nodes m)
+
+unfoldable pub edgesCheck : List ℤ → Outcome
+edgesCheck m = lowest (λ g. demand (outerEdge m g) 8 (Line (suc (edgeLine m g)))) (edges m)
+
+unfoldable pub shapeCheck : List ℤ → Outcome
+shapeCheck m = turnsCheck m then sidesCheck m then nodesCheck m then edgesCheck m
+
 unfoldable pub meshCheck : List ℤ → Outcome
-meshCheck m =
-    linesCheck meshLayout m
-    then lowest (λ e. demand (leftTurns m e) 5 (Element (suc e))) (elements m)
-    then lowest (λ e. demand (ownSides m e) 6 (Element (suc e))) (elements m)
-    then lowest (λ v. demand (inElement m v) 7 (Node (suc v))) (nodes m)
-    then lowest (λ g. demand (outerEdge m g) 8 (Line (suc (edgeLine m g)))) (edges m)
+meshCheck m = linesCheck meshLayout m then shapeCheck m
 
 -- ---- the claim: 11 to 13 by its lines
 

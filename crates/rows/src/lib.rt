@@ -1,5 +1,15 @@
 // The check of numbers: document 01's rows and sums, and its verdict on the numbers of a mesh and of a claim.
 
+mod line_checks;
+mod mesh_checks;
+mod sizes;
+
+ghost use mathlib.Core.Path.{_≡_};
+ghost use Rattle.rows.specs.Verdict.{meshCheck};
+use crate::line_checks::mesh_lines;
+use crate::mesh_checks::mesh_shape;
+use crate::sizes::sizes_of;
+
 // "A place is a line, a row, a column, a node or an element", each counted from 1.
 pub enum Place {
     Line(u32),
@@ -38,4 +48,15 @@ pub enum Verdict {
         number: u32,
         place: Place,
     },
+}
+
+// What the numbers of a mesh are refused for, 1 to 8, or that they pass.
+pub fn judge_mesh(m: &[i64]) -> Outcome
+    ensures { λ r. ⌜ r ≡ meshCheck (now (m .entry)) ⌝ }
+{
+    let lines = mesh_lines(m);
+    if let Outcome::Refused { number: _, place: _ } = lines {
+        return lines;
+    }
+    mesh_shape(m, sizes_of(m))
 }

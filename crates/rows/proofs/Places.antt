@@ -1,0 +1,168 @@
+-- Where each number of a mesh stands in its list, and the bound that sound lines give it: by unfolding the layout.
+use mathlib.Core.Path.{_≡_, refl, sym, _∙_, ap, subst}
+use mathlib.Core.Logic.{_⊎_, inl, inr}
+use mathlib.Core.List.{List}
+use Prim.Native.Nat.{ℕ, zero, suc, _+_, _*_, _-_, _≤_, _<_}
+use native.Mathlib.Omega.{arith}
+use lib.IntN.{ℤ, pos, negsuc, natAbs, negℤ}
+use lib.ListN.{length}
+use lib.Signed.{_≤ℤ_}
+use Rattle.integer.specs.Bounds.{Within, bounds}
+use Rattle.integer.specs.Linear.{linear, facts, _&_, nothing}
+use Rattle.integer.specs.Machine.{Is}
+use Rattle.integer.specs.Order.{≤ℤ-pos}
+use Rattle.rows.specs.declared.sizes.Sizes.{Sizes}
+use Rattle.rows.specs.Columns.{at}
+use Rattle.rows.specs.Layout.{groups, numbersBefore, count, entry}
+use Rattle.rows.specs.Mesh.{meshHeader, soilLines, nodeLines, elementLines, edgeLines, meshLayout, meshGroups, nodes, elements, soils, edges, sides, p, q, h, cohesion, soilEntry, x, y, corner, elementSoil, edgeEntry, fromNode, toNode}
+use Rattle.rows.specs.Facts.{Between, MeshFacts, SoilFacts, EdgeFacts}
+use Rattle.rows.specs.Contracts.{Sized}
+
+-- ---- counts
+
+-- a number that is not negative is its count
+pub count-natAbs : {z : ℤ} → pos 0 ≤ℤ z → natAbs z ≡ count z
+unfolding count
+count-natAbs {z = pos n} l = refl
+count-natAbs {z = negsuc n} l = absurd (l .le)
+
+counted : (z : ℤ) → 0 < count z → pos 0 ≤ℤ z
+unfolding count
+counted (pos n) l = linear nothing (search facts depth 40) (omega arith)
+counted (negsuc n) l = absurd (omega arith)
+
+pub one-counted : {z : ℤ} → pos 1 ≤ℤ z → (pos 0 ≤ℤ z) × (1 ≤ count z)
+unfolding count
+one-counted {z = pos n} l = (linear nothing (search facts depth 40) (omega arith), ≤ℤ-pos l)
+one-counted {z = negsuc n} l = absurd (l .le)
+
+-- number k is there, and is at least a: 0 of a count, 1 of the number of a thing
+abbrev pub There : ℕ → List ℤ → ℕ → Type 0
+There a m k = (k < length m) × (pos a ≤ℤ at m k)
+
+module _ {m : List ℤ} (f : MeshFacts m) where
+  pub nodes-there : There 0 m 0
+  unfolding nodes
+  nodes-there = (omega arith, counted (at m 0) (omega arith))
+
+  pub elements-there : There 0 m 1
+  unfolding elements
+  elements-there = (omega arith, counted (at m 1) (omega arith))
+
+  pub soils-there : There 0 m 2
+  unfolding soils
+  soils-there = (omega arith, counted (at m 2) (omega arith))
+
+  pub edges-there : There 0 m 3
+  edges-there = (omega arith, f .counts .edgesLeast)
+
+  pub sides-there : There 0 m 4
+  unfolding sides
+  sides-there = (omega arith, counted (at m 4) (listed (f .counts .sidesListed)))
+    where
+      listed : (sides m ≡ 12) ⊎ ((sides m ≡ 20) ⊎ (sides m ≡ 36)) → 0 < count (at m 4)
+      listed (inl e) = omega arith
+      listed (inr (inl e)) = omega arith
+      listed (inr (inr e)) = omega arith
+
+  -- the sizes that are made of the counts
+  pub sized : {a b c d e : ℕ} → a ≡ count (at m 0) → b ≡ count (at m 1) → c ≡ count (at m 2) → d ≡ count (at m 3) → e ≡ count (at m 4) → Sized m (record { nodes = a; elements = b; soils = c; edges = d; sides = e; «nodes_from» = 5 + c * 8; «elements_from» = 5 + c * 8 + a * 2; «edges_from» = 5 + c * 8 + a * 2 + b * 5 })
+  unfolding nodes elements soils edges sides
+  sized ea eb ec ed ee = record {
+    facts = f;
+    nodesAre = ea;
+    elementsAre = eb;
+    soilsAre = ec;
+    edgesAre = ed;
+    sidesAre = ee;
+    nodesFrom = omega arith;
+    elementsFrom = omega arith;
+    edgesFrom = omega arith;
+  }
+
+-- ---- bounds
+
+-- from lo to hi, both at most B in size
+bounded : {lo hi z : ℤ} (B : ℕ) → negℤ (pos B) ≤ℤ lo → hi ≤ℤ pos B → Between lo hi z → Within B z
+bounded {lo} {hi} {z} B l u b =
+    let k : lo ≤ℤ z = b .least in
+    let j : z ≤ℤ hi = b .most in
+    linear (l & u & k & j) (search bounds depth 40) (omega arith)
+
+soil-bound : {m : List ℤ} {k : ℕ} → SoilFacts m k → (c : ℕ) → c < 8 → Within 10000 (soilEntry m k c)
+unfolding p q h cohesion
+soil-bound f zero l = bounded 10000 (record { le = tt }) (record { le = tt }) (f .pRange)
+soil-bound f (suc zero) l = bounded 10000 (record { le = tt }) (record { le = tt }) (f .qRange)
+soil-bound f (suc (suc zero)) l = bounded 10000 (record { le = tt }) (record { le = tt }) (f .hRange)
+soil-bound f (suc (suc (suc zero))) l = bounded 10000 (record { le = tt }) (record { le = tt }) (f .cohesionRange)
+soil-bound {m} {k} f (suc (suc (suc (suc c)))) l =
+    let e : 4 + c ≡ suc (suc (suc (suc c))) = omega arith in
+    subst (λ (i : ℕ). Within 10000 (soilEntry m k i)) e (bounded 10000 (record { le = tt }) (record { le = tt }) (f .forceRange c (omega arith)))
+
+edge-bound : {m : List ℤ} {g : ℕ} → EdgeFacts m g → (c : ℕ) → 2 ≤ c → c < 7 → Within 10000 (edgeEntry m g c)
+edge-bound f zero k l = absurd (omega arith)
+edge-bound f (suc zero) k l = absurd (omega arith)
+edge-bound f (suc (suc zero)) k l = bounded 10000 (record { le = tt }) (record { le = tt }) (f .fixedRange)
+edge-bound {m} {g} f (suc (suc (suc c))) k l =
+    let e : 3 + c ≡ suc (suc (suc c)) = omega arith in
+    subst (λ (i : ℕ). Within 10000 (edgeEntry m g i)) e (bounded 10000 (record { le = tt }) (record { le = tt }) (f .loadRange c (omega arith)))
+
+-- ---- where a group's numbers stand
+
+module _ {m : List ℤ} {s : Sizes} (k : Sized m s) where
+  soil-at : (i c : ℕ) → entry (meshGroups m) m 1 i c ≡ at m (5 + i * 8 + c)
+  unfolding entry numbersBefore meshGroups groups meshLayout meshHeader soilLines nodeLines elementLines edgeLines
+  soil-at i c = ap (at m) (omega arith)
+
+  node-at : (i c : ℕ) → entry (meshGroups m) m 2 i c ≡ at m (s .«nodes_from» + i * 2 + c)
+  unfolding entry numbersBefore meshGroups groups meshLayout meshHeader soilLines nodeLines elementLines edgeLines
+  node-at i c = ap (at m) (omega (arith, k .nodesFrom))
+
+  element-at : (i c : ℕ) → entry (meshGroups m) m 3 i c ≡ at m (s .«elements_from» + i * 5 + c)
+  unfolding entry numbersBefore meshGroups groups meshLayout meshHeader soilLines nodeLines elementLines edgeLines
+  element-at i c = ap (at m) (omega (arith, k .elementsFrom))
+
+  edge-at : (i c : ℕ) → entry (meshGroups m) m 4 i c ≡ at m (s .«edges_from» + i * 7 + c)
+  unfolding entry numbersBefore meshGroups groups meshLayout meshHeader soilLines nodeLines elementLines edgeLines
+  edge-at i c = ap (at m) (omega (arith, k .edgesFrom))
+
+  -- ---- what is read there
+
+  pub soil-read : {r : ℤ} {i c : ℕ} → i < soils m → c < 8 → r ≡ at m (5 + i * 8 + c) → Is r (soilEntry m i c) 10000
+  unfolding soilEntry
+  soil-read {i = i} {c = c} l j e = record { same = e ∙ sym (soil-at i c); inside = soil-bound (k .facts .soil i l) c j }
+
+  pub x-read : {r : ℤ} {v : ℕ} → v < nodes m → r ≡ at m (s .«nodes_from» + v * 2 + 0) → Is r (x m v) 1000
+  unfolding x
+  x-read {v = v} l e = record { same = e ∙ sym (node-at v 0); inside = bounded 1000 (record { le = tt }) (record { le = tt }) (k .facts .node v l .xRange) }
+
+  pub y-read : {r : ℤ} {v : ℕ} → v < nodes m → r ≡ at m (s .«nodes_from» + v * 2 + 1) → Is r (y m v) 1000
+  unfolding y
+  y-read {v = v} l e = record { same = e ∙ sym (node-at v 1); inside = bounded 1000 (record { le = tt }) (record { le = tt }) (k .facts .node v l .yRange) }
+
+  pub edge-read : {r : ℤ} {g c : ℕ} → g < edges m → 2 ≤ c → c < 7 → r ≡ at m (s .«edges_from» + g * 7 + c) → Is r (edgeEntry m g c) 10000
+  unfolding edgeEntry
+  edge-read {g = g} {c = c} l i j e = record { same = e ∙ sym (edge-at g c); inside = edge-bound (k .facts .edge g l) c i j }
+
+  pub element-there : {e c : ℕ} → e < elements m → c < 5 → There 1 m (s .«elements_from» + e * 5 + c)
+  element-there {e} {c} l i = (omega (arith, k), subst (λ (z : ℤ). pos 1 ≤ℤ z) (element-at e c) (k .facts .element e l .fromOne c i))
+
+  pub edge-there : {g c : ℕ} → g < edges m → c < 2 → There 1 m (s .«edges_from» + g * 7 + c)
+  unfolding edgeEntry
+  edge-there {g} {c} l i = (omega (arith, k), subst (λ (z : ℤ). pos 1 ≤ℤ z) (edge-at g c) (k .facts .edge g l .fromOne c i))
+
+  pub corner-read : {r : ℕ} (e i : ℕ) → r ≡ count (at m (s .«elements_from» + e * 5 + i)) - 1 → r ≡ corner m e i
+  unfolding corner
+  corner-read e i d = rw (element-at e i) d
+
+  pub element-soil-read : {r : ℕ} (e : ℕ) → r ≡ count (at m (s .«elements_from» + e * 5 + 4)) - 1 → r ≡ elementSoil m e
+  unfolding elementSoil
+  element-soil-read e d = rw (element-at e 4) d
+
+  pub from-read : {r : ℕ} (g : ℕ) → r ≡ count (at m (s .«edges_from» + g * 7 + 0)) - 1 → r ≡ fromNode m g
+  unfolding fromNode edgeEntry
+  from-read g d = rw (edge-at g 0) d
+
+  pub to-read : {r : ℕ} (g : ℕ) → r ≡ count (at m (s .«edges_from» + g * 7 + 1)) - 1 → r ≡ toNode m g
+  unfolding toNode edgeEntry
+  to-read g d = rw (edge-at g 1) d

@@ -1,0 +1,411 @@
+// The checks of the lines of a mesh and of a claim: refusals 1 to 4, and 11 to 13. They take any numbers, and any count of them.
+use crate::sizes::count_at;
+use crate::{Outcome, Place};
+ghost use mathlib.Core.Path.{_≡_};
+ghost use mathlib.Core.List.{List, [], _∷_};
+ghost use Prim.Native.Nat.{min, _/_, _<_, _≤_, _^_};
+ghost use lib.ListN.{length, take, drop};
+ghost use lib.IntN.{ℤ, pos, _+ℤ_, _*ℤ_};
+ghost use Rattle.integer.specs.Bounds.{Within};
+ghost use Rattle.integer.specs.Tests.{eqZ};
+ghost use Rattle.rows.specs.Columns.{between, within, isOneOf, allWithin, parts, ruleTest};
+ghost use Rattle.rows.specs.Layout.{Layout, lineCheck, lineAt, linesCheck};
+ghost use Rattle.rows.specs.Mesh.{meshLayout, soilLines, elementLines, edgeLines};
+ghost use Rattle.rows.specs.Claim.{claimHeader, claimLayout, ifThere};
+ghost use Rattle.rows.specs.LineContracts.{runWithin, ranges, AsMany, groupCheck, groupsCheck, groupOf, columnsOf, evenLines, FewLines, FewColumns, NumberedFrom, meshBody, MeshCounts, claimBody, ClaimCounts, CountsAre, SmallCounts};
+
+// The limits of a mesh's header before its sides, and of a claim's header.
+const MESH_LEAST: [i64; 4] = [4, 1, 1, 0];
+const MESH_MOST: [i64; 4] = [100, 100, 16, 60];
+const CLAIM_LEAST: [i64; 4] = [0, 0, 0, -100000000];
+const CLAIM_MOST: [i64; 4] = [1, 1, 100000, 100000000];
+
+// The limits of a soil's columns, and of an edge's after its two nodes.
+const SOIL_LEAST: [i64; 8] = [0, 1, 1, 0, -1000, -1000, -1000, -1000];
+const SOIL_MOST: [i64; 8] = [1000, 1000, 1000, 10000, 1000, 1000, 1000, 1000];
+const EDGE_LEAST: [i64; 5] = [1, -10000, -10000, -10000, -10000];
+const EDGE_MOST: [i64; 5] = [3, 10000, 10000, 10000, 10000];
+
+// z is from lo to hi.
+fn is_within(z: i64, lo: i64, hi: i64) -> bool
+    ensures { λ r. ⌜ r ≡ within (between lo hi) z ⌝ }
+{
+    if z < lo {
+        return false;
+    }
+    z <= hi
+}
+
+// How many numbers at the front of a list are from lo to hi.
+fn run_within(s: &[i64], lo: i64, hi: i64) -> usize
+    ensures { λ r. ⌜ r ≡ runWithin (between lo hi) (now (s .entry)) ⌝ }
+{
+    let mut k: usize = 0;
+    while k < s.len() {
+        if !is_within(s[k], lo, hi) {
+            return k;
+        }
+        k += 1;
+    }
+    k
+}
+
+// Number k of a list is from number k of lo to number k of hi, for each k.
+fn limits_hold(s: &[i64], lo: &[i64], hi: &[i64]) -> bool
+    requires { ⌜ AsMany (now lo) (now hi) (now s) ⌝ }
+    ensures { λ r. ⌜ r ≡ allWithin (ranges (now (lo .entry)) (now (hi .entry))) (now (s .entry)) ⌝ }
+{
+    let mut k: usize = 0;
+    while k < s.len() {
+        if !is_within(s[k], lo[k], hi[k]) {
+            return false;
+        }
+        k += 1;
+    }
+    true
+}
+
+// A refusal at a line.
+fn refused(number: u32, line: usize) -> Outcome
+    requires { ⌜ line < 2 ^ 32 ⌝ }
+    ensures { λ r. ⌜ r ≡ Outcome.Refused number (Place.Line line) ⌝ }
+{
+    Outcome::Refused {
+        number,
+        place: Place::Line(line as u32),
+    }
+}
+
+// p² + q² is h².
+fn right_angle(p: i64, q: i64, h: i64) -> bool
+    requires { ⌜ Within 1000 p ⌝ ∗ ⌜ Within 1000 q ⌝ ∗ ⌜ Within 1000 h ⌝ }
+    ensures { λ r. ⌜ r ≡ eqZ (p *ℤ p +ℤ q *ℤ q) (h *ℤ h) ⌝ }
+{
+    p * p + q * q == h * h
+}
+
+// The soil that stands at the front of a list.
+fn soil_line(s: &[i64], line: usize) -> Outcome
+    requires { ⌜ line < 2 ^ 32 ⌝ }
+    ensures { λ r. ⌜ r ≡ lineCheck meshLayout (soilLines 0) (take 8 (now (s .entry))) (Place.Line line) ⌝ }
+{
+    if s.len() < 8 {
+        return refused(1, line);
+    }
+    if !limits_hold(&s[0..8], &SOIL_LEAST, &SOIL_MOST) {
+        return refused(2, line);
+    }
+    if !right_angle(s[0], s[1], s[2]) {
+        return refused(3, line);
+    }
+    Outcome::Passed
+}
+
+// The element that stands at the front of a list.
+fn element_line(s: &[i64], nodes: usize, soils: usize, line: usize) -> Outcome
+    requires { ⌜ nodes ≤ 100 ⌝ ∗ ⌜ soils ≤ 100 ⌝ ∗ ⌜ line < 2 ^ 32 ⌝ }
+    ensures { λ r. ⌜ r ≡ lineCheck meshLayout (elementLines 0 nodes soils) (take 5 (now (s .entry))) (Place.Line line) ⌝ }
+{
+    if s.len() < 5 {
+        return refused(1, line);
+    }
+    let n = nodes as i64;
+    let most = [n, n, n, n, soils as i64];
+    if !limits_hold(&s[0..5], &[1; 5], &most) {
+        return refused(4, line);
+    }
+    Outcome::Passed
+}
+
+// The edge that stands at the front of a list.
+fn edge_line(s: &[i64], nodes: usize, line: usize) -> Outcome
+    requires { ⌜ nodes ≤ 100 ⌝ ∗ ⌜ line < 2 ^ 32 ⌝ }
+    ensures { λ r. ⌜ r ≡ lineCheck meshLayout (edgeLines 0 nodes) (take 7 (now (s .entry))) (Place.Line line) ⌝ }
+{
+    if s.len() < 7 {
+        return refused(1, line);
+    }
+    if !limits_hold(&s[2..7], &EDGE_LEAST, &EDGE_MOST) {
+        return refused(2, line);
+    }
+    let n = nodes as i64;
+    if !limits_hold(&s[0..2], &[1; 2], &[n; 2]) {
+        return refused(4, line);
+    }
+    Outcome::Passed
+}
+
+// The lines of a mesh that have rules of their own.
+enum LineKind {
+    Soil,
+    Element,
+    Edge,
+}
+
+// How many columns a line has.
+fn columns_of(kind: LineKind) -> usize
+    ensures { λ r. ⌜ r ≡ columnsOf kind ⌝ }
+{
+    match kind {
+        LineKind::Soil => 8,
+        LineKind::Element => 5,
+        LineKind::Edge => 7,
+    }
+}
+
+// The line that stands at the front of a list.
+fn line_check(kind: LineKind, s: &[i64], nodes: usize, soils: usize, line: usize) -> Outcome
+    requires { ⌜ nodes ≤ 100 ⌝ ∗ ⌜ soils ≤ 100 ⌝ ∗ ⌜ line < 2 ^ 32 ⌝ }
+    ensures { λ r. ⌜ r ≡ lineCheck meshLayout (groupOf kind 0 nodes soils) (take (columnsOf kind) (now (s .entry))) (Place.Line line) ⌝ }
+{
+    match kind {
+        LineKind::Soil => soil_line(s, line),
+        LineKind::Element => element_line(s, nodes, soils, line),
+        LineKind::Edge => edge_line(s, nodes, line),
+    }
+}
+
+// The lines of one kind that stand at the front of a list.
+fn group_check(
+    kind: LineKind,
+    s: &[i64],
+    count: usize,
+    nodes: usize,
+    soils: usize,
+    line: usize,
+) -> Outcome
+    requires { ⌜ FewLines count nodes soils line ⌝ }
+    ensures { λ r. ⌜ r ≡ groupCheck meshLayout (groupOf kind count nodes soils) (now (s .entry)) line ⌝ }
+{
+    let columns = columns_of(kind);
+    let mut k: usize = 0;
+    let mut at: usize = 0;
+    while k < count {
+        let o = line_check(kind, &s[at..], nodes, soils, line + k);
+        if let Outcome::Refused { number: _, place: _ } = o {
+            return o;
+        }
+        k += 1;
+        at += columns;
+    }
+    Outcome::Passed
+}
+
+// How many lines of some columns a number of numbers has, but at most count.
+fn whole_lines(numbers: usize, columns: usize, count: usize) -> usize
+    requires { ⌜ 0 < columns ⌝ }
+    ensures { λ r. ⌜ r ≡ min (numbers / columns) count ⌝ }
+{
+    let whole = numbers / columns;
+    if whole < count {
+        return whole;
+    }
+    count
+}
+
+// The lines that stand at the front of a list, where every column has the limits lo and hi: the numbers of the whole lines are looked at in one go.
+fn even_check(
+    s: &[i64],
+    count: usize,
+    columns: usize,
+    lo: i64,
+    hi: i64,
+    form: u32,
+    line: usize,
+) -> Outcome
+    requires { ⌜ FewColumns count columns form line ⌝ }
+    ensures { λ r. ⌜ ((f : Layout) → NumberedFrom f form → r ≡ groupCheck f (evenLines count columns (between lo hi)) (now (s .entry)) line) ⌝ }
+{
+    let whole = whole_lines(s.len(), columns, count);
+    let end = whole * columns;
+    let run = run_within(&s[..end], lo, hi);
+    if run < end {
+        return refused(form + 1, line + run / columns);
+    }
+    if whole < count {
+        return refused(form, line + whole);
+    }
+    Outcome::Passed
+}
+
+// What stands after the first numbers of a list.
+fn rest(s: &[i64], from: usize) -> &[i64]
+    requires { ⌜ from ≤ length (now s) ⌝ }
+    ensures { λ r. ⌜ now r ≡ drop from (now (s .entry)) ⌝ }
+{
+    &s[from..]
+}
+
+// The number of sides is one of those that a polygon has.
+fn is_sides(z: i64) -> bool
+    ensures { λ r. ⌜ r ≡ isOneOf (pos 12 ∷ pos 20 ∷ pos 36 ∷ []) z ⌝ }
+{
+    if z == 12 {
+        return true;
+    }
+    if z == 20 {
+        return true;
+    }
+    z == 36
+}
+
+// The header of a mesh.
+pub fn mesh_header(m: &[i64]) -> Outcome
+    ensures { λ r. ⌜ r ≡ lineAt meshLayout (now (m .entry)) 0 ⌝ }
+{
+    if m.len() < 5 {
+        return refused(1, 1);
+    }
+    if !limits_hold(&m[0..4], &MESH_LEAST, &MESH_MOST) {
+        return refused(2, 1);
+    }
+    if !is_sides(m[4]) {
+        return refused(2, 1);
+    }
+    Outcome::Passed
+}
+
+// A claim has a part; with a field n is not 0, and without one n and l are 0.
+fn parts_fit(field: i64, multipliers: i64, n: i64, l: i64) -> bool
+    ensures { λ r. ⌜ r ≡ ruleTest parts (field ∷ multipliers ∷ n ∷ l ∷ []) ⌝ }
+{
+    if field == 1 {
+        return n != 0;
+    }
+    if multipliers != 1 {
+        return false;
+    }
+    if n != 0 {
+        return false;
+    }
+    l == 0
+}
+
+// The header of a claim.
+pub fn claim_header(c: &[i64]) -> Outcome
+    ensures { λ r. ⌜ r ≡ lineCheck (claimLayout []) claimHeader (take 4 (now (c .entry))) (Place.Line 1) ⌝ }
+{
+    if c.len() < 4 {
+        return refused(11, 1);
+    }
+    if !limits_hold(&c[0..4], &CLAIM_LEAST, &CLAIM_MOST) {
+        return refused(12, 1);
+    }
+    if !parts_fit(c[0], c[1], c[2], c[3]) {
+        return refused(13, 1);
+    }
+    Outcome::Passed
+}
+
+// The lines of a mesh after its header.
+fn mesh_groups(s: &[i64], nodes: usize, elements: usize, soils: usize, edges: usize) -> Outcome
+    requires { ⌜ MeshCounts nodes elements soils edges ⌝ }
+    ensures { λ r. ⌜ r ≡ groupsCheck meshLayout (meshBody nodes elements soils edges) (now (s .entry)) 2 ⌝ }
+{
+    let of_soils = group_check(LineKind::Soil, s, soils, nodes, soils, 2);
+    if let Outcome::Refused { number: _, place: _ } = of_soils {
+        return of_soils;
+    }
+    let t = rest(s, soils * 8);
+    let of_nodes = even_check(t, nodes, 2, 0, 1000, 1, 2 + soils);
+    if let Outcome::Refused { number: _, place: _ } = of_nodes {
+        return of_nodes;
+    }
+    let u = rest(t, nodes * 2);
+    let of_elements = group_check(LineKind::Element, u, elements, nodes, soils, 2 + soils + nodes);
+    if let Outcome::Refused { number: _, place: _ } = of_elements {
+        return of_elements;
+    }
+    let v = rest(u, elements * 5);
+    let of_edges = group_check(LineKind::Edge, v, edges, nodes, soils, 2 + soils + nodes + elements);
+    if let Outcome::Refused { number: _, place: _ } = of_edges {
+        return of_edges;
+    }
+    if edges * 7 < v.len() {
+        return refused(1, 2 + soils + nodes + elements + edges);
+    }
+    Outcome::Passed
+}
+
+// The lines of a mesh: refusals 1 to 4.
+pub fn mesh_lines(m: &[i64]) -> Outcome
+    ensures { λ r. ⌜ r ≡ linesCheck meshLayout (now (m .entry)) ⌝ }
+{
+    let header = mesh_header(m);
+    if let Outcome::Refused { number: _, place: _ } = header {
+        return header;
+    }
+    let nodes = count_at(m, 0);
+    let elements = count_at(m, 1);
+    let soils = count_at(m, 2);
+    let edges = count_at(m, 3);
+    mesh_groups(rest(m, 5), nodes, elements, soils, edges)
+}
+
+// The lines of a claim after its header.
+fn claim_groups(
+    s: &[i64],
+    field: usize,
+    elements: usize,
+    edges: usize,
+    nodes: usize,
+    sides: usize,
+) -> Outcome
+    requires { ⌜ ClaimCounts field elements edges nodes sides ⌝ }
+    ensures { λ r. ⌜ r ≡ groupsCheck (claimLayout []) (claimBody field elements edges nodes sides) (now (s .entry)) 2 ⌝ }
+{
+    let of_field = even_check(s, field, 3, -1000000000, 1000000000, 11, 2);
+    if let Outcome::Refused { number: _, place: _ } = of_field {
+        return of_field;
+    }
+    let t = rest(s, field * 3);
+    let of_elements = even_check(t, elements, 2, -100000, 100000, 11, 2 + field);
+    if let Outcome::Refused { number: _, place: _ } = of_elements {
+        return of_elements;
+    }
+    let u = rest(t, elements * 2);
+    let of_edges = even_check(u, edges, 4, -100000, 100000, 11, 2 + field + elements);
+    if let Outcome::Refused { number: _, place: _ } = of_edges {
+        return of_edges;
+    }
+    let v = rest(u, edges * 4);
+    let of_nodes = even_check(v, nodes, sides, 0, 10000, 11, 2 + field + elements + edges);
+    if let Outcome::Refused { number: _, place: _ } = of_nodes {
+        return of_nodes;
+    }
+    if nodes * sides < v.len() {
+        return refused(11, 2 + field + elements + edges + nodes);
+    }
+    Outcome::Passed
+}
+
+// k where the part is there.
+fn if_there(flag: i64, k: usize) -> usize
+    ensures { λ r. ⌜ r ≡ ifThere (eqZ flag (pos 1)) k ⌝ }
+{
+    if flag == 1 {
+        return k;
+    }
+    0
+}
+
+// The lines of a claim on a mesh with these counts: refusals 11 to 13.
+pub fn claim_lines(c: &[i64], nodes: usize, elements: usize, edges: usize, sides: usize) -> Outcome
+    requires { ⌜ SmallCounts nodes elements edges sides ⌝ }
+    ensures { λ r. ⌜ ((m : List ℤ) → CountsAre m nodes elements edges sides → r ≡ linesCheck (claimLayout m) (now (c .entry))) ⌝ }
+{
+    let header = claim_header(c);
+    if let Outcome::Refused { number: _, place: _ } = header {
+        return header;
+    }
+    let field = c[0];
+    let multipliers = c[1];
+    claim_groups(
+        rest(c, 4),
+        if_there(field, nodes),
+        if_there(multipliers, elements),
+        if_there(multipliers, edges),
+        if_there(multipliers, nodes),
+        sides,
+    )
+}

@@ -1,0 +1,142 @@
+// The counts of a mesh whose lines have passed, where its groups begin, and its numbers by what they are.
+ghost use mathlib.Core.Path.{_≡_};
+ghost use Prim.Native.Nat.{_+_, _*_, _-_, _<_, _≤_};
+ghost use lib.IntN.{pos};
+ghost use lib.Signed.{_≤ℤ_};
+ghost use lib.ListN.{length};
+ghost use Rattle.integer.specs.Machine.{Is};
+ghost use Rattle.rows.specs.Columns.{at};
+ghost use Rattle.rows.specs.Layout.{count};
+ghost use Rattle.rows.specs.Mesh.{nodes, elements, soils, edges, x, y, corner, elementSoil, soilEntry, edgeEntry, fromNode, toNode};
+ghost use Rattle.rows.specs.Facts.{MeshFacts};
+ghost use Rattle.rows.specs.Contracts.{Sized};
+
+// The counts of the header, and the place of the first number of the nodes, of the elements and of the edges.
+pub struct Sizes {
+    pub nodes: usize,
+    pub elements: usize,
+    pub soils: usize,
+    pub edges: usize,
+    pub sides: usize,
+    pub nodes_from: usize,
+    pub elements_from: usize,
+    pub edges_from: usize,
+}
+
+// Number k of a list.
+pub fn number_at(ns: &[i64], k: usize) -> i64
+    requires { ⌜ k < length (now ns) ⌝ }
+    ensures { λ r. ⌜ r ≡ at (now (ns .entry)) k ⌝ }
+{
+    ns[k]
+}
+
+// Number k of a list, where it is a count.
+pub fn count_at(ns: &[i64], k: usize) -> usize
+    requires { ⌜ (k < length (now ns)) × (pos 0 ≤ℤ at (now ns) k) ⌝ }
+    ensures { λ r. ⌜ r ≡ count (at (now (ns .entry)) k) ⌝ }
+{
+    ns[k] as usize
+}
+
+// The sizes of a mesh: requires what a passed check of its lines shows.
+pub fn sizes_of(m: &[i64]) -> Sizes
+    requires { ⌜ MeshFacts (now m) ⌝ }
+    ensures { λ r. ⌜ Sized (now (m .entry)) r ⌝ }
+{
+    let nodes = count_at(m, 0);
+    let elements = count_at(m, 1);
+    let soils = count_at(m, 2);
+    let edges = count_at(m, 3);
+    let sides = count_at(m, 4);
+    let nodes_from = 5 + soils * 8;
+    let elements_from = nodes_from + nodes * 2;
+    let edges_from = elements_from + elements * 5;
+    Sizes {
+        nodes,
+        elements,
+        soils,
+        edges,
+        sides,
+        nodes_from,
+        elements_from,
+        edges_from,
+    }
+}
+
+// Column c of line i of a group with this width, whose first number has the place `from`.
+fn number_in(m: &[i64], from: usize, i: usize, width: usize, c: usize) -> i64
+    requires { ⌜ from + i * width + c < length (now m) ⌝ }
+    ensures { λ r. ⌜ r ≡ at (now (m .entry)) (from + i * width + c) ⌝ }
+{
+    number_at(m, from + i * width + c)
+}
+
+// The same, where it is the number of a thing: things are counted from 1 there, and from 0 here.
+fn thing_in(m: &[i64], from: usize, i: usize, width: usize, c: usize) -> usize
+    requires { ⌜ (from + i * width + c < length (now m)) × (pos 1 ≤ℤ at (now m) (from + i * width + c)) ⌝ }
+    ensures { λ r. ⌜ r ≡ count (at (now (m .entry)) (from + i * width + c)) - 1 ⌝ }
+{
+    count_at(m, from + i * width + c) - 1
+}
+
+// The coordinates of node v.
+pub fn node_x(m: &[i64], s: Sizes, v: usize) -> i64
+    requires { ⌜ Sized (now m) s × (v < nodes (now m)) ⌝ }
+    ensures { λ r. ⌜ Is r (x (now (m .entry)) v) 1000 ⌝ }
+{
+    number_in(m, s.nodes_from, v, 2, 0)
+}
+
+pub fn node_y(m: &[i64], s: Sizes, v: usize) -> i64
+    requires { ⌜ Sized (now m) s × (v < nodes (now m)) ⌝ }
+    ensures { λ r. ⌜ Is r (y (now (m .entry)) v) 1000 ⌝ }
+{
+    number_in(m, s.nodes_from, v, 2, 1)
+}
+
+// The node at corner i of element e, and the element's soil.
+pub fn corner_of(m: &[i64], s: Sizes, e: usize, i: usize) -> usize
+    requires { ⌜ Sized (now m) s × (e < elements (now m)) × (i < 4) ⌝ }
+    ensures { λ r. ⌜ r ≡ corner (now (m .entry)) e i ⌝ }
+{
+    thing_in(m, s.elements_from, e, 5, i)
+}
+
+pub fn element_soil(m: &[i64], s: Sizes, e: usize) -> usize
+    requires { ⌜ Sized (now m) s × (e < elements (now m)) ⌝ }
+    ensures { λ r. ⌜ r ≡ elementSoil (now (m .entry)) e ⌝ }
+{
+    thing_in(m, s.elements_from, e, 5, 4)
+}
+
+// Column c of a soil: p, q, h, cohesion, dead force x and y, live force x and y.
+pub fn soil_entry(m: &[i64], s: Sizes, soil: usize, c: usize) -> i64
+    requires { ⌜ Sized (now m) s × (soil < soils (now m)) × (c < 8) ⌝ }
+    ensures { λ r. ⌜ Is r (soilEntry (now (m .entry)) soil c) 10000 ⌝ }
+{
+    number_in(m, 5, soil, 8, c)
+}
+
+// Column c of edge g, from what is fixed on: what is fixed, dead normal, dead shear, live normal, live shear.
+pub fn edge_entry(m: &[i64], s: Sizes, g: usize, c: usize) -> i64
+    requires { ⌜ Sized (now m) s × (g < edges (now m)) × (2 ≤ c) × (c < 7) ⌝ }
+    ensures { λ r. ⌜ Is r (edgeEntry (now (m .entry)) g c) 10000 ⌝ }
+{
+    number_in(m, s.edges_from, g, 7, c)
+}
+
+// The nodes of edge g.
+pub fn edge_from(m: &[i64], s: Sizes, g: usize) -> usize
+    requires { ⌜ Sized (now m) s × (g < edges (now m)) ⌝ }
+    ensures { λ r. ⌜ r ≡ fromNode (now (m .entry)) g ⌝ }
+{
+    thing_in(m, s.edges_from, g, 7, 0)
+}
+
+pub fn edge_to(m: &[i64], s: Sizes, g: usize) -> usize
+    requires { ⌜ Sized (now m) s × (g < edges (now m)) ⌝ }
+    ensures { λ r. ⌜ r ≡ toNode (now (m .entry)) g ⌝ }
+{
+    thing_in(m, s.edges_from, g, 7, 1)
+}
