@@ -48,7 +48,7 @@ pub is-true : (b : Bool) → T b → b ≡ true
 is-true true t = refl
 is-true false t = absurd t
 
-is-false : (b : Bool) → T (not b) → b ≡ false
+pub is-false : (b : Bool) → T (not b) → b ≡ false
 is-false true t = absurd t
 is-false false t = refl
 

@@ -90,9 +90,6 @@ pub record Passes (o : Outcome) (A : Type 0) : Type 0 where
   pub says : o ≡ Passed → A
   pub passed : A → o ≡ Passed
 
-pub passes-iff : {o : Outcome} {A : Type 0} → Passes o A → (o ≡ Passed) ↔ A
-passes-iff h = (h .says, h .passed)
-
 pub put-as : {o : Outcome} {A B : Type 0} → Passes o A → (A → B) → (B → A) → Passes o B
 put-as h f g = record { says = λ e. f (h .says e); passed = λ b. h .passed (g b) }
 
@@ -115,9 +112,6 @@ at-each {f} h n = record {
 pub record Refuses (o : Outcome) (R : ℕ → Place → Type 0) : Type 0 where
   pub why : (c : ℕ) (p : Place) → o ≡ Refused c p → R c p
   pub refused : (c : ℕ) (p : Place) → R c p → o ≡ Refused c p
-
-pub refuses-iff : {o : Outcome} {R : ℕ → Place → Type 0} → Refuses o R → (c : ℕ) (p : Place) → (o ≡ Refused c p) ↔ R c p
-refuses-iff h c p = (h .why c p, h .refused c p)
 
 pub told-as : {o : Outcome} {R S : ℕ → Place → Type 0} → Refuses o R → ((c : ℕ) (p : Place) → R c p → S c p) → ((c : ℕ) (p : Place) → S c p → R c p) → Refuses o S
 told-as h f g = record { why = λ c p e. f c p (h .why c p e); refused = λ c p s. h .refused c p (g c p s) }

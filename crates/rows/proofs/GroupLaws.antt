@@ -1,36 +1,99 @@
--- Laws of groups of lines: a file's check is that of its groups one after another, by induction on the groups; a group whose columns have one limit is looked at in one go.
+-- Laws of groups of lines: the lines of a group one after another, and a file's check as that of its groups one after another, by induction on the groups.
 use mathlib.Core.Path.{_≡_, refl, sym, _∙_, ap, ap₂, subst}
-use mathlib.Core.Bool.{Bool, true, false, cond, _&&_}
+use mathlib.Core.Logic.{_⊎_, inl, inr}
+use mathlib.Core.Bool.{Bool, true, false}
 use mathlib.Core.List.{List, [], _∷_}
-use Prim.Native.Nat.{ℕ, zero, suc, _+_, _*_, _-_, _/_, _%_, _<_, _≤_, min}
-use native.Mathlib.Nat.{add-assoc, add-zero, zero-add, zero-mul, suc-mul, mul-le-mul, mul-le-mul-right, mod-lt, div-add-mod', le-div-iff-mul-le, div-lt-iff-lt-mul, lt-div-mul-add}
-use native.Mathlib.Numerals.{one-add}
+use Prim.Native.Nat.{ℕ, zero, suc, _+_, _*_, _-_, _<_, _≤_}
+use native.Mathlib.Nat.{add-assoc, add-zero, zero-add, zero-mul, suc-mul, add-mul}
+use native.Mathlib.Numerals.{add-one, one-add}
 use native.Mathlib.Decide.{decLt}
 use native.Mathlib.Omega.{arith}
 use lib.IntN.{ℤ, pos, negsuc}
 use lib.Signed.{_≤ℤ_}
-use lib.Dec.{T, leb, eqb}
-use lib.ListN.{length, getD, take, drop, replicate, length-take, length-drop, length-replicate}
-use lib.Seq.{drop-drop, getD-take, getD-drop}
+use lib.Dec.{T, leb}
+use lib.ListN.{length, take, drop, length-take, length-drop}
+use lib.Seq.{take-all, drop-drop}
 use mir.Syntax.{w64}
 use mir.Val.{SFits}
 use mir.Facts.{toZ-ofZ}
-use borrow.Author.Tests.{le-leb, lt-leb, eq-eqb, ne-eqb}
+use borrow.Author.Tests.{le-leb, lt-leb}
+use Rattle.integer.specs.Order.{nonneg}
+use Rattle.integer.specs.Tests.{eqZ, no-eqZ}
 use Rattle.rows.specs.declared.Place.{Place}
 use Rattle.rows.specs.declared.Place.the-variants.{Line}
 use Rattle.rows.specs.declared.Outcome.{Outcome}
 use Rattle.rows.specs.declared.Outcome.the-variants.{Passed, Refused}
+use Rattle.rows.specs.declared.line_checks.LineKind.{LineKind}
+use Rattle.rows.specs.declared.line_checks.LineKind.the-variants.{Soil, Element, Edge}
 use Rattle.rows.specs.Checks.{demand, _then_, lowest}
-use Rattle.integer.specs.Order.{nonneg}
-use Rattle.integer.specs.Tests.{eqZ, no-eqZ}
-use Rattle.rows.specs.Columns.{Limit, between, within, allWithin, at, hasField, hasMultipliers}
-use Rattle.rows.specs.Layout.{Group, Layout, Placed, width, groups, lineCount, numberCount, lineOf, lineNumbers, rulesHold, lineCheck, lineAt, linesCheck, count}
-use Rattle.rows.specs.Mesh.{meshHeader, meshLayout, nodes, elements, soils, edges, sides}
+use Rattle.rows.specs.Columns.{between, within, allWithin, at, hasField, hasMultipliers}
+use Rattle.rows.specs.Layout.{Group, Layout, Placed, width, groups, lineCount, numberCount, lineOf, lineNumbers, lineCheck, lineAt, linesCheck, count}
+use Rattle.rows.specs.Mesh.{meshHeader, meshLayout, soilLines, elementLines, edgeLines, nodes, elements, soils, edges, sides}
 use Rattle.rows.specs.Claim.{claimHeader, claimLayout, ifThere}
-use Rattle.rows.specs.LineContracts.{runWithin, groupCheck, groupsCheck, evenLines, NumberedFrom, meshBody, MeshCounts, claimBody, CountsAre}
-use Rattle.rows.proofs.Checks.{then-assoc, then-Passed, lowest-all, all-lowest, lowest-add, lowest-cong, first-refused}
+use Rattle.rows.specs.Facts.{Counts}
+use Rattle.rows.specs.LineContracts.{groupCheck, groupsCheck, groupOf, columnsOf, meshBody, MeshCounts, claimBody, CountsAre, SmallCounts}
+use Rattle.rows.proofs.Checks.{then-assoc, lowest-all, lowest-add, lowest-cong, first-refused}
 use Rattle.rows.proofs.Lines.{line-here, line-after}
-use Rattle.rows.proofs.LineLaws.{is-false, both-true, small, read, read-limit, lineStep, passed-whole, passed-within, mesh-header-line}
+use Rattle.rows.proofs.ClaimFacts.{is-false}
+use Rattle.rows.proofs.LineLaws.{both-true, small, read, passed-whole, passed-within, mesh-header-line}
+
+-- ---- the lines of a group, one after another
+
+-- line k of the lines of a group at the front of a list
+abbrev pub lineStep : Layout → Group → List ℤ → ℕ → ℕ → Outcome
+lineStep f g s line k = lineCheck f g (take (width g) (drop (k * width g) s)) (Line (line + k))
+
+-- the first k of n lines have passed, and the next one begins at number `at`
+pub record LinesTo (f : Layout) (g : Group) (s : List ℤ) (line n k at : ℕ) : Type 0 where
+  pub count : k ≤ n
+  pub place : at ≡ k * width g
+  pub there : at ≤ length s
+  pub passed : lowest (lineStep f g s line) k ≡ Passed
+
+pub lines-start : (f : Layout) (g : Group) (s : List ℤ) (line n : ℕ) → LinesTo f g s line n 0 0
+unfolding lowest
+lines-start f g s line n = record { count = omega arith; place = omega arith; there = omega arith; passed = refl }
+
+-- o is what the check of line k says, which begins at number `at` and has w columns
+module _ {f : Layout} {g : Group} {s : List ℤ} {line n k at : ℕ} (h : LinesTo f g s line n k at) (l : k < n) (w : ℕ) (wide : w ≡ width g) {o : Outcome} (e : o ≡ lineCheck f g (take w (take (length s - at) (drop at s))) (Line (line + k))) where
+  step : o ≡ lineStep f g s line k
+  step = e ∙ rw (wide, take-all (length s - at) (drop at s) (omega (arith, length-drop at s)), h .place)
+
+  pub lines-go-on : o ≡ Passed → LinesTo f g s line n (k + 1) (at + w)
+  unfolding lowest
+  lines-go-on d =
+      let passed : lineStep f g s line k ≡ Passed = sym step ∙ d in
+      record {
+        count = omega arith;
+        place = omega (arith, add-mul k 1 (width g), h .place, wide);
+        there = omega (arith, simp (length-take, length-drop) at (passed-whole f g _ _ passed), h .place, h .there, wide);
+        passed = rw add-one (rw (h .passed) passed);
+      }
+
+  pub lines-refused : (c : ℕ) (p : Place) → o ≡ Refused c p → o ≡ lowest (lineStep f g s line) n
+  lines-refused c p d = d ∙ sym (first-refused (lineStep f g s line) n c p k (l, lowest-all (lineStep f g s line) k (h .passed), sym step ∙ d))
+
+pub lines-done : {f : Layout} {g : Group} {s : List ℤ} {line n k at : ℕ} → LinesTo f g s line n k at → n ≤ k → Passed ≡ lowest (lineStep f g s line) n
+lines-done {f} {g} {s} {line} h l = sym (subst (λ (j : ℕ). lowest (lineStep f g s line) j ≡ Passed) (omega (arith, h .count)) (h .passed))
+
+-- ---- the lines of a mesh that have rules of their own
+
+pub columns-are : (kind : LineKind) (ns ss : ℕ) → columnsOf kind ≡ width (groupOf kind 0 ns ss)
+unfolding groupOf soilLines elementLines edgeLines
+columns-are Soil ns ss = refl
+columns-are Element ns ss = refl
+columns-are Edge ns ss = refl
+
+pub few-columns : (kind : LineKind) → columnsOf kind ≤ 8
+few-columns Soil = omega arith
+few-columns Element = omega arith
+few-columns Edge = omega arith
+
+pub kind-group : (kind : LineKind) (n ns ss : ℕ) (s : List ℤ) (line : ℕ) → lowest (lineStep meshLayout (groupOf kind 0 ns ss) s line) n ≡ groupCheck meshLayout (groupOf kind n ns ss) s line
+unfolding groupOf groupCheck lineCheck soilLines elementLines edgeLines
+kind-group Soil n ns ss s line = refl
+kind-group Element n ns ss s line = refl
+kind-group Edge n ns ss s line = refl
 
 -- ---- a file by its groups
 
@@ -74,7 +137,7 @@ by-groups f (g ∷ gs) ns from line =
     ∙ by-groups f gs ns (from + g .lines * width g) (line + g .lines)
     ∙ ap (λ (s : List ℤ). groupsCheck f gs s (line + g .lines)) (sym (drop-drop (g .lines * width g) from ns)))
 
-pub lines-by-groups : (f : Layout) (ns : List ℤ) → linesCheck f ns ≡ groupsCheck f (groups f ns) ns 1
+lines-by-groups : (f : Layout) (ns : List ℤ) → linesCheck f ns ≡ groupsCheck f (groups f ns) ns 1
 unfolding linesCheck lineAt
 lines-by-groups f ns =
     let gs : List Group = groups f ns in
@@ -101,6 +164,10 @@ module _ {all : Outcome} {f : Layout} {g : Group} {gs : List Group} {s : List �
   pub pass-on : o ≡ Passed → {t : List ℤ} → t ≡ drop (g .lines * width g) s → Reached all f gs t (line + g .lines)
   unfolding groupsCheck
   pass-on d q = record { same = h .same ∙ rw (sym e ∙ d, q) }
+
+  -- r is what the check of the groups after it says
+  pub go-on : o ≡ Passed → {t : List ℤ} → t ≡ drop (g .lines * width g) s → (hs : List Group) → hs ≡ gs → {r : Outcome} → r ≡ groupsCheck f hs t (line + g .lines) → r ≡ all
+  go-on d {t} q hs i e = e ∙ ap (λ (ks : List Group). groupsCheck f ks t (line + g .lines)) i ∙ sym (pass-on d q .same)
 
   -- the numbers of a group that has passed are there
   pub passed-there : 0 < width g → o ≡ Passed → g .lines * width g ≤ length s
@@ -129,142 +196,6 @@ module _ {all : Outcome} {f : Layout} {g : Group} {s : List ℤ} {line : ℕ} (h
   nothing-left l =
       let t : List ℤ = drop (g .lines * width g) s in
       sym (pass-on h e d {t = t} refl .same ∙ rw (le-leb (length t) 0 (omega (arith, length-drop (g .lines * width g) s))))
-
--- ---- a group whose columns all have one limit
-
-pub run-below : (a : Limit) (s : List ℤ) (j : ℕ) → j < runWithin a s → within a (getD s j (pos 0)) ≡ true
-unfolding runWithin
-run-below a [] j h = absurd (omega arith)
-run-below a (z ∷ s) j h = by (within a z) refl j h (run-below a s)
-  where
-    by : (b : Bool) → within a z ≡ b → (j : ℕ) → j < cond b (suc (runWithin a s)) 0 → ((j : ℕ) → j < runWithin a s → within a (getD s j (pos 0)) ≡ true) → within a (getD (z ∷ s) j (pos 0)) ≡ true
-    by true e zero h r = e
-    by true e (suc j) h r = r j (omega arith)
-    by false e j h r = absurd (omega arith)
-
-pub run-most : (a : Limit) (s : List ℤ) → runWithin a s ≤ length s
-unfolding runWithin
-run-most a [] = omega arith
-run-most a (z ∷ s) = by (within a z) (run-most a s)
-  where
-    by : (b : Bool) → runWithin a s ≤ length s → cond b (suc (runWithin a s)) 0 ≤ suc (length s)
-    by true h = omega arith
-    by false h = omega arith
-
-pub run-end : (a : Limit) (s : List ℤ) → runWithin a s < length s → within a (getD s (runWithin a s) (pos 0)) ≡ false
-unfolding runWithin
-run-end a [] h = absurd (omega arith)
-run-end a (z ∷ s) h = by (within a z) refl h (run-end a s)
-  where
-    by : (b : Bool) → within a z ≡ b → cond b (suc (runWithin a s)) 0 < suc (length s) → (runWithin a s < length s → within a (getD s (runWithin a s) (pos 0)) ≡ false) → within a (getD (z ∷ s) (cond b (suc (runWithin a s)) 0) (pos 0)) ≡ false
-    by true e h r = r (omega arith)
-    by false e h r = e
-
-all-inside : (w : ℕ) (a : Limit) (s : List ℤ) → ((j : ℕ) → j < w → within a (getD s j (pos 0)) ≡ true) → allWithin (replicate w a) s ≡ true
-unfolding allWithin
-all-inside zero a s h = refl
-all-inside (suc w) a [] h = refl
-all-inside (suc w) a (z ∷ s) h = rw (h 0 (omega arith)) (all-inside w a s (λ j l. h (suc j) (omega arith)))
-
-one-outside : (w : ℕ) (a : Limit) (s : List ℤ) (j : ℕ) → j < w → j < length s → within a (getD s j (pos 0)) ≡ false → allWithin (replicate w a) s ≡ false
-unfolding allWithin
-one-outside zero a s j h l e = absurd (omega arith)
-one-outside (suc w) a [] j h l e = absurd (omega arith)
-one-outside (suc w) a (z ∷ s) zero h l e = rw e
-one-outside (suc w) a (z ∷ s) (suc j) h l e = by (within a z) (one-outside w a s j (omega arith) (omega arith) e)
-  where
-    by : (b : Bool) → allWithin (replicate w a) s ≡ false → b && allWithin (replicate w a) s ≡ false
-    by true r = r
-    by false r = refl
-
--- its line k: form, then limits
-even-line : (f : Layout) (n w : ℕ) (a : Limit) (s : List ℤ) (line k : ℕ) → lineStep f (evenLines n w a) s line k ≡ demand (eqb (length (take w (drop (k * w) s))) w) (f .formNumber) (Line (line + k)) then demand (allWithin (replicate w a) (take w (drop (k * w) s))) (f .limitNumber) (Line (line + k))
-unfolding lineCheck rulesHold evenLines
-even-line f n w a s line k = rw (length-replicate w a) (then-Passed _)
-
--- the whole lines of a list, at most n, and how many of their numbers are within the limit before the first that is not
-pub record EvenRun (s : List ℤ) (n w : ℕ) (a : Limit) (whole run : ℕ) : Type 0 where
-  pub someColumn : 0 < w
-  pub wholeIs : whole ≡ min (length s / w) n
-  pub runIs : run ≡ runWithin a (take (whole * w) s)
-
-pub whole-there : (s : List ℤ) (n w whole : ℕ) → 0 < w → whole ≡ min (length s / w) n → whole * w ≤ length s
-whole-there s n w whole p e = le-div-iff-mul-le p .0 (omega arith)
-
-module _ {s : List ℤ} {n w : ℕ} {a : Limit} {whole run : ℕ} (h : EvenRun s n w a whole run) (f : Layout) {form : ℕ} (c : NumberedFrom f form) (line : ℕ) where
-  -- line j ends before line i begins
-  lines-apart : (i j : ℕ) → j < i → j * w + w ≤ i * w
-  lines-apart i j l = omega (arith, suc-mul j w, mul-le-mul-right w l)
-
-  lines-there : whole * w ≤ length s
-  lines-there = whole-there s n w whole (h .someColumn) (h .wholeIs)
-
-  run-there : run ≤ whole * w
-  run-there = omega (arith, h .runIs, run-most a (take (whole * w) s), length-take (whole * w) s)
-
-  in-run : (i : ℕ) → i < run → within a (getD s i (pos 0)) ≡ true
-  in-run i l =
-      let q : i < whole * w = omega (arith, run-there) in
-      rw (getD-take (whole * w) s i (pos 0) q) at (run-below a (take (whole * w) s) i (omega (arith, h .runIs)))
-
-  whole-line : (k : ℕ) → k < whole → eqb (length (take w (drop (k * w) s))) w ≡ true
-  whole-line k l = eq-eqb (length (take w (drop (k * w) s))) w (omega (arith, length-take w (drop (k * w) s), length-drop (k * w) s, lines-apart whole k l, lines-there))
-
-  number-at : (k j : ℕ) → j < w → within a (getD (take w (drop (k * w) s)) j (pos 0)) ≡ within a (getD s (k * w + j) (pos 0))
-  number-at k j l = ap (within a) (getD-take w (drop (k * w) s) j (pos 0) l ∙ getD-drop (k * w) s j (pos 0))
-
-  passes : (k : ℕ) → k < whole → k * w + w ≤ run → lineStep f (evenLines n w a) s line k ≡ Passed
-  passes k l r =
-      even-line f n w a s line k
-      ∙ rw (whole-line k l, all-inside w a (take w (drop (k * w) s)) (λ j i. number-at k j i ∙ in-run (k * w + j) (omega arith)))
-
-  after-run : run < whole * w → within a (getD s run (pos 0)) ≡ false
-  after-run l =
-      let t : List ℤ = take (whole * w) s in
-      let e : within a (getD t run (pos 0)) ≡ false =
-      subst (λ (i : ℕ). within a (getD t i (pos 0)) ≡ false) (sym (h .runIs)) (run-end a t (omega (arith, h .runIs, length-take (whole * w) s, lines-there))) in
-      rw (getD-take (whole * w) s run (pos 0) l) at e
-
-  -- the number after the run is in line run / w
-  pub even-outside : run < whole * w → Refused (form + 1) (Line (line + run / w)) ≡ groupCheck f (evenLines n w a) s line
-  unfolding groupCheck evenLines
-  even-outside l =
-      let i : ℕ = run / w in
-      let few : i < whole = div-lt-iff-lt-mul (h .someColumn) .1 l in
-      let column : i * w + run % w ≡ run = div-add-mod' run w in
-      let small : run % w < w = mod-lt run (h .someColumn) in
-      let outside : within a (getD (take w (drop (i * w) s)) (run % w) (pos 0)) ≡ false =
-      number-at i (run % w) small ∙ ap (λ (j : ℕ). within a (getD s j (pos 0))) column ∙ after-run l in
-      sym
-      (first-refused (lineStep f (evenLines n w a) s line) n (form + 1) (Line (line + i)) i
-      (omega (arith, h .wholeIs),
-        λ j b. passes j (omega arith) (omega (arith, lines-apart i j b)),
-        even-line f n w a s line i
-        ∙ rw (c .limitIs, whole-line i few, one-outside w a (take w (drop (i * w) s)) (run % w) small (omega (arith, length-take w (drop (i * w) s), length-drop (i * w) s, lines-apart whole i few, lines-there)) outside)))
-
-  pub even-short : whole * w ≤ run → whole < n → Refused form (Line (line + whole)) ≡ groupCheck f (evenLines n w a) s line
-  unfolding groupCheck evenLines
-  even-short l b =
-      let all : whole ≡ length s / w = omega (arith, h .wholeIs) in
-      let few : length s < whole * w + w = omega (arith, lt-div-mul-add {a = length s} (h .someColumn), ap (λ (k : ℕ). k * w) all) in
-      sym
-      (first-refused (lineStep f (evenLines n w a) s line) n form (Line (line + whole)) whole
-      (b,
-        λ j d. passes j d (omega (arith, lines-apart whole j d)),
-        even-line f n w a s line whole
-        ∙ rw (c .formIs, ne-eqb (length (take w (drop (whole * w) s))) w (λ e. omega (arith, e, length-take w (drop (whole * w) s), length-drop (whole * w) s, h .someColumn)))))
-
-  pub even-passed : whole * w ≤ run → n ≤ whole → Passed ≡ groupCheck f (evenLines n w a) s line
-  unfolding groupCheck evenLines
-  even-passed l b = sym (all-lowest (lineStep f (evenLines n w a) s line) n (λ k d. passes k (omega arith) (omega (arith, lines-apart whole k (omega arith)))))
-
--- the numbers that are looked at in one go are few
-pub few-numbers : (s : List ℤ) (n w whole : ℕ) → n ≤ 100 → w ≤ 36 → whole ≡ min (length s / w) n → whole * w ≤ 3600
-few-numbers s n w whole a b e = mul-le-mul {n₂ = 100} {m₂ = 36} (omega arith) b
-
--- with the limits as the machine reads them
-pub even-run : {s : List ℤ} {n w whole run : ℕ} {lo hi : ℤ} → SFits w64 lo → SFits w64 hi → 0 < w → whole ≡ min (length s / w) n → run ≡ runWithin (between (read lo) (read hi)) (take (whole * w) s) → EvenRun s n w (between lo hi) whole run
-even-run {s} {w = w} {whole = whole} f g p e d = record { someColumn = p; wholeIs = e; runIs = d ∙ ap (λ (l : Limit). runWithin l (take (whole * w) s)) (read-limit f g) }
 
 -- ---- a part of a claim
 
@@ -366,3 +297,12 @@ header-counts m e =
 pub claim-header-there : (c : List ℤ) → lineCheck (claimLayout []) claimHeader (take 4 c) (Line 1) ≡ Passed → 4 ≤ length c
 unfolding claimHeader
 claim-header-there c e = omega (arith, length-take 4 c, passed-whole (claimLayout []) claimHeader (take 4 c) (Line 1) e)
+
+-- the counts of a mesh whose lines have passed are what the check of a claim's lines requires
+pub small-counts : {m : List ℤ} {n e g s : ℕ} → Counts m → CountsAre m n e g s → SmallCounts n e g s
+small-counts {m} {n} {e} {g} {s} f k = by (f .sidesListed)
+  where
+    by : (sides m ≡ 12) ⊎ ((sides m ≡ 20) ⊎ (sides m ≡ 36)) → SmallCounts n e g s
+    by (inl q) = omega arith
+    by (inr (inl q)) = omega arith
+    by (inr (inr q)) = omega arith

@@ -3,6 +3,7 @@ pub mod Decides
 pub mod Lines
 pub mod LineLaws
 pub mod GroupLaws
+pub mod EvenLaws
 pub mod Sound
 pub mod Refusals
 pub mod Exactly
@@ -33,3 +34,11 @@ pub mod InOrder
 pub mod SumBounds
 pub mod AnswerBounds
 pub mod Applied
+pub mod SideLaws
+pub mod RowLaws
+pub mod SumLaws
+pub mod EqualityLaws
+pub mod ClaimLaws
+pub mod FieldLaws
+pub mod StrengthLaws
+pub mod MultiplierLaws

@@ -1,16 +1,15 @@
--- Laws of the checks of lines: a run of numbers within one limit, by induction on the list.
+-- Laws of the check of one line, one for each return and each turn of a loop: numbers within limits by induction on the list, form and limits and rules by the tests that led there.
 use mathlib.Core.Path.{_≡_, refl, sym, _∙_, ap, ap₂, subst}
-use mathlib.Core.Bool.{Bool, true, false, not, cond, _&&_, _||_}
+use mathlib.Core.Bool.{Bool, true, false, not, _&&_, _||_}
 use mathlib.Core.List.{List, [], _∷_}
-use Prim.Native.Nat.{ℕ, zero, suc, _+_, _*_, _-_, _<_, _≤_}
-use native.Mathlib.Nat.{add-mul}
+use Prim.Native.Nat.{ℕ, zero, suc, _+_, _<_, _≤_}
 use native.Mathlib.Omega.{arith}
 use native.Mathlib.Numerals.{add-one}
 use lib.IntN.{ℤ, pos, negsuc, _+ℤ_, _*ℤ_}
 use lib.Signed.{_≤ℤ_, _<ℤ_, leZ, leZ-yes}
 use lib.Dec.{T, eqb, eqb→eq}
-use lib.ListN.{length, getD, take, drop, replicate, length-take, length-drop, drop-of-length-le}
-use lib.Seq.{drop-cons, length-take-le, take-all}
+use lib.ListN.{length, getD, take, drop, replicate, length-take, drop-of-length-le}
+use lib.Seq.{drop-cons, length-take-le}
 use borrow.Author.Tests.{eq-eqb, ne-eqb, not-true, not-false}
 use mir.Syntax.{w64}
 use mir.Val.{SFits, toZ, ofZ}
@@ -21,28 +20,18 @@ use Rattle.integer.specs.Order.{≤ℤ-pos}
 use Rattle.integer.specs.Tests.{eqZ, no-eqZ, yes-leZ, no-leZ}
 use Rattle.rows.specs.declared.Place.{Place}
 use Rattle.rows.specs.declared.Place.the-variants.{Line}
-use Rattle.rows.specs.declared.Outcome.{Outcome}
 use Rattle.rows.specs.declared.Outcome.the-variants.{Passed, Refused}
+use Rattle.rows.specs.Checks.{demand, _then_}
 use Rattle.rows.specs.Columns as C
 use Rattle.rows.specs.Columns.{Limit, between, free, within, isOneOf, allWithin, Rule, rightAngle, naming, parts, hasField, hasMultipliers, names, allNamed, ruleNumber, ruleTest, at}
 use Rattle.rows.specs.Layout.{Group, Layout, width, groups, lineOf, lineNumbers, rulesHold, lineCheck, lineAt}
-use Rattle.rows.specs.declared.line_checks.LineKind.{LineKind}
-use Rattle.rows.specs.declared.line_checks.LineKind.the-variants.{Soil, Element, Edge}
-use Rattle.rows.specs.Checks.{demand, _then_, lowest}
-use Rattle.rows.specs.Mesh.{meshLayout, meshHeader, soilLines, elementLines, edgeLines}
+use Rattle.rows.specs.Mesh.{meshLayout, meshHeader, soilLines, edgeLines}
 use Rattle.rows.specs.Claim.{claimHeader, claimLayout}
-use Rattle.rows.specs.LineContracts.{runWithin, ranges, AsMany, groupCheck, groupOf, columnsOf}
-use Rattle.rows.proofs.Checks.{demand-passed, then-passed, lowest-all, all-lowest, first-refused}
+use Rattle.rows.specs.LineContracts.{runWithin, ranges, AsMany}
+use Rattle.rows.proofs.ClaimFacts.{is-true, is-false}
+use Rattle.rows.proofs.Checks.{demand-passed, then-passed}
 
 -- ---- a number and a limit
-
-is-true : (b : Bool) → T b → b ≡ true
-is-true true t = refl
-is-true false t = absurd t
-
-pub is-false : (b : Bool) → T (not b) → b ≡ false
-is-false true t = absurd t
-is-false false t = refl
 
 pub too-low : (hi : ℤ) {lo z : ℤ} → z <ℤ lo → within (between lo hi) z ≡ false
 unfolding within
@@ -154,6 +143,21 @@ pub one-rule-holds : (r : Rule) (line : List ℤ) (p : Place) → ruleTest r lin
 unfolding rulesHold
 one-rule-holds r line p e = rw e
 
+-- a line that has passed is whole, and within its limits
+module _ (f : Layout) (g : Group) (line : List ℤ) (p : Place) (e : lineCheck f g line p ≡ Passed) where
+  form-and-limits : (demand (eqb (length line) (width g)) (f .formNumber) p ≡ Passed) × (demand (allWithin (g .limits) line) (f .limitNumber) p ≡ Passed)
+  unfolding lineCheck
+  form-and-limits =
+      let form = demand (eqb (length line) (width g)) (f .formNumber) p in
+      let limits = demand (allWithin (g .limits) line) (f .limitNumber) p in
+      then-passed form limits .0 (then-passed (form then limits) (rulesHold (g .rules) line p) .0 e .0)
+
+  pub passed-whole : length line ≡ width g
+  passed-whole = eqb→eq (length line) (width g) (demand-passed (eqb (length line) (width g)) (f .formNumber) p .0 (form-and-limits .0))
+
+  pub passed-within : allWithin (g .limits) line ≡ true
+  passed-within = is-true (allWithin (g .limits) line) (demand-passed (allWithin (g .limits) line) (f .limitNumber) p .0 (form-and-limits .1))
+
 -- ---- a soil
 
 pub both-true : (a b : Bool) → a && b ≡ true → (a ≡ true) × (b ≡ true)
@@ -224,79 +228,6 @@ edge-limits ns [] l = absurd (omega arith)
 edge-limits ns (a ∷ []) l = absurd (omega arith)
 edge-limits ns (a ∷ b ∷ s) l = refl
 
--- ---- the lines of a group, one after another
-
--- line k of the lines of a group at the front of a list
-abbrev pub lineStep : Layout → Group → List ℤ → ℕ → ℕ → Outcome
-lineStep f g s line k = lineCheck f g (take (width g) (drop (k * width g) s)) (Line (line + k))
-
--- the first k of n lines have passed, and the next one begins at number `at`
-pub record LinesTo (f : Layout) (g : Group) (s : List ℤ) (line n k at : ℕ) : Type 0 where
-  pub count : k ≤ n
-  pub place : at ≡ k * width g
-  pub there : at ≤ length s
-  pub passed : lowest (lineStep f g s line) k ≡ Passed
-
-pub lines-start : (f : Layout) (g : Group) (s : List ℤ) (line n : ℕ) → LinesTo f g s line n 0 0
-unfolding lowest
-lines-start f g s line n = record { count = omega arith; place = omega arith; there = omega arith; passed = refl }
-
--- a line that has passed is whole, and within its limits
-module _ (f : Layout) (g : Group) (line : List ℤ) (p : Place) (e : lineCheck f g line p ≡ Passed) where
-  form-and-limits : (demand (eqb (length line) (width g)) (f .formNumber) p ≡ Passed) × (demand (allWithin (g .limits) line) (f .limitNumber) p ≡ Passed)
-  unfolding lineCheck
-  form-and-limits =
-      let form = demand (eqb (length line) (width g)) (f .formNumber) p in
-      let limits = demand (allWithin (g .limits) line) (f .limitNumber) p in
-      then-passed form limits .0 (then-passed (form then limits) (rulesHold (g .rules) line p) .0 e .0)
-
-  pub passed-whole : length line ≡ width g
-  passed-whole = eqb→eq (length line) (width g) (demand-passed (eqb (length line) (width g)) (f .formNumber) p .0 (form-and-limits .0))
-
-  pub passed-within : allWithin (g .limits) line ≡ true
-  passed-within = is-true (allWithin (g .limits) line) (demand-passed (allWithin (g .limits) line) (f .limitNumber) p .0 (form-and-limits .1))
-
--- o is what the check of line k says, which begins at number `at` and has w columns
-module _ {f : Layout} {g : Group} {s : List ℤ} {line n k at : ℕ} (h : LinesTo f g s line n k at) (l : k < n) (w : ℕ) (wide : w ≡ width g) {o : Outcome} (e : o ≡ lineCheck f g (take w (take (length s - at) (drop at s))) (Line (line + k))) where
-  step : o ≡ lineStep f g s line k
-  step = e ∙ rw (wide, take-all (length s - at) (drop at s) (omega (arith, length-drop at s)), h .place)
-
-  pub lines-go-on : o ≡ Passed → LinesTo f g s line n (k + 1) (at + w)
-  unfolding lowest
-  lines-go-on d =
-      let passed : lineStep f g s line k ≡ Passed = sym step ∙ d in
-      record {
-        count = omega arith;
-        place = omega (arith, add-mul k 1 (width g), h .place, wide);
-        there = omega (arith, simp (length-take, length-drop) at (passed-whole f g _ _ passed), h .place, h .there, wide);
-        passed = rw add-one (rw (h .passed) passed);
-      }
-
-  pub lines-refused : (c : ℕ) (p : Place) → o ≡ Refused c p → o ≡ lowest (lineStep f g s line) n
-  lines-refused c p d = d ∙ sym (first-refused (lineStep f g s line) n c p k (l, lowest-all (lineStep f g s line) k (h .passed), sym step ∙ d))
-
-pub lines-done : {f : Layout} {g : Group} {s : List ℤ} {line n k at : ℕ} → LinesTo f g s line n k at → n ≤ k → Passed ≡ lowest (lineStep f g s line) n
-lines-done {f} {g} {s} {line} h l = sym (subst (λ (j : ℕ). lowest (lineStep f g s line) j ≡ Passed) (omega (arith, h .count)) (h .passed))
-
--- ---- the lines of a mesh that have rules of their own
-
-pub columns-are : (kind : LineKind) (ns ss : ℕ) → columnsOf kind ≡ width (groupOf kind 0 ns ss)
-unfolding groupOf soilLines elementLines edgeLines
-columns-are Soil ns ss = refl
-columns-are Element ns ss = refl
-columns-are Edge ns ss = refl
-
-pub few-columns : (kind : LineKind) → columnsOf kind ≤ 8
-few-columns Soil = omega arith
-few-columns Element = omega arith
-few-columns Edge = omega arith
-
-pub kind-group : (kind : LineKind) (n ns ss : ℕ) (s : List ℤ) (line : ℕ) → lowest (lineStep meshLayout (groupOf kind 0 ns ss) s line) n ≡ groupCheck meshLayout (groupOf kind n ns ss) s line
-unfolding groupOf groupCheck lineCheck soilLines elementLines edgeLines
-kind-group Soil n ns ss s line = refl
-kind-group Element n ns ss s line = refl
-kind-group Edge n ns ss s line = refl
-
 -- ---- the header of a mesh
 
 pub mesh-header-line : (m : List ℤ) → lineCheck meshLayout meshHeader (take 5 m) (Line 1) ≡ lineAt meshLayout m 0
@@ -343,11 +274,6 @@ pub second-fails : {a b d : Bool} → d ≡ a && b → a ≡ true → b ≡ fals
 second-fails e f g = e ∙ rw (f, g)
 
 -- ---- the header of a claim
-
--- it does not depend on the mesh
-pub claim-header-line : (m c : List ℤ) → lineCheck (claimLayout []) claimHeader (take 4 c) (Line 1) ≡ lineAt (claimLayout m) c 0
-unfolding lineAt lineCheck lineOf groups lineNumbers claimLayout claimHeader
-claim-header-line m c = refl
 
 -- its rule, by what is there
 module _ (f g n l : ℤ) where

@@ -17,6 +17,7 @@ pub mod Accepted
 pub mod Facts
 pub mod Contracts
 pub mod LineContracts
+pub mod RowContracts
 pub mod PolygonRule
 pub mod Printed
 pub mod Meaning

@@ -1,4 +1,4 @@
--- What the checks of lines say of a part of a file, from which the check of a whole file is made (see `proofs/LineLaws.antt`).
+-- What the checks of lines say of a part of a file. That the parts make the check of the whole file is proved in `proofs/GroupLaws.antt`.
 use mathlib.Core.Path.{_≡_}
 use mathlib.Core.Bool.{cond}
 use mathlib.Core.List.{List, [], _∷_}
@@ -58,7 +58,7 @@ columnsOf Soil = 8
 columnsOf Element = 5
 columnsOf Edge = 7
 
--- what the code counts of a mesh is small
+-- counts and line numbers are small, so that no sum of them overflows
 pub record FewLines (count nodes soils line : ℕ) : Type 0 where
   pub fewLines : count ≤ 100
   pub fewNodes : nodes ≤ 100

@@ -1,11 +1,17 @@
 // The check of numbers: document 01's rows and sums, and its verdict on the numbers of a mesh and of a claim.
 
-mod line_checks;
+pub mod line_checks;
 mod mesh_checks;
-mod sizes;
+mod multiplier_sums;
+mod part_checks;
+mod polygons;
+mod row_sums;
+pub mod sizes;
+mod strength_rows;
 
 ghost use mathlib.Core.Path.{_≡_};
-ghost use Rattle.rows.specs.Verdict.{meshCheck};
+ghost use Rattle.rows.specs.Verdict.{meshCheck, claimCheck};
+use crate::line_checks::claim_lines;
 use crate::line_checks::mesh_lines;
 use crate::mesh_checks::mesh_shape;
 use crate::sizes::sizes_of;
@@ -55,8 +61,20 @@ pub fn judge_mesh(m: &[i64]) -> Outcome
     ensures { λ r. ⌜ r ≡ meshCheck (now (m .entry)) ⌝ }
 {
     let lines = mesh_lines(m);
-    if let Outcome::Refused { number: _, place: _ } = lines {
+    if let Outcome::Refused {
+        number: _,
+        place: _,
+    } = lines {
         return lines;
     }
     mesh_shape(m, sizes_of(m))
+}
+
+// What the lines of a claim on a judged mesh are refused for, 11 to 13, or that they pass.
+pub fn judge_claim_lines(m: &[i64], c: &[i64]) -> Outcome
+    requires { ⌜ meshCheck (now m) ≡ Outcome.Passed ⌝ }
+    ensures { λ r. ⌜ r ≡ claimCheck (now (m .entry)) (now (c .entry)) ⌝ }
+{
+    let s = sizes_of(m);
+    claim_lines(c, s.nodes, s.elements, s.edges, s.sides)
 }

@@ -1,6 +1,7 @@
 // The checks of the lines of a mesh and of a claim: refusals 1 to 4, and 11 to 13. They take any numbers, and any count of them.
+use crate::Outcome;
+use crate::Place;
 use crate::sizes::count_at;
-use crate::{Outcome, Place};
 ghost use mathlib.Core.Path.{_≡_};
 ghost use mathlib.Core.List.{List, [], _∷_};
 ghost use Prim.Native.Nat.{min, _/_, _<_, _≤_, _^_};
@@ -16,14 +17,20 @@ ghost use Rattle.rows.specs.LineContracts.{runWithin, ranges, AsMany, gr
 
 // The limits of a mesh's header before its sides, and of a claim's header.
 const MESH_LEAST: [i64; 4] = [4, 1, 1, 0];
+
 const MESH_MOST: [i64; 4] = [100, 100, 16, 60];
+
 const CLAIM_LEAST: [i64; 4] = [0, 0, 0, -100000000];
+
 const CLAIM_MOST: [i64; 4] = [1, 1, 100000, 100000000];
 
 // The limits of a soil's columns, and of an edge's after its two nodes.
 const SOIL_LEAST: [i64; 8] = [0, 1, 1, 0, -1000, -1000, -1000, -1000];
+
 const SOIL_MOST: [i64; 8] = [1000, 1000, 1000, 10000, 1000, 1000, 1000, 1000];
+
 const EDGE_LEAST: [i64; 5] = [1, -10000, -10000, -10000, -10000];
+
 const EDGE_MOST: [i64; 5] = [3, 10000, 10000, 10000, 10000];
 
 // z is from lo to hi.
@@ -182,7 +189,7 @@ fn group_check(
     let mut at: usize = 0;
     while k < count {
         let o = line_check(kind, &s[at..], nodes, soils, line + k);
-        if let Outcome::Refused { number: _, place: _ } = o {
+        if let Outcome::Refused { .. } = o {
             return o;
         }
         k += 1;
@@ -303,26 +310,28 @@ fn mesh_groups(s: &[i64], nodes: usize, elements: usize, soils: usize, edges: us
     ensures { λ r. ⌜ r ≡ groupsCheck meshLayout (meshBody nodes elements soils edges) (now (s .entry)) 2 ⌝ }
 {
     let of_soils = group_check(LineKind::Soil, s, soils, nodes, soils, 2);
-    if let Outcome::Refused { number: _, place: _ } = of_soils {
+    if let Outcome::Refused { .. } = of_soils {
         return of_soils;
     }
     let t = rest(s, soils * 8);
     let of_nodes = even_check(t, nodes, 2, 0, 1000, 1, 2 + soils);
-    if let Outcome::Refused { number: _, place: _ } = of_nodes {
+    if let Outcome::Refused { .. } = of_nodes {
         return of_nodes;
     }
     let u = rest(t, nodes * 2);
-    let of_elements = group_check(LineKind::Element, u, elements, nodes, soils, 2 + soils + nodes);
-    if let Outcome::Refused { number: _, place: _ } = of_elements {
+    let elements_line = 2 + soils + nodes;
+    let of_elements = group_check(LineKind::Element, u, elements, nodes, soils, elements_line);
+    if let Outcome::Refused { .. } = of_elements {
         return of_elements;
     }
     let v = rest(u, elements * 5);
-    let of_edges = group_check(LineKind::Edge, v, edges, nodes, soils, 2 + soils + nodes + elements);
-    if let Outcome::Refused { number: _, place: _ } = of_edges {
+    let edges_line = elements_line + elements;
+    let of_edges = group_check(LineKind::Edge, v, edges, nodes, soils, edges_line);
+    if let Outcome::Refused { .. } = of_edges {
         return of_edges;
     }
     if edges * 7 < v.len() {
-        return refused(1, 2 + soils + nodes + elements + edges);
+        return refused(1, edges_line + edges);
     }
     Outcome::Passed
 }
@@ -332,7 +341,7 @@ pub fn mesh_lines(m: &[i64]) -> Outcome
     ensures { λ r. ⌜ r ≡ linesCheck meshLayout (now (m .entry)) ⌝ }
 {
     let header = mesh_header(m);
-    if let Outcome::Refused { number: _, place: _ } = header {
+    if let Outcome::Refused { .. } = header {
         return header;
     }
     let nodes = count_at(m, 0);
@@ -355,22 +364,22 @@ fn claim_groups(
     ensures { λ r. ⌜ r ≡ groupsCheck (claimLayout []) (claimBody field elements edges nodes sides) (now (s .entry)) 2 ⌝ }
 {
     let of_field = even_check(s, field, 3, -1000000000, 1000000000, 11, 2);
-    if let Outcome::Refused { number: _, place: _ } = of_field {
+    if let Outcome::Refused { .. } = of_field {
         return of_field;
     }
     let t = rest(s, field * 3);
     let of_elements = even_check(t, elements, 2, -100000, 100000, 11, 2 + field);
-    if let Outcome::Refused { number: _, place: _ } = of_elements {
+    if let Outcome::Refused { .. } = of_elements {
         return of_elements;
     }
     let u = rest(t, elements * 2);
     let of_edges = even_check(u, edges, 4, -100000, 100000, 11, 2 + field + elements);
-    if let Outcome::Refused { number: _, place: _ } = of_edges {
+    if let Outcome::Refused { .. } = of_edges {
         return of_edges;
     }
     let v = rest(u, edges * 4);
     let of_nodes = even_check(v, nodes, sides, 0, 10000, 11, 2 + field + elements + edges);
-    if let Outcome::Refused { number: _, place: _ } = of_nodes {
+    if let Outcome::Refused { .. } = of_nodes {
         return of_nodes;
     }
     if nodes * sides < v.len() {
@@ -395,7 +404,7 @@ pub fn claim_lines(c: &[i64], nodes: usize, elements: usize, edges: usize, sides
     ensures { λ r. ⌜ ((m : List ℤ) → CountsAre m nodes elements edges sides → r ≡ linesCheck (claimLayout m) (now (c .entry))) ⌝ }
 {
     let header = claim_header(c);
-    if let Outcome::Refused { number: _, place: _ } = header {
+    if let Outcome::Refused { .. } = header {
         return header;
     }
     let field = c[0];

@@ -1,23 +1,46 @@
 -- `claim_groups` meets its contract: each return by the group that it stands after.
 use mathlib.Core.Path.{_∙_, refl}
-use mathlib.Core.List.{[]}
+use mathlib.Core.List.{List, []}
+use Prim.Native.Nat.{ℕ, _+_}
 use native.Mathlib.Nat.{mul-le-mul}
 use native.Mathlib.Omega.{arith}
-use lib.IntN.{pos}
-use lib.ListN.{length-replicate}
+use lib.IntN.{ℤ, pos}
+use lib.ListN.{drop, length-replicate}
 use denote.Ref.{now}
 use Rattle.rows.specs.Columns.{between, upTo}
+use Rattle.rows.specs.Layout.{Group}
 use Rattle.rows.specs.Claim.{claimLayout, stressLines, elementMultipliers, edgeMultipliers, strengthMultipliers}
-use Rattle.rows.specs.LineContracts.{evenLines, claimBody}
-use Rattle.rows.proofs.GroupLaws.{reached, stop-here, pass-on, passed-there, left-over, nothing-left}
+use Rattle.rows.specs.LineContracts.{groupsCheck, evenLines, claimBody, NumberedFrom}
+use Rattle.rows.proofs.GroupLaws.{Reached, reached, stop-here, pass-on, passed-there, left-over, nothing-left}
 use borrow.Author.Needs.{needs}
 use Rattle.rows.proofs.line_checks.claim_groups.Statement.{statement}
 use Rattle.rows.proofs.line_checks.claim_groups.Tie as tie
-use Rattle.rows.proofs.line_checks.claim_groups.Reads as reads
-use Rattle.rows.proofs.line_checks.claim_groups.Lts as lts
-use Rattle.rows.proofs.line_checks.even_check.Reads as even-check-reads
-use Rattle.rows.proofs.line_checks.refused.Reads as refused-reads
-use Rattle.rows.proofs.line_checks.rest.Reads as rest-reads
+
+numbers : NumberedFrom (claimLayout []) 11
+unfolding claimLayout
+numbers = record { formIs = refl; limitIs = refl }
+
+-- the groups, and what is to be said of them: it is what the check of those from group k on says, on the numbers t from line `line` on
+abbrev body : tie.Start → List Group
+body c = claimBody (c .args .field) (c .args .elements) (c .args .edges) (c .args .nodes) (c .args .sides)
+
+abbrev From : tie.Start → ℕ → List ℤ → ℕ → Type 0
+From c k t line = Reached (groupsCheck (claimLayout []) (body c) (now (c .args .s)) 2) (claimLayout []) (drop k (body c)) t line
+
+at-field : (c : tie.Start) → From c 0 (now (c .args .s)) 2
+at-field c = reached (claimLayout []) (body c) (now (c .args .s)) 2
+
+at-elements : (c : tie.After-rest) → let a : tie.Start = c .before .before .before .before in From a 1 (now (c .rest .result)) (2 + a .args .field)
+unfolding claimLayout claimBody stressLines elementMultipliers edgeMultipliers strengthMultipliers evenLines upTo
+at-elements c = pass-on (at-field (c .before .before .before .before)) (c .before .before .before .even-check .ensures (claimLayout []) numbers) (c .before .enum-told2 .given .1) (c .rest .ensures)
+
+at-edges : (c : tie.After-rest2) → let a : tie.Start = c .before .before .before .before .before .before .before .before in From a 2 (now (c .rest2 .result)) (2 + a .args .field + a .args .elements)
+unfolding claimLayout claimBody stressLines elementMultipliers edgeMultipliers strengthMultipliers evenLines upTo
+at-edges c = pass-on (at-elements (c .before .before .before .before)) (c .before .before .before .even-check2 .ensures (claimLayout []) numbers) (c .before .enum-told4 .given .1) (c .rest2 .ensures)
+
+at-nodes : (c : tie.After-rest3) → let a : tie.Start = c .before .before .before .before .before .before .before .before .before .before .before .before in From a 3 (now (c .rest3 .result)) (2 + a .args .field + a .args .elements + a .args .edges)
+unfolding claimLayout claimBody stressLines elementMultipliers edgeMultipliers strengthMultipliers evenLines upTo
+at-nodes c = pass-on (at-edges (c .before .before .before .before)) (c .before .before .before .even-check3 .ensures (claimLayout []) numbers) (c .before .enum-told6 .given .1) (c .rest3 .ensures)
 
 even-check-requires : tie.Need-even-check-requires
 even-check-requires c κs = search needs
@@ -27,10 +50,7 @@ enum-told c = search needs
 
 returns : tie.Need-returns
 unfolding claimLayout claimBody stressLines elementMultipliers edgeMultipliers strengthMultipliers evenLines upTo
-returns c =
-    let a = c .before .before .before .args in
-    let r0 = reached (claimLayout []) (claimBody (a .field) (a .elements) (a .edges) (a .nodes) (a .sides)) (now (a .s)) 2 in
-    stop-here r0 (c .before .before .even-check .ensures (claimLayout []) (record { formIs = refl; limitIs = refl })) (c .enum-told .given .1)
+returns c = stop-here (at-field (c .before .before .before)) (c .before .before .even-check .ensures (claimLayout []) numbers) (c .enum-told .given .1)
 
 enum-told-2 : tie.Need-enum-told-2
 enum-told-2 c = search needs
@@ -40,10 +60,7 @@ mul-rest c = search needs
 
 rest-requires : tie.Need-rest-requires
 unfolding claimLayout claimBody stressLines elementMultipliers edgeMultipliers strengthMultipliers evenLines upTo
-rest-requires c κs =
-    let a = c .before .before .before .args in
-    let r0 = reached (claimLayout []) (claimBody (a .field) (a .elements) (a .edges) (a .nodes) (a .sides)) (now (a .s)) 2 in
-    passed-there r0 (c .before .before .even-check .ensures (claimLayout []) (record { formIs = refl; limitIs = refl })) (omega arith) (c .enum-told2 .given .1)
+rest-requires c κs = passed-there (at-field (c .before .before .before)) (c .before .before .even-check .ensures (claimLayout []) numbers) (omega arith) (c .enum-told2 .given .1)
 
 add-even-check : tie.Need-add-even-check
 add-even-check c = search needs
@@ -56,11 +73,7 @@ enum-told-3 c = search needs
 
 returns-2 : tie.Need-returns-2
 unfolding claimLayout claimBody stressLines elementMultipliers edgeMultipliers strengthMultipliers evenLines upTo
-returns-2 c =
-    let a = c .before .before .before .before .before .before .before .args in
-    let r0 = reached (claimLayout []) (claimBody (a .field) (a .elements) (a .edges) (a .nodes) (a .sides)) (now (a .s)) 2 in
-    let r1 = pass-on r0 (c .before .before .before .before .before .before .even-check .ensures (claimLayout []) (record { formIs = refl; limitIs = refl })) (c .before .before .before .before .enum-told2 .given .1) (c .before .before .before .rest .ensures) in
-    stop-here r1 (c .before .before .even-check2 .ensures (claimLayout []) (record { formIs = refl; limitIs = refl })) (c .enum-told3 .given .1)
+returns-2 c = stop-here (at-elements (c .before .before .before)) (c .before .before .even-check2 .ensures (claimLayout []) numbers) (c .enum-told3 .given .1)
 
 enum-told-4 : tie.Need-enum-told-4
 enum-told-4 c = search needs
@@ -70,11 +83,7 @@ mul-rest-2 c = search needs
 
 rest-requires-2 : tie.Need-rest-requires-2
 unfolding claimLayout claimBody stressLines elementMultipliers edgeMultipliers strengthMultipliers evenLines upTo
-rest-requires-2 c κs =
-    let a = c .before .before .before .before .before .before .before .args in
-    let r0 = reached (claimLayout []) (claimBody (a .field) (a .elements) (a .edges) (a .nodes) (a .sides)) (now (a .s)) 2 in
-    let r1 = pass-on r0 (c .before .before .before .before .before .before .even-check .ensures (claimLayout []) (record { formIs = refl; limitIs = refl })) (c .before .before .before .before .enum-told2 .given .1) (c .before .before .before .rest .ensures) in
-    passed-there r1 (c .before .before .even-check2 .ensures (claimLayout []) (record { formIs = refl; limitIs = refl })) (omega arith) (c .enum-told4 .given .1)
+rest-requires-2 c κs = passed-there (at-elements (c .before .before .before)) (c .before .before .even-check2 .ensures (claimLayout []) numbers) (omega arith) (c .enum-told4 .given .1)
 
 add-even-check-2 : tie.Need-add-even-check-2
 add-even-check-2 c = search needs
@@ -90,12 +99,7 @@ enum-told-5 c = search needs
 
 returns-3 : tie.Need-returns-3
 unfolding claimLayout claimBody stressLines elementMultipliers edgeMultipliers strengthMultipliers evenLines upTo
-returns-3 c =
-    let a = c .before .before .before .before .before .before .before .before .before .before .before .args in
-    let r0 = reached (claimLayout []) (claimBody (a .field) (a .elements) (a .edges) (a .nodes) (a .sides)) (now (a .s)) 2 in
-    let r1 = pass-on r0 (c .before .before .before .before .before .before .before .before .before .before .even-check .ensures (claimLayout []) (record { formIs = refl; limitIs = refl })) (c .before .before .before .before .before .before .before .before .enum-told2 .given .1) (c .before .before .before .before .before .before .before .rest .ensures) in
-    let r2 = pass-on r1 (c .before .before .before .before .before .before .even-check2 .ensures (claimLayout []) (record { formIs = refl; limitIs = refl })) (c .before .before .before .before .enum-told4 .given .1) (c .before .before .before .rest2 .ensures) in
-    stop-here r2 (c .before .before .even-check3 .ensures (claimLayout []) (record { formIs = refl; limitIs = refl })) (c .enum-told5 .given .1)
+returns-3 c = stop-here (at-edges (c .before .before .before)) (c .before .before .even-check3 .ensures (claimLayout []) numbers) (c .enum-told5 .given .1)
 
 enum-told-6 : tie.Need-enum-told-6
 enum-told-6 c = search needs
@@ -105,12 +109,7 @@ mul-rest-3 c = search needs
 
 rest-requires-3 : tie.Need-rest-requires-3
 unfolding claimLayout claimBody stressLines elementMultipliers edgeMultipliers strengthMultipliers evenLines upTo
-rest-requires-3 c κs =
-    let a = c .before .before .before .before .before .before .before .before .before .before .before .args in
-    let r0 = reached (claimLayout []) (claimBody (a .field) (a .elements) (a .edges) (a .nodes) (a .sides)) (now (a .s)) 2 in
-    let r1 = pass-on r0 (c .before .before .before .before .before .before .before .before .before .before .even-check .ensures (claimLayout []) (record { formIs = refl; limitIs = refl })) (c .before .before .before .before .before .before .before .before .enum-told2 .given .1) (c .before .before .before .before .before .before .before .rest .ensures) in
-    let r2 = pass-on r1 (c .before .before .before .before .before .before .even-check2 .ensures (claimLayout []) (record { formIs = refl; limitIs = refl })) (c .before .before .before .before .enum-told4 .given .1) (c .before .before .before .rest2 .ensures) in
-    passed-there r2 (c .before .before .even-check3 .ensures (claimLayout []) (record { formIs = refl; limitIs = refl })) (omega arith) (c .enum-told6 .given .1)
+rest-requires-3 c κs = passed-there (at-edges (c .before .before .before)) (c .before .before .even-check3 .ensures (claimLayout []) numbers) (omega arith) (c .enum-told6 .given .1)
 
 add-even-check-4 : tie.Need-add-even-check-4
 add-even-check-4 c = search needs
@@ -129,13 +128,7 @@ enum-told-7 c = search needs
 
 returns-4 : tie.Need-returns-4
 unfolding claimLayout claimBody stressLines elementMultipliers edgeMultipliers strengthMultipliers evenLines upTo
-returns-4 c =
-    let a = c .before .before .before .before .before .before .before .before .before .before .before .before .before .before .before .args in
-    let r0 = reached (claimLayout []) (claimBody (a .field) (a .elements) (a .edges) (a .nodes) (a .sides)) (now (a .s)) 2 in
-    let r1 = pass-on r0 (c .before .before .before .before .before .before .before .before .before .before .before .before .before .before .even-check .ensures (claimLayout []) (record { formIs = refl; limitIs = refl })) (c .before .before .before .before .before .before .before .before .before .before .before .before .enum-told2 .given .1) (c .before .before .before .before .before .before .before .before .before .before .before .rest .ensures) in
-    let r2 = pass-on r1 (c .before .before .before .before .before .before .before .before .before .before .even-check2 .ensures (claimLayout []) (record { formIs = refl; limitIs = refl })) (c .before .before .before .before .before .before .before .before .enum-told4 .given .1) (c .before .before .before .before .before .before .before .rest2 .ensures) in
-    let r3 = pass-on r2 (c .before .before .before .before .before .before .even-check3 .ensures (claimLayout []) (record { formIs = refl; limitIs = refl })) (c .before .before .before .before .enum-told6 .given .1) (c .before .before .before .rest3 .ensures) in
-    stop-here r3 (c .before .before .even-check4 .ensures (claimLayout []) (record { formIs = refl; limitIs = refl })) (c .enum-told7 .given .1)
+returns-4 c = stop-here (at-nodes (c .before .before .before)) (c .before .before .even-check4 .ensures (claimLayout []) numbers) (c .enum-told7 .given .1)
 
 enum-told-8 : tie.Need-enum-told-8
 enum-told-8 c = search needs
@@ -163,22 +156,12 @@ refused-requires c κs = search needs
 returns-5 : tie.Need-returns-5
 unfolding claimLayout claimBody stressLines elementMultipliers edgeMultipliers strengthMultipliers evenLines upTo
 returns-5 c =
-    let a = c .before .before .before .before .before .before .before .before .before .before .before .before .before .before .before .before .before .args in
-    let r0 = reached (claimLayout []) (claimBody (a .field) (a .elements) (a .edges) (a .nodes) (a .sides)) (now (a .s)) 2 in
-    let r1 = pass-on r0 (c .before .before .before .before .before .before .before .before .before .before .before .before .before .before .before .before .even-check .ensures (claimLayout []) (record { formIs = refl; limitIs = refl })) (c .before .before .before .before .before .before .before .before .before .before .before .before .before .before .enum-told2 .given .1) (c .before .before .before .before .before .before .before .before .before .before .before .before .before .rest .ensures) in
-    let r2 = pass-on r1 (c .before .before .before .before .before .before .before .before .before .before .before .before .even-check2 .ensures (claimLayout []) (record { formIs = refl; limitIs = refl })) (c .before .before .before .before .before .before .before .before .before .before .enum-told4 .given .1) (c .before .before .before .before .before .before .before .before .before .rest2 .ensures) in
-    let r3 = pass-on r2 (c .before .before .before .before .before .before .before .before .even-check3 .ensures (claimLayout []) (record { formIs = refl; limitIs = refl })) (c .before .before .before .before .before .before .enum-told6 .given .1) (c .before .before .before .before .before .rest3 .ensures) in
-    c .refused .ensures ∙ left-over r3 (c .before .before .before .before .even-check4 .ensures (claimLayout []) (record { formIs = refl; limitIs = refl })) (c .before .before .enum-told8 .given .1) (rw (length-replicate (a .sides) (between (pos 0) (pos 10000))) (c .before .if1 .taken))
+    c .refused .ensures
+    ∙ left-over (at-nodes (c .before .before .before .before .before)) (c .before .before .before .before .even-check4 .ensures (claimLayout []) numbers) (c .before .before .enum-told8 .given .1) (rw (length-replicate (c .before .before .before .before .before .before .before .before .before .before .before .before .before .before .before .before .before .args .sides) (between (pos 0) (pos 10000))) (c .before .if1 .taken))
 
 returns-6 : tie.Need-returns-6
 unfolding claimLayout claimBody stressLines elementMultipliers edgeMultipliers strengthMultipliers evenLines upTo
-returns-6 c =
-    let a = c .before .before .before .before .before .before .before .before .before .before .before .before .before .before .before .before .args in
-    let r0 = reached (claimLayout []) (claimBody (a .field) (a .elements) (a .edges) (a .nodes) (a .sides)) (now (a .s)) 2 in
-    let r1 = pass-on r0 (c .before .before .before .before .before .before .before .before .before .before .before .before .before .before .before .even-check .ensures (claimLayout []) (record { formIs = refl; limitIs = refl })) (c .before .before .before .before .before .before .before .before .before .before .before .before .before .enum-told2 .given .1) (c .before .before .before .before .before .before .before .before .before .before .before .before .rest .ensures) in
-    let r2 = pass-on r1 (c .before .before .before .before .before .before .before .before .before .before .before .even-check2 .ensures (claimLayout []) (record { formIs = refl; limitIs = refl })) (c .before .before .before .before .before .before .before .before .before .enum-told4 .given .1) (c .before .before .before .before .before .before .before .before .rest2 .ensures) in
-    let r3 = pass-on r2 (c .before .before .before .before .before .before .before .even-check3 .ensures (claimLayout []) (record { formIs = refl; limitIs = refl })) (c .before .before .before .before .before .enum-told6 .given .1) (c .before .before .before .before .rest3 .ensures) in
-    nothing-left r3 (c .before .before .before .even-check4 .ensures (claimLayout []) (record { formIs = refl; limitIs = refl })) (c .before .enum-told8 .given .1) (rw (length-replicate (a .sides) (between (pos 0) (pos 10000))) (c .if1 .left))
+returns-6 c = nothing-left (at-nodes (c .before .before .before .before)) (c .before .before .before .even-check4 .ensures (claimLayout []) numbers) (c .before .enum-told8 .given .1) (rw (length-replicate (c .before .before .before .before .before .before .before .before .before .before .before .before .before .before .before .before .args .sides) (between (pos 0) (pos 10000))) (c .if1 .left))
 
 pub claim-groups-spec : {M : Type 1} → statement M
 claim-groups-spec =

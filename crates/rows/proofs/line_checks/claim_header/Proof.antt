@@ -10,18 +10,13 @@ use Rattle.rows.proofs.LineLaws.{line-short, line-outside, line-by-rule
 use borrow.Author.Needs.{needs}
 use Rattle.rows.proofs.line_checks.claim_header.Statement.{statement}
 use Rattle.rows.proofs.line_checks.claim_header.Tie as tie
-use Rattle.rows.proofs.line_checks.claim_header.Reads as reads
-use Rattle.rows.proofs.line_checks.claim_header.Lts as lts
-use Rattle.rows.proofs.line_checks.limits_hold.Reads as limits-hold-reads
-use Rattle.rows.proofs.line_checks.parts_fit.Reads as parts-fit-reads
-use Rattle.rows.proofs.line_checks.refused.Reads as refused-reads
 
 refused-requires : tie.Need-refused-requires
 refused-requires c κs = search needs
 
 returns : tie.Need-returns
 unfolding claimHeader claimLayout
-returns c =     c .refused .ensures ∙ line-short (claimLayout []) claimHeader (now (c .before .before .args .c)) _ (c .before .if1 .taken)
+returns c = c .refused .ensures ∙ line-short (claimLayout []) claimHeader (now (c .before .before .args .c)) _ (c .before .if1 .taken)
 
 sub-limits-hold : tie.Need-sub-limits-hold
 sub-limits-hold c = search needs

@@ -1,22 +1,19 @@
 -- `claim_lines` meets its contract: the header is the first group, and its flags say how many lines each part has.
-use mathlib.Core.Path.{_∙_, sym, ap}
-use mathlib.Core.List.{List, []}
+use mathlib.Core.Path.{_∙_, sym}
+use Prim.Native.Nat.{_≤_}
 use native.Mathlib.Omega.{arith}
+use lib.ListN.{length}
 use denote.Ref.{now}
 use Rattle.rows.specs.Columns.{at}
-use Rattle.rows.specs.Layout.{Group}
-use Rattle.rows.specs.Claim.{claimLayout, claimHeader}
-use Rattle.rows.specs.LineContracts.{groupsCheck}
-use Rattle.rows.proofs.GroupLaws.{claim-header-there, claim-starts, claim-header-group, same-claim-body, few-there, stop-here, pass-on}
+use Rattle.rows.specs.Claim.{claimHeader}
+use Rattle.rows.proofs.GroupLaws.{claim-header-there, claim-starts, claim-header-group, same-claim-body, few-there, stop-here, go-on}
 use borrow.Author.Needs.{needs}
 use Rattle.rows.proofs.line_checks.claim_lines.Statement.{statement}
 use Rattle.rows.proofs.line_checks.claim_lines.Tie as tie
-use Rattle.rows.proofs.line_checks.claim_lines.Reads as reads
-use Rattle.rows.proofs.line_checks.claim_lines.Lts as lts
-use Rattle.rows.proofs.line_checks.claim_groups.Reads as claim-groups-reads
-use Rattle.rows.proofs.line_checks.claim_header.Reads as claim-header-reads
-use Rattle.rows.proofs.line_checks.if_there.Reads as if-there-reads
-use Rattle.rows.proofs.line_checks.rest.Reads as rest-reads
+
+-- after the header has passed
+four : (c : tie.After-enum-told2) → 4 ≤ length (now (c .before .before .before .args .c))
+four c = claim-header-there (now (c .before .before .before .args .c)) (sym (c .before .before .claim-header .ensures) ∙ c .enum-told2 .given .1)
 
 claim-header-requires : tie.Need-claim-header-requires
 claim-header-requires c κs = search needs
@@ -33,19 +30,13 @@ enum-told-2 : tie.Need-enum-told-2
 enum-told-2 c = search needs
 
 shared-slice-copy-out-field : tie.Need-shared-slice-copy-out-field
-shared-slice-copy-out-field c =
-    let four = claim-header-there (now (c .before .before .before .args .c)) (sym (c .before .before .claim-header .ensures) ∙ c .enum-told2 .given .1) in
-    omega arith
+shared-slice-copy-out-field c = omega (arith, four c)
 
 shared-slice-copy-out-multipliers : tie.Need-shared-slice-copy-out-multipliers
-shared-slice-copy-out-multipliers c =
-    let four = claim-header-there (now (c .before .before .before .before .args .c)) (sym (c .before .before .before .claim-header .ensures) ∙ c .before .enum-told2 .given .1) in
-    omega arith
+shared-slice-copy-out-multipliers c = omega (arith, four (c .before))
 
 rest-requires : tie.Need-rest-requires
-rest-requires c κs =
-    let four = claim-header-there (now (c .before .before .before .before .before .args .c)) (sym (c .before .before .before .before .claim-header .ensures) ∙ c .before .before .enum-told2 .given .1) in
-    four
+rest-requires c κs = four (c .before .before)
 
 if-there-requires : tie.Need-if-there-requires
 if-there-requires c κs = search needs
@@ -75,9 +66,8 @@ returns-2 : tie.Need-returns-2
 unfolding claimHeader at
 returns-2 c =
     let cs = now (c .before .before .before .before .before .before .before .before .before .before .before .args .c) in
-    λ m k. c .claim-groups .ensures
-    ∙ ap (λ (gs : List Group). groupsCheck (claimLayout []) gs (now (c .before .before .before .before .before .rest .result)) 2) (same-claim-body m cs k (record { sfits = c .before .before .before .before .before .before .before .field .given }) (record { sfits = c .before .before .before .before .before .before .multipliers .given }) (c .before .before .before .before .if-there .ensures) (c .before .before .before .if-there2 .ensures) (c .before .before .if-there3 .ensures) (c .before .if-there4 .ensures))
-    ∙ sym (pass-on (claim-starts m cs) (c .before .before .before .before .before .before .before .before .before .before .claim-header .ensures ∙ claim-header-group cs) (c .before .before .before .before .before .before .before .before .enum-told2 .given .1) (c .before .before .before .before .before .rest .ensures) .same)
+    λ m k. let body = same-claim-body m cs k (record { sfits = c .before .before .before .before .before .before .before .field .given }) (record { sfits = c .before .before .before .before .before .before .multipliers .given }) (c .before .before .before .before .if-there .ensures) (c .before .before .before .if-there2 .ensures) (c .before .before .if-there3 .ensures) (c .before .if-there4 .ensures) in
+    go-on (claim-starts m cs) (c .before .before .before .before .before .before .before .before .before .before .claim-header .ensures ∙ claim-header-group cs) (c .before .before .before .before .before .before .before .before .enum-told2 .given .1) (c .before .before .before .before .before .rest .ensures) _ body (c .claim-groups .ensures)
 
 pub claim-lines-spec : {M : Type 1} → statement M
 claim-lines-spec =

@@ -9,10 +9,6 @@ use Rattle.rows.proofs.LineLaws.{line-short, line-outside, line-by-rule
 use borrow.Author.Needs.{needs}
 use Rattle.rows.proofs.line_checks.edge_line.Statement.{statement}
 use Rattle.rows.proofs.line_checks.edge_line.Tie as tie
-use Rattle.rows.proofs.line_checks.edge_line.Reads as reads
-use Rattle.rows.proofs.line_checks.edge_line.Lts as lts
-use Rattle.rows.proofs.line_checks.limits_hold.Reads as limits-hold-reads
-use Rattle.rows.proofs.line_checks.refused.Reads as refused-reads
 
 refused-requires : tie.Need-refused-requires
 refused-requires c κs = search needs

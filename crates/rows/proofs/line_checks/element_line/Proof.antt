@@ -10,10 +10,6 @@ use Rattle.rows.proofs.LineLaws.{line-short, line-by-rules, one-rule-fa
 use borrow.Author.Needs.{needs}
 use Rattle.rows.proofs.line_checks.element_line.Statement.{statement}
 use Rattle.rows.proofs.line_checks.element_line.Tie as tie
-use Rattle.rows.proofs.line_checks.element_line.Reads as reads
-use Rattle.rows.proofs.line_checks.element_line.Lts as lts
-use Rattle.rows.proofs.line_checks.limits_hold.Reads as limits-hold-reads
-use Rattle.rows.proofs.line_checks.refused.Reads as refused-reads
 
 refused-requires : tie.Need-refused-requires
 refused-requires c κs = search needs

@@ -4,15 +4,10 @@ use native.Mathlib.Nat.{div-le-self}
 use native.Mathlib.Omega.{arith}
 use lib.Seq.{length-take-le}
 use denote.Ref.{now}
-use Rattle.rows.proofs.GroupLaws.{even-run, even-outside, even-short, even-passed, whole-there, few-numbers}
+use Rattle.rows.proofs.EvenLaws.{even-run, even-outside, even-short, even-passed, whole-there, few-numbers}
 use borrow.Author.Needs.{needs}
 use Rattle.rows.proofs.line_checks.even_check.Statement.{statement}
 use Rattle.rows.proofs.line_checks.even_check.Tie as tie
-use Rattle.rows.proofs.line_checks.even_check.Reads as reads
-use Rattle.rows.proofs.line_checks.even_check.Lts as lts
-use Rattle.rows.proofs.line_checks.refused.Reads as refused-reads
-use Rattle.rows.proofs.line_checks.run_within.Reads as run-within-reads
-use Rattle.rows.proofs.line_checks.whole_lines.Reads as whole-lines-reads
 
 whole-lines-requires : tie.Need-whole-lines-requires
 whole-lines-requires c κs = search needs

@@ -5,14 +5,10 @@ use native.Mathlib.Omega.{arith}
 use denote.Ref.{now}
 use Rattle.rows.specs.Mesh.{meshLayout}
 use Rattle.rows.specs.LineContracts.{groupOf}
-use Rattle.rows.proofs.LineLaws.{LinesTo, lines-start, lines-go-on, lines-refused, lines-done, columns-are, few-columns, kind-group}
+use Rattle.rows.proofs.GroupLaws.{LinesTo, lines-start, lines-go-on, lines-refused, lines-done, columns-are, few-columns, kind-group}
 use borrow.Author.Needs.{needs}
 use Rattle.rows.proofs.line_checks.group_check.Statement.{statement}
 use Rattle.rows.proofs.line_checks.group_check.Tie as tie
-use Rattle.rows.proofs.line_checks.group_check.Reads as reads
-use Rattle.rows.proofs.line_checks.group_check.Lts as lts
-use Rattle.rows.proofs.line_checks.columns_of.Reads as columns-of-reads
-use Rattle.rows.proofs.line_checks.line_check.Reads as line-check-reads
 
 abbrev Inv-loop : tie.InvT-loop
 Inv-loop kind s count nodes soils line columns k₀ at₀ k at = LinesTo meshLayout (groupOf kind 0 nodes soils) s line count k at

@@ -4,8 +4,6 @@ use Rattle.integer.specs.Machine.{machine, unbounded, told, apart}
 use Rattle.rows.proofs.GroupLaws.{there, not-there}
 use Rattle.rows.proofs.line_checks.if_there.Statement.{statement}
 use Rattle.rows.proofs.line_checks.if_there.Tie as tie
-use Rattle.rows.proofs.line_checks.if_there.Reads as reads
-use Rattle.rows.proofs.line_checks.if_there.Lts as lts
 
 returns : tie.Need-returns
 returns c = there (told (c .if1 .taken) (search (machine, unbounded) depth 30) (omega arith))

@@ -6,8 +6,6 @@ use Rattle.rows.specs.Columns.{isOneOf}
 use Rattle.rows.proofs.LineLaws.{last-sides}
 use Rattle.rows.proofs.line_checks.is_sides.Statement.{statement}
 use Rattle.rows.proofs.line_checks.is_sides.Tie as tie
-use Rattle.rows.proofs.line_checks.is_sides.Reads as reads
-use Rattle.rows.proofs.line_checks.is_sides.Lts as lts
 
 returns : tie.Need-returns
 unfolding isOneOf

@@ -5,8 +5,6 @@ use Rattle.integer.specs.Machine.{machine, unbounded, told, decides}
 use Rattle.rows.proofs.LineLaws.{too-low, high-enough}
 use Rattle.rows.proofs.line_checks.is_within.Statement.{statement}
 use Rattle.rows.proofs.line_checks.is_within.Tie as tie
-use Rattle.rows.proofs.line_checks.is_within.Reads as reads
-use Rattle.rows.proofs.line_checks.is_within.Lts as lts
 
 returns : tie.Need-returns
 returns c = sym (too-low _ (told (c .if1 .taken) (search (machine, unbounded) depth 30) (omega arith)))

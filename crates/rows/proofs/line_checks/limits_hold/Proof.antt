@@ -6,9 +6,6 @@ use Rattle.rows.proofs.LineLaws.{LimitsTo, limits-start, limits-go-on, 
 use borrow.Author.Needs.{needs}
 use Rattle.rows.proofs.line_checks.limits_hold.Statement.{statement}
 use Rattle.rows.proofs.line_checks.limits_hold.Tie as tie
-use Rattle.rows.proofs.line_checks.limits_hold.Reads as reads
-use Rattle.rows.proofs.line_checks.limits_hold.Lts as lts
-use Rattle.rows.proofs.line_checks.is_within.Reads as is-within-reads
 
 abbrev Inv-loop : tie.InvT-loop
 Inv-loop s lo hi k₀ k = LimitsTo lo hi s k

@@ -3,11 +3,6 @@ use Rattle.rows.specs.LineContracts.{groupOf}
 use borrow.Author.Needs.{needs}
 use Rattle.rows.proofs.line_checks.line_check.Statement.{statement}
 use Rattle.rows.proofs.line_checks.line_check.Tie as tie
-use Rattle.rows.proofs.line_checks.line_check.Reads as reads
-use Rattle.rows.proofs.line_checks.line_check.Lts as lts
-use Rattle.rows.proofs.line_checks.edge_line.Reads as edge-line-reads
-use Rattle.rows.proofs.line_checks.element_line.Reads as element-line-reads
-use Rattle.rows.proofs.line_checks.soil_line.Reads as soil-line-reads
 
 enum-told : tie.Need-enum-told
 enum-told c = search needs

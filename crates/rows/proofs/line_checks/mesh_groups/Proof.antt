@@ -1,19 +1,44 @@
 -- `mesh_groups` meets its contract: each return by the group that it stands after.
 use mathlib.Core.Path.{_∙_, refl}
+use mathlib.Core.List.{List}
+use Prim.Native.Nat.{ℕ, _+_}
 use native.Mathlib.Omega.{arith}
+use lib.IntN.{ℤ}
+use lib.ListN.{drop}
 use denote.Ref.{now}
+use Rattle.rows.specs.Layout.{Group}
 use Rattle.rows.specs.Mesh.{meshLayout, soilLines, nodeLines, elementLines, edgeLines}
-use Rattle.rows.specs.LineContracts.{groupOf, evenLines, meshBody, NumberedFrom}
-use Rattle.rows.proofs.GroupLaws.{reached, stop-here, pass-on, passed-there, left-over, nothing-left}
+use Rattle.rows.specs.LineContracts.{groupsCheck, groupOf, evenLines, meshBody, NumberedFrom}
+use Rattle.rows.proofs.GroupLaws.{Reached, reached, stop-here, pass-on, passed-there, left-over, nothing-left}
 use borrow.Author.Needs.{needs}
 use Rattle.rows.proofs.line_checks.mesh_groups.Statement.{statement}
 use Rattle.rows.proofs.line_checks.mesh_groups.Tie as tie
-use Rattle.rows.proofs.line_checks.mesh_groups.Reads as reads
-use Rattle.rows.proofs.line_checks.mesh_groups.Lts as lts
-use Rattle.rows.proofs.line_checks.even_check.Reads as even-check-reads
-use Rattle.rows.proofs.line_checks.group_check.Reads as group-check-reads
-use Rattle.rows.proofs.line_checks.refused.Reads as refused-reads
-use Rattle.rows.proofs.line_checks.rest.Reads as rest-reads
+
+numbers : NumberedFrom meshLayout 1
+unfolding meshLayout
+numbers = record { formIs = refl; limitIs = refl }
+
+-- the groups, and what is to be said of them: it is what the check of those from group k on says, on the numbers t from line `line` on
+abbrev body : tie.Start → List Group
+body c = meshBody (c .args .nodes) (c .args .elements) (c .args .soils) (c .args .edges)
+
+abbrev From : tie.Start → ℕ → List ℤ → ℕ → Type 0
+From c k t line = Reached (groupsCheck meshLayout (body c) (now (c .args .s)) 2) meshLayout (drop k (body c)) t line
+
+at-soils : (c : tie.Start) → From c 0 (now (c .args .s)) 2
+at-soils c = reached meshLayout (body c) (now (c .args .s)) 2
+
+at-nodes : (c : tie.After-rest) → let a : tie.Start = c .before .before .before .before in From a 1 (now (c .rest .result)) (2 + a .args .soils)
+unfolding meshLayout meshBody soilLines nodeLines elementLines edgeLines groupOf evenLines
+at-nodes c = pass-on (at-soils (c .before .before .before .before)) (c .before .before .before .group-check .ensures) (c .before .enum-told2 .given .1) (c .rest .ensures)
+
+at-elements : (c : tie.After-rest2) → let a : tie.Start = c .before .before .before .before .before .before .before .before in From a 2 (now (c .rest2 .result)) (2 + a .args .soils + a .args .nodes)
+unfolding meshLayout meshBody soilLines nodeLines elementLines edgeLines groupOf evenLines
+at-elements c = pass-on (at-nodes (c .before .before .before .before)) (c .before .before .before .even-check .ensures meshLayout numbers) (c .before .enum-told4 .given .1) (c .rest2 .ensures)
+
+at-edges : (c : tie.After-rest3) → let a : tie.Start = c .before .before .before .before .before .before .before .before .before .before .before .before in From a 3 (now (c .rest3 .result)) (2 + a .args .soils + a .args .nodes + a .args .elements)
+unfolding meshLayout meshBody soilLines nodeLines elementLines edgeLines groupOf evenLines
+at-edges c = pass-on (at-elements (c .before .before .before .before)) (c .before .before .before .group-check2 .ensures) (c .before .enum-told6 .given .1) (c .rest3 .ensures)
 
 group-check-requires : tie.Need-group-check-requires
 group-check-requires c κs = search needs
@@ -23,10 +48,7 @@ enum-told c = search needs
 
 returns : tie.Need-returns
 unfolding meshLayout meshBody soilLines nodeLines elementLines edgeLines groupOf evenLines
-returns c =
-    let a = c .before .before .before .args in
-    let r0 = reached meshLayout (meshBody (a .nodes) (a .elements) (a .soils) (a .edges)) (now (a .s)) 2 in
-    stop-here r0 (c .before .before .group-check .ensures) (c .enum-told .given .1)
+returns c = stop-here (at-soils (c .before .before .before)) (c .before .before .group-check .ensures) (c .enum-told .given .1)
 
 enum-told-2 : tie.Need-enum-told-2
 enum-told-2 c = search needs
@@ -36,10 +58,7 @@ mul-rest c = search needs
 
 rest-requires : tie.Need-rest-requires
 unfolding meshLayout meshBody soilLines nodeLines elementLines edgeLines groupOf evenLines
-rest-requires c κs =
-    let a = c .before .before .before .args in
-    let r0 = reached meshLayout (meshBody (a .nodes) (a .elements) (a .soils) (a .edges)) (now (a .s)) 2 in
-    passed-there r0 (c .before .before .group-check .ensures) (omega arith) (c .enum-told2 .given .1)
+rest-requires c κs = passed-there (at-soils (c .before .before .before)) (c .before .before .group-check .ensures) (omega arith) (c .enum-told2 .given .1)
 
 add-even-check : tie.Need-add-even-check
 add-even-check c = search needs
@@ -52,11 +71,7 @@ enum-told-3 c = search needs
 
 returns-2 : tie.Need-returns-2
 unfolding meshLayout meshBody soilLines nodeLines elementLines edgeLines groupOf evenLines
-returns-2 c =
-    let a = c .before .before .before .before .before .before .before .args in
-    let r0 = reached meshLayout (meshBody (a .nodes) (a .elements) (a .soils) (a .edges)) (now (a .s)) 2 in
-    let r1 = pass-on r0 (c .before .before .before .before .before .before .group-check .ensures) (c .before .before .before .before .enum-told2 .given .1) (c .before .before .before .rest .ensures) in
-    stop-here r1 (c .before .before .even-check .ensures meshLayout (record { formIs = refl; limitIs = refl })) (c .enum-told3 .given .1)
+returns-2 c = stop-here (at-nodes (c .before .before .before)) (c .before .before .even-check .ensures meshLayout numbers) (c .enum-told3 .given .1)
 
 enum-told-4 : tie.Need-enum-told-4
 enum-told-4 c = search needs
@@ -66,17 +81,13 @@ mul-rest-2 c = search needs
 
 rest-requires-2 : tie.Need-rest-requires-2
 unfolding meshLayout meshBody soilLines nodeLines elementLines edgeLines groupOf evenLines
-rest-requires-2 c κs =
-    let a = c .before .before .before .before .before .before .before .args in
-    let r0 = reached meshLayout (meshBody (a .nodes) (a .elements) (a .soils) (a .edges)) (now (a .s)) 2 in
-    let r1 = pass-on r0 (c .before .before .before .before .before .before .group-check .ensures) (c .before .before .before .before .enum-told2 .given .1) (c .before .before .before .rest .ensures) in
-    passed-there r1 (c .before .before .even-check .ensures meshLayout (record { formIs = refl; limitIs = refl })) (omega arith) (c .enum-told4 .given .1)
+rest-requires-2 c κs = passed-there (at-nodes (c .before .before .before)) (c .before .before .even-check .ensures meshLayout numbers) (omega arith) (c .enum-told4 .given .1)
 
-add-group-check : tie.Need-add-group-check
-add-group-check c = search needs
+add-elements-line : tie.Need-add-elements-line
+add-elements-line c = search needs
 
-add-group-check-2 : tie.Need-add-group-check-2
-add-group-check-2 c = search needs
+add-elements-line-2 : tie.Need-add-elements-line-2
+add-elements-line-2 c = search needs
 
 group-check-requires-2 : tie.Need-group-check-requires-2
 group-check-requires-2 c κs = search needs
@@ -86,12 +97,7 @@ enum-told-5 c = search needs
 
 returns-3 : tie.Need-returns-3
 unfolding meshLayout meshBody soilLines nodeLines elementLines edgeLines groupOf evenLines
-returns-3 c =
-    let a = c .before .before .before .before .before .before .before .before .before .before .before .args in
-    let r0 = reached meshLayout (meshBody (a .nodes) (a .elements) (a .soils) (a .edges)) (now (a .s)) 2 in
-    let r1 = pass-on r0 (c .before .before .before .before .before .before .before .before .before .before .group-check .ensures) (c .before .before .before .before .before .before .before .before .enum-told2 .given .1) (c .before .before .before .before .before .before .before .rest .ensures) in
-    let r2 = pass-on r1 (c .before .before .before .before .before .before .even-check .ensures meshLayout (record { formIs = refl; limitIs = refl })) (c .before .before .before .before .enum-told4 .given .1) (c .before .before .before .rest2 .ensures) in
-    stop-here r2 (c .before .before .group-check2 .ensures) (c .enum-told5 .given .1)
+returns-3 c = stop-here (at-elements (c .before .before .before)) (c .before .before .group-check2 .ensures) (c .enum-told5 .given .1)
 
 enum-told-6 : tie.Need-enum-told-6
 enum-told-6 c = search needs
@@ -101,21 +107,10 @@ mul-rest-3 c = search needs
 
 rest-requires-3 : tie.Need-rest-requires-3
 unfolding meshLayout meshBody soilLines nodeLines elementLines edgeLines groupOf evenLines
-rest-requires-3 c κs =
-    let a = c .before .before .before .before .before .before .before .before .before .before .before .args in
-    let r0 = reached meshLayout (meshBody (a .nodes) (a .elements) (a .soils) (a .edges)) (now (a .s)) 2 in
-    let r1 = pass-on r0 (c .before .before .before .before .before .before .before .before .before .before .group-check .ensures) (c .before .before .before .before .before .before .before .before .enum-told2 .given .1) (c .before .before .before .before .before .before .before .rest .ensures) in
-    let r2 = pass-on r1 (c .before .before .before .before .before .before .even-check .ensures meshLayout (record { formIs = refl; limitIs = refl })) (c .before .before .before .before .enum-told4 .given .1) (c .before .before .before .rest2 .ensures) in
-    passed-there r2 (c .before .before .group-check2 .ensures) (omega arith) (c .enum-told6 .given .1)
+rest-requires-3 c κs = passed-there (at-elements (c .before .before .before)) (c .before .before .group-check2 .ensures) (omega arith) (c .enum-told6 .given .1)
 
-add-group-check-3 : tie.Need-add-group-check-3
-add-group-check-3 c = search needs
-
-add-group-check-4 : tie.Need-add-group-check-4
-add-group-check-4 c = search needs
-
-add-group-check-5 : tie.Need-add-group-check-5
-add-group-check-5 c = search needs
+add-edges-line : tie.Need-add-edges-line
+add-edges-line c = search needs
 
 group-check-requires-3 : tie.Need-group-check-requires-3
 group-check-requires-3 c κs = search needs
@@ -125,13 +120,7 @@ enum-told-7 c = search needs
 
 returns-4 : tie.Need-returns-4
 unfolding meshLayout meshBody soilLines nodeLines elementLines edgeLines groupOf evenLines
-returns-4 c =
-    let a = c .before .before .before .before .before .before .before .before .before .before .before .before .before .before .before .args in
-    let r0 = reached meshLayout (meshBody (a .nodes) (a .elements) (a .soils) (a .edges)) (now (a .s)) 2 in
-    let r1 = pass-on r0 (c .before .before .before .before .before .before .before .before .before .before .before .before .before .before .group-check .ensures) (c .before .before .before .before .before .before .before .before .before .before .before .before .enum-told2 .given .1) (c .before .before .before .before .before .before .before .before .before .before .before .rest .ensures) in
-    let r2 = pass-on r1 (c .before .before .before .before .before .before .before .before .before .before .even-check .ensures meshLayout (record { formIs = refl; limitIs = refl })) (c .before .before .before .before .before .before .before .before .enum-told4 .given .1) (c .before .before .before .before .before .before .before .rest2 .ensures) in
-    let r3 = pass-on r2 (c .before .before .before .before .before .before .group-check2 .ensures) (c .before .before .before .before .enum-told6 .given .1) (c .before .before .before .rest3 .ensures) in
-    stop-here r3 (c .before .before .group-check3 .ensures) (c .enum-told7 .given .1)
+returns-4 c = stop-here (at-edges (c .before .before .before)) (c .before .before .group-check3 .ensures) (c .enum-told7 .given .1)
 
 enum-told-8 : tie.Need-enum-told-8
 enum-told-8 c = search needs
@@ -142,37 +131,18 @@ mul-if1 c = search needs
 add-refused : tie.Need-add-refused
 add-refused c = search needs
 
-add-refused-2 : tie.Need-add-refused-2
-add-refused-2 c = search needs
-
-add-refused-3 : tie.Need-add-refused-3
-add-refused-3 c = search needs
-
-add-refused-4 : tie.Need-add-refused-4
-add-refused-4 c = search needs
-
 refused-requires : tie.Need-refused-requires
 refused-requires c κs = search needs
 
 returns-5 : tie.Need-returns-5
 unfolding meshLayout meshBody soilLines nodeLines elementLines edgeLines groupOf evenLines
 returns-5 c =
-    let a = c .before .before .before .before .before .before .before .before .before .before .before .before .before .before .before .before .before .args in
-    let r0 = reached meshLayout (meshBody (a .nodes) (a .elements) (a .soils) (a .edges)) (now (a .s)) 2 in
-    let r1 = pass-on r0 (c .before .before .before .before .before .before .before .before .before .before .before .before .before .before .before .before .group-check .ensures) (c .before .before .before .before .before .before .before .before .before .before .before .before .before .before .enum-told2 .given .1) (c .before .before .before .before .before .before .before .before .before .before .before .before .before .rest .ensures) in
-    let r2 = pass-on r1 (c .before .before .before .before .before .before .before .before .before .before .before .before .even-check .ensures meshLayout (record { formIs = refl; limitIs = refl })) (c .before .before .before .before .before .before .before .before .before .before .enum-told4 .given .1) (c .before .before .before .before .before .before .before .before .before .rest2 .ensures) in
-    let r3 = pass-on r2 (c .before .before .before .before .before .before .before .before .group-check2 .ensures) (c .before .before .before .before .before .before .enum-told6 .given .1) (c .before .before .before .before .before .rest3 .ensures) in
-    c .refused .ensures ∙ left-over r3 (c .before .before .before .before .group-check3 .ensures) (c .before .before .enum-told8 .given .1) (c .before .if1 .taken)
+    c .refused .ensures
+    ∙ left-over (at-edges (c .before .before .before .before .before)) (c .before .before .before .before .group-check3 .ensures) (c .before .before .enum-told8 .given .1) (c .before .if1 .taken)
 
 returns-6 : tie.Need-returns-6
 unfolding meshLayout meshBody soilLines nodeLines elementLines edgeLines groupOf evenLines
-returns-6 c =
-    let a = c .before .before .before .before .before .before .before .before .before .before .before .before .before .before .before .before .args in
-    let r0 = reached meshLayout (meshBody (a .nodes) (a .elements) (a .soils) (a .edges)) (now (a .s)) 2 in
-    let r1 = pass-on r0 (c .before .before .before .before .before .before .before .before .before .before .before .before .before .before .before .group-check .ensures) (c .before .before .before .before .before .before .before .before .before .before .before .before .before .enum-told2 .given .1) (c .before .before .before .before .before .before .before .before .before .before .before .before .rest .ensures) in
-    let r2 = pass-on r1 (c .before .before .before .before .before .before .before .before .before .before .before .even-check .ensures meshLayout (record { formIs = refl; limitIs = refl })) (c .before .before .before .before .before .before .before .before .before .enum-told4 .given .1) (c .before .before .before .before .before .before .before .before .rest2 .ensures) in
-    let r3 = pass-on r2 (c .before .before .before .before .before .before .before .group-check2 .ensures) (c .before .before .before .before .before .enum-told6 .given .1) (c .before .before .before .before .rest3 .ensures) in
-    nothing-left r3 (c .before .before .before .group-check3 .ensures) (c .before .enum-told8 .given .1) (c .if1 .left)
+returns-6 c = nothing-left (at-edges (c .before .before .before .before)) (c .before .before .before .group-check3 .ensures) (c .before .enum-told8 .given .1) (c .if1 .left)
 
 pub mesh-groups-spec : {M : Type 1} → statement M
 mesh-groups-spec =
@@ -191,26 +161,21 @@ mesh-groups-spec =
     enum-told-4
     mul-rest-2
     rest-requires-2
-    add-group-check
-    add-group-check-2
+    add-elements-line
+    add-elements-line-2
     group-check-requires-2
     enum-told-5
     returns-3
     enum-told-6
     mul-rest-3
     rest-requires-3
-    add-group-check-3
-    add-group-check-4
-    add-group-check-5
+    add-edges-line
     group-check-requires-3
     enum-told-7
     returns-4
     enum-told-8
     mul-if1
     add-refused
-    add-refused-2
-    add-refused-3
-    add-refused-4
     refused-requires
     returns-5
     returns-6)

@@ -9,11 +9,6 @@ use Rattle.rows.proofs.LineLaws.{line-short, line-outside, line-by-rule
 use borrow.Author.Needs.{needs}
 use Rattle.rows.proofs.line_checks.mesh_header.Statement.{statement}
 use Rattle.rows.proofs.line_checks.mesh_header.Tie as tie
-use Rattle.rows.proofs.line_checks.mesh_header.Reads as reads
-use Rattle.rows.proofs.line_checks.mesh_header.Lts as lts
-use Rattle.rows.proofs.line_checks.is_sides.Reads as is-sides-reads
-use Rattle.rows.proofs.line_checks.limits_hold.Reads as limits-hold-reads
-use Rattle.rows.proofs.line_checks.refused.Reads as refused-reads
 
 refused-requires : tie.Need-refused-requires
 refused-requires c κs = search needs

@@ -5,8 +5,6 @@ use Rattle.integer.specs.Machine.{machine, unbounded, told, apart, decides}
 use Rattle.rows.proofs.LineLaws.{with-field, no-part, no-field-but-n, no-field}
 use Rattle.rows.proofs.line_checks.parts_fit.Statement.{statement}
 use Rattle.rows.proofs.line_checks.parts_fit.Tie as tie
-use Rattle.rows.proofs.line_checks.parts_fit.Reads as reads
-use Rattle.rows.proofs.line_checks.parts_fit.Lts as lts
 
 returns : tie.Need-returns
 returns c =

@@ -7,8 +7,6 @@ use denote.Ref.{now}
 use borrow.Author.Needs.{needs}
 use Rattle.rows.proofs.line_checks.rest.Statement.{statement}
 use Rattle.rows.proofs.line_checks.rest.Tie as tie
-use Rattle.rows.proofs.line_checks.rest.Reads as reads
-use Rattle.rows.proofs.line_checks.rest.Lts as lts
 
 mul-result : tie.Need-mul-result
 mul-result c = search needs

@@ -3,8 +3,6 @@ use native.Mathlib.Omega.{arith}
 use Rattle.integer.specs.Machine.{machine, fits, decides}
 use Rattle.rows.proofs.line_checks.right_angle.Statement.{statement}
 use Rattle.rows.proofs.line_checks.right_angle.Tie as tie
-use Rattle.rows.proofs.line_checks.right_angle.Reads as reads
-use Rattle.rows.proofs.line_checks.right_angle.Lts as lts
 
 mul-result : tie.Need-mul-result
 mul-result c = fits (search machine depth 30) (omega arith)

@@ -11,9 +11,6 @@ use Rattle.rows.proofs.LineLaws.{RunTo, run-starts, run-goes-on, run-st
 use borrow.Author.Needs.{needs}
 use Rattle.rows.proofs.line_checks.run_within.Statement.{statement}
 use Rattle.rows.proofs.line_checks.run_within.Tie as tie
-use Rattle.rows.proofs.line_checks.run_within.Reads as reads
-use Rattle.rows.proofs.line_checks.run_within.Lts as lts
-use Rattle.rows.proofs.line_checks.is_within.Reads as is-within-reads
 
 abbrev Inv-loop : tie.InvT-loop
 Inv-loop s lo hi k₀ k = RunTo (between (toZ w64 lo) (toZ w64 hi)) s k

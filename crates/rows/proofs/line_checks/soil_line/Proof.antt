@@ -1,5 +1,5 @@
 -- `soil_line` meets its contract: each return by the law of the check that it stands for.
-use mathlib.Core.Path.{_≡_, _∙_}
+use mathlib.Core.Path.{_∙_}
 use native.Mathlib.Omega.{arith}
 use denote.Ref.{now}
 use Rattle.integer.specs.Machine.{limits}
@@ -10,11 +10,6 @@ use Rattle.rows.proofs.LineLaws.{line-short, line-outside, line-by-rule
 use borrow.Author.Needs.{needs}
 use Rattle.rows.proofs.line_checks.soil_line.Statement.{statement}
 use Rattle.rows.proofs.line_checks.soil_line.Tie as tie
-use Rattle.rows.proofs.line_checks.soil_line.Reads as reads
-use Rattle.rows.proofs.line_checks.soil_line.Lts as lts
-use Rattle.rows.proofs.line_checks.limits_hold.Reads as limits-hold-reads
-use Rattle.rows.proofs.line_checks.refused.Reads as refused-reads
-use Rattle.rows.proofs.line_checks.right_angle.Reads as right-angle-reads
 
 refused-requires : tie.Need-refused-requires
 refused-requires c κs = search needs

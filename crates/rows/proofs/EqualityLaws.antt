@@ -1,0 +1,238 @@
+-- The equality rows as numbers: each number of a balance row or of a side row is that of the definition, and within its bound.
+use mathlib.Core.Path.{_≡_, refl, sym, _∙_, ap, ap₂, subst}
+use mathlib.Core.Bool.{Bool, true, false, not, _||_}
+use mathlib.Core.List.{List, [], _∷_}
+use Prim.Native.Nat.{ℕ, zero, suc, _+_, _*_, _≤_, _<_, zero-le}
+use native.Mathlib.Nat.{add-zero, le-refl}
+use native.Mathlib.Omega.{arith}
+use lib.IntN.{ℤ, pos, _+ℤ_, _-ℤ_, _*ℤ_, negℤ}
+use lib.Signed.{_≤ℤ_}
+use lib.Dec.{T}
+use lib.ListN.{length, getD, replicate}
+use Rattle.integer.specs.Linear.{linear, _&_}
+use Rattle.integer.specs.Bounds.{Within, Within-le, Within-pos, Within-negℤ, Within-+ℤ, Within--ℤ, Within-*ℤ, AllWithin, AllWithin-le, bounds}
+use Rattle.integer.specs.Machine.{Is, Is-Within, within-literal}
+use Rattle.integer.specs.Tests.{eqZ}
+use Rattle.rows.specs.declared.row_sums.EqualityRow.{EqualityRow}
+use Rattle.integer.specs.Ring.{ring, terms}
+use Rattle.rows.specs.Mesh.{nodes, elements, x, y, corner, elementSoil, soilEntry, liveX, liveY, deadX, deadY, edges, edgeEntry, fromNode, toNode}
+use Rattle.rows.specs.Rows.{Row, equalityRows, joined, countFrom, node, sx, sy, t, riseAcross, runAcross, crossAt, twiceArea, balanceX, balanceY, stepX, stepY, stepSquare, fixedIf, normalRow, shearRow}
+use Rattle.rows.specs.Verdict.{rowAt}
+use Rattle.rows.specs.Facts.{Between, MeshFacts}
+use Rattle.rows.specs.RowContracts.{pairs, rowOf, RowFits, Filled, cornerColumns, balancedOf, normalOf, shearOf}
+use Rattle.rows.proofs.RowLaws.{balance-at, side-at}
+
+-- ---- differences of coordinates
+
+apart : {a b : ℤ} → Between (pos 0) (pos 1000) a → Between (pos 0) (pos 1000) b → Within 1000 (a -ℤ b)
+apart h k = linear (h .least & h .most & k .least & k .most) (search bounds depth 40) (omega arith)
+
+pub run-within : {m : List ℤ} → MeshFacts m → {a b : ℕ} → a < nodes m → b < nodes m → Within 1000 (x m a -ℤ x m b)
+run-within f {a} {b} h k = apart (f .node a h .xRange) (f .node b k .xRange)
+
+pub rise-within : {m : List ℤ} → MeshFacts m → {a b : ℕ} → a < nodes m → b < nodes m → Within 1000 (y m a -ℤ y m b)
+rise-within f {a} {b} h k = apart (f .node a h .yRange) (f .node b k .yRange)
+
+-- ---- a balance row
+
+pub as-balanced : {k₀ k₁ k₂ k₃ k₄ k₅ k₆ k₇ a a′ b b′ v w live right : ℤ} (columns : List ℕ)
+    → k₀ ≡ a → k₁ ≡ b → k₂ ≡ a′ → k₃ ≡ b′ → k₄ ≡ negℤ a → k₅ ≡ negℤ b → k₆ ≡ negℤ a′ → k₇ ≡ negℤ b′ → v ≡ live → w ≡ right
+    → record { coefficients = k₀ ∷ k₁ ∷ k₂ ∷ k₃ ∷ k₄ ∷ k₅ ∷ k₆ ∷ k₇ ∷ []; columns = columns; count = 8; live = v; right = w; asked = true } ≡ balancedOf a a′ b b′ columns live right
+unfolding balancedOf
+as-balanced columns e₀ e₁ e₂ e₃ e₄ e₅ e₆ e₇ f g = rw (e₀, e₁, e₂, e₃, e₄, e₅, e₆, e₇, f, g)
+
+module _ (m : List ℤ) (e : ℕ) where
+  rise-opposite : riseAcross m e 2 ≡ negℤ (riseAcross m e 0)
+  unfolding riseAcross node
+  rise-opposite = ring (y m (corner m e 1) ∷ y m (corner m e 3) ∷ []) (search terms depth 100) refl
+
+  rise-next-opposite : riseAcross m e 3 ≡ negℤ (riseAcross m e 1)
+  unfolding riseAcross node
+  rise-next-opposite = ring (y m (corner m e 0) ∷ y m (corner m e 2) ∷ []) (search terms depth 100) refl
+
+  run-opposite : runAcross m e 2 ≡ negℤ (runAcross m e 0)
+  unfolding runAcross node
+  run-opposite = ring (x m (corner m e 1) ∷ x m (corner m e 3) ∷ []) (search terms depth 100) refl
+
+  run-next-opposite : runAcross m e 3 ≡ negℤ (runAcross m e 1)
+  unfolding runAcross node
+  run-next-opposite = ring (x m (corner m e 0) ∷ x m (corner m e 2) ∷ []) (search terms depth 100) refl
+
+  pub area-is : riseAcross m e 0 *ℤ runAcross m e 1 -ℤ riseAcross m e 1 *ℤ runAcross m e 0 ≡ twiceArea m e
+  unfolding riseAcross runAcross twiceArea crossAt node
+  area-is =
+      ring (x m (corner m e 0) ∷ x m (corner m e 1) ∷ x m (corner m e 2) ∷ x m (corner m e 3) ∷ y m (corner m e 0) ∷ y m (corner m e 1) ∷ y m (corner m e 2) ∷ y m (corner m e 3) ∷ [])
+      (search terms depth 100) refl
+
+  balanceX-is : (live right : ℤ) → live ≡ twiceArea m e *ℤ liveX m (elementSoil m e) → right ≡ negℤ (twiceArea m e *ℤ deadX m (elementSoil m e))
+      → rowOf (balancedOf (riseAcross m e 0) (riseAcross m e 1) (runAcross m e 0) (runAcross m e 1) (cornerColumns m e 0) live right) ≡ balanceX m e
+  unfolding rowOf balancedOf pairs cornerColumns balanceX joined countFrom node sx t
+  balanceX-is live right el er =
+      rw (el, er, rise-opposite, rise-next-opposite, run-opposite, run-next-opposite, add-zero (3 * corner m e 0), add-zero (3 * corner m e 1), add-zero (3 * corner m e 2), add-zero (3 * corner m e 3))
+
+  balanceY-is : (live right : ℤ) → live ≡ twiceArea m e *ℤ liveY m (elementSoil m e) → right ≡ negℤ (twiceArea m e *ℤ deadY m (elementSoil m e))
+      → rowOf (balancedOf (runAcross m e 0) (runAcross m e 1) (riseAcross m e 0) (riseAcross m e 1) (cornerColumns m e 1) live right) ≡ balanceY m e
+  unfolding rowOf balancedOf pairs cornerColumns balanceY joined countFrom node sy t
+  balanceY-is live right el er = rw (el, er, rise-opposite, rise-next-opposite, run-opposite, run-next-opposite)
+
+-- ---- the bounds of a row
+
+within-nil : {B : ℕ} → AllWithin B []
+within-nil = record { each = λ i. record { within = zero-le } }
+
+within-cons : {B : ℕ} {a : ℤ} {l : List ℤ} → Within B a → AllWithin B l → AllWithin B (a ∷ l)
+within-cons {B} {a} {l} h k = record { each = by }
+  where
+    by : (i : ℕ) → Within B (getD (a ∷ l) i (pos 0))
+    by zero = h
+    by (suc i) = k .each i
+
+record Below (n : ℕ) (l : List ℕ) : Type 0 where
+  each : (i : ℕ) → i < length l → getD l i 0 < n
+
+below-nil : {n : ℕ} → Below n []
+below-nil = record { each = λ i h. absurd (omega arith) }
+
+below-cons : {n a : ℕ} {l : List ℕ} → a < n → Below n l → Below n (a ∷ l)
+below-cons {n} {a} {l} h k = record { each = by }
+  where
+    by : (i : ℕ) → i < length (a ∷ l) → getD (a ∷ l) i 0 < n
+    by zero g = h
+    by (suc i) g = k .each i (omega arith)
+
+module _ (m : List ℤ) (facts : MeshFacts m) (e : ℕ) (l : e < elements m) where
+  columns-below : (first : ℕ) → first < 2 → Below (3 * nodes m) (cornerColumns m e first)
+  unfolding cornerColumns
+  columns-below first h =
+      let c = facts .element e l .cornerThere in
+      let c₀ = c 0 (omega arith) in
+      let c₁ = c 1 (omega arith) in
+      let c₂ = c 2 (omega arith) in
+      let c₃ = c 3 (omega arith) in
+      below-cons (omega arith) (below-cons (omega arith) (below-cons (omega arith) (below-cons (omega arith) (below-cons (omega arith) (below-cons (omega arith) (below-cons (omega arith) (below-cons (omega arith) below-nil)))))))
+
+  balanced-fits : {a a′ b b′ live right : ℤ} (first : ℕ) → first < 2 → Within 1000 a → Within 1000 a′ → Within 1000 b → Within 1000 b′ → Within 20000000000 live → Within 20000000000 right
+      → RowFits (balancedOf a a′ b b′ (cornerColumns m e first) live right) (3 * nodes m)
+  unfolding balancedOf cornerColumns
+  balanced-fits first f ha ha′ hb hb′ hl hr = record {
+    long = refl;
+    wide = eight first;
+    few = omega arith;
+    coefficientsFit = AllWithin-le (within-cons ha (within-cons hb (within-cons ha′ (within-cons hb′ (within-cons (Within-negℤ ha) (within-cons (Within-negℤ hb) (within-cons (Within-negℤ ha′) (within-cons (Within-negℤ hb′) within-nil)))))))) (omega arith);
+    columnsFit = λ i h. columns-below first f .each i (omega (arith, eight first));
+    liveFits = hl;
+    rightFits = hr;
+  }
+    where
+      eight : (first : ℕ) → length (cornerColumns m e first) ≡ 8
+      eight first = refl
+
+  module _ (area : ℤ) {r : EqualityRow} {a a′ b b′ live right : ℤ} {columns : List ℕ} (e₀ : r ≡ balancedOf a a′ b b′ columns live right) where
+    pub balance-x-filled : Is a (riseAcross m e 0) 1000 → Is a′ (riseAcross m e 1) 1000 → Is b (runAcross m e 0) 1000 → Is b′ (runAcross m e 1) 1000 → columns ≡ cornerColumns m e 0 → area ≡ a *ℤ b′ -ℤ a′ *ℤ b
+        → Is live (area *ℤ soilEntry m (elementSoil m e) 6) 20000000000 → Is right (negℤ (area *ℤ soilEntry m (elementSoil m e) 4)) 20000000000 → Filled r (balanceX m e) (3 * nodes m)
+    unfolding liveX deadX
+    balance-x-filled ha ha′ hb hb′ hc he hl hr =
+        let same : area ≡ twiceArea m e = he ∙ rw (ha .same, ha′ .same, hb .same, hb′ .same) (area-is m e) in
+        rw (e₀, ha .same, ha′ .same, hb .same, hb′ .same, hc)
+        (record {
+          is = balanceX-is m e live right (hl .same ∙ rw same) (hr .same ∙ rw same);
+          fits = balanced-fits 0 (omega arith) (ha .inside) (ha′ .inside) (hb .inside) (hb′ .inside) (Is-Within hl (le-refl _)) (Is-Within hr (le-refl _));
+        })
+
+    pub balance-y-filled : Is a (runAcross m e 0) 1000 → Is a′ (runAcross m e 1) 1000 → Is b (riseAcross m e 0) 1000 → Is b′ (riseAcross m e 1) 1000 → columns ≡ cornerColumns m e 1 → area ≡ b *ℤ a′ -ℤ b′ *ℤ a
+        → Is live (area *ℤ soilEntry m (elementSoil m e) 7) 20000000000 → Is right (negℤ (area *ℤ soilEntry m (elementSoil m e) 5)) 20000000000 → Filled r (balanceY m e) (3 * nodes m)
+    unfolding liveY deadY
+    balance-y-filled ha ha′ hb hb′ hc he hl hr =
+        let same : area ≡ twiceArea m e = he ∙ rw (ha .same, ha′ .same, hb .same, hb′ .same) (area-is m e) in
+        rw (e₀, ha .same, ha′ .same, hb .same, hb′ .same, hc)
+        (record {
+          is = balanceY-is m e live right (hl .same ∙ rw same) (hr .same ∙ rw same);
+          fits = balanced-fits 1 (omega arith) (ha .inside) (ha′ .inside) (hb .inside) (hb′ .inside) (Is-Within hl (le-refl _)) (Is-Within hr (le-refl _));
+        })
+
+-- ---- a side row
+
+pub or-first : (a b : Bool) → T a → true ≡ (a || b)
+or-first true b h = refl
+or-first false b h = absurd h
+
+pub or-second : (a : Bool) {x b : Bool} → T (not a) → x ≡ b → x ≡ (a || b)
+or-second true h e = absurd h
+or-second false h e = e
+
+pub as-three : {k₀ k₁ k₂ c₀ c₁ c₂ v w live right : ℤ} (j₀ j₁ j₂ : ℕ) (fixed : Bool) → k₀ ≡ c₀ → k₁ ≡ c₁ → k₂ ≡ c₂ → v ≡ live → w ≡ right
+    → _≡_ {A = EqualityRow}
+    (record { coefficients = k₀ ∷ k₁ ∷ k₂ ∷ replicate 5 (pos 0); columns = j₀ ∷ j₁ ∷ j₂ ∷ replicate 5 0; count = 3; live = v; right = w; asked = fixed })
+    (record { coefficients = c₀ ∷ c₁ ∷ c₂ ∷ replicate 5 (pos 0); columns = j₀ ∷ j₁ ∷ j₂ ∷ replicate 5 0; count = 3; live = live; right = right; asked = fixed })
+as-three j₀ j₁ j₂ fixed e₀ e₁ e₂ f g = rw (e₀, e₁, e₂, f, g)
+
+module _ (m : List ℤ) (g v : ℕ) where
+  normal-is : rowOf (normalOf (stepX m g) (stepY m g) (3 * v) (edgeEntry m g 3) (edgeEntry m g 5) (eqZ (edgeEntry m g 2) (pos 1) || eqZ (edgeEntry m g 2) (pos 3))) ≡ normalRow m g v
+  unfolding rowOf normalOf pairs normalRow stepSquare fixedIf sx sy t
+  normal-is = refl
+
+  shear-is : rowOf (shearOf (stepX m g) (stepY m g) (3 * v) (edgeEntry m g 4) (edgeEntry m g 6) (eqZ (edgeEntry m g 2) (pos 2) || eqZ (edgeEntry m g 2) (pos 3))) ≡ shearRow m g v
+  unfolding rowOf shearOf pairs shearRow stepSquare fixedIf sx sy t
+  shear-is = refl
+
+zeros : AllWithin 2000000 (replicate 5 (pos 0))
+zeros = let z = within-literal tt in within-cons z (within-cons z (within-cons z (within-cons z (within-cons z within-nil))))
+
+three : (a b c i : ℕ) {n : ℕ} → i < 3 → a < n → b < n → c < n → getD (a ∷ b ∷ c ∷ replicate 5 0) i 0 < n
+three a b c zero h ha hb hc = ha
+three a b c (suc zero) h ha hb hc = hb
+three a b c (suc (suc zero)) h ha hb hc = hc
+three a b c (suc (suc (suc i))) h ha hb hc = absurd (omega arith)
+
+-- a row of three entries at node v
+module _ {n v : ℕ} {u w dead live : ℤ} (l : v < n) (hu : Within 1000 u) (hw : Within 1000 w) (hd : Within 10000 dead) (hl : Within 10000 live) where
+  square-within : Within 2000000 (u *ℤ u +ℤ w *ℤ w)
+  square-within = Within-le (Within-+ℤ (Within-*ℤ hu hu) (Within-*ℤ hw hw)) (omega arith)
+
+  normal-fits : (fixed : Bool) → RowFits (normalOf u w (3 * v) dead live fixed) (3 * n)
+  unfolding normalOf
+  normal-fits fixed = record {
+    long = refl;
+    wide = refl;
+    few = omega arith;
+    coefficientsFit = within-cons (Within-le (Within-*ℤ hw hw) (omega arith)) (within-cons (Within-negℤ (Within-le (Within-*ℤ (Within-*ℤ (Within-pos 2) hu) hw) (omega arith))) (within-cons (Within-le (Within-*ℤ hu hu) (omega arith)) zeros));
+    columnsFit = λ i h. three (3 * v) (3 * v + 2) (3 * v + 1) i h (omega arith) (omega arith) (omega arith);
+    liveFits = Within-negℤ (Within-le (Within-*ℤ square-within hl) (omega arith));
+    rightFits = Within-le (Within-*ℤ square-within hd) (omega arith);
+  }
+
+  shear-fits : (fixed : Bool) → RowFits (shearOf u w (3 * v) dead live fixed) (3 * n)
+  unfolding shearOf
+  shear-fits fixed = record {
+    long = refl;
+    wide = refl;
+    few = omega arith;
+    coefficientsFit = within-cons (Within-le (Within-*ℤ hu hw) (omega arith)) (within-cons (Within-negℤ (Within-le (Within-*ℤ hu hw) (omega arith))) (within-cons (Within-le (Within--ℤ (Within-*ℤ hw hw) (Within-*ℤ hu hu)) (omega arith)) zeros));
+    columnsFit = λ i h. three (3 * v) (3 * v + 1) (3 * v + 2) i h (omega arith) (omega arith) (omega arith);
+    liveFits = Within-negℤ (Within-le (Within-*ℤ square-within hl) (omega arith));
+    rightFits = Within-le (Within-*ℤ square-within hd) (omega arith);
+  }
+
+module _ (m : List ℤ) (g v : ℕ) (l : v < nodes m) {r : EqualityRow} {u w dead live f : ℤ} {fixed : Bool} (hu : Is u (stepX m g) 1000) (hw : Is w (stepY m g) 1000) (hf : f ≡ edgeEntry m g 2) where
+  pub normal-filled : r ≡ normalOf u w (3 * v) dead live fixed → fixed ≡ (eqZ f (pos 1) || eqZ f (pos 3)) → Is dead (edgeEntry m g 3) 10000 → Is live (edgeEntry m g 5) 10000 → Filled r (normalRow m g v) (3 * nodes m)
+  normal-filled e ef hd hl =
+      rw (e, hu .same, hw .same, hd .same, hl .same, ef, hf)
+      (record { is = normal-is m g v; fits = normal-fits l (hu .inside) (hw .inside) (hd .inside) (hl .inside) _ })
+
+  pub shear-filled : r ≡ shearOf u w (3 * v) dead live fixed → fixed ≡ (eqZ f (pos 2) || eqZ f (pos 3)) → Is dead (edgeEntry m g 4) 10000 → Is live (edgeEntry m g 6) 10000 → Filled r (shearRow m g v) (3 * nodes m)
+  shear-filled e ef hd hl =
+      rw (e, hu .same, hw .same, hd .same, hl .same, ef, hf)
+      (record { is = shear-is m g v; fits = shear-fits l (hu .inside) (hw .inside) (hd .inside) (hl .inside) _ })
+
+-- ---- rows by their place
+
+pub filled-as : {r : EqualityRow} {a b : Row} {n : ℕ} → Filled r a n → a ≡ b → Filled r b n
+filled-as h e = record { is = h .is ∙ e; fits = h .fits }
+
+module _ (m : List ℤ) where
+  pub side-row-is : (g i j : ℕ) → g < edges m → j < 4 → i ≡ j
+      → rowAt (normalRow m g (fromNode m g) ∷ shearRow m g (fromNode m g) ∷ normalRow m g (toNode m g) ∷ shearRow m g (toNode m g) ∷ []) j ≡ rowAt (equalityRows m) (elements m * 2 + (g * 4 + i))
+  side-row-is g i j l h e = sym (rw e (side-at m g j l h))
+
+  pub balance-row-is : (e k i : ℕ) → e < elements m → i < 2 → k ≡ e * 2 + i → rowAt (balanceX m e ∷ balanceY m e ∷ []) i ≡ rowAt (equalityRows m) k
+  balance-row-is e k i l h s = sym (rw s (balance-at m e i l h))

@@ -1,0 +1,112 @@
+-- The check of a field: what an equality row says by its numbers, and one law for each turn and way out of the loops over rows.
+use mathlib.Core.Path.{_≡_, refl, sym, _∙_, ap, ap₂, subst, subst₂}
+use mathlib.Core.Bool.{Bool, true, false}
+use mathlib.Core.List.{List, [], _∷_}
+use Prim.Native.Nat.{ℕ, zero, suc, _+_, _*_, _-_, _≤_, _<_}
+use native.Mathlib.Nat.{le-trans}
+use native.Mathlib.Numerals.{add-one}
+use native.Mathlib.Omega.{arith}
+use lib.IntN.{ℤ, pos, _+ℤ_, _*ℤ_}
+use lib.ListN.{length, take, drop}
+use mir.Syntax.{w64}
+use mir.Val.{toZ, ofZ}
+use mir.Facts.{toZ-ofZ}
+use Rattle.integer.specs.Machine.{within-SFits, Is-read}
+use Rattle.integer.specs.Tests.{eqZ}
+use Rattle.rows.specs.declared.Outcome.{Outcome}
+use Rattle.rows.specs.declared.Outcome.the-variants.{Passed, Refused}
+use Rattle.rows.specs.declared.Place.the-variants as P
+use Rattle.rows.specs.declared.row_sums.EqualityRow.{EqualityRow}
+use Rattle.rows.specs.Columns.{at, l, n}
+use Rattle.rows.specs.Checks.{_then_}
+use Rattle.rows.specs.Claim.{stress}
+use Rattle.rows.specs.Mesh.{nodes, elements, edges}
+use Rattle.rows.specs.Rows.{Row, asked, unfixed, equalityRows}
+use Rattle.rows.specs.Sums.{leftSide, rightSide, rowHolds}
+use Rattle.rows.specs.Verdict.{rowAt, fieldCheck}
+use Rattle.rows.specs.Facts.{ClaimFacts}
+use Rattle.rows.specs.RowContracts.{rowOf, RowFits, Filled, FieldFits, equalitiesCheck, strengthsCheck}
+use Rattle.rows.proofs.ClaimLaws.{claim-within, rest-within, stress-of, scale-within, load-within, field-long}
+use Rattle.rows.proofs.StrengthLaws.{being}
+use Rattle.rows.proofs.Loops.{Phase, phase-more, phase-fails, phase-done}
+use Rattle.rows.proofs.RowLaws.{equality-count}
+
+-- ---- numbers that the machine read back
+
+module _ {m x : List ℤ} {l n : ℤ} (h : FieldFits m x l n) where
+  pub load-read : toZ w64 (ofZ w64 l) ≡ l
+  load-read = toZ-ofZ (within-SFits (h .load) tt)
+
+  pub scale-read : toZ w64 (ofZ w64 n) ≡ n
+  scale-read = toZ-ofZ (within-SFits (h .scale) tt)
+
+  pub field-read : FieldFits m x (toZ w64 (ofZ w64 l)) (toZ w64 (ofZ w64 n))
+  field-read = subst₂ (λ (a b : ℤ). FieldFits m x a b) (sym load-read) (sym scale-read) h
+
+-- ---- a row by its numbers
+
+pub fits-wider : {r : EqualityRow} {a b : ℕ} → RowFits r a → a ≤ b → RowFits r b
+fits-wider h l = record {
+  long = h .long;
+  wide = h .wide;
+  few = h .few;
+  coefficientsFit = h .coefficientsFit;
+  columnsFit = λ i k. le-trans (h .columnsFit i k) l;
+  liveFits = h .liveFits;
+  rightFits = h .rightFits;
+}
+
+module _ (s : ℕ → ℤ) (l n : ℤ) {r : EqualityRow} {row : Row} {columns : ℕ} (h : Filled r row columns) where
+  pub row-asked : r .asked ≡ true → rowHolds s l n row ≡ eqZ (leftSide s l (rowOf r)) (r .right *ℤ n)
+  unfolding rowHolds rowOf rightSide
+  row-asked e = ap (rowHolds s l n) (sym (h .is)) ∙ rw e
+
+  pub row-unfixed : r .asked ≡ false → true ≡ rowHolds s l n row
+  unfolding rowHolds rowOf
+  row-unfixed e = sym (ap (rowHolds s l n) (sym (h .is)) ∙ rw e)
+
+-- ---- the loop over equality rows
+
+-- row i holds at the field as the machine reads it
+abbrev pub rowTest : List Row → List ℤ → ℕ → ℕ → ℕ → Bool
+rowTest rows x l n i = rowHolds (at x) (toZ w64 l) (toZ w64 n) (rowAt rows i)
+
+module _ {m x : List ℤ} {l n : ℤ} (h : FieldFits m x l n) where
+  equalities-read : equalitiesCheck (equalityRows m) (at x) (toZ w64 (ofZ w64 l)) (toZ w64 (ofZ w64 n)) ≡ equalitiesCheck (equalityRows m) (at x) l n
+  equalities-read = ap₂ (equalitiesCheck (equalityRows m) (at x)) (load-read h) (scale-read h)
+
+  pub equality-fails : {k : ℕ} → Phase (rowTest (equalityRows m) x (ofZ w64 l) (ofZ w64 n)) 21 (λ i. P.Row (suc i)) k ≡ Passed → k < elements m * 2 + edges m * 4
+      → rowTest (equalityRows m) x (ofZ w64 l) (ofZ w64 n) k ≡ false → Refused 21 (P.Row (k + 1)) ≡ equalitiesCheck (equalityRows m) (at x) l n
+  unfolding equalitiesCheck
+  equality-fails {k} p lt e =
+      phase-fails (rowTest (equalityRows m) x (ofZ w64 l) (ofZ w64 n)) 21 (λ i. P.Row (suc i)) (length (equalityRows m)) p (omega (arith, equality-count m)) e (ap P.Row (add-one k))
+      ∙ equalities-read
+
+  pub equalities-hold : {k : ℕ} → Phase (rowTest (equalityRows m) x (ofZ w64 l) (ofZ w64 n)) 21 (λ i. P.Row (suc i)) k ≡ Passed → k ≡ elements m * 2 + edges m * 4 → Passed ≡ equalitiesCheck (equalityRows m) (at x) l n
+  unfolding equalitiesCheck
+  equalities-hold p e =
+      phase-done (rowTest (equalityRows m) x (ofZ w64 l) (ofZ w64 n)) 21 (λ i. P.Row (suc i)) (length (equalityRows m)) p (omega (arith, equality-count m)) (omega (arith, equality-count m))
+      ∙ equalities-read
+
+-- ---- both checks
+
+-- the field of a claim, as it is lent
+pub field-fits : {m c : List ℤ} {l′ n′ : ℤ} → ClaimFacts m c → at c 0 ≡ pos 1 → l′ ≡ l c → n′ ≡ n c → FieldFits m (take (length c - 4) (drop 4 c)) l′ n′
+field-fits {m} {c} f e el en =
+    rw (el, en) (record { long = omega (arith, field-long f e); stresses = rest-within 4 (claim-within f); load = load-within f; scale = scale-within f })
+
+module _ {m c : List ℤ} (f : ClaimFacts m c) where
+  pub load-of : {v : ℤ} → v ≡ at c 3 → toZ w64 (ofZ w64 v) ≡ l c
+  unfolding l
+  load-of e = Is-read (being e (load-within f)) (omega arith) .same
+
+  pub scale-of : {v : ℤ} → v ≡ at c 2 → toZ w64 (ofZ w64 v) ≡ n c
+  unfolding n
+  scale-of e = Is-read (being e (scale-within f)) (omega arith) .same
+
+pub equalities-of : (m c : List ℤ) {l′ n′ : ℤ} → l′ ≡ l c → n′ ≡ n c → equalitiesCheck (equalityRows m) (at (take (length c - 4) (drop 4 c))) l′ n′ ≡ equalitiesCheck (equalityRows m) (stress m c) (l c) (n c)
+equalities-of m c el en = rw (el, en, stress-of m c)
+
+pub field-parts : (es ss : List Row) (s : ℕ → ℤ) (l n : ℤ) → (equalitiesCheck es s l n then strengthsCheck ss s l n) ≡ fieldCheck es ss s l n
+unfolding fieldCheck equalitiesCheck strengthsCheck
+field-parts es ss s l n = refl

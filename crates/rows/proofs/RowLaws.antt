@@ -1,0 +1,147 @@
+-- The rows by their place: pieces of equal length joined, row j of piece i has the place i times that length plus j.
+use mathlib.Core.Path.{_≡_, refl, sym, _∙_, ap, ap₂, subst}
+use mathlib.Core.Logic.{⊎-elim}
+use mathlib.Core.List.{List, [], _∷_, _++_, map}
+use Prim.Native.Nat.{ℕ, zero, suc, _+_, _*_, _≤_, _<_}
+use native.Mathlib.Nat.{add-comm, add-zero, zero-add, zero-mul, suc-mul}
+use native.Mathlib.Omega.{arith}
+use lib.IntN.{ℤ, pos}
+use lib.ListN.{length, getD, length-append, length-map, List·getD-append, List·getD-map}
+use lib.Seq.{getD-append-add}
+use Rattle.rows.specs.Mesh.{nodes, elements, edges, sides, p, q, h, cohesion, fromNode, toNode}
+use Rattle.rows.specs.Polygon.{Polygon, Side, polygonSides, polygonOf}
+use Rattle.rows.specs.Rows.{Row, Pair, countFrom, joined, balanceX, balanceY, balanceRows, normalRow, shearRow, sideRows, nodeSoil, strengthPairs, strengthRow, pairRows, strengthRows, equalityRows, rowsOf}
+use Rattle.rows.specs.Verdict.{rowAt}
+use Rattle.rows.specs.RowContracts.{Listed, sideAt}
+use Rattle.rows.proofs.Lists.{count-length}
+use Rattle.rows.proofs.PolygonRule.{twelve-sides, twenty-sides, thirty-six-sides}
+use Rattle.rows.proofs.SideLaws.{length-sides}
+
+-- ---- pieces
+
+module _ {A B : Type 0} (f : A → List B) (b : ℕ) (each : (a : A) → length (f a) ≡ b) where
+  length-joined : (l : List A) → length (joined f l) ≡ length l * b
+  unfolding joined
+  length-joined [] = sym (zero-mul b)
+  length-joined (a ∷ l) =
+      length-append (f a) (joined f l) ∙ ap₂ _+_ (each a) (length-joined l) ∙ add-comm b (length l * b) ∙ sym (suc-mul (length l) b)
+
+  at-joined : (l : List A) (a₀ : A) (d : B) (i j : ℕ) → i < length l → j < b → getD (joined f l) (i * b + j) d ≡ getD (f (getD l i a₀)) j d
+  unfolding joined
+  at-joined [] a₀ d i j h k = absurd (omega arith)
+  at-joined (a ∷ l) a₀ d zero j h k =
+      ap (λ n. getD (f a ++ joined f l) n d) (ap (λ n. n + j) (zero-mul b) ∙ zero-add j)
+      ∙ List·getD-append (f a) (joined f l) d j (omega (arith, each a))
+  at-joined (a ∷ l) a₀ d (suc i) j h k =
+      ap (λ n. getD (f a ++ joined f l) n d) (omega (arith, suc-mul i b, each a))
+      ∙ getD-append-add (f a) (joined f l) (i * b + j) d
+      ∙ at-joined l a₀ d i j (omega arith) k
+
+at-count : (k n i d : ℕ) → i < n → getD (countFrom k n) i d ≡ k + i
+unfolding countFrom
+at-count k zero i d h = absurd (omega arith)
+at-count k (suc n) zero d h = sym (add-zero k)
+at-count k (suc n) (suc i) d h = at-count (suc k) n i d (omega arith) ∙ (omega arith)
+
+-- pieces numbered from 0
+module _ {B : Type 0} (f : ℕ → List B) (b : ℕ) (each : (a : ℕ) → length (f a) ≡ b) (n : ℕ) where
+  length-pieces : length (joined f (countFrom 0 n)) ≡ n * b
+  length-pieces = length-joined f b each (countFrom 0 n) ∙ ap (λ k. k * b) (count-length 0 n)
+
+  at-pieces : (d : B) (i j : ℕ) → i < n → j < b → getD (joined f (countFrom 0 n)) (i * b + j) d ≡ getD (f i) j d
+  at-pieces d i j h k =
+      at-joined f b each (countFrom 0 n) 0 d i j (omega (arith, count-length 0 n)) k
+      ∙ ap (λ a. getD (f a) j d) (at-count 0 n i 0 h ∙ zero-add i)
+
+-- ---- lists of rows, one after the other
+
+rows-before : (es ss : List Row) (k : ℕ) → k < length es → rowAt (es ++ ss) k ≡ rowAt es k
+unfolding rowAt
+rows-before es ss k h = List·getD-append es ss _ k h
+
+rows-after : (es ss : List Row) (k : ℕ) → rowAt (es ++ ss) (length es + k) ≡ rowAt ss k
+unfolding rowAt
+rows-after es ss k = getD-append-add es ss k _
+
+-- ---- the rows of a mesh
+
+module _ (m : List ℤ) where
+  pub balance-count : length (balanceRows m) ≡ elements m * 2
+  unfolding balanceRows
+  balance-count = length-pieces (λ e. balanceX m e ∷ balanceY m e ∷ []) 2 (λ e. refl) (elements m)
+
+  side-count : length (sideRows m) ≡ edges m * 4
+  unfolding sideRows
+  side-count = length-pieces (λ g. normalRow m g (fromNode m g) ∷ shearRow m g (fromNode m g) ∷ normalRow m g (toNode m g) ∷ shearRow m g (toNode m g) ∷ []) 4 (λ g. refl) (edges m)
+
+  pub equality-count : length (equalityRows m) ≡ elements m * 2 + edges m * 4
+  unfolding equalityRows
+  equality-count = length-append (balanceRows m) (sideRows m) ∙ ap₂ _+_ balance-count side-count
+
+  pub balance-at : (e i : ℕ) → e < elements m → i < 2 → rowAt (equalityRows m) (e * 2 + i) ≡ rowAt (balanceX m e ∷ balanceY m e ∷ []) i
+  unfolding equalityRows balanceRows rowAt
+  balance-at e i h k =
+      rows-before (balanceRows m) (sideRows m) (e * 2 + i) (omega (arith, balance-count))
+      ∙ at-pieces (λ e. balanceX m e ∷ balanceY m e ∷ []) 2 (λ e. refl) (elements m) _ e i h k
+
+  pub side-at : (g i : ℕ) → g < edges m → i < 4 → rowAt (equalityRows m) (elements m * 2 + (g * 4 + i)) ≡ rowAt (normalRow m g (fromNode m g) ∷ shearRow m g (fromNode m g) ∷ normalRow m g (toNode m g) ∷ shearRow m g (toNode m g) ∷ []) i
+  unfolding equalityRows sideRows rowAt
+  side-at g i h k =
+      ap (λ n. rowAt (balanceRows m ++ sideRows m) (n + (g * 4 + i))) (sym balance-count)
+      ∙ rows-after (balanceRows m) (sideRows m) (g * 4 + i)
+      ∙ at-pieces (λ g. normalRow m g (fromNode m g) ∷ shearRow m g (fromNode m g) ∷ normalRow m g (toNode m g) ∷ shearRow m g (toNode m g) ∷ []) 4 (λ g. refl) (edges m) _ g i h k
+
+-- ---- strength rows
+
+at-map : {A B : Type 0} (f : A → B) (l : List A) (k : ℕ) (a : A) (b : B) → k < length l → getD (map f l) k b ≡ f (getD l k a)
+at-map f [] k a b h = absurd (omega arith)
+at-map f (c ∷ l) zero a b h = refl
+at-map f (c ∷ l) (suc k) a b h = at-map f l k a b (omega arith)
+
+side-number : {n : ℕ} → Listed n → length (polygonSides (polygonOf n .corners)) ≡ n
+side-number {n} l = length-sides (polygonOf n .corners) ∙ ⊎-elim (λ e. rw e (twelve-sides .count)) (λ r. ⊎-elim (λ e. rw e (twenty-sides .count)) (λ e. rw e (thirty-six-sides .count)) r) (l .listed)
+
+-- the strength row of a node and a side
+unfoldable pub nodeRow : List ℤ → ℕ → Side → Row
+nodeRow m v s = strengthRow (polygonOf (sides m) .radius) (p m (nodeSoil m v)) (q m (nodeSoil m v)) (h m (nodeSoil m v)) (cohesion m (nodeSoil m v)) v s
+
+module _ (m : List ℤ) (listed : Listed (sides m)) where
+  length-pair : (a : Pair) → length (pairRows (polygonOf (sides m)) m a) ≡ sides m
+  unfolding pairRows
+  length-pair a = length-map (polygonSides (polygonOf (sides m) .corners)) _ ∙ side-number listed
+
+  pair-count : length (strengthPairs m) ≡ nodes m
+  unfolding strengthPairs
+  pair-count = length-map (countFrom 0 (nodes m)) _ ∙ count-length 0 (nodes m)
+
+  pub strength-count : length (strengthRows m) ≡ nodes m * sides m
+  unfolding strengthRows
+  strength-count = length-joined (pairRows (polygonOf (sides m)) m) (sides m) length-pair (strengthPairs m) ∙ ap (λ n. n * sides m) pair-count
+
+  pair-at : (v : ℕ) (d : Pair) → v < nodes m → getD (strengthPairs m) v d ≡ record { at = v; soil = nodeSoil m v }
+  unfolding strengthPairs
+  pair-at v d l =
+      at-map (λ v. record { at = v; soil = nodeSoil m v }) (countFrom 0 (nodes m)) v 0 d (omega (arith, count-length 0 (nodes m)))
+      ∙ ap (λ v. record { at = v; soil = nodeSoil m v }) (at-count 0 (nodes m) v 0 l ∙ zero-add v)
+
+  pub strength-at : (v k : ℕ) → v < nodes m → k < sides m → rowAt (strengthRows m) (v * sides m + k) ≡ nodeRow m v (sideAt (polygonOf (sides m)) k)
+  unfolding strengthRows rowAt nodeRow sideAt pairRows
+  strength-at v k l j =
+      at-joined (pairRows (polygonOf (sides m)) m) (sides m) length-pair (strengthPairs m) (record { at = 0; soil = 0 }) _ v k (omega (arith, pair-count)) j
+      ∙ ap (λ a. rowAt (pairRows (polygonOf (sides m)) m a) k) (pair-at v (record { at = 0; soil = 0 }) l)
+      ∙ at-map _ (polygonSides (polygonOf (sides m) .corners)) k _ _ (omega (arith, side-number listed))
+
+-- ---- all rows
+
+module _ (m : List ℤ) where
+  pub row-count : Listed (sides m) → length (rowsOf m) ≡ elements m * 2 + edges m * 4 + nodes m * sides m
+  unfolding rowsOf
+  row-count l = length-append (equalityRows m) (strengthRows m) ∙ ap₂ _+_ (equality-count m) (strength-count m l)
+
+  pub equality-among : (k : ℕ) → k < elements m * 2 + edges m * 4 → rowAt (rowsOf m) k ≡ rowAt (equalityRows m) k
+  unfolding rowsOf
+  equality-among k h = rows-before (equalityRows m) (strengthRows m) k (omega (arith, equality-count m))
+
+  pub strength-among : (k : ℕ) → rowAt (rowsOf m) (elements m * 2 + edges m * 4 + k) ≡ rowAt (strengthRows m) k
+  unfolding rowsOf
+  strength-among k = ap (λ n. rowAt (equalityRows m ++ strengthRows m) (n + k)) (sym (equality-count m)) ∙ rows-after (equalityRows m) (strengthRows m) k

@@ -1,0 +1,201 @@
+-- The strength rows of a node by its numbers: the identity of the printed inequality's sides with those of the row, and sums over the sides.
+use mathlib.Core.Path.{_≡_, refl, sym, _∙_, ap, ap₂, subst}
+use mathlib.Core.Bool.{Bool, true, false, not}
+use mathlib.Core.List.{List, [], _∷_}
+use Prim.Native.Nat.{ℕ, zero, suc, _+_, _*_, _-_, _≤_, _<_}
+use native.Mathlib.Nat.{le-refl, zero-mul, suc-mul, mul-le-mul, mul-le-mul-right}
+use native.Mathlib.Numerals.{add-one}
+use native.Mathlib.Omega.{arith}
+use lib.Dec.{T}
+use lib.ListN.{length}
+use lib.Signed.{leZ, ltZ, _≤ℤ_, _<ℤ_, leZ-yes, ltZ-yes}
+use lib.IntN.{ℤ, pos, _+ℤ_, _-ℤ_, _*ℤ_, negℤ}
+use Rattle.integer.specs.Linear.{linear, facts, _&_}
+use Rattle.integer.specs.Ring.{ring, terms}
+use Rattle.integer.specs.Tests.{yes-leZ, yes-ltZ}
+use Rattle.rows.proofs.Checks.{lowest-add, lowest-cong}
+use Rattle.rows.proofs.RowLaws.{nodeRow, strength-at, strength-count}
+use Rattle.integer.specs.Bounds.{Within, bounds}
+use Rattle.integer.specs.Machine.{Is, Is-as, Is-Within}
+use Rattle.rows.specs.Mesh.{nodes, sides, p, q, h, cohesion}
+use Rattle.rows.specs.declared.sizes.Sizes.{Sizes}
+use Rattle.rows.specs.Columns.{at, n, l}
+use Rattle.rows.specs.declared.Place.{Place}
+use Rattle.rows.specs.declared.Place.the-variants as P
+use Rattle.rows.specs.declared.Outcome.{Outcome}
+use Rattle.rows.specs.declared.Outcome.the-variants.{Passed, Refused}
+use Rattle.rows.specs.Checks.{demand, _then_, lowest}
+use Rattle.rows.specs.Claim.{stress}
+use Rattle.rows.specs.Polygon.{Side, Polygon, polygonOf}
+use Rattle.rows.specs.Rows.{Row, sx, sy, t, nodeSoil, cross, strengthRow, strengthRows}
+use Rattle.rows.specs.Sums.{weightedSum, leftSide, rightSide, rowHolds}
+use Rattle.rows.specs.Verdict.{rowAt}
+use Rattle.rows.specs.Facts.{Between, SoilFacts}
+use Rattle.rows.specs.Contracts.{Sized}
+use Rattle.rows.specs.RowContracts.{Listed, SoilNumbers, SoilFits, NodeNumbers, NodeFits, NodeState, Steps, StepFits, StepsFit, sideAt, runOf, riseOf, crossOf, sideSlack, nodeCheck, strengthsCheck}
+
+pub being : {v z : ℤ} {B : ℕ} → v ≡ z → Within B z → Is v z B
+being e h = record { same = e; inside = h }
+
+-- ---- the numbers of a soil
+
+from-zero : {B : ℕ} {z : ℤ} → Between (pos 0) (pos B) z → Within B z
+from-zero h = linear (h .least & h .most) (search bounds depth 40) (omega arith)
+
+from-one : {B : ℕ} {z : ℤ} → Between (pos 1) (pos B) z → Within B z
+from-one h = linear (h .least & h .most) (search bounds depth 40) (omega arith)
+
+module _ {m : List ℤ} {s : ℕ} (f : SoilFacts m s) where
+  pub p-within : Within 1000 (p m s)
+  p-within = from-zero (f .pRange)
+
+  pub q-within : Within 1000 (q m s)
+  q-within = from-one (f .qRange)
+
+  pub h-within : Within 1000 (h m s)
+  h-within = from-one (f .hRange)
+
+  pub cohesion-within : Within 10000 (cohesion m s)
+  cohesion-within = from-zero (f .cohesionRange)
+
+pub soil-fits : {k m : List ℤ} {s : ℕ} {r : ℤ} → SoilNumbers k m s r → SoilFits k
+soil-fits h = record { size = h .size; lever = Is-Within (h .lever) (le-refl _); friction = Is-Within (h .friction) (le-refl _); right = Is-Within (h .right) (le-refl _) }
+
+-- ---- the numbers of a node at a field
+
+module _ (m c : List ℤ) (v : ℕ) {d k x : List ℤ} {soil : ℕ} {r n′ : ℤ} where
+  pub node-stated : NodeNumbers d k x v n′ → SoilNumbers k m soil r → soil ≡ nodeSoil m v → r ≡ polygonOf (sides m) .radius → n′ ≡ n c → stress m c ≡ at x → NodeState d m c v
+  unfolding sx sy t
+  node-stated h g es er en ex = record {
+    size = h .size;
+    lever = Is-as (h .lever) (le-refl _) (g .lever .same ∙ rw (er, es));
+    spread = Is-as (h .spread) (le-refl _) (rw ex);
+    twist = Is-as (h .twist) (le-refl _) (rw ex);
+    reserve = Is-as (h .reserve) (le-refl _) (rw (ex, en, g .right .same, g .friction .same, es));
+  }
+
+pub node-fits : {d m c : List ℤ} {v : ℕ} → NodeState d m c v → NodeFits d
+node-fits h = record {
+  size = h .size;
+  lever = Is-Within (h .lever) (le-refl _);
+  spread = Is-Within (h .spread) (le-refl _);
+  twist = Is-Within (h .twist) (le-refl _);
+  reserve = Is-Within (h .reserve) (le-refl _);
+}
+
+pub sides-listed : {m : List ℤ} {s : Sizes} → Sized m s → Listed (s .sides)
+sides-listed h = record { listed = rw (h .sidesAre) (h .facts .counts .sidesListed) }
+
+-- ---- the sides of a node
+
+pub true-of : {b : Bool} → T b → b ≡ true
+true-of {b = true} h = refl
+true-of {b = false} h = absurd h
+
+pub false-of : {b : Bool} → T (not b) → b ≡ false
+false-of {b = true} h = absurd h
+false-of {b = false} h = refl
+
+-- ---- a strength row by its slack
+
+same-test : {x y : Bool} → (T x → T y) → (T y → T x) → x ≡ y
+same-test {x = true} {y = true} f g = refl
+same-test {x = true} {y = false} f g = absurd (f tt)
+same-test {x = false} {y = true} f g = absurd (g tt)
+same-test {x = false} {y = false} f g = refl
+
+leZ-slack : (a b : ℤ) {z : ℤ} → z ≡ b -ℤ a → leZ a b ≡ leZ (pos 0) z
+leZ-slack a b {z} e = same-test (λ t. yes-leZ (up (leZ-yes t))) (λ t. yes-leZ (down (leZ-yes t)))
+  where
+    up : a ≤ℤ b → pos 0 ≤ℤ z
+    up h = linear (e & h) (search facts depth 40) (omega arith)
+
+    down : pos 0 ≤ℤ z → a ≤ℤ b
+    down h = linear (e & h) (search facts depth 40) (omega arith)
+
+-- the right side less the left, as it is printed and as the row has it
+regrouped : (r p q h C x y z run rise k l n : ℤ)
+    → k *ℤ (pos 2 *ℤ q *ℤ C *ℤ n -ℤ p *ℤ (x +ℤ y)) -ℤ r *ℤ h *ℤ (rise *ℤ (x -ℤ y) -ℤ run *ℤ (pos 2 *ℤ z))
+    ≡ k *ℤ (pos 2 *ℤ q *ℤ C) *ℤ n -ℤ (((r *ℤ h *ℤ rise +ℤ k *ℤ p) *ℤ x +ℤ ((k *ℤ p -ℤ r *ℤ h *ℤ rise) *ℤ y +ℤ (negℤ (pos 2 *ℤ (r *ℤ h *ℤ run)) *ℤ z +ℤ pos 0))) +ℤ pos 0 *ℤ l)
+regrouped r p q h C x y z run rise k l n =
+    ring (r ∷ p ∷ q ∷ h ∷ C ∷ x ∷ y ∷ z ∷ run ∷ rise ∷ k ∷ l ∷ n ∷ []) (search terms depth 100) refl
+
+slack-is : (r p q h C : ℤ) (v : ℕ) (s : Side) (f : ℕ → ℤ) (l n : ℤ)
+    → crossOf s *ℤ (pos 2 *ℤ q *ℤ C *ℤ n -ℤ p *ℤ (f (sx v) +ℤ f (sy v))) -ℤ r *ℤ h *ℤ (riseOf s *ℤ (f (sx v) -ℤ f (sy v)) -ℤ runOf s *ℤ (pos 2 *ℤ f (t v)))
+    ≡ rightSide n (strengthRow r p q h C v s) -ℤ leftSide f l (strengthRow r p q h C v s)
+unfolding rightSide leftSide weightedSum strengthRow crossOf riseOf runOf
+slack-is r p q h C v s f l n = regrouped r p q h C (f (sx v)) (f (sy v)) (f (t v)) (runOf s) (riseOf s) (crossOf s) l n
+
+module _ (m c : List ℤ) (v k : ℕ) {d tab : List ℤ} (state : NodeState d m c v) (steps : Steps (polygonOf (sides m)) (sides m) tab) (j : k < sides m) (l : ℤ) where
+  row-slack : sideSlack d tab k ≡ rightSide (n c) (nodeRow m v (sideAt (polygonOf (sides m)) k)) -ℤ leftSide (stress m c) l (nodeRow m v (sideAt (polygonOf (sides m)) k))
+  unfolding sideSlack at nodeRow
+  row-slack =
+      rw (state .lever .same, state .spread .same, state .twist .same, state .reserve .same, steps .run k j .same, steps .rise k j .same, steps .cross k j .same)
+      (slack-is (polygonOf (sides m) .radius) (p m (nodeSoil m v)) (q m (nodeSoil m v)) (h m (nodeSoil m v)) (cohesion m (nodeSoil m v)) v (sideAt (polygonOf (sides m)) k) (stress m c) l (n c))
+
+  pub strength-test : rowHolds (stress m c) l (n c) (nodeRow m v (sideAt (polygonOf (sides m)) k)) ≡ leZ (pos 0) (sideSlack d tab k)
+  unfolding rowHolds nodeRow strengthRow
+  strength-test = leZ-slack (leftSide (stress m c) l (nodeRow m v (sideAt (polygonOf (sides m)) k))) (rightSide (n c) (nodeRow m v (sideAt (polygonOf (sides m)) k))) row-slack
+
+-- ---- the loop over nodes
+
+pub steps-fit : {g : Polygon} {n : ℕ} {tab : List ℤ} → Steps g n tab → StepsFit tab n
+unfolding at
+steps-fit h = record {
+  most = h .most;
+  each = λ k l. record {
+    size = h .size;
+    below = omega (arith, h .most);
+    run = Is-Within (h .run k l) (le-refl _);
+    rise = Is-Within (h .rise k l) (le-refl _);
+    cross = Is-Within (h .cross k l) (le-refl _);
+  };
+}
+
+-- the check of strength row i
+abbrev pub strengthDemand : List ℤ → List ℤ → ℕ → Outcome
+strengthDemand m c i = demand (rowHolds (stress m c) (l c) (n c) (rowAt (strengthRows m) i)) 22 (P.Row (suc i))
+
+module _ (m c : List ℤ) (listed : Listed (sides m)) {tab : List ℤ} (steps : Steps (polygonOf (sides m)) (sides m) tab) where
+  node-rows : (v : ℕ) {d : List ℤ} → v < nodes m → NodeState d m c v → lowest (λ k. strengthDemand m c (v * sides m + k)) (sides m) ≡ nodeCheck d tab (v * sides m) (sides m)
+  unfolding nodeCheck
+  node-rows v h state =
+      lowest-cong _ _ (sides m) (λ k j. ap (λ b. demand b 22 (P.Row (suc (v * sides m + k)))) (ap (rowHolds (stress m c) (l c) (n c)) (strength-at m listed v k h j) ∙ strength-test m c v k state steps j (l c)))
+
+  -- one node more
+  one-node : (v : ℕ) {d : List ℤ} → v < nodes m → NodeState d m c v → lowest (strengthDemand m c) (v * sides m) ≡ Passed → lowest (strengthDemand m c) (v * sides m + sides m) ≡ nodeCheck d tab (v * sides m) (sides m)
+  one-node v h state e = lowest-add (strengthDemand m c) (v * sides m) (sides m) ∙ ap (λ o. o then lowest (λ k. strengthDemand m c (v * sides m + k)) (sides m)) e ∙ node-rows v h state
+
+  pub node-passes : (v : ℕ) {d : List ℤ} → v < nodes m → NodeState d m c v → lowest (strengthDemand m c) (v * sides m) ≡ Passed → nodeCheck d tab (v * sides m) (sides m) ≡ Passed → lowest (strengthDemand m c) ((v + 1) * sides m) ≡ Passed
+  node-passes v h state e p = ap (lowest (strengthDemand m c)) (next v) ∙ one-node v h state e ∙ p
+    where
+      next : (v : ℕ) → (v + 1) * sides m ≡ v * sides m + sides m
+      next v = ap (λ k. k * sides m) (add-one v) ∙ suc-mul v (sides m)
+
+  pub node-refuses : (v : ℕ) {d : List ℤ} {k : ℕ} {p : Place} → v < nodes m → NodeState d m c v → lowest (strengthDemand m c) (v * sides m) ≡ Passed → nodeCheck d tab (v * sides m) (sides m) ≡ Refused k p → Refused k p ≡ strengthsCheck (strengthRows m) (stress m c) (l c) (n c)
+  unfolding strengthsCheck
+  node-refuses v {k = k} {p = p} h state e r = sym (ap (lowest (strengthDemand m c)) total ∙ lowest-add (strengthDemand m c) (v * sides m + sides m) rest ∙ ap (λ o. o then lowest (λ i. strengthDemand m c (v * sides m + sides m + i)) rest) (one-node v h state e ∙ r))
+    where
+      rest : ℕ
+      rest = length (strengthRows m) - (v * sides m + sides m)
+
+      total : length (strengthRows m) ≡ v * sides m + sides m + rest
+      total = omega (arith, strength-count m listed, mul-le-mul-right (sides m) h, suc-mul v (sides m))
+
+  pub all-nodes : (v : ℕ) → v ≡ nodes m → lowest (strengthDemand m c) (v * sides m) ≡ Passed → Passed ≡ strengthsCheck (strengthRows m) (stress m c) (l c) (n c)
+  unfolding strengthsCheck
+  all-nodes v e p = sym (ap (lowest (strengthDemand m c)) (strength-count m listed ∙ ap (λ k. k * sides m) (sym e)) ∙ p)
+
+-- the number of sides as the code has it
+pub steps-as : {s n : ℕ} {tab : List ℤ} → s ≡ n → Steps (polygonOf s) s tab → Steps (polygonOf n) n tab
+steps-as {tab = tab} e h = subst (λ k. Steps (polygonOf k) k tab) e h
+
+pub check-as : {s n : ℕ} {r : Outcome} (d tab : List ℤ) (v : ℕ) → s ≡ n → r ≡ nodeCheck d tab (v * s) s → r ≡ nodeCheck d tab (v * n) n
+check-as {r = r} d tab v e h = subst (λ k. r ≡ nodeCheck d tab (v * k) k) e h
+
+pub no-nodes : (m c : List ℤ) → lowest (strengthDemand m c) (0 * sides m) ≡ Passed
+unfolding lowest
+no-nodes m c = ap (lowest (strengthDemand m c)) (zero-mul (sides m))
+
+pub first-row : {v n s : ℕ} → v < n → n ≤ 100 → s ≤ 36 → v * s < 10000
+first-row {v} {n} {s} h k l = omega (arith, mul-le-mul {n₁ = v} {m₁ = s} {n₂ = 99} {m₂ = 36} (omega arith) l)

@@ -1,0 +1,27 @@
+-- `judge_claim_lines` meets its contract: the counts of a mesh that has passed are small, and they are the mesh's.
+use denote.Ref.{now}
+use Rattle.rows.specs.Verdict.{claimCheck}
+use Rattle.rows.proofs.Sound.{mesh-passed}
+use Rattle.rows.proofs.Facts.{mesh-facts}
+use Rattle.rows.proofs.GroupLaws.{small-counts}
+use Rattle.rows.proofs.judge_claim_lines.Statement.{statement}
+use Rattle.rows.proofs.judge_claim_lines.Tie as tie
+
+sizes-of-requires : tie.Need-sizes-of-requires
+sizes-of-requires c κs =
+    let m = now (c .args .m) in
+    mesh-facts m (mesh-passed m .says (c .pre) .lines)
+
+claim-lines-requires : tie.Need-claim-lines-requires
+claim-lines-requires c κs =
+    let z = c .sizes-of .ensures in
+    small-counts (z .facts .counts) (record { nodesAre = z .nodesAre; elementsAre = z .elementsAre; edgesAre = z .edgesAre; sidesAre = z .sidesAre })
+
+returns : tie.Need-returns
+unfolding claimCheck
+returns c =
+    let z = c .before .sizes-of .ensures in
+    c .claim-lines .ensures (now (c .before .before .args .m)) (record { nodesAre = z .nodesAre; elementsAre = z .elementsAre; edgesAre = z .edgesAre; sidesAre = z .sidesAre })
+
+pub judge-claim-lines-spec : {M : Type 1} → statement M
+judge-claim-lines-spec = tie.close (tie.spec sizes-of-requires claim-lines-requires returns)

@@ -1,0 +1,93 @@
+-- `add_equality` meets its contract: nothing to add where the multiplier is 0, and else the row times it.
+use native.Mathlib.Omega.{arith}
+use Rattle.integer.specs.Machine.{machine, fits, exact, told, Is-read, Is-Within}
+use Rattle.rows.specs.Columns.{at}
+use Rattle.rows.proofs.FieldLaws.{fits-wider}
+use Rattle.rows.proofs.StrengthLaws.{being}
+use Rattle.rows.proofs.MultiplierLaws.{zero-summed, row-summed}
+use borrow.Author.Needs.{needs}
+use Rattle.rows.proofs.multiplier_sums.add_equality.Statement.{statement}
+use Rattle.rows.proofs.multiplier_sums.add_equality.Tie as tie
+
+number-at-requires : tie.Need-number-at-requires
+number-at-requires c κs = search needs
+
+returns : tie.Need-returns
+unfolding at
+returns c =
+    let start = c .before .before in
+    let w = being (c .before .number-at .ensures) (start .pre .1 .1 .0 .each (start .args .k)) in
+    zero-summed _ _ _ _ _ (told (c .if1 .taken) (search machine depth 30) (omega arith))
+
+equality-row-requires : tie.Need-equality-row-requires
+equality-row-requires c κs = search needs
+
+mul-live : tie.Need-mul-live
+unfolding at
+mul-live c =
+    let start = c .before .before .before .before .before in
+    let w = being (c .before .before .before .before .number-at .ensures) (start .pre .1 .1 .0 .each (start .args .k)) in
+    let live = c .before .before .equality-row .ensures .fits .liveFits in
+    fits (search machine depth 30) (omega arith)
+
+mul-right : tie.Need-mul-right
+unfolding at
+mul-right c =
+    let start = c .before .before .before .before .before .before .before in
+    let w = being (c .before .before .before .before .before .before .number-at .ensures) (start .pre .1 .1 .0 .each (start .args .k)) in
+    let right = c .before .before .before .before .equality-row .ensures .fits .rightFits in
+    fits (search machine depth 30) (omega arith)
+
+add-row-requires : tie.Need-add-row-requires
+unfolding at
+add-row-requires c κs =
+    let start = c .before .before .before .before .before .before .before .before in
+    let w = being (c .before .before .before .before .before .before .before .number-at .ensures) (start .pre .1 .1 .0 .each (start .args .k)) in
+    (fits-wider (c .before .before .before .before .before .equality-row .ensures .fits) (start .pre .1 .1 .1 .0), (start .pre .1 .1 .1 .1 .columnsFit, Is-Within (Is-read w (omega arith)) (omega arith)))
+
+add-t15 : tie.Need-add-t15
+unfolding at
+add-t15 c =
+    let start = c .before .before .before .before .before .before .before .before .before .before .before .before in
+    let w = being (c .before .before .before .before .before .before .before .before .before .before .before .number-at .ensures) (start .pre .1 .1 .0 .each (start .args .k)) in
+    let right = c .before .before .before .before .before .before .before .before .before .equality-row .ensures .fits .rightFits in
+    let limit = start .pre .1 .1 .1 .1 .limitFits in
+    fits (search machine depth 30) (omega arith)
+
+add-t16 : tie.Need-add-t16
+unfolding at
+add-t16 c =
+    let start = c .before .before .before .before .before .before .before .before .before .before .before .before .before .before in
+    let w = being (c .before .before .before .before .before .before .before .before .before .before .before .before .before .number-at .ensures) (start .pre .1 .1 .0 .each (start .args .k)) in
+    let live = c .before .before .before .before .before .before .before .before .before .before .before .equality-row .ensures .fits .liveFits in
+    let total = start .pre .1 .1 .1 .1 .liveFits in
+    fits (search machine depth 30) (omega arith)
+
+same-length : tie.Need-same-length
+same-length c = search needs
+
+returns-2 : tie.Need-returns-2
+unfolding at
+returns-2 c =
+    let start = c .before .before .before .before .before .before .before .before .before .before .before .before .before .before in
+    let w = being (c .before .before .before .before .before .before .before .before .before .before .before .before .before .number-at .ensures) (start .pre .1 .1 .0 .each (start .args .k)) in
+    let right = c .before .before .before .before .before .before .before .before .before .before .before .equality-row .ensures .fits .rightFits in
+    let live = c .before .before .before .before .before .before .before .before .before .before .before .equality-row .ensures .fits .liveFits in
+    let limit = start .pre .1 .1 .1 .1 .limitFits in
+    let total = start .pre .1 .1 .1 .1 .liveFits in
+    row-summed _ _ _ (c .before .before .before .before .before .before .before .before .before .before .before .equality-row .ensures) (Is-read w (omega arith) .same) (w .inside) (c .before .before .before .before .before .add-row .ensures) (exact (search machine depth 30) (omega arith)) (exact (search machine depth 30) (omega arith))
+
+pub add-equality-spec : {M : Type 1} → statement M
+add-equality-spec =
+    tie.close
+    (tie.spec
+    number-at-requires
+    returns
+    equality-row-requires
+    mul-live
+    mul-right
+    add-row-requires
+    add-t15
+    add-t16
+    same-length
+    returns-2)

@@ -1,0 +1,96 @@
+-- `strengths_check` meets its contract. The loop's invariant: the rows of the nodes passed hold.
+use Rattle.rows.proofs.StrengthLaws.{steps-as, check-as, first-row, no-nodes}
+use mathlib.Core.Path.{_≡_, sym, _∙_}
+use Prim.Native.Nat.{_*_, _-_, _≤_}
+use native.Mathlib.Omega.{arith}
+use borrow.Author.Needs.{needs}
+use Rattle.rows.specs.declared.Outcome.the-variants.{Passed}
+use Rattle.rows.specs.Checks.{lowest}
+use Rattle.rows.specs.Mesh.{sides as sidesOf}
+use Rattle.rows.proofs.StrengthLaws.{sides-listed, strengthDemand, node-fits, steps-fit, node-passes, node-refuses, all-nodes}
+use Rattle.rows.proofs.part_checks.strengths_check.Statement.{statement}
+use Rattle.rows.proofs.part_checks.strengths_check.Tie as tie
+
+abbrev Inv-loop : tie.InvT-loop
+Inv-loop m c s soils nodes sides steps v₀ v = (v ≤ nodes) × (lowest (strengthDemand m c) (v * sidesOf m) ≡ Passed)
+
+abbrev μ-loop : tie.MeasureT-loop
+μ-loop m c s soils nodes sides steps v₀ v = nodes - v
+
+steps-of-requires : tie.Need-steps-of-requires Inv-loop μ-loop
+steps-of-requires c κs = sides-listed (c .before .pre .0 .sized)
+
+loop-holds : tie.Need-loop-holds Inv-loop μ-loop
+loop-holds c = (omega arith, no-nodes _ _)
+
+node-state-requires : tie.Need-node-state-requires Inv-loop μ-loop
+node-state-requires c κs =
+    let pre = c .before .before .before .before .pre in
+    (pre, omega (arith, pre .0 .sized .nodesAre))
+
+slice-aggregate-node-check : tie.Need-slice-aggregate-node-check Inv-loop μ-loop
+slice-aggregate-node-check c = search needs
+
+slice-aggregate-node-check-2 : tie.Need-slice-aggregate-node-check-2 Inv-loop μ-loop
+slice-aggregate-node-check-2 c = search needs
+
+mul-node-check : tie.Need-mul-node-check Inv-loop μ-loop
+mul-node-check c =
+    let sized = c .before .before .before .before .before .before .before .pre .0 .sized in
+    let first = first-row {v = c .before .before .before .before .loop .v} (c .before .before .before .loop-test .taken) (omega (arith, sized .nodesAre, sized .facts .counts .nodesMost)) (c .before .before .before .before .before .steps-of .ensures .most) in
+    omega arith
+
+node-check-requires : tie.Need-node-check-requires Inv-loop μ-loop
+node-check-requires c κs =
+    let sized = c .before .before .before .before .before .before .before .pre .0 .sized in
+    (steps-fit (c .before .before .before .before .before .steps-of .ensures), (node-fits (c .before .before .node-state .ensures), first-row {v = c .before .before .before .before .loop .v} (c .before .before .before .loop-test .taken) (omega (arith, sized .nodesAre, sized .facts .counts .nodesMost)) (c .before .before .before .before .before .steps-of .ensures .most)))
+
+enum-known-answer : tie.Need-enum-known-answer Inv-loop μ-loop
+enum-known-answer c = search needs
+
+returns : tie.Need-returns Inv-loop μ-loop
+returns c =
+    let pre = c .before .before .before .before .before .before .before .before .before .before .before .pre in
+    let sized = pre .0 .sized in
+    node-refuses _ _ (record { listed = sized .facts .counts .sidesListed }) (steps-as (sized .sidesAre) (c .before .before .before .before .before .before .before .before .before .steps-of .ensures)) (c .before .before .before .before .before .before .before .before .loop .v) (omega (arith, sized .nodesAre)) (c .before .before .before .before .before .before .node-state .ensures) (c .before .before .before .before .before .before .before .before .loop .inv .1) (sym (check-as _ _ _ (sized .sidesAre) (c .before .before .before .node-check .ensures)) ∙ c .before .answer .given .1)
+
+enum-told : tie.Need-enum-told Inv-loop μ-loop
+enum-told c = search needs
+
+add-v : tie.Need-add-v Inv-loop μ-loop
+add-v c = omega arith
+
+loop-less : tie.Need-loop-less Inv-loop μ-loop
+loop-less c = omega arith
+
+loop-again : tie.Need-loop-again Inv-loop μ-loop
+loop-again c =
+    let pre = c .before .before .before .before .before .before .before .before .before .before .pre in
+    let sized = pre .0 .sized in
+    (omega arith, node-passes _ _ (record { listed = sized .facts .counts .sidesListed }) (steps-as (sized .sidesAre) (c .before .before .before .before .before .before .before .before .steps-of .ensures)) (c .before .before .before .before .before .before .before .loop .v) (omega (arith, sized .nodesAre)) (c .before .before .before .before .before .node-state .ensures) (c .before .before .before .before .before .before .before .loop .inv .1) (sym (check-as _ _ _ (sized .sidesAre) (c .before .before .node-check .ensures)) ∙ c .enum-told .given .1))
+
+returns-2 : tie.Need-returns-2 Inv-loop μ-loop
+returns-2 c =
+    let sized = c .before .before .before .before .pre .0 .sized in
+    all-nodes _ _ (record { listed = sized .facts .counts .sidesListed }) (steps-as (sized .sidesAre) (c .before .before .steps-of .ensures)) (c .before .loop .v) (omega (arith, sized .nodesAre)) (c .before .loop .inv .1)
+
+pub strengths-check-spec : {M : Type 1} → statement M
+strengths-check-spec =
+    tie.close
+    (tie.spec
+    Inv-loop
+    μ-loop
+    steps-of-requires
+    loop-holds
+    node-state-requires
+    slice-aggregate-node-check
+    slice-aggregate-node-check-2
+    mul-node-check
+    node-check-requires
+    enum-known-answer
+    returns
+    enum-told
+    add-v
+    loop-less
+    loop-again
+    returns-2)

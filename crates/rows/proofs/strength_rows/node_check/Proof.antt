@@ -1,0 +1,91 @@
+-- `node_check` meets its contract. The loop's invariant: the sides passed hold.
+use mathlib.Core.Path.{_≡_, refl, ap}
+use Prim.Native.Nat.{suc, _+_, _-_, _≤_}
+use native.Mathlib.Numerals.{add-one}
+use native.Mathlib.Omega.{arith}
+use lib.IntN.{pos}
+use lib.Signed.{leZ}
+use Rattle.integer.specs.Machine.{machine, told}
+use Rattle.integer.specs.Tests.{yes-leZ, no-leZ}
+use Rattle.rows.specs.declared.Outcome.the-variants.{Passed}
+use Rattle.rows.specs.declared.Place.the-variants as P
+use Rattle.rows.specs.Checks.{lowest}
+use Rattle.rows.specs.RowContracts.{sideSlack, nodeCheck}
+use Rattle.rows.proofs.Loops.{Phase, phase-more, phase-fails, phase-done}
+use Rattle.rows.proofs.StrengthLaws.{true-of, false-of}
+use Rattle.rows.proofs.strength_rows.node_check.Statement.{statement}
+use Rattle.rows.proofs.strength_rows.node_check.Tie as tie
+
+abbrev Inv-loop : tie.InvT-loop
+Inv-loop steps sides d first k₀ k = (k ≤ sides) × (Phase (λ i. leZ (pos 0) (sideSlack d steps i)) 22 (λ i. P.Row (suc (first + i))) k ≡ Passed)
+
+abbrev μ-loop : tie.MeasureT-loop
+μ-loop steps sides d first k₀ k = sides - k
+
+loop-holds : tie.Need-loop-holds Inv-loop μ-loop
+unfolding lowest
+loop-holds c = (omega arith, refl)
+
+side-slack-requires : tie.Need-side-slack-requires Inv-loop μ-loop
+side-slack-requires c κs =
+    let pre = c .before .before .pre in
+    (pre .0 .each (c .before .loop .k) (c .loop-test .taken), pre .1 .0)
+
+add-t8 : tie.Need-add-t8 Inv-loop μ-loop
+add-t8 c = omega arith
+
+add-t9 : tie.Need-add-t9 Inv-loop μ-loop
+add-t9 c = omega arith
+
+cast-t10 : tie.Need-cast-t10 Inv-loop μ-loop
+cast-t10 c = omega arith
+
+returns : tie.Need-returns Inv-loop μ-loop
+unfolding nodeCheck
+returns c =
+    let a = c .before .before .before .before .args in
+    let slack = c .before .side-slack .ensures in
+    phase-fails (λ i. leZ (pos 0) (sideSlack (a .d .now) (a .steps .now) i)) 22 (λ i. P.Row (suc (a .first + i))) (a .sides)
+    (c .before .before .before .loop .inv .1) (c .before .before .loop-test .taken)
+    (false-of (no-leZ (told (c .if1 .taken) (search machine depth 30) (omega arith))))
+    (ap P.Row (add-one _))
+
+add-k : tie.Need-add-k Inv-loop μ-loop
+add-k c = omega arith
+
+loop-less : tie.Need-loop-less Inv-loop μ-loop
+loop-less c = omega arith
+
+loop-again : tie.Need-loop-again Inv-loop μ-loop
+loop-again c =
+    let a = c .before .before .before .before .args in
+    let slack = c .before .side-slack .ensures in (
+      omega arith,
+      phase-more (λ i. leZ (pos 0) (sideSlack (a .d .now) (a .steps .now) i)) 22 (λ i. P.Row (suc (a .first + i)))
+          (c .before .before .before .loop .inv .1)
+          (true-of (yes-leZ (told (c .if1 .left) (search machine depth 30) (omega arith)))),
+    )
+
+returns-2 : tie.Need-returns-2 Inv-loop μ-loop
+unfolding nodeCheck
+returns-2 c =
+    let a = c .before .before .args in
+    phase-done (λ i. leZ (pos 0) (sideSlack (a .d .now) (a .steps .now) i)) 22 (λ i. P.Row (suc (a .first + i))) (a .sides)
+    (c .before .loop .inv .1) (omega arith) (omega arith)
+
+pub node-check-spec : {M : Type 1} → statement M
+node-check-spec =
+    tie.close
+    (tie.spec
+    Inv-loop
+    μ-loop
+    loop-holds
+    side-slack-requires
+    add-t8
+    add-t9
+    cast-t10
+    returns
+    add-k
+    loop-less
+    loop-again
+    returns-2)

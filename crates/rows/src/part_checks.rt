@@ -1,0 +1,87 @@
+// The checks of a claim's parts: a field against the rows (21 and 22), and multipliers against the columns (31, 32 and 33).
+ghost use mathlib.Core.Path.{_≡_};
+ghost use Prim.Native.Nat.{_+_, _*_, _<_};
+ghost use lib.IntN.{pos};
+ghost use Rattle.rows.specs.Columns.{at, n, l};
+ghost use Rattle.rows.specs.Claim.{stress};
+ghost use Rattle.rows.specs.Mesh.{elements, edges};
+ghost use Rattle.rows.specs.Rows.{equalityRows, strengthRows};
+ghost use Rattle.rows.specs.Sums.{rowHolds};
+ghost use Rattle.rows.specs.Verdict.{rowAt, fieldCheck};
+ghost use Rattle.rows.specs.Contracts.{Sized};
+ghost use Rattle.rows.specs.RowContracts.{FieldFits, Judged, equalitiesCheck, strengthsCheck};
+use crate::Outcome;
+use crate::Place;
+use crate::polygons::steps_of;
+use crate::row_sums::equality_row;
+use crate::row_sums::left_side;
+use crate::sizes::Sizes;
+use crate::sizes::number_at;
+use crate::strength_rows::node_check;
+use crate::strength_rows::node_state;
+
+// Equality row k holds at the field x with l and n, or asks nothing.
+fn equality_holds(m: &[i64], s: Sizes, x: &[i64], l: i64, n: i64, k: usize) -> bool
+    requires { ⌜ Sized (now m) s × (k < elements (now m) * 2 + edges (now m) * 4) ⌝ ∗ ⌜ FieldFits (now m) (now x) l n ⌝ }
+    ensures { λ r. ⌜ r ≡ rowHolds (at (now (x .entry))) l n (rowAt (equalityRows (now (m .entry))) k) ⌝ }
+{
+    let row = equality_row(m, s, k);
+    let right = row.right;
+    if row.asked {
+        return left_side(row, x, l) == right * n;
+    }
+    true
+}
+
+// 21: the lowest equality row that fails.
+fn equalities_check(m: &[i64], s: Sizes, x: &[i64], l: i64, n: i64) -> Outcome
+    requires { ⌜ Sized (now m) s ⌝ ∗ ⌜ FieldFits (now m) (now x) l n ⌝ }
+    ensures { λ r. ⌜ r ≡ equalitiesCheck (equalityRows (now (m .entry))) (at (now (x .entry))) l n ⌝ }
+{
+    let rows = s.elements * 2 + s.edges * 4;
+    let mut k: usize = 0;
+    while k < rows {
+        if !equality_holds(m, s, x, l, n, k) {
+            return Outcome::Refused {
+                number: 21,
+                place: Place::Row((k + 1) as u32),
+            };
+        }
+        k += 1;
+    }
+    Outcome::Passed
+}
+
+// 22: the lowest strength row that fails.
+fn strengths_check(m: &[i64], c: &[i64], s: Sizes, soils: &[u8]) -> Outcome
+    requires { ⌜ Judged (now m) (now c) s (now soils) × (at (now c) 0 ≡ pos 1) ⌝ }
+    ensures { λ r. ⌜ r ≡ strengthsCheck (strengthRows (now (m .entry))) (stress (now (m .entry)) (now (c .entry))) (l (now (c .entry))) (n (now (c .entry))) ⌝ }
+{
+    let nodes = s.nodes;
+    let sides = s.sides;
+    let steps = steps_of(sides);
+    let mut v: usize = 0;
+    while v < nodes {
+        let d = node_state(m, c, s, soils, v);
+        let answer = node_check(&steps, sides, &d, v * sides);
+        if let Outcome::Refused { number, place } = answer {
+            return Outcome::Refused { number, place };
+        }
+        v += 1;
+    }
+    Outcome::Passed
+}
+
+// 21, then 22: a field that is there, against the rows.
+pub fn field_check(m: &[i64], c: &[i64], s: Sizes, soils: &[u8]) -> Outcome
+    requires { ⌜ Judged (now m) (now c) s (now soils) × (at (now c) 0 ≡ pos 1) ⌝ }
+    ensures { λ r. ⌜ r ≡ fieldCheck (equalityRows (now (m .entry))) (strengthRows (now (m .entry))) (stress (now (m .entry)) (now (c .entry))) (l (now (c .entry))) (n (now (c .entry))) ⌝ }
+{
+    let n = number_at(c, 2);
+    let l = number_at(c, 3);
+    let equalities = equalities_check(m, s, &c[4..], l, n);
+    if let Outcome::Refused { number, place } = equalities {
+        return Outcome::Refused { number, place };
+    }
+    strengths_check(m, c, s, soils)
+}

@@ -1,0 +1,97 @@
+// The strength rows of a node: what they read of its soil, of its stresses and of its multipliers, and the sides one by one.
+ghost use mathlib.Core.Path.{_≡_};
+ghost use Prim.Native.Nat.{_+_, _*_, _<_};
+ghost use lib.ListN.{length};
+ghost use lib.IntN.{pos, _-ℤ_, _*ℤ_};
+ghost use Rattle.integer.specs.Machine.{Is};
+ghost use Rattle.integer.specs.Bounds.{Within, AllWithin};
+ghost use Rattle.rows.specs.Columns.{at};
+ghost use Rattle.rows.specs.Mesh.{nodes, soils};
+ghost use Rattle.rows.specs.Contracts.{Sized};
+ghost use Rattle.rows.specs.RowContracts.{SoilNumbers, SoilFits, NodeNumbers, NodeFits, StepFits, StepsFit, sideSlack, Judged, NodeState, nodeCheck};
+use crate::Outcome;
+use crate::Place;
+use crate::polygons::radius_of;
+use crate::sizes::Sizes;
+use crate::sizes::number_at;
+use crate::sizes::soil_entry;
+
+// What they read of a soil: r·h, p and 2qC.
+pub fn soil_numbers(m: &[i64], s: Sizes, soil: usize, radius: i64) -> [i64; 3]
+    requires { ⌜ Sized (now m) s × (soil < soils (now m)) ⌝ ∗ ⌜ Within 65 radius ⌝ }
+    ensures { λ r. ⌜ SoilNumbers r (now (m .entry)) soil radius ⌝ }
+{
+    let p = soil_entry(m, s, soil, 0);
+    let q = soil_entry(m, s, soil, 1);
+    let h = soil_entry(m, s, soil, 2);
+    let cohesion = soil_entry(m, s, soil, 3);
+    [radius * h, p, 2 * q * cohesion]
+}
+
+// What they read of a node's stresses: r·h, sx - sy, 2t and 2qCn - p(sx + sy).
+pub fn node_numbers(k: &[i64], x: &[i64], v: usize, n: i64) -> [i64; 4]
+    requires { ⌜ SoilFits (now k) ⌝ ∗ ⌜ 3 * v + 2 < length (now x) ⌝ ∗ ⌜ AllWithin 1000000000 (now x) ⌝ ∗ ⌜ Within 100000 n ⌝ }
+    ensures { λ r. ⌜ NodeNumbers r (now (k .entry)) (now (x .entry)) v n ⌝ }
+{
+    let sx = number_at(x, 3 * v);
+    let sy = number_at(x, 3 * v + 1);
+    let t = number_at(x, 3 * v + 2);
+    let lever = number_at(k, 0);
+    let friction = number_at(k, 1);
+    let right = number_at(k, 2);
+    [lever, sx - sy, 2 * t, right * n - friction * (sx + sy)]
+}
+
+// The right side of a strength row less its left side, from the numbers of the side and of the node.
+fn slack(run: i64, rise: i64, cross: i64, lever: i64, spread: i64, twist: i64, reserve: i64) -> i64
+    requires { ⌜ Within 16 run ⌝ ∗ ⌜ Within 16 rise ⌝ ∗ ⌜ Within 1183 cross ⌝ }
+    requires { ⌜ Within 65000 lever ⌝ ∗ ⌜ Within 2000000000 spread ⌝ ∗ ⌜ Within 2000000000 twist ⌝ ∗ ⌜ Within 4000000000000 reserve ⌝ }
+    ensures { λ r. ⌜ Is r (cross *ℤ reserve -ℤ lever *ℤ (rise *ℤ spread -ℤ run *ℤ twist)) 10000000000000000 ⌝ }
+{
+    cross * reserve - lever * (rise * spread - run * twist)
+}
+
+// The same for side k.
+pub fn side_slack(steps: &[i64], k: usize, d: &[i64]) -> i64
+    requires { ⌜ StepFits (now steps) k ⌝ ∗ ⌜ NodeFits (now d) ⌝ }
+    ensures { λ r. ⌜ Is r (sideSlack (now (d .entry)) (now (steps .entry)) k) 10000000000000000 ⌝ }
+{
+    let run = number_at(steps, 3 * k);
+    let rise = number_at(steps, 3 * k + 1);
+    let cross = number_at(steps, 3 * k + 2);
+    let lever = number_at(d, 0);
+    let spread = number_at(d, 1);
+    let twist = number_at(d, 2);
+    let reserve = number_at(d, 3);
+    slack(run, rise, cross, lever, spread, twist, reserve)
+}
+
+// The numbers of node v at a claim's field.
+pub fn node_state(m: &[i64], c: &[i64], s: Sizes, soils: &[u8], v: usize) -> [i64; 4]
+    requires { ⌜ Judged (now m) (now c) s (now soils) × (at (now c) 0 ≡ pos 1) ⌝ ∗ ⌜ v < nodes (now m) ⌝ }
+    ensures { λ r. ⌜ NodeState r (now (m .entry)) (now (c .entry)) v ⌝ }
+{
+    let soil = soils[v] as usize;
+    let radius = radius_of(s.sides);
+    let k = soil_numbers(m, s, soil, radius);
+    let n = number_at(c, 2);
+    node_numbers(&k, &c[4..], v, n)
+}
+
+// 22 at one node: the lowest of its sides that fails. Its first row has the number `first`, counted from 0.
+pub fn node_check(steps: &[i64], sides: usize, d: &[i64], first: usize) -> Outcome
+    requires { ⌜ StepsFit (now steps) sides ⌝ ∗ ⌜ NodeFits (now d) ⌝ ∗ ⌜ first < 10000 ⌝ }
+    ensures { λ r. ⌜ r ≡ nodeCheck (now (d .entry)) (now (steps .entry)) first sides ⌝ }
+{
+    let mut k: usize = 0;
+    while k < sides {
+        if side_slack(steps, k, d) < 0 {
+            return Outcome::Refused {
+                number: 22,
+                place: Place::Row((first + k + 1) as u32),
+            };
+        }
+        k += 1;
+    }
+    Outcome::Passed
+}
