@@ -1,1 +1,99 @@
 // A verdict into the report line of 113 bytes.
+mod column;
+mod division;
+mod load;
+
+use column::put_none;
+use column::put_number;
+use load::put_load;
+use rows::Load;
+use rows::OpenRows;
+use rows::Place;
+use rows::Verdict;
+ghost use mathlib.Core.Path.{_≡_};
+ghost use mathlib.Core.List.{_++_};
+ghost use Prim.Native.Nat.{_≤_};
+ghost use lib.ListN.{length, drop};
+ghost use Rattle.integer.specs.Decimal.{digits, rightJustified};
+ghost use Rattle.rows.specs.Answer.{placeNumber};
+ghost use Rattle.report.specs.Report.{lowerText, upperText, openText, fourColumns, reportLine, decimals};
+ghost use Rattle.report.specs.Buffer.{Reports};
+
+// Whether the line was written, or the buffer has no room for it.
+pub enum Reported {
+    Written,
+    TooShort,
+}
+
+const LINE: usize = 113;
+
+// "Both loads have six decimals"
+const DECIMALS: usize = 6;
+
+fn place_number(place: Place) -> u32
+    ensures { λ r. ⌜ r ≡ placeNumber place ⌝ }
+{
+    match place {
+        Place::Line(k) => k,
+        Place::Row(k) => k,
+        Place::Column(k) => k,
+        Place::Node(k) => k,
+        Place::Element(k) => k,
+    }
+}
+
+// The open rows, or none where there is no count.
+fn put_open(column: &mut [u8], open_rows: OpenRows)
+    requires { ⌜ length (now column) ≡ 28 ⌝ }
+    ensures { λ _. ⌜ now (column .exit) ≡ rightJustified 28 (openText «open_rows») ⌝ }
+{
+    match open_rows {
+        OpenRows::Absent => put_none(column),
+        OpenRows::Count(k) => {
+            put_number(column, k);
+        }
+    }
+}
+
+// Four columns and byte 10. The second is a number or none, as the open rows are.
+fn put_line(buffer: &mut [u8], number: u64, second: OpenRows, lower: Load, upper: Load, d: usize)
+    requires { ⌜ d ≤ 7 ⌝ ∗ ⌜ 113 ≤ length (now buffer) ⌝ }
+    ensures { λ _. ⌜ now (buffer .exit) ≡ fourColumns (digits number) (openText second) (lowerText d lower) (upperText d upper) ++ drop 113 (now (buffer .entry)) ⌝ }
+{
+    put_number(&mut buffer[0..28], number);
+    put_open(&mut buffer[28..56], second);
+    put_load(&mut buffer[56..84], lower, false, d);
+    put_load(&mut buffer[84..112], upper, true, d);
+    buffer[112] = b'\n';
+}
+
+// "Accepted .. reports: 0; the open rows ..; l/n; W/m"; "Refused: number, place, none, none"
+fn write_line(v: Verdict, buffer: &mut [u8], d: usize)
+    requires { ⌜ 113 ≤ length (now buffer) ⌝ ∗ ⌜ d ≤ 7 ⌝ }
+    ensures { λ _. ⌜ now (buffer .exit) ≡ reportLine d v ++ drop 113 (now (buffer .entry)) ⌝ }
+{
+    match v {
+        Verdict::Accepted {
+            open_rows,
+            lower,
+            upper,
+        } => {
+            put_line(buffer, 0, open_rows, lower, upper, d);
+        }
+        Verdict::Refused { number, place } => {
+            let second = OpenRows::Count(place_number(place) as u64);
+            put_line(buffer, number as u64, second, Load::Absent, Load::Absent, d);
+        }
+    }
+}
+
+// The report of a verdict at the front of the buffer that is lent.
+pub fn write_report(v: Verdict, buffer: &mut [u8]) -> Reported
+    ensures { λ r. ⌜ Reports decimals v (now (buffer .entry)) (now (buffer .exit)) r ⌝ }
+{
+    if buffer.len() < LINE {
+        return Reported::TooShort;
+    }
+    write_line(v, buffer, DECIMALS);
+    Reported::Written
+}

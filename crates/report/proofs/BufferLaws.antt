@@ -1,0 +1,130 @@
+-- The line in the buffer: each column is put behind those before it, and the bytes after the line stay.
+use mathlib.Core.Path.{_≡_, sym, ap, ap₂, _∙_}
+use mathlib.Core.Bool.{true, false}
+use mathlib.Core.List.{List, _∷_, _++_, append-assoc}
+use Prim.Native.Nat.{ℕ, _+_, _≤_, _<_}
+use native.Mathlib.Omega.{arith}
+use lib.ListN.{length, take, drop, set, getD, length-append, length-set, length-drop}
+use lib.Seq.{take-at, drop-at, drop-drop, drop-cons, set-at, length-take-le}
+use borrow.Author.Tests.{lt-ltb, le-ltb}
+use borrow.Rule.Slice.PartMut.{midOf, postOf, putMid, same-len-mid}
+use Rattle.integer.specs.Decimal.{digits, rightJustified}
+use Rattle.rows.specs.declared.Place.{Place}
+use Rattle.rows.specs.declared.Load.{Load}
+use Rattle.rows.specs.declared.Load.the-variants.{Absent}
+use Rattle.rows.specs.declared.OpenRows.{OpenRows}
+use Rattle.rows.specs.declared.OpenRows.the-variants.{Absent as NoCount, Count}
+use Rattle.rows.specs.declared.Verdict.{Verdict}
+use Rattle.rows.specs.declared.Verdict.the-variants.{Accepted, Refused}
+use Rattle.rows.specs.Answer.{placeNumber}
+use Rattle.report.specs.Text.{noneText}
+use Rattle.report.specs.Report.{loadText, lowerText, upperText, openText, fourColumns, reportLine}
+use Rattle.report.specs.Spelled.{roundTo}
+use Rattle.report.specs.declared.Reported.the-variants.{Written, TooShort}
+use Rattle.report.specs.Buffer.{afterReport, reported, Reports}
+
+-- a column behind the `front` that stands already
+behind : (k : ℕ) (front y bytes : List ℕ) → length front ≡ k → putMid k 28 (front ++ drop k bytes) y ≡ (front ++ y) ++ drop (k + 28) bytes
+behind k front y bytes h =
+    let t : take k (front ++ drop k bytes) ≡ front = take-at front (drop k bytes) k h in
+    let d : drop k (front ++ drop k bytes) ≡ drop k bytes = drop-at front (drop k bytes) k h in
+    ap₂ (λ x z. x ++ (y ++ drop 28 z)) t d ∙ ap (λ z. front ++ (y ++ z)) (drop-drop 28 k bytes) ∙ sym (append-assoc front y (drop (k + 28) bytes))
+
+-- how many are lent
+lent : (k : ℕ) (front bytes : List ℕ) → length front ≡ k → k + 28 ≤ length bytes → length (midOf k 28 (front ++ drop k bytes)) ≡ 28
+lent k front bytes h l =
+    ap (λ z. length (take 28 z)) (drop-at front (drop k bytes) k h) ∙ length-take-le 28 (drop k bytes) (rw length-drop (omega arith))
+
+module _ (buffer a b c e : List ℕ) where
+  abbrev first : List ℕ
+  first = a ++ postOf 0 28 buffer
+
+  abbrev second : List ℕ
+  second = putMid 28 28 first b
+
+  abbrev third : List ℕ
+  third = putMid 56 28 second c
+
+  abbrev fourth : List ℕ
+  fourth = putMid 84 28 third e
+
+  module _ (ka : length a ≡ length (midOf 0 28 buffer)) (kb : length b ≡ length (midOf 28 28 first)) (kc : length c ≡ length (midOf 56 28 second)) (ke : length e ≡ length (midOf 84 28 third)) where
+    pub line-long : (i x : ℕ) → length (set fourth i x) ≡ length buffer
+    line-long i x = length-set fourth i x ∙ same-len-mid 84 28 third e ke ∙ same-len-mid 56 28 second c kc ∙ same-len-mid 28 28 first b kb ∙ same-len-mid 0 28 buffer a ka
+
+    module _ (h : 113 ≤ length buffer) where
+      la : length a ≡ 28
+      la = ka ∙ length-take-le 28 buffer (omega arith)
+
+      lb : length b ≡ 28
+      lb = kb ∙ lent 28 a buffer la (omega arith)
+
+      second-is : second ≡ (a ++ b) ++ drop 56 buffer
+      second-is = behind 28 a b buffer la
+
+      lab : length (a ++ b) ≡ 56
+      lab = length-append a b ∙ ap₂ _+_ la lb
+
+      lc : length c ≡ 28
+      lc = kc ∙ ap (λ z. length (midOf 56 28 z)) second-is ∙ lent 56 (a ++ b) buffer lab (omega arith)
+
+      third-is : third ≡ ((a ++ b) ++ c) ++ drop 84 buffer
+      third-is = ap (λ z. putMid 56 28 z c) second-is ∙ behind 56 (a ++ b) c buffer lab
+
+      labc : length ((a ++ b) ++ c) ≡ 84
+      labc = length-append (a ++ b) c ∙ ap₂ _+_ lab lc
+
+      le : length e ≡ 28
+      le = ke ∙ ap (λ z. length (midOf 84 28 z)) third-is ∙ lent 84 ((a ++ b) ++ c) buffer labc (omega arith)
+
+      fourth-is : fourth ≡ (((a ++ b) ++ c) ++ e) ++ drop 112 buffer
+      fourth-is = ap (λ z. putMid 84 28 z e) third-is ∙ behind 84 ((a ++ b) ++ c) e buffer labc
+
+      labce : length (((a ++ b) ++ c) ++ e) ≡ 112
+      labce = length-append ((a ++ b) ++ c) e ∙ ap₂ _+_ labc le
+
+      line-is : set fourth 112 10 ≡ a ++ (b ++ (c ++ (e ++ (10 ∷ drop 113 buffer))))
+      line-is =
+          ap (λ z. set z 112 10) (fourth-is ∙ ap (λ z. (((a ++ b) ++ c) ++ e) ++ z) (drop-cons buffer 112 0 (omega arith)))
+          ∙ set-at (((a ++ b) ++ c) ++ e) (getD buffer 112 0) (drop 113 buffer) 10 112 labce
+          ∙ simp append-assoc
+
+      line-stored : (p q r s : List ℕ) → a ≡ rightJustified 28 p → b ≡ rightJustified 28 q → c ≡ rightJustified 28 r → e ≡ rightJustified 28 s → set fourth 112 10 ≡ fourColumns p q r s ++ drop 113 buffer
+      unfolding fourColumns
+      line-stored p q r s i j k l = line-is ∙ sym (simp (← i, ← j, ← k, ← l, append-assoc))
+
+      pub four-columns : (d k : ℕ) (o : OpenRows) (lower upper : Load) → a ≡ rightJustified 28 (digits k) → b ≡ rightJustified 28 (openText o) → c ≡ rightJustified 28 (loadText (roundTo false) d lower) → e ≡ rightJustified 28 (loadText (roundTo true) d upper) → set fourth 112 10 ≡ fourColumns (digits k) (openText o) (lowerText d lower) (upperText d upper) ++ drop 113 buffer
+      unfolding lowerText upperText
+      four-columns d k o lower upper = line-stored (digits k) (openText o) (lowerText d lower) (upperText d upper)
+
+-- ---- by cases of the verdict
+
+pub no-count-column : (o : OpenRows) {now : List ℕ} → o ≡ NoCount → now ≡ rightJustified 28 noneText → now ≡ rightJustified 28 (openText o)
+unfolding openText
+no-count-column o e f = rw e f
+
+pub count-column : (o : OpenRows) (k : ℕ) {now : List ℕ} → o ≡ Count k → now ≡ rightJustified 28 (digits k) → now ≡ rightJustified 28 (openText o)
+unfolding openText
+count-column o k e f = rw e f
+
+pub accepted-line : (d : ℕ) (v : Verdict) (o : OpenRows) (lower upper : Load) (rest : List ℕ) {now : List ℕ} → v ≡ Accepted o lower upper → now ≡ fourColumns (digits 0) (openText o) (lowerText d lower) (upperText d upper) ++ rest → now ≡ reportLine d v ++ rest
+unfolding reportLine
+accepted-line d v o lower upper rest e f = rw e f
+
+pub refused-line : (d : ℕ) (v : Verdict) (k n : ℕ) (place : Place) (rest : List ℕ) {now : List ℕ} → v ≡ Refused k place → n ≡ placeNumber place → now ≡ fourColumns (digits k) (openText (Count n)) (lowerText d Absent) (upperText d Absent) ++ rest → now ≡ reportLine d v ++ rest
+unfolding reportLine openText lowerText upperText loadText
+refused-line d v k n place rest e m f = rw (e, ← m) f
+
+-- ---- by the buffer's length
+
+pub too-short : (d : ℕ) (v : Verdict) (buffer : List ℕ) → length buffer < 113 → Reports d v buffer buffer TooShort
+unfolding afterReport reported
+too-short d v buffer h =
+    let t = lt-ltb (length buffer) 113 h in
+    record { buffer = rw (t, afterReport); answer = rw (t, reported) }
+
+pub written : (d : ℕ) (v : Verdict) (buffer : List ℕ) {after : List ℕ} → 113 ≤ length buffer → after ≡ reportLine d v ++ drop 113 buffer → Reports d v buffer after Written
+unfolding afterReport reported
+written d v buffer h e =
+    let t = le-ltb (length buffer) 113 h in
+    record { buffer = rw (t, afterReport) e; answer = rw (t, reported) }
