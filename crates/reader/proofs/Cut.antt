@@ -21,7 +21,7 @@ use Rattle.reader.specs.WellFormed.{SomeColumns, Regular, bytesOf}
 use Rattle.reader.proofs.Line.{columns-length, line-means}
 use Rattle.reader.proofs.File.{readAll, fileLines, read-none, read-some, widths-of, columns-of, lines-header, file-in-order}
 
-drop-take : (a n : ℕ) (bs : List ℕ) → drop a (take (a + n) bs) ≡ take n (drop a bs)
+pub drop-take : (a n : ℕ) (bs : List ℕ) → drop a (take (a + n) bs) ≡ take n (drop a bs)
 drop-take zero n bs = rw (zero-add n)
 drop-take (suc a) n [] = rw (take-nil (suc a + n), take-nil n)
 drop-take (suc a) n (b ∷ bs) = rw (suc-add a n) (drop-take a n bs)
@@ -53,7 +53,7 @@ unfolding hasPassed
 has-passed Passed e = refl
 has-passed (Refused k p) e = absurd (false≢true e)
 
-header-passes : (f : Layout) (h : List ℤ) → headerPasses f h ≡ true → lineCheck f (f .header) h (Line 1) ≡ Passed
+pub header-passes : (f : Layout) (h : List ℤ) → headerPasses f h ≡ true → lineCheck f (f .header) h (Line 1) ≡ Passed
 unfolding headerPasses
 header-passes f h e = has-passed (lineCheck f (f .header) h (Line 1)) e
 
@@ -89,7 +89,7 @@ module _ (w : ℕ) (f : Layout) (n : ℕ) (bs : List ℕ) where
 -- ---- all bytes of a file whose lines pass
 
 -- bytes of a line that is read
-line-there : (w k : ℕ) (bs : List ℕ) (zs : List ℤ) → readLine w k bs ≡ some zs → lineBytes w k ≤ length bs
+pub line-there : (w k : ℕ) (bs : List ℕ) (zs : List ℤ) → readLine w k bs ≡ some zs → lineBytes w k ≤ length bs
 unfolding lineBytes
 line-there w k bs zs o =
     let l = line-means w k bs zs .0 o in

@@ -5,3 +5,10 @@ pub mod Form
 pub mod Regular
 pub mod Written
 pub mod Cut
+pub mod OnePass
+pub mod Entries
+pub mod Taken
+pub mod InLine
+pub mod Whole
+pub mod Told
+pub mod Most

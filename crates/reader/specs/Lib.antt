@@ -1,3 +1,7 @@
 pub mod Spelling
 pub mod File
 pub mod WellFormed
+pub mod Listed
+pub mod OnePass
+pub mod HowFar
+pub mod Tells

@@ -1,1 +1,143 @@
-// The bytes of a mesh file and of a claim file into numbers.
+// The bytes of a mesh file and of a claim file into numbers: each byte is taken once, front to back, and the numbers stand at the front of a list that the caller lends.
+mod column;
+mod lines;
+
+use crate::column::table;
+use crate::lines::Group;
+use crate::lines::Progress;
+use crate::lines::read_body;
+use crate::lines::read_header;
+use rows::Outcome;
+use rows::line_checks::claim_header;
+use rows::line_checks::mesh_header;
+use rows::sizes::count_at;
+ghost use mathlib.Core.Path.{_≡_};
+ghost use Prim.Native.Nat.{_≤_, _<_};
+ghost use lib.IntN.{pos};
+ghost use lib.ListN.{length};
+ghost use Rattle.integer.specs.Tests.{eqZ};
+ghost use Rattle.rows.specs.Columns.{at};
+ghost use Rattle.rows.specs.Mesh.{meshLayout};
+ghost use Rattle.rows.specs.Claim.{ifThere};
+ghost use Rattle.reader.specs.File.{numbersOf, widths};
+ghost use Rattle.reader.specs.OnePass.{Table};
+ghost use Rattle.reader.specs.HowFar.{allNumbers};
+ghost use Rattle.reader.specs.Listed.{Listed, ClaimListed};
+ghost use Rattle.reader.specs.Tells.{FewLines, bodyOf};
+
+// The lines after a mesh's header, which stands at the front of `out`.
+fn mesh_body(table: &[u64; 256], bytes: &[u8], p: Progress, out: &mut [i64]) -> usize
+    requires { ⌜ Table (now table) ⌝ ∗ ⌜ p .at ≤ length (now bytes) ⌝ ∗ ⌜ p .numbers ≡ 5 ⌝ ∗ ⌜ FewLines (now out) ⌝ ∗ ⌜ 1254 ≤ length (now out) ⌝ }
+    ensures { λ r. ⌜ Listed (allNumbers (now (bytes .entry)) (widths (meshLayout .body (now (out .entry)))) p (now (out .entry))) (now (out .entry)) r (now (out .exit)) ⌝ }
+{
+    let nodes = count_at(out, 0);
+    let elements = count_at(out, 1);
+    let soils = count_at(out, 2);
+    let edges = count_at(out, 3);
+    let a = Group {
+        lines: soils,
+        columns: 8,
+    };
+    let b = Group {
+        lines: nodes,
+        columns: 2,
+    };
+    let c = Group {
+        lines: elements,
+        columns: 5,
+    };
+    let d = Group {
+        lines: edges,
+        columns: 7,
+    };
+    read_body(table, bytes, p, a, b, c, d, out)
+}
+
+// The numbers of a mesh file, and how many they are.
+pub fn read_mesh(bytes: &[u8], out: &mut [i64]) -> usize
+    requires { ⌜ 1254 ≤ length (now out) ⌝ }
+    ensures { λ r. ⌜ Listed (numbersOf 12 meshLayout (now (bytes .entry))) (now (out .entry)) r (now (out .exit)) ⌝ }
+{
+    let entries = table();
+    let p = read_header(&entries, bytes, 5, out);
+    if !p.going {
+        return 0;
+    }
+    let header = mesh_header(out);
+    let Outcome::Passed = header else {
+        return 5;
+    };
+    mesh_body(&entries, bytes, p, out)
+}
+
+// So many lines where number k of a header says that a part is there, else none.
+fn if_there(header: &[i64], k: usize, lines: usize) -> usize
+    requires { ⌜ k < length (now header) ⌝ }
+    ensures { λ r. ⌜ r ≡ ifThere (eqZ (at (now (header .entry)) k) (pos 1)) lines ⌝ }
+{
+    if header[k] == 1 {
+        return lines;
+    }
+    0
+}
+
+// The lines after a claim's header, which stands at the front of `out`.
+fn claim_body(
+    table: &[u64; 256],
+    bytes: &[u8],
+    p: Progress,
+    nodes: usize,
+    elements: usize,
+    edges: usize,
+    sides: usize,
+    out: &mut [i64],
+) -> usize
+    requires { ⌜ Table (now table) ⌝ ∗ ⌜ p .at ≤ length (now bytes) ⌝ ∗ ⌜ p .numbers ≡ 4 ⌝ ∗ ⌜ (nodes ≤ 100) × (elements ≤ 100) × (edges ≤ 60) × (sides ≤ 36) ⌝ ∗ ⌜ 4345 ≤ length (now out) ⌝ }
+    ensures { λ r. ⌜ Listed (allNumbers (now (bytes .entry)) (bodyOf nodes elements edges sides (now (out .entry))) p (now (out .entry))) (now (out .entry)) r (now (out .exit)) ⌝ }
+{
+    let stresses = if_there(out, 0, nodes);
+    let by_element = if_there(out, 1, elements);
+    let by_edge = if_there(out, 1, edges);
+    let by_node = if_there(out, 1, nodes);
+    let a = Group {
+        lines: stresses,
+        columns: 3,
+    };
+    let b = Group {
+        lines: by_element,
+        columns: 2,
+    };
+    let c = Group {
+        lines: by_edge,
+        columns: 4,
+    };
+    let d = Group {
+        lines: by_node,
+        columns: sides,
+    };
+    read_body(table, bytes, p, a, b, c, d, out)
+}
+
+// The numbers of a claim file, and how many they are: for every mesh of these counts.
+pub fn read_claim(
+    bytes: &[u8],
+    nodes: usize,
+    elements: usize,
+    edges: usize,
+    sides: usize,
+    out: &mut [i64],
+) -> usize
+    requires { ⌜ (nodes ≤ 100) × (elements ≤ 100) × (edges ≤ 60) × (sides ≤ 36) ⌝ ∗ ⌜ 4345 ≤ length (now out) ⌝ }
+    ensures { λ r. ⌜ ClaimListed (now (bytes .entry)) nodes elements edges sides (now (out .entry)) r (now (out .exit)) ⌝ }
+{
+    let entries = table();
+    let p = read_header(&entries, bytes, 4, out);
+    if !p.going {
+        return 0;
+    }
+    let header = claim_header(out);
+    let Outcome::Passed = header else {
+        return 4;
+    };
+    claim_body(&entries, bytes, p, nodes, elements, edges, sides, out)
+}

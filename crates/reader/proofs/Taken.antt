@@ -1,0 +1,159 @@
+-- What the functions that read lines say holds again after each turn of their loops, and at their ends.
+use mathlib.Core.Path.{_≡_, refl, sym, _∙_}
+use mathlib.Core.List.{List, [], _∷_, _++_, append-assoc}
+use mathlib.Core.Bool.{Bool, true, false, cond}
+use mathlib.Core.Option.{Option, none, some}
+use Prim.Native.Nat.{ℕ, zero, suc, _+_, _*_, _-_, _≤_, _<_}
+use native.Mathlib.Nat.{suc-mul, mul-le-mul-right}
+use native.Mathlib.Numerals.{add-one}
+use native.Mathlib.Omega.{arith}
+use lib.IntN.{ℤ, pos}
+use lib.ListN.{length, take, drop, getD, set, replicate, length-set, length-drop, length-append, replicate-append-replicate}
+use lib.Seq.{paste, paste-zero, paste-suc, drop-drop, take-at, drop-at, length-take-le}
+use Rattle.reader.specs.declared.lines.Progress.{Progress}
+use Rattle.reader.specs.declared.lines.Group.{Group}
+use Rattle.reader.specs.File.{lineBytes, readLine, readLines}
+use Rattle.reader.specs.HowFar.{past, written, LineTaken, linesOf, allNumbers, total, LinesTaken}
+use Rattle.reader.proofs.Line.{line-means}
+use Rattle.reader.proofs.Cut.{line-there}
+
+-- ---- a copy
+
+-- j numbers of a line are copied into the list `before`, from the number `from` on, which makes it `out`
+pub record Copied (line : List ℤ) (columns from : ℕ) (before : List ℤ) (j : ℕ) (out : List ℤ) : Type 0 where
+  pub most : j ≤ columns
+  pub size : length out ≡ length before
+  pub same : out ≡ paste before from line j
+
+module _ (line : List ℤ) (columns from : ℕ) (before : List ℤ) where
+  pub copied-none : Copied line columns from before 0 before
+  copied-none = record { most = omega arith; size = refl; same = paste-zero before from line }
+
+  pub copied-next : {j : ℕ} {out : List ℤ} {z : ℤ} → Copied line columns from before j out → j < columns → from + j < length before → j < length line → z ≡ getD line j (pos 0) → Copied line columns from before (j + 1) (set out (from + j) z)
+  copied-next {j} {out} {z} h m l n e = record {
+    most = omega arith;
+    size = length-set out (from + j) z ∙ h .size;
+    same = rw (h .same, e, add-one j) (paste-suc before from line j (pos 0) l n);
+  }
+
+  pub copied-all : {j : ℕ} {out : List ℤ} → Copied line columns from before j out → columns ≤ j → out ≡ paste before from line columns
+  copied-all {j} h l = let e : columns ≡ j = omega arith in rw e (h .same)
+
+-- ---- one line
+
+module _ (bs : List ℕ) (k : ℕ) (p : Progress) (formed : Bool) (line : List ℤ) (h : readLine 12 k (drop (p .at) bs) ≡ cond formed (some (take k line)) none) where
+  pub line-malformed : (out : List ℤ) → formed ≡ false → LineTaken bs k p out (record { going = false; at = p .at; numbers = p .numbers }) out
+  unfolding past written
+  line-malformed out f = let e : readLine 12 k (drop (p .at) bs) ≡ none = h ∙ rw f in record { progress = rw e; numbers = rw e }
+
+  pub line-formed : {out after : List ℤ} → formed ≡ true → after ≡ paste out (p .numbers) line k → LineTaken bs k p out (record { going = true; at = p .at + k * 12 + 1; numbers = p .numbers + k }) after
+  unfolding past written lineBytes
+  line-formed {out} {after} f c =
+      let e : readLine 12 k (drop (p .at) bs) ≡ some (take k line) = h ∙ rw f in
+      let a : p .at + k * 12 + 1 ≡ p .at + (k * 12 + 1) = omega arith in
+      record { progress = rw (e, a); numbers = rw e c }
+
+-- ---- lines
+
+no-lines : (bs : List ℕ) (p : Progress) (out : List ℤ) → p .at ≤ length bs → LinesTaken bs [] p out p out
+unfolding total
+no-lines bs p out l = record { same = λ rest. refl; more = omega arith; most = omega arith; within = l; others = refl }
+
+-- where a line isn't well formed, no line after it is read
+stopped : (bs ks : List ℕ) (p : Progress) (out : List ℤ) → p .going ≡ false → p .at ≤ length bs → LinesTaken bs ks p out p out
+unfolding allNumbers
+stopped bs ks p out g l = record { same = λ rest. rw g; more = omega arith; most = omega arith; within = l; others = refl }
+
+pub total-++ : (ks ls : List ℕ) → total (ks ++ ls) ≡ total ks + total ls
+unfolding total
+total-++ [] ls = omega arith
+total-++ (k ∷ ks) ls = omega (arith, total-++ ks ls)
+
+pub drop-further : (m n : ℕ) (xs ys : List ℤ) → m ≤ n → drop m xs ≡ drop m ys → drop n xs ≡ drop n ys
+drop-further m n xs ys l e =
+    let s : n ≡ m + (n - m) = omega arith in
+    rw (s, ← drop-drop (n - m) m xs, ← drop-drop (n - m) m ys, e)
+
+pub lines-then : {bs ks ls : List ℕ} {p q r : Progress} {out mid after : List ℤ} → LinesTaken bs ks p out q mid → LinesTaken bs ls q mid r after → LinesTaken bs (ks ++ ls) p out r after
+lines-then {bs} {ks} {ls} {p} {q} {r} {out} {mid} {after} a b = record {
+  same = λ rest. rw (append-assoc ks ls rest) (a .same (ls ++ rest) ∙ b .same rest);
+  more = omega (arith, a .more, b .more);
+  most = omega (arith, a .most, b .most, total-++ ks ls);
+  within = b .within;
+  others = b .others ∙ drop-further (q .numbers) (r .numbers) mid out (b .more) (a .others);
+}
+
+one-more : (i k : ℕ) → replicate (i + 1) k ≡ replicate i k ++ (k ∷ [])
+one-more i k = sym (replicate-append-replicate i 1 k)
+
+-- one line is lines
+module _ (bs : List ℕ) (k : ℕ) (p : Progress) (out : List ℤ) (l : p .at ≤ length bs) (n : p .numbers + k ≤ length out) (g : p .going ≡ true) where
+  rest : List ℕ
+  rest = drop (p .at) bs
+
+  one-line : (o : Option (List ℤ)) → readLine 12 k rest ≡ o → LinesTaken bs (k ∷ []) p out (past k p o) (written k (p .numbers) o out)
+  unfolding past written allNumbers readLines total rest lineBytes
+  one-line none e = record {
+    same = λ ks. rw (g, e, readLines);
+    more = omega arith;
+    most = omega arith;
+    within = l;
+    others = refl;
+  }
+  one-line (some zs) e =
+      let m = line-means 12 k rest zs .0 e .count in
+      let front : length (take (p .numbers) out ++ zs) ≡ p .numbers + k = length-append (take (p .numbers) out) zs ∙ omega (arith, length-take-le (p .numbers) out (omega arith)) in
+      let t = take-at (take (p .numbers) out ++ zs) (drop (p .numbers + k) out) (p .numbers + k) front in
+      record {
+        same = λ ks. rw (g, e, readLines, t, drop-drop (k * 12 + 1) (p .at) bs) (sym (append-assoc (take (p .numbers) out) zs _));
+        more = omega arith;
+        most = omega arith;
+        within = omega (arith, line-there 12 k rest zs e, length-drop (p .at) bs);
+        others = drop-at (take (p .numbers) out ++ zs) (drop (p .numbers + k) out) (p .numbers + k) front;
+      }
+
+  line-as-lines : {r : Progress} {after : List ℤ} → LineTaken bs k p out r after → LinesTaken bs (k ∷ []) p out r after
+  unfolding rest
+  line-as-lines h = rw (h .progress, h .numbers) (one-line (readLine 12 k rest) refl)
+
+-- ---- i lines of a group are read; the array `line` keeps its length
+
+pub record InGroup (bs : List ℕ) (lines columns : ℕ) (p : Progress) (before line : List ℤ) (out : List ℤ) (q : Progress) (i : ℕ) : Type 0 where
+  pub most : i ≤ lines
+  pub size : length out ≡ length before
+  pub room : length line ≡ 36
+  pub taken : LinesTaken bs (replicate i columns) p before q out
+
+pub total-replicate : (i k : ℕ) → total (replicate i k) ≡ i * k
+unfolding total
+total-replicate zero k = omega arith
+total-replicate (suc i) k = omega (arith, total-replicate i k, suc-mul i k)
+
+-- the numbers of a group
+pub group-most : (g : Group) {bs : List ℕ} {p q : Progress} {out after : List ℤ} → LinesTaken bs (linesOf g) p out q after → q .numbers ≤ p .numbers + g .lines * g .columns
+unfolding linesOf
+group-most g h = omega (arith, h .most, total-replicate (g .lines) (g .columns))
+
+module _ {bs : List ℕ} {lines columns : ℕ} {p : Progress} {before : List ℤ} where
+  pub group-first : (line : List ℤ) → length line ≡ 36 → p .at ≤ length bs → InGroup bs lines columns p before line before p 0
+  group-first line e l = record { most = omega arith; size = refl; room = e; taken = no-lines bs p before l }
+
+  module _ {line out : List ℤ} {q : Progress} {i : ℕ} (h : InGroup bs lines columns p before line out q i) where
+    pub group-room : i < lines → p .numbers + lines * columns ≤ length before → q .numbers + columns ≤ length out
+    group-room l n = omega (arith, h .size, h .taken .most, total-replicate i columns, suc-mul i columns, mul-le-mul-right columns l)
+
+    pub group-next : {wide after : List ℤ} {r : Progress} → i < lines → p .numbers + lines * columns ≤ length before → q .going ≡ true → length wide ≡ length line → length after ≡ length out → LineTaken bs columns q out r after → InGroup bs lines columns p before wide after r (i + 1)
+    group-next l n g w s t = record {
+      most = omega arith;
+      size = s ∙ h .size;
+      room = w ∙ h .room;
+      taken = rw (one-more i columns) (lines-then (h .taken) (line-as-lines bs columns q out (h .taken .within) (group-room l n) g t));
+    }
+
+    pub group-stops : q .going ≡ false → LinesTaken bs (replicate lines columns) p before q out
+    group-stops g =
+        let e : lines ≡ i + (lines - i) = omega (arith, h .most) in
+        rw (e, ← replicate-append-replicate i (lines - i) columns) (lines-then (h .taken) (stopped bs (replicate (lines - i) columns) q out g (h .taken .within)))
+
+    pub group-ends : lines ≤ i → LinesTaken bs (replicate lines columns) p before q out
+    group-ends l = let e : lines ≡ i = omega (arith, h .most) in rw e (h .taken)

@@ -1,0 +1,205 @@
+-- What a header tells of the lines after it: their columns are those of the layout, and their numbers fit the list that is lent.
+use mathlib.Core.Path.{_≡_, sym, ap, _∙_}
+use mathlib.Core.Bool.{Bool, true, false}
+use mathlib.Core.List.{List, [], _++_, append-nil, append-assoc}
+use Prim.Native.Nat.{ℕ, _*_, _≤_, _<_}
+use native.Mathlib.Nat.{mul-le-mul}
+use native.Mathlib.Omega.{arith}
+use lib.IntN.{ℤ, pos, negsuc}
+use lib.Signed.{_≤ℤ_}
+use lib.ListN.{length, take, drop, getD, replicate, length-replicate, take-append-drop}
+use lib.Seq.{getD-take, length-take-le}
+use borrow.Table.Steps.{cases}
+use Rattle.integer.specs.Order.{≤ℤ-pos, pos-≤ℤ}
+use Rattle.integer.specs.Tests.{eqZ, eqZ-yes}
+use Rattle.rows.specs.declared.Place.{Place}
+use Rattle.rows.specs.declared.Place.the-variants.{Line}
+use Rattle.rows.specs.declared.Outcome.{Outcome}
+use Rattle.rows.specs.declared.Outcome.the-variants.{Passed, Refused}
+use Rattle.rows.specs.Columns.{at, between, free, hasField, hasMultipliers}
+use Rattle.rows.specs.Layout.{count, groups, lineOf, lineNumbers, lineCheck, lineAt}
+use Rattle.rows.specs.Sound.{Within}
+use Rattle.rows.specs.Mesh.{meshLayout, meshHeader, soilLines, nodeLines, elementLines, edgeLines, nodes, elements, soils, edges, sides}
+use Rattle.rows.specs.Claim.{ifThere, claimLayout, claimHeader, stressLines, elementMultipliers, edgeMultipliers, strengthMultipliers}
+use Rattle.reader.specs.declared.lines.Progress.{Progress}
+use Rattle.reader.specs.declared.lines.Group.{Group}
+use Rattle.rows.proofs.InOrder.{line-check-passed}
+use Rattle.rows.proofs.Lines.{within-at}
+use Rattle.reader.specs.File.{widths, numbersOf}
+use Rattle.reader.specs.HowFar.{start, LineTaken, linesOf, allNumbers, Room}
+use Rattle.reader.specs.Listed.{Listed, ClaimListed}
+use Rattle.reader.specs.Tells.{FewLines, bodyOf}
+use Rattle.reader.proofs.Regular.{mesh-regular}
+use Rattle.reader.proofs.Whole.{HeaderRead, headerSays, no-header, header-read, header-refused, header-passed}
+
+abbrev alike : ℕ → ℕ → Group
+alike n k = record { lines = n; columns = k }
+
+four : (a b c d : List ℕ) → a ++ b ++ c ++ d ≡ a ++ (b ++ (c ++ (d ++ [])))
+four a b c d = simp (append-assoc, append-nil)
+
+-- ---- a mesh
+
+pub count-most : (z : ℤ) {k : ℕ} → z ≤ℤ pos k → count z ≤ k
+unfolding count
+count-most (pos n) h = ≤ℤ-pos h
+count-most (negsuc n) h = omega arith
+
+module _ (m : List ℤ) {ns es ss gs : ℕ} (n : ns ≡ count (at m 0)) (e : es ≡ count (at m 1)) (s : ss ≡ count (at m 2)) (g : gs ≡ count (at m 3)) where
+  pub mesh-lines : linesOf (alike ss 8) ++ linesOf (alike ns 2) ++ linesOf (alike es 5) ++ linesOf (alike gs 7) ≡ widths (meshLayout .body m)
+  unfolding linesOf widths meshLayout soilLines nodeLines elementLines edgeLines soils nodes elements edges
+  mesh-lines = rw (n, e, s, g) (four (replicate (soils m) 8) (replicate (nodes m) 2) (replicate (elements m) 5) (replicate (edges m) 7))
+
+  pub mesh-room : (p : Progress) (k : ℕ) → FewLines m → p .numbers ≡ 5 → 1254 ≤ k → Room p (alike ss 8) (alike ns 2) (alike es 5) (alike gs 7) k
+  mesh-room p k f q l =
+      let a = count-most (at m 0) (f .nodes .most) in
+      let b = count-most (at m 1) (f .elements .most) in
+      let c = count-most (at m 2) (f .soils .most) in
+      let d = count-most (at m 3) (f .edges .most) in
+      record { columnsA = omega arith; columnsB = omega arith; columnsC = omega arith; columnsD = omega arith; fits = omega arith }
+
+-- ---- a claim
+
+pub there-most : (b : Bool) (k : ℕ) → ifThere b k ≤ k
+unfolding ifThere
+there-most true k = omega arith
+there-most false k = omega arith
+
+module _ (ns es gs ss : ℕ) (c : List ℤ) {fn me mg mn : ℕ} (a : fn ≡ ifThere (hasField c) ns) (b : me ≡ ifThere (hasMultipliers c) es) (d : mg ≡ ifThere (hasMultipliers c) gs) (e : mn ≡ ifThere (hasMultipliers c) ns) where
+  pub claim-lines : linesOf (alike fn 3) ++ linesOf (alike me 2) ++ linesOf (alike mg 4) ++ linesOf (alike mn ss) ≡ bodyOf ns es gs ss c
+  unfolding linesOf bodyOf
+  claim-lines = rw (a, b, d, e)
+
+  pub claim-room : (p : Progress) (k : ℕ) → (ns ≤ 100) × (es ≤ 100) × (gs ≤ 60) × (ss ≤ 36) → p .numbers ≡ 4 → 4345 ≤ k → Room p (alike fn 3) (alike me 2) (alike mg 4) (alike mn ss) k
+  claim-room p k m q l =
+      let f = there-most (hasField c) ns in
+      let g = there-most (hasMultipliers c) es in
+      let h = there-most (hasMultipliers c) gs in
+      let i = there-most (hasMultipliers c) ns in
+      let j : mn * ss ≤ 100 * 36 = mul-le-mul {n₂ = 100} {m₂ = 36} (omega arith) (omega arith) in
+      record { columnsA = omega arith; columnsB = omega arith; columnsC = omega arith; columnsD = omega arith; fits = omega arith }
+
+pub part-there : (z : ℤ) (k : ℕ) → z ≡ pos 1 → k ≡ ifThere (eqZ z (pos 1)) k
+unfolding ifThere
+part-there z k e = rw e
+
+pub part-absent : (z : ℤ) (k : ℕ) → ¬ (z ≡ pos 1) → 0 ≡ ifThere (eqZ z (pos 1)) k
+unfolding ifThere
+part-absent z k n = cases (eqZ z (pos 1)) (λ t. absurd (n (eqZ-yes (rw t tt)))) (λ t. rw t)
+
+-- ---- the header of a mesh file
+
+from-nought : {a : ℕ} {z : ℤ} → pos a ≤ℤ z → pos 0 ≤ℤ z
+from-nought {z = pos n} h = pos-≤ℤ (omega arith)
+from-nought {z = negsuc n} h = absurd (h .le)
+
+-- the limits of a header that passes
+pub header-few : (h : List ℤ) → lineCheck meshLayout (meshLayout .header) h (Line 1) ≡ Passed → FewLines h
+unfolding meshLayout meshHeader
+header-few h e =
+    let s = line-check-passed meshLayout meshHeader h (Line 1) .says e in
+    let w : (c : ℕ) → c < 5 → Within (getD (meshHeader .limits) c free) (at h c) = λ c l. within-at (meshHeader .limits) h c (s .0) l (s .1) in
+    record {
+      nodes = record { least = from-nought (w 0 (omega arith) .0); most = w 0 (omega arith) .1 };
+      elements = record { least = from-nought (w 1 (omega arith) .0); most = w 1 (omega arith) .1 };
+      soils = record { least = from-nought (w 2 (omega arith) .0); most = w 2 (omega arith) .1 };
+      edges = record { least = w 3 (omega arith) .0; most = w 3 (omega arith) .1 };
+    }
+
+module _ (bs : List ℕ) (out : List ℤ) {p : Progress} {after : List ℤ} where
+  pub mesh-no-header : LineTaken bs 5 start out p after → p .going ≡ false → Listed (numbersOf 12 meshLayout bs) out 0 after
+  unfolding meshLayout meshHeader
+  mesh-no-header t g = no-header meshLayout bs out t g
+
+  pub mesh-header-read : LineTaken bs 5 start out p after → 5 ≤ length out → p .going ≡ true → HeaderRead meshLayout bs out p after
+  unfolding meshLayout meshHeader
+  mesh-header-read t l g = header-read meshLayout bs out t l g
+
+  module _ (h : HeaderRead meshLayout bs out p after) where
+    pub mesh-at : p .at ≤ length bs
+    mesh-at = rw (h .progress) (h .bytes)
+
+    pub mesh-numbers : p .numbers ≡ 5
+    unfolding meshLayout meshHeader
+    mesh-numbers = ap (λ q. q .numbers) (h .progress)
+
+    mesh-says : {o : Outcome} → o ≡ lineAt meshLayout after 0 → o ≡ headerSays meshLayout after
+    unfolding lineAt lineOf lineNumbers groups meshLayout meshHeader
+    mesh-says e = e
+
+    pub mesh-refused : {o : Outcome} {k : ℕ} {q : Place} → o ≡ lineAt meshLayout after 0 → o ≡ Refused k q → Listed (numbersOf 12 meshLayout bs) out 5 after
+    unfolding meshLayout meshHeader
+    mesh-refused e r = header-refused meshLayout bs out h (sym (mesh-says e) ∙ r)
+
+    in-front : (k : ℕ) → k < 5 → at (take 5 after) k ≡ at after k
+    unfolding at
+    in-front k l = getD-take 5 after k (pos 0) l
+
+    pub few-lines : {o : Outcome} → o ≡ lineAt meshLayout after 0 → o ≡ Passed → FewLines after
+    unfolding meshLayout meshHeader
+    few-lines e r =
+        let f = header-few (take 5 after) (sym (mesh-says e) ∙ r) in
+        record {
+          nodes = rw (in-front 0 (omega arith)) at (f .nodes);
+          elements = rw (in-front 1 (omega arith)) at (f .elements);
+          soils = rw (in-front 2 (omega arith)) at (f .soils);
+          edges = rw (in-front 3 (omega arith)) at (f .edges);
+        }
+
+    same-body : meshLayout .body after ≡ meshLayout .body (take 5 after)
+    unfolding meshLayout meshHeader
+    same-body =
+        ap (λ ns. meshLayout .body ns) (sym (take-append-drop 5 after))
+        ∙ mesh-regular .byHeader (take 5 after) (drop 5 after) (length-take-le 5 after (h .room))
+
+    pub mesh-passed : {o : Outcome} {r : ℕ} {end : List ℤ} → o ≡ lineAt meshLayout after 0 → o ≡ Passed → Listed (allNumbers bs (widths (meshLayout .body after)) p after) after r end → Listed (numbersOf 12 meshLayout bs) out r end
+    unfolding meshLayout meshHeader
+    mesh-passed e r l = header-passed meshLayout bs out h (sym (mesh-says e) ∙ r) (rw same-body at l)
+
+-- ---- the header of a claim file
+
+module _ (bs : List ℕ) (out : List ℤ) {p : Progress} {after : List ℤ} where
+  pub claim-no-header : (ns es gs ss : ℕ) → LineTaken bs 4 start out p after → p .going ≡ false → ClaimListed bs ns es gs ss out 0 after
+  unfolding claimLayout claimHeader
+  claim-no-header ns es gs ss t g = record { against = λ m n e d s. no-header (claimLayout m) bs out t g }
+
+  pub claim-header-read : LineTaken bs 4 start out p after → 4 ≤ length out → p .going ≡ true → (m : List ℤ) → HeaderRead (claimLayout m) bs out p after
+  unfolding claimLayout claimHeader
+  claim-header-read t l g m = header-read (claimLayout m) bs out t l g
+
+  module _ (h : (m : List ℤ) → HeaderRead (claimLayout m) bs out p after) where
+    pub claim-at : p .at ≤ length bs
+    claim-at = rw (h [] .progress) (h [] .bytes)
+
+    pub claim-numbers : p .numbers ≡ 4
+    unfolding claimLayout claimHeader
+    claim-numbers = ap (λ q. q .numbers) (h [] .progress)
+
+    claim-says : (m : List ℤ) {o : Outcome} → o ≡ lineCheck (claimLayout []) claimHeader (take 4 after) (Line 1) → o ≡ headerSays (claimLayout m) after
+    unfolding lineCheck claimLayout claimHeader
+    claim-says m e = e
+
+    same-field : hasField (take 4 after) ≡ hasField after
+    unfolding hasField at
+    same-field = rw (getD-take 4 after 0 (pos 0) (omega arith))
+
+    same-multipliers : hasMultipliers (take 4 after) ≡ hasMultipliers after
+    unfolding hasMultipliers at
+    same-multipliers = rw (getD-take 4 after 1 (pos 0) (omega arith))
+
+    module _ (ns es gs ss : ℕ) {o : Outcome} (e : o ≡ lineCheck (claimLayout []) claimHeader (take 4 after) (Line 1)) where
+      pub claim-refused : {k : ℕ} {q : Place} → o ≡ Refused k q → ClaimListed bs ns es gs ss out 4 after
+      unfolding claimLayout claimHeader
+      claim-refused r = record { against = λ m n d g s. header-refused (claimLayout m) bs out (h m) (sym (claim-says m e) ∙ r) }
+
+      same-lines : (m : List ℤ) → nodes m ≡ ns → elements m ≡ es → edges m ≡ gs → sides m ≡ ss → bodyOf ns es gs ss after ≡ widths (claimLayout m .body (take 4 after))
+      unfolding bodyOf widths claimLayout stressLines elementMultipliers edgeMultipliers strengthMultipliers
+      same-lines m n d g s =
+          rw (← n, ← d, ← g, ← s, same-field, same-multipliers, length-replicate (sides m) (between (pos 0) (pos 10000)))
+          (four (replicate (ifThere (hasField after) (nodes m)) 3) (replicate (ifThere (hasMultipliers after) (elements m)) 2) (replicate (ifThere (hasMultipliers after) (edges m)) 4) (replicate (ifThere (hasMultipliers after) (nodes m)) (sides m)))
+
+      pub claim-passed : {r : ℕ} {end : List ℤ} → o ≡ Passed → Listed (allNumbers bs (bodyOf ns es gs ss after) p after) after r end → ClaimListed bs ns es gs ss out r end
+      unfolding claimLayout claimHeader
+      claim-passed r l = record {
+        against = λ m n d g s. header-passed (claimLayout m) bs out (h m) (sym (claim-says m e) ∙ r) (rw (same-lines m n d g s) at l);
+      }

@@ -1,0 +1,63 @@
+-- How far a file is read, as the functions that read its lines say it.
+use mathlib.Core.Path.{_≡_}
+use mathlib.Core.Bool.{true, false, cond}
+use mathlib.Core.List.{List, [], _∷_, _++_}
+use mathlib.Core.Option.{Option, none, some}
+use Prim.Native.Nat.{ℕ, _+_, _*_, _≤_, _<_}
+use lib.IntN.{ℤ}
+use lib.ListN.{length, take, drop, replicate}
+use Rattle.reader.specs.declared.lines.Progress.{Progress}
+use Rattle.reader.specs.declared.lines.Group.{Group}
+use Rattle.reader.specs.File.{lineBytes, readLine, readLines}
+
+-- nothing is read
+unfoldable pub start : Progress
+start = record { going = true; at = 0; numbers = 0 }
+
+-- ---- one line
+
+-- how far a file is read after a line of k columns, which is well formed where it is `some`
+unfoldable pub past : ℕ → Progress → Option (List ℤ) → Progress
+past k p none = record { going = false; at = p .at; numbers = p .numbers }
+past k p (some zs) = record { going = true; at = p .at + lineBytes 12 k; numbers = p .numbers + k }
+
+-- the numbers of such a line stand in the list `out`, from number n on
+unfoldable pub written : ℕ → ℕ → Option (List ℤ) → List ℤ → List ℤ
+written k n none out = out
+written k n (some zs) out = take n out ++ zs ++ drop (n + k) out
+
+-- a line of k columns is read: from p and the list `out` to r and `after`
+pub record LineTaken (bs : List ℕ) (k : ℕ) (p : Progress) (out : List ℤ) (r : Progress) (after : List ℤ) : Type 0 where
+  pub progress : r ≡ past k p (readLine 12 k (drop (p .at) bs))
+  pub numbers : after ≡ written k (p .numbers) (readLine 12 k (drop (p .at) bs)) out
+
+-- ---- lines
+
+-- the columns of each line of a group
+unfoldable pub linesOf : Group → List ℕ
+linesOf g = replicate (g .lines) (g .columns)
+
+-- all numbers of a file, where those in the list `out` are read and lines with these many columns are still to be read
+unfoldable pub allNumbers : List ℕ → List ℕ → Progress → List ℤ → List ℤ
+allNumbers bs ks p out = take (p .numbers) out ++ cond (p .going) (readLines 12 ks (drop (p .at) bs)) []
+
+-- the columns of some lines
+unfoldable pub total : List ℕ → ℕ
+total [] = 0
+total (k ∷ ks) = k + total ks
+
+-- lines with these many columns are read: from p and the list `out` to r and `after`
+pub record LinesTaken (bs ks : List ℕ) (p : Progress) (out : List ℤ) (r : Progress) (after : List ℤ) : Type 0 where
+  pub same : (rest : List ℕ) → allNumbers bs (ks ++ rest) p out ≡ allNumbers bs rest r after
+  pub more : p .numbers ≤ r .numbers
+  pub most : r .numbers ≤ p .numbers + total ks
+  pub within : r .at ≤ length bs
+  pub others : drop (r .numbers) after ≡ drop (r .numbers) out
+
+-- four groups fit a list of n numbers after those that are read, with one number more for bytes left over
+pub record Room (p : Progress) (a b c d : Group) (n : ℕ) : Type 0 where
+  pub columnsA : a .columns ≤ 36
+  pub columnsB : b .columns ≤ 36
+  pub columnsC : c .columns ≤ 36
+  pub columnsD : d .columns ≤ 36
+  pub fits : p .numbers + (a .lines * a .columns + b .lines * b .columns + c .lines * c .columns + d .lines * d .columns) < n

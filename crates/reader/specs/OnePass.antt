@@ -1,0 +1,86 @@
+-- A column read in one pass, each byte taken once, front to back: what is kept after some of its bytes, and how the program keeps it.
+use mathlib.Core.Path.{_≡_}
+use mathlib.Core.Bool.{true, false, cond}
+use mathlib.Core.List.{List, [], _∷_}
+use mathlib.Core.Option.{Option, none, some}
+use Prim.Native.Nat.{ℕ, _+_, _*_, _-_, _/_, _%_, _^_, _<_}
+use lib.Dec.{eqb}
+use lib.IntN.{ℤ, pos, negℤ}
+use lib.ListN.{getD}
+use Rattle.integer.specs.Decimal.{isDigit}
+use Rattle.reader.specs.declared.column.Kept.{Kept}
+use Rattle.reader.specs.declared.column.Reading.{Reading}
+use Rattle.reader.specs.declared.column.Reading.the-variants.{Number, Malformed}
+
+-- ---- what is kept: a phase, and the value of the digits
+
+-- what no number begins with; only spaces; a minus; a zero alone; digits; a minus and digits
+pub data Phase : Type 0 where
+  bad blank sign nought up down : Phase
+
+-- the phase after one byte more
+unfoldable pub turn : Phase → ℕ → Phase
+turn bad b = bad
+turn blank b =
+    elim (eqb b 32) [
+      | true ↦ blank
+      | false ↦ elim (eqb b 45) [ true ↦ sign | false ↦ elim (eqb b 48) [ true ↦ nought | false ↦ cond (isDigit b) up bad ] ]
+    ]
+turn sign b = elim (eqb b 48) [ true ↦ bad | false ↦ cond (isDigit b) down bad ]
+turn nought b = bad
+turn up b = cond (isDigit b) up bad
+turn down b = cond (isDigit b) down bad
+
+-- the digit of a byte, and 0 of any other byte
+unfoldable pub digitOf : ℕ → ℕ
+digitOf b = cond (isDigit b) (b - 48) 0
+
+unfoldable pub phaseAfter : Phase → List ℕ → Phase
+phaseAfter p [] = p
+phaseAfter p (b ∷ bs) = phaseAfter (turn p b) bs
+
+unfoldable pub valueOver : ℕ → List ℕ → ℕ
+valueOver a [] = a
+valueOver a (b ∷ bs) = valueOver (a * 10 + digitOf b) bs
+
+-- the number that a column is, from what is kept after its last byte
+unfoldable pub meant : Phase → ℕ → Option ℤ
+meant bad v = none
+meant blank v = none
+meant sign v = none
+meant nought v = some (pos v)
+meant up v = some (pos v)
+meant down v = some (negℤ (pos v))
+
+-- ---- how the program keeps it
+
+-- a phase is kept as the place of six bits in a byte's entry
+unfoldable pub shift : Phase → ℕ
+shift bad = 0
+shift blank = 6
+shift sign = 12
+shift nought = 18
+shift up = 24
+shift down = 30
+
+-- the entry of the byte b: at the place of each phase stands the next one, and in the upper four bits the digit
+pub record Entry (b e : ℕ) : Type 0 where
+  pub turns : (p : Phase) → e / 2 ^ shift p % 64 ≡ shift (turn p b)
+  pub digit : e / 2 ^ 60 ≡ digitOf b
+
+pub record Table (t : List ℕ) : Type 0 where
+  pub entry : (b : ℕ) → b < 256 → Entry b (getD t b 0)
+
+-- the program's state c becomes r by the byte b
+pub record Stepped (c : Kept) (b : ℕ) (r : Kept) : Type 0 where
+  pub phase : (p : Phase) → c .phase ≡ shift p → r .phase ≡ shift (turn p b)
+  pub value : r .value ≡ c .value * 10 + digitOf b
+
+-- what a column says
+unfoldable pub readingOf : Option ℤ → Reading
+readingOf none = Malformed
+readingOf (some z) = Number z
+
+-- the program's state c says r
+pub record Said (c : Kept) (r : Reading) : Type 0 where
+  pub says : (p : Phase) → c .phase ≡ shift p → r ≡ readingOf (meant p (c .value))

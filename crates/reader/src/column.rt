@@ -1,0 +1,125 @@
+// A column's bytes, taken once each, front to back, into a state of fixed size that copies none of them.
+ghost use mathlib.Core.Path.{_≡_};
+ghost use Prim.Native.Nat.{_+_, _≤_, _<_};
+ghost use lib.ListN.{length, take, drop};
+ghost use Rattle.reader.specs.Spelling.{readColumn};
+ghost use Rattle.reader.specs.OnePass.{Table, Stepped, Said, readingOf};
+
+// What is kept of the bytes so far: the phase, which says what they spell, and the value of their digits.
+struct Kept {
+    phase: u64,
+    value: u64,
+}
+
+// What a column says.
+pub enum Reading {
+    Number(i64),
+    Malformed,
+}
+
+// The phases: what no number begins with; only spaces; a minus; a zero alone; digits; a minus and digits.
+// A phase is the place of six bits in the entry of the next byte, and these bits are the phase after that byte.
+const BAD: u64 = 0;
+
+const BLANK: u64 = 6;
+
+const SIGN: u64 = 12;
+
+const NOUGHT: u64 = 18;
+
+const UP: u64 = 24;
+
+const DOWN: u64 = 30;
+
+// The entries of the bytes. The upper four bits of a digit's entry are the digit.
+const SPACE: u64 = BLANK << BLANK;
+
+const MINUS: u64 = SIGN << BLANK;
+
+const MORE: u64 = (UP << UP) + (DOWN << DOWN);
+
+const ZERO: u64 = (NOUGHT << BLANK) + MORE;
+
+const DIGIT: u64 = (UP << BLANK) + (DOWN << SIGN) + MORE;
+
+const ONE: u64 = DIGIT + (1 << 60);
+
+const TWO: u64 = DIGIT + (2 << 60);
+
+const THREE: u64 = DIGIT + (3 << 60);
+
+const FOUR: u64 = DIGIT + (4 << 60);
+
+const FIVE: u64 = DIGIT + (5 << 60);
+
+const SIX: u64 = DIGIT + (6 << 60);
+
+const SEVEN: u64 = DIGIT + (7 << 60);
+
+const EIGHT: u64 = DIGIT + (8 << 60);
+
+const NINE: u64 = DIGIT + (9 << 60);
+
+// The entries of all bytes, made once for a file and lent.
+pub fn table() -> [u64; 256]
+    ensures { λ r. ⌜ Table r ⌝ }
+{
+    let mut t = [BAD; 256];
+    t[32] = SPACE;
+    t[45] = MINUS;
+    t[48] = ZERO;
+    t[49] = ONE;
+    t[50] = TWO;
+    t[51] = THREE;
+    t[52] = FOUR;
+    t[53] = FIVE;
+    t[54] = SIX;
+    t[55] = SEVEN;
+    t[56] = EIGHT;
+    t[57] = NINE;
+    t
+}
+
+// The state after one byte more.
+fn step(table: &[u64; 256], c: Kept, b: u8) -> Kept
+    requires { ⌜ Table (now table) ⌝ ∗ ⌜ c .phase < 64 ⌝ ∗ ⌜ c .value < 1000000000000 ⌝ }
+    ensures { λ r. ⌜ Stepped c b r ⌝ }
+{
+    let entry = table[b as usize];
+    Kept {
+        phase: (entry >> c.phase) % 64,
+        value: c.value * 10 + (entry >> 60),
+    }
+}
+
+// What the state after a column's last byte says.
+fn said(c: Kept) -> Reading
+    requires { ⌜ c .value < 1000000000000 ⌝ }
+    ensures { λ r. ⌜ Said c r ⌝ }
+{
+    if c.phase < NOUGHT {
+        return Reading::Malformed;
+    }
+    let value = c.value as i64;
+    if c.phase == DOWN {
+        return Reading::Number(-value);
+    }
+    Reading::Number(value)
+}
+
+// The column whose first byte has the place `at`.
+pub fn column(table: &[u64; 256], bytes: &[u8], at: usize) -> Reading
+    requires { ⌜ Table (now table) ⌝ ∗ ⌜ at + 12 ≤ length (now bytes) ⌝ }
+    ensures { λ r. ⌜ r ≡ readingOf (readColumn (take 12 (drop at (now (bytes .entry))))) ⌝ }
+{
+    let mut c = Kept {
+        phase: BLANK,
+        value: 0,
+    };
+    let mut i: usize = 0;
+    while i < 12 {
+        c = step(table, c, bytes[at + i]);
+        i += 1;
+    }
+    said(c)
+}
