@@ -5,20 +5,20 @@ use mathlib.Core.List.{List, [], _∷_}
 use Prim.Native.Nat.{ℕ, suc}
 use native.Mathlib.Omega.{arith}
 use lib.IntN.{ℤ}
-use Rattle.rows.specs.declared.Place.{Place}
-use Rattle.rows.specs.declared.Place.the-variants.{Line}
-use Rattle.rows.specs.declared.Outcome.the-variants.{Refused as Fails}
-use Rattle.rows.specs.declared.Verdict.the-variants.{Refused}
-use Rattle.rows.specs.Columns.{Rule, ruleNumber}
-use Rattle.rows.specs.Layout.{Layout, linesCheck}
-use Rattle.rows.specs.Mesh.{meshLayout}
-use Rattle.rows.specs.Claim.{claimLayout}
-use Rattle.rows.specs.Sound.{numbersAt, groupAt, MeshSound}
-use Rattle.rows.specs.Refusals.{FirstFailing, LineRefusal, missing, outside, broken, left-over, in-line, no-left-turn, side-again, in-none, no-edge, Refusal, of-mesh, of-claim, equality-fails, strength-fails, on-unfixed, not-zero, no-live-load}
-use Rattle.rows.proofs.Decides.{Refuses}
-use Rattle.rows.proofs.Sound.{lines-passed}
-use Rattle.rows.proofs.Refusals.{lines-refusal}
-use Rattle.rows.proofs.Exactly.{refused-exactly}
+use Rattle.scope.specs.declared.Place.{Place}
+use Rattle.scope.specs.declared.Place.the-variants.{Line}
+use Rattle.scope.specs.declared.Outcome.the-variants.{Refused as Fails}
+use Rattle.scope.specs.declared.Verdict.the-variants.{Refused}
+use Rattle.scope.specs.Columns.{Rule, ruleNumber}
+use Rattle.scope.specs.Layout.{Layout, linesCheck}
+use Rattle.scope.specs.Mesh.{meshLayout}
+use Rattle.scope.specs.Claim.{claimLayout}
+use Rattle.scope.specs.Sound.{numbersAt, groupAt, MeshSound}
+use Rattle.scope.specs.Refusals.{FirstFailing, LineRefusal, missing, outside, broken, left-over, in-line, no-left-turn, side-again, in-none, no-edge, Refusal, of-mesh, of-claim, equality-fails, strength-fails, on-unfixed, not-zero, no-live-load}
+use Rattle.scope.proofs.Decides.{Refuses}
+use Rattle.scope.proofs.Sound.{lines-passed}
+use Rattle.scope.proofs.Refusals.{lines-refusal}
+use Rattle.scope.proofs.Exactly.{refused-exactly}
 use Rattle.reader.specs.WellFormed.{FormFails}
 use Rattle.reader.proofs.Regular.{mesh-regular, claim-regular, mesh-number, claim-number}
 use Rattle.reader.proofs.Form.{form-refused}

@@ -1,6 +1,6 @@
 -- The bracket for accepted parts holds whatever their numbers came from: a file's parts are those of its numbers.
 use mathlib.Core.Path.{_≡_, refl}
-use Rattle.rows.proofs.Parts.{parts-bracket}
+use Rattle.scope.proofs.Parts.{parts-bracket}
 use Rattle.judge.specs.Judge.{filesVerdict, fileWidth}
 use Rattle.judge.specs.Handed.{Handed, files, meshOf, claimOf, handedVerdict, HasAcceptedField, HasAcceptedMultipliers, OnTheSameMesh, HandedBracket}
 use mathlib.Core.List.{List}

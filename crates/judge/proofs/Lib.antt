@@ -1,3 +1,4 @@
+-- The theorems about the verdict on two files.
 pub mod Numbers
 pub mod Form
 pub mod Handed

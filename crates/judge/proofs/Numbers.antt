@@ -5,16 +5,16 @@ use mathlib.Core.List.{List}
 use Prim.Native.Nat.{ℕ, _+_, _<_}
 use native.Mathlib.Omega.{arith}
 use lib.IntN.{ℤ}
-use Rattle.rows.specs.declared.Place.{Place}
-use Rattle.rows.specs.declared.Outcome.{Outcome}
-use Rattle.rows.specs.declared.Outcome.the-variants.{Passed, Refused as Fails}
-use Rattle.rows.specs.declared.Verdict.the-variants.{Refused}
-use Rattle.rows.specs.Layout.{linesCheck}
-use Rattle.rows.specs.Mesh.{meshLayout, sides}
-use Rattle.rows.specs.Claim.{claimLayout}
-use Rattle.rows.specs.Verdict.{meshCheck, claimCheck, claimVerdict, answer, verdict}
-use Rattle.rows.proofs.Sound.{lines-passed}
-use Rattle.rows.proofs.Facts.{counts}
+use Rattle.scope.specs.declared.Place.{Place}
+use Rattle.scope.specs.declared.Outcome.{Outcome}
+use Rattle.scope.specs.declared.Outcome.the-variants.{Passed, Refused as Fails}
+use Rattle.scope.specs.declared.Verdict.the-variants.{Refused}
+use Rattle.scope.specs.Layout.{linesCheck}
+use Rattle.scope.specs.Mesh.{meshLayout, sides}
+use Rattle.scope.specs.Claim.{claimLayout}
+use Rattle.scope.specs.Verdict.{meshCheck, claimCheck, claimVerdict, answer, verdict}
+use Rattle.scope.proofs.Sound.{lines-passed}
+use Rattle.scope.proofs.Facts.{counts}
 use Rattle.reader.specs.File.{numbersOf, fileOf}
 use Rattle.reader.specs.WellFormed.{Fit}
 use Rattle.reader.proofs.Regular.{mesh-regular, claim-regular}

@@ -3,10 +3,10 @@ use mathlib.Core.Path.{_≡_}
 use mathlib.Core.List.{List}
 use Prim.Native.Nat.{ℕ}
 use lib.IntN.{ℤ}
-use Rattle.rows.specs.declared.Verdict.{Verdict}
-use Rattle.rows.specs.Verdict.{verdict}
-use Rattle.rows.specs.Accepted.{FieldAccepted, MultipliersAccepted}
-use Rattle.rows.specs.Parts.{SameRows, PartsBracket}
+use Rattle.scope.specs.declared.Verdict.{Verdict}
+use Rattle.scope.specs.Verdict.{verdict}
+use Rattle.scope.specs.Accepted.{FieldAccepted, MultipliersAccepted}
+use Rattle.scope.specs.Parts.{SameRows, PartsBracket}
 use Rattle.judge.specs.Judge.{meshNumbers, claimNumbers, fileWidth}
 
 -- a mesh and a claim: two files, or two lists of numbers

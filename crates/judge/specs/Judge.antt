@@ -2,10 +2,10 @@
 use mathlib.Core.List.{List}
 use Prim.Native.Nat.{ℕ}
 use lib.IntN.{ℤ}
-use Rattle.rows.specs.declared.Verdict.{Verdict}
-use Rattle.rows.specs.Mesh.{meshLayout}
-use Rattle.rows.specs.Claim.{claimLayout}
-use Rattle.rows.specs.Verdict.{verdict}
+use Rattle.scope.specs.declared.Verdict.{Verdict}
+use Rattle.scope.specs.Mesh.{meshLayout}
+use Rattle.scope.specs.Claim.{claimLayout}
+use Rattle.scope.specs.Verdict.{verdict}
 use Rattle.reader.specs.File.{numbersOf}
 
 -- the numbers of a mesh file, in columns of w bytes

@@ -1,2 +1,3 @@
+-- The verdict on two files, and parts that are files or numbers handed over.
 pub mod Judge
 pub mod Handed

@@ -12,22 +12,22 @@ use lib.Signed.{_≤ℤ_}
 use lib.ListN.{length, take, getD, length-replicate}
 use borrow.Table.Steps.{cases}
 use Rattle.integer.specs.Order.{≤ℤ-pos}
-use Rattle.rows.specs.declared.Place.the-variants.{Line}
-use Rattle.rows.specs.declared.Outcome.{Outcome}
-use Rattle.rows.specs.declared.Outcome.the-variants.{Passed, Refused as Fails}
-use Rattle.rows.specs.Columns.{free, at, hasField, hasMultipliers}
-use Rattle.rows.specs.Layout.{count, width, lineCheck, linesCheck}
-use Rattle.rows.specs.Mesh.{meshLayout, meshHeader, soilLines, nodeLines, elementLines, edgeLines, nodes, elements, soils, edges, sides}
-use Rattle.rows.specs.Claim.{claimLayout, claimHeader, ifThere, stressLines, elementMultipliers, edgeMultipliers, strengthMultipliers}
-use Rattle.rows.specs.Sound.{Within}
-use Rattle.rows.specs.Facts.{Counts}
-use Rattle.rows.specs.Answer.{numberOf}
-use Rattle.rows.specs.Verdict.{verdict}
-use Rattle.rows.proofs.Sound.{lines-passed}
-use Rattle.rows.proofs.Exactly.{returns-zero}
-use Rattle.rows.proofs.Facts.{counts}
-use Rattle.rows.proofs.Lines.{within-at}
-use Rattle.rows.proofs.InOrder.{line-check-passed}
+use Rattle.scope.specs.declared.Place.the-variants.{Line}
+use Rattle.scope.specs.declared.Outcome.{Outcome}
+use Rattle.scope.specs.declared.Outcome.the-variants.{Passed, Refused as Fails}
+use Rattle.scope.specs.Columns.{free, at, hasField, hasMultipliers}
+use Rattle.scope.specs.Layout.{count, width, lineCheck, linesCheck}
+use Rattle.scope.specs.Mesh.{meshLayout, meshHeader, soilLines, nodeLines, elementLines, edgeLines, nodes, elements, soils, edges, sides}
+use Rattle.scope.specs.Claim.{claimLayout, claimHeader, ifThere, stressLines, elementMultipliers, edgeMultipliers, strengthMultipliers}
+use Rattle.scope.specs.Sound.{Within}
+use Rattle.scope.specs.Facts.{Counts}
+use Rattle.scope.specs.Answer.{numberOf}
+use Rattle.scope.specs.Verdict.{verdict}
+use Rattle.scope.proofs.Sound.{lines-passed}
+use Rattle.scope.proofs.Exactly.{returns-zero}
+use Rattle.scope.proofs.Facts.{counts}
+use Rattle.scope.proofs.Lines.{within-at}
+use Rattle.scope.proofs.InOrder.{line-check-passed}
 use Rattle.reader.specs.File.{lineBytes, widths, numbersOf}
 use Rattle.reader.specs.WellFormed.{bytesOf}
 use Rattle.reader.proofs.Regular.{mesh-regular, claim-regular}

@@ -10,24 +10,24 @@ use lib.IntN.{ℤ, pos, natAbs}
 use lib.ListN.{length, length-append}
 use Rattle.integer.specs.Tests.{eqZ, eqZ-yes}
 use Rattle.integer.specs.Bounds.{Within}
-use Rattle.rows.specs.declared.Place.{Place}
-use Rattle.rows.specs.declared.Load.the-variants.{Absent, Exact}
-use Rattle.rows.specs.declared.OpenRows.the-variants.{Absent as NoCount, Count}
-use Rattle.rows.specs.declared.Verdict.{Verdict}
-use Rattle.rows.specs.declared.Verdict.the-variants.{Accepted, Refused}
-use Rattle.rows.specs.Columns.{at, hasField, hasMultipliers, n, l}
-use Rattle.rows.specs.Rows.{Row, equalityRows, strengthRows, rowsOf}
-use Rattle.rows.specs.Sums.{weighed, limitSum, liveSum, howMany, isOpen, openRows}
-use Rattle.rows.specs.Claim.{stress, multiplier}
-use Rattle.rows.specs.Verdict.{verdict, lowerLoad, upperLoad, openCount}
-use Rattle.rows.specs.Accepted.{ClaimAccepted}
-use Rattle.rows.specs.Facts.{Counts, MeshFacts, ClaimFacts}
-use Rattle.rows.proofs.Exactly.{verdict-cases, accepted-exactly, refused-exactly}
-use Rattle.rows.proofs.Facts.{mesh-facts}
-use Rattle.rows.proofs.ClaimFacts.{claim-facts}
-use Rattle.rows.proofs.RowCounts.{equality-count}
-use Rattle.rows.proofs.SumBounds.{between, limit-bound}
-use Rattle.rows.proofs.AnswerBounds.{few-strengths, refusal-bounds}
+use Rattle.scope.specs.declared.Place.{Place}
+use Rattle.scope.specs.declared.Load.the-variants.{Absent, Exact}
+use Rattle.scope.specs.declared.OpenRows.the-variants.{Absent as NoCount, Count}
+use Rattle.scope.specs.declared.Verdict.{Verdict}
+use Rattle.scope.specs.declared.Verdict.the-variants.{Accepted, Refused}
+use Rattle.scope.specs.Columns.{at, hasField, hasMultipliers, n, l}
+use Rattle.scope.specs.Rows.{Row, equalityRows, strengthRows, rowsOf}
+use Rattle.scope.specs.Sums.{weighed, limitSum, liveSum, howMany, isOpen, openRows}
+use Rattle.scope.specs.Claim.{stress, multiplier}
+use Rattle.scope.specs.Verdict.{verdict, lowerLoad, upperLoad, openCount}
+use Rattle.scope.specs.Accepted.{ClaimAccepted}
+use Rattle.scope.specs.Facts.{Counts, MeshFacts, ClaimFacts}
+use Rattle.scope.proofs.Exactly.{verdict-cases, accepted-exactly, refused-exactly}
+use Rattle.scope.proofs.Facts.{mesh-facts}
+use Rattle.scope.proofs.ClaimFacts.{claim-facts}
+use Rattle.scope.proofs.RowCounts.{equality-count}
+use Rattle.scope.proofs.SumBounds.{between, limit-bound}
+use Rattle.scope.proofs.AnswerBounds.{few-strengths, refusal-bounds}
 use Rattle.report.specs.Says.{HeldLoad, HeldRows, Held}
 
 at-most-all : {A : Type 0} (f : A → Bool) (l : List A) → howMany f l ≤ length l

@@ -1,3 +1,4 @@
+-- The theorems about the whole check.
 pub mod Sheets
 pub mod Check
 pub mod Held

@@ -4,20 +4,20 @@ use mathlib.Core.List.{List}
 use mathlib.Core.Option.{some}
 use Prim.Native.Nat.{ℕ, _≤_}
 use lib.IntN.{ℤ, pos}
-use Rattle.rows.specs.declared.OpenRows.{OpenRows}
-use Rattle.rows.specs.declared.OpenRows.the-variants.{Count}
-use Rattle.rows.specs.declared.Load.{Load}
-use Rattle.rows.specs.declared.Verdict.{Verdict}
-use Rattle.rows.specs.declared.Verdict.the-variants.{Accepted}
-use Rattle.rows.specs.Columns.{n, l}
-use Rattle.rows.specs.Rows.{rowsOf}
-use Rattle.rows.specs.Sums.{openRows}
-use Rattle.rows.specs.Claim.{stress, multiplier}
-use Rattle.rows.specs.Verdict.{verdict, lowerLoad, upperLoad, openCount}
-use Rattle.rows.specs.Refusals.{HasField, HasMultipliers}
-use Rattle.rows.specs.Accepted.{ClaimAccepted}
-use Rattle.rows.proofs.Exactly.{accepted-exactly, claim-by-parts}
-use Rattle.rows.proofs.Parts.{open-rows-count}
+use Rattle.scope.specs.declared.OpenRows.{OpenRows}
+use Rattle.scope.specs.declared.OpenRows.the-variants.{Count}
+use Rattle.scope.specs.declared.Load.{Load}
+use Rattle.scope.specs.declared.Verdict.{Verdict}
+use Rattle.scope.specs.declared.Verdict.the-variants.{Accepted}
+use Rattle.scope.specs.Columns.{n, l}
+use Rattle.scope.specs.Rows.{rowsOf}
+use Rattle.scope.specs.Sums.{openRows}
+use Rattle.scope.specs.Claim.{stress, multiplier}
+use Rattle.scope.specs.Verdict.{verdict, lowerLoad, upperLoad, openCount}
+use Rattle.scope.specs.Refusals.{HasField, HasMultipliers}
+use Rattle.scope.specs.Accepted.{ClaimAccepted}
+use Rattle.scope.proofs.Exactly.{accepted-exactly, claim-by-parts}
+use Rattle.scope.proofs.Parts.{open-rows-count}
 use Rattle.report.specs.Text.{Said, number, said}
 use Rattle.report.specs.Report.{reportLine}
 use Rattle.report.specs.Says.{columnOf, RowsSay, rows, Says, says-accepted, LineSays}

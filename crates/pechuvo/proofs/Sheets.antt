@@ -3,8 +3,8 @@ use mathlib.Core.Path.{_≡_, refl}
 use mathlib.Core.List.{List, [], _∷_, map}
 use lib.ListN.{take, length}
 use Rattle.integer.specs.Decimal.{digitsWithin, digits, lastDigits, rightJustified, isDigit, allDigits, valueAfter, properDigits}
-use Rattle.rows.specs.Computed.{computed}
-use Rattle.rows.specs.Mesh.{meshLayout}
+use Rattle.scope.specs.Computed.{computed}
+use Rattle.scope.specs.Mesh.{meshLayout}
 use Rattle.reader.specs.Spelling.{spelling, column, unsigned, negated, signed, readColumn}
 use Rattle.reader.specs.File.{lineBytes, readColumns, readLine, widths, readLines, hasPassed, headerPasses, numbersOf, columns, writeLines, fileOf}
 use Rattle.report.specs.Text.{pointed, fixed, noneText}

@@ -11,20 +11,20 @@ use lib.Dec.{T}
 use lib.IntN.{ℤ, pos}
 use lib.Signed.{_<ℤ_, <ℤ-irrefl, <ℤ-≤ℤ-trans}
 use Rattle.integer.specs.Tests.{eqZ, eqZ-yes, eqZ-no, no-eqZ}
-use Rattle.rows.specs.declared.Load.the-variants.{Absent, Exact}
-use Rattle.rows.specs.declared.OpenRows.the-variants.{Absent as NoCount, Count}
-use Rattle.rows.specs.declared.Verdict.{Verdict}
-use Rattle.rows.specs.declared.Verdict.the-variants.{Accepted, Refused}
-use Rattle.rows.specs.Answer.{numberOf}
-use Rattle.rows.specs.Columns.{at, hasField, hasMultipliers, n, l}
-use Rattle.rows.specs.Claim.{stress, multiplier}
-use Rattle.rows.specs.Rows.{rowsOf}
-use Rattle.rows.specs.Sums.{liveSum, limitSum, openRows}
-use Rattle.rows.specs.Refusals.{HasField, HasMultipliers}
-use Rattle.rows.specs.Accepted.{ClaimAccepted}
-use Rattle.rows.specs.Verdict.{verdict, lowerLoad, upperLoad, openCount}
-use Rattle.rows.proofs.Exactly.{accepted-exactly, claim-by-parts, returns-zero}
-use Rattle.rows.proofs.Parts.{field-n}
+use Rattle.scope.specs.declared.Load.the-variants.{Absent, Exact}
+use Rattle.scope.specs.declared.OpenRows.the-variants.{Absent as NoCount, Count}
+use Rattle.scope.specs.declared.Verdict.{Verdict}
+use Rattle.scope.specs.declared.Verdict.the-variants.{Accepted, Refused}
+use Rattle.scope.specs.Answer.{numberOf}
+use Rattle.scope.specs.Columns.{at, hasField, hasMultipliers, n, l}
+use Rattle.scope.specs.Claim.{stress, multiplier}
+use Rattle.scope.specs.Rows.{rowsOf}
+use Rattle.scope.specs.Sums.{liveSum, limitSum, openRows}
+use Rattle.scope.specs.Refusals.{HasField, HasMultipliers}
+use Rattle.scope.specs.Accepted.{ClaimAccepted}
+use Rattle.scope.specs.Verdict.{verdict, lowerLoad, upperLoad, openCount}
+use Rattle.scope.proofs.Exactly.{accepted-exactly, claim-by-parts, returns-zero}
+use Rattle.scope.proofs.Parts.{field-n}
 use Rattle.report.specs.Text.{said, word}
 use Rattle.report.specs.Report.{reportLine}
 use Rattle.report.specs.Says.{columnOf, Held, NoLoad, NoLower, NoUpper}

@@ -4,7 +4,7 @@ use mathlib.Core.List.{List, _++_}
 use Prim.Native.Nat.{ℕ}
 use lib.Dec.{ltb}
 use lib.ListN.{length, drop}
-use Rattle.rows.specs.Answer.{numberOf, placeOf}
+use Rattle.scope.specs.Answer.{numberOf, placeOf}
 use Rattle.judge.specs.Judge.{fileWidth, filesVerdict}
 use Rattle.report.specs.Report.{reportLine, decimals}
 

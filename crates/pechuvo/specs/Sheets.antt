@@ -5,8 +5,8 @@ use Prim.Native.Nat.{ℕ}
 use Prim.Native.String.{String}
 use lib.IntN.{ℤ}
 use lib.ListN.{replicate}
-use Rattle.rows.specs.Mesh.{meshLayout}
-use Rattle.rows.specs.Claim.{claimLayout}
+use Rattle.scope.specs.Mesh.{meshLayout}
+use Rattle.scope.specs.Claim.{claimLayout}
 use Rattle.reader.specs.File.{fileOf}
 use Rattle.judge.specs.Judge.{fileWidth}
 use Rattle.pechuvo.specs.Bytes.{bytes, numbers}

@@ -10,12 +10,12 @@ use lib.IntN.{ℤ}
 use lib.ListN.{length, take, drop, replicate, length-append, length-take, length-drop}
 use lib.Seq.{take-nil, take-take}
 use borrow.Table.Steps.{cases}
-use Rattle.rows.specs.declared.Place.the-variants.{Line}
-use Rattle.rows.specs.declared.Outcome.{Outcome}
-use Rattle.rows.specs.declared.Outcome.the-variants.{Passed, Refused}
-use Rattle.rows.specs.Layout.{Group, Layout, width, groups, lineCheck, linesCheck}
-use Rattle.rows.proofs.Checks.{passed-is-not-refused, then-passed}
-use Rattle.rows.proofs.InOrder.{checkFrom, same-test}
+use Rattle.scope.specs.declared.Place.the-variants.{Line}
+use Rattle.scope.specs.declared.Outcome.{Outcome}
+use Rattle.scope.specs.declared.Outcome.the-variants.{Passed, Refused}
+use Rattle.scope.specs.Layout.{Group, Layout, width, groups, lineCheck, linesCheck}
+use Rattle.scope.proofs.Checks.{passed-is-not-refused, then-passed}
+use Rattle.scope.proofs.InOrder.{checkFrom, same-test}
 use Rattle.reader.specs.File.{lineBytes, columns, readColumns, readLine, widths, readLines, hasPassed, headerPasses, numbersOf}
 use Rattle.reader.specs.WellFormed.{SomeColumns, Regular, bytesOf}
 use Rattle.reader.proofs.Line.{columns-length, line-means}

@@ -6,12 +6,12 @@ use mathlib.Core.Option.{Option, none, some}
 use Prim.Native.Nat.{ℕ, zero, suc, _<_}
 use lib.IntN.{ℤ}
 use lib.ListN.{length, drop, replicate}
-use Rattle.rows.specs.declared.Place.the-variants.{Line}
-use Rattle.rows.specs.declared.Outcome.{Outcome}
-use Rattle.rows.specs.declared.Outcome.the-variants.{Passed, Refused}
-use Rattle.rows.specs.Checks.{_then_}
-use Rattle.rows.specs.Layout.{Group, Layout, width, groups, lineCheck, linesCheck}
-use Rattle.rows.proofs.InOrder.{linesOf, checkFrom, lines-in-order, check-line, check-short}
+use Rattle.scope.specs.declared.Place.the-variants.{Line}
+use Rattle.scope.specs.declared.Outcome.{Outcome}
+use Rattle.scope.specs.declared.Outcome.the-variants.{Passed, Refused}
+use Rattle.scope.specs.Checks.{_then_}
+use Rattle.scope.specs.Layout.{Group, Layout, width, groups, lineCheck, linesCheck}
+use Rattle.scope.proofs.InOrder.{linesOf, checkFrom, lines-in-order, check-line, check-short}
 use Rattle.reader.specs.File.{lineBytes, readLine, readLines, widths, hasPassed, headerPasses, numbersOf}
 use Rattle.reader.specs.WellFormed.{SomeColumns, Regular}
 use Rattle.reader.proofs.Line.{line-means}

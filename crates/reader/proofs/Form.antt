@@ -8,17 +8,17 @@ use native.Mathlib.Omega.{arith}
 use lib.IntN.{ℤ}
 use lib.ListN.{length, take, drop, length-drop}
 use lib.Seq.{drop-drop}
-use Rattle.rows.specs.declared.Place.{Place}
-use Rattle.rows.specs.declared.Place.the-variants.{Line}
-use Rattle.rows.specs.declared.Outcome.{Outcome}
-use Rattle.rows.specs.declared.Outcome.the-variants.{Passed, Refused}
-use Rattle.rows.specs.Checks.{_then_}
-use Rattle.rows.specs.Columns.{Rule, ruleNumber}
-use Rattle.rows.specs.Layout.{Group, Layout, width, groups, lineCount, lineCheck, linesCheck}
-use Rattle.rows.specs.Sound.{groupAt}
-use Rattle.rows.proofs.Checks.{passed-is-not-refused, then-refused}
-use Rattle.rows.proofs.Lines.{group}
-use Rattle.rows.proofs.InOrder.{checkFrom, lines-length, group-by-number, line-check-passed, line-check-other}
+use Rattle.scope.specs.declared.Place.{Place}
+use Rattle.scope.specs.declared.Place.the-variants.{Line}
+use Rattle.scope.specs.declared.Outcome.{Outcome}
+use Rattle.scope.specs.declared.Outcome.the-variants.{Passed, Refused}
+use Rattle.scope.specs.Checks.{_then_}
+use Rattle.scope.specs.Columns.{Rule, ruleNumber}
+use Rattle.scope.specs.Layout.{Group, Layout, width, groups, lineCount, lineCheck, linesCheck}
+use Rattle.scope.specs.Sound.{groupAt}
+use Rattle.scope.proofs.Checks.{passed-is-not-refused, then-refused}
+use Rattle.scope.proofs.Lines.{group}
+use Rattle.scope.proofs.InOrder.{checkFrom, lines-length, group-by-number, line-check-passed, line-check-other}
 use Rattle.reader.specs.File.{lineBytes, readLine, readLines, numbersOf}
 use Rattle.reader.specs.WellFormed.{GoodLine, IllFormed, SomeColumns, Regular, bytesOf, lineStart, FormFails}
 use Rattle.reader.proofs.Line.{line-means}

@@ -1,3 +1,4 @@
+-- What files and their numbers have to do with each other, and the laws that the proofs of the functions use.
 pub mod Spelling
 pub mod Line
 pub mod File

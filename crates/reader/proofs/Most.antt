@@ -8,12 +8,12 @@ use native.Mathlib.Omega.{arith}
 use lib.IntN.{ℤ}
 use lib.ListN.{length, drop, replicate, length-append, length-replicate}
 use borrow.Table.Steps.{cases}
-use Rattle.rows.specs.declared.Place.the-variants.{Line}
-use Rattle.rows.specs.declared.Outcome.the-variants.{Passed}
-use Rattle.rows.specs.Columns.{at, hasField, hasMultipliers}
-use Rattle.rows.specs.Layout.{Group, Layout, width, lineCheck}
-use Rattle.rows.specs.Mesh.{meshLayout, meshHeader, soilLines, nodeLines, elementLines, edgeLines, nodes, elements, soils, edges, sides}
-use Rattle.rows.specs.Claim.{ifThere, claimLayout, claimHeader, stressLines, elementMultipliers, edgeMultipliers, strengthMultipliers}
+use Rattle.scope.specs.declared.Place.the-variants.{Line}
+use Rattle.scope.specs.declared.Outcome.the-variants.{Passed}
+use Rattle.scope.specs.Columns.{at, hasField, hasMultipliers}
+use Rattle.scope.specs.Layout.{Group, Layout, width, lineCheck}
+use Rattle.scope.specs.Mesh.{meshLayout, meshHeader, soilLines, nodeLines, elementLines, edgeLines, nodes, elements, soils, edges, sides}
+use Rattle.scope.specs.Claim.{ifThere, claimLayout, claimHeader, stressLines, elementMultipliers, edgeMultipliers, strengthMultipliers}
 use Rattle.reader.specs.File.{lineBytes, readLine, widths, readLines, headerPasses, numbersOf}
 use Rattle.reader.specs.HowFar.{total}
 use Rattle.reader.proofs.Line.{line-means}

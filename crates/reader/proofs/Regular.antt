@@ -6,10 +6,10 @@ use Prim.Native.Nat.{ℕ, _<_}
 use native.Mathlib.Omega.{arith}
 use lib.IntN.{ℤ, pos}
 use lib.ListN.{length, length-replicate, List·getD-append}
-use Rattle.rows.specs.Columns.{Rule, rightAngle, naming, parts, ruleNumber, at, hasField, hasMultipliers}
-use Rattle.rows.specs.Layout.{groups}
-use Rattle.rows.specs.Mesh.{meshLayout, meshHeader, soilLines, nodeLines, elementLines, edgeLines, nodes, elements, soils, edges, sides}
-use Rattle.rows.specs.Claim.{claimLayout, claimHeader, stressLines, elementMultipliers, edgeMultipliers, strengthMultipliers}
+use Rattle.scope.specs.Columns.{Rule, rightAngle, naming, parts, ruleNumber, at, hasField, hasMultipliers}
+use Rattle.scope.specs.Layout.{groups}
+use Rattle.scope.specs.Mesh.{meshLayout, meshHeader, soilLines, nodeLines, elementLines, edgeLines, nodes, elements, soils, edges, sides}
+use Rattle.scope.specs.Claim.{claimLayout, claimHeader, stressLines, elementMultipliers, edgeMultipliers, strengthMultipliers}
 use Rattle.reader.specs.WellFormed.{Regular}
 
 front : (h rest : List ℤ) (k : ℕ) → k < length h → at (h ++ rest) k ≡ at h k

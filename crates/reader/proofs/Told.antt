@@ -12,19 +12,19 @@ use lib.Seq.{getD-take, length-take-le}
 use borrow.Table.Steps.{cases}
 use Rattle.integer.specs.Order.{≤ℤ-pos, pos-≤ℤ}
 use Rattle.integer.specs.Tests.{eqZ, eqZ-yes}
-use Rattle.rows.specs.declared.Place.{Place}
-use Rattle.rows.specs.declared.Place.the-variants.{Line}
-use Rattle.rows.specs.declared.Outcome.{Outcome}
-use Rattle.rows.specs.declared.Outcome.the-variants.{Passed, Refused}
-use Rattle.rows.specs.Columns.{at, between, free, hasField, hasMultipliers}
-use Rattle.rows.specs.Layout.{count, groups, lineOf, lineNumbers, lineCheck, lineAt}
-use Rattle.rows.specs.Sound.{Within}
-use Rattle.rows.specs.Mesh.{meshLayout, meshHeader, soilLines, nodeLines, elementLines, edgeLines, nodes, elements, soils, edges, sides}
-use Rattle.rows.specs.Claim.{ifThere, claimLayout, claimHeader, stressLines, elementMultipliers, edgeMultipliers, strengthMultipliers}
+use Rattle.scope.specs.declared.Place.{Place}
+use Rattle.scope.specs.declared.Place.the-variants.{Line}
+use Rattle.scope.specs.declared.Outcome.{Outcome}
+use Rattle.scope.specs.declared.Outcome.the-variants.{Passed, Refused}
+use Rattle.scope.specs.Columns.{at, between, free, hasField, hasMultipliers}
+use Rattle.scope.specs.Layout.{count, groups, lineOf, lineNumbers, lineCheck, lineAt}
+use Rattle.scope.specs.Sound.{Within}
+use Rattle.scope.specs.Mesh.{meshLayout, meshHeader, soilLines, nodeLines, elementLines, edgeLines, nodes, elements, soils, edges, sides}
+use Rattle.scope.specs.Claim.{ifThere, claimLayout, claimHeader, stressLines, elementMultipliers, edgeMultipliers, strengthMultipliers}
 use Rattle.reader.specs.declared.lines.Progress.{Progress}
 use Rattle.reader.specs.declared.lines.Group.{Group}
-use Rattle.rows.proofs.InOrder.{line-check-passed}
-use Rattle.rows.proofs.Lines.{within-at}
+use Rattle.scope.proofs.InOrder.{line-check-passed}
+use Rattle.scope.proofs.Lines.{within-at}
 use Rattle.reader.specs.File.{widths, numbersOf}
 use Rattle.reader.specs.HowFar.{start, LineTaken, linesOf, allNumbers, Room}
 use Rattle.reader.specs.Listed.{Listed, ClaimListed}

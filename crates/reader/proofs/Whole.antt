@@ -10,11 +10,11 @@ use native.Mathlib.Omega.{arith}
 use lib.IntN.{ℤ, pos}
 use lib.ListN.{length, take, drop, set, take-append-drop, length-append, drop-of-length-le}
 use lib.Seq.{length-take-le, set-split, drop-cons, take-at, drop-at, append-snoc}
-use Rattle.rows.specs.declared.Place.the-variants.{Line}
-use Rattle.rows.specs.declared.Place.{Place}
-use Rattle.rows.specs.declared.Outcome.{Outcome}
-use Rattle.rows.specs.declared.Outcome.the-variants.{Passed, Refused}
-use Rattle.rows.specs.Layout.{Layout, width, lineCheck}
+use Rattle.scope.specs.declared.Place.the-variants.{Line}
+use Rattle.scope.specs.declared.Place.{Place}
+use Rattle.scope.specs.declared.Outcome.{Outcome}
+use Rattle.scope.specs.declared.Outcome.the-variants.{Passed, Refused}
+use Rattle.scope.specs.Layout.{Layout, width, lineCheck}
 use Rattle.reader.specs.declared.lines.Progress.{Progress}
 use Rattle.reader.specs.File.{lineBytes, readLine, widths, readLines, hasPassed, headerPasses, numbersOf}
 use Rattle.reader.specs.HowFar.{start, past, written, LineTaken, allNumbers, LinesTaken}

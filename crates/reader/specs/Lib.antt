@@ -1,3 +1,4 @@
+-- A file as columns, lines and numbers, and what the contracts of the reader say.
 pub mod Spelling
 pub mod File
 pub mod WellFormed

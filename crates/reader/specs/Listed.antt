@@ -4,8 +4,8 @@ use mathlib.Core.List.{List, _++_}
 use Prim.Native.Nat.{ℕ}
 use lib.IntN.{ℤ}
 use lib.ListN.{length, drop}
-use Rattle.rows.specs.Mesh.{nodes, elements, edges, sides}
-use Rattle.rows.specs.Claim.{claimLayout}
+use Rattle.scope.specs.Mesh.{nodes, elements, edges, sides}
+use Rattle.scope.specs.Claim.{claimLayout}
 use Rattle.reader.specs.File.{numbersOf}
 
 -- the numbers zs, r of them, stand at the front of the list `before`, which makes it `after`: nothing else is touched

@@ -3,9 +3,9 @@ use mathlib.Core.List.{List, _++_}
 use Prim.Native.Nat.{ℕ}
 use lib.IntN.{ℤ, pos}
 use lib.ListN.{replicate}
-use Rattle.rows.specs.Columns.{at, hasField, hasMultipliers}
-use Rattle.rows.specs.Facts.{Between}
-use Rattle.rows.specs.Claim.{ifThere}
+use Rattle.scope.specs.Columns.{at, hasField, hasMultipliers}
+use Rattle.scope.specs.Facts.{Between}
+use Rattle.scope.specs.Claim.{ifThere}
 
 -- the counts of a mesh's header are within its limits
 pub record FewLines (m : List ℤ) : Type 0 where

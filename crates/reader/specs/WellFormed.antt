@@ -6,9 +6,9 @@ use mathlib.Core.List.{List, [], _∷_, _++_}
 use Prim.Native.Nat.{ℕ, _+_, _≤_, _<_}
 use lib.IntN.{ℤ}
 use lib.ListN.{length, take, drop}
-use Rattle.rows.specs.Columns.{Rule, ruleNumber}
-use Rattle.rows.specs.Layout.{Group, Layout, width, groups, lineCount}
-use Rattle.rows.specs.Sound.{AllWithin, AllSay, groupAt}
+use Rattle.scope.specs.Columns.{Rule, ruleNumber}
+use Rattle.scope.specs.Layout.{Group, Layout, width, groups, lineCount}
+use Rattle.scope.specs.Sound.{AllWithin, AllSay, groupAt}
 use Rattle.reader.specs.Spelling.{spelling}
 use Rattle.reader.specs.File.{lineBytes, widths, columns}
 

@@ -9,14 +9,14 @@ use lib.Seq.{take-at, drop-at, drop-drop, drop-cons, set-at, length-take-le}
 use borrow.Author.Tests.{lt-ltb, le-ltb}
 use borrow.Rule.Slice.PartMut.{midOf, postOf, putMid, same-len-mid}
 use Rattle.integer.specs.Decimal.{digits, rightJustified}
-use Rattle.rows.specs.declared.Place.{Place}
-use Rattle.rows.specs.declared.Load.{Load}
-use Rattle.rows.specs.declared.Load.the-variants.{Absent}
-use Rattle.rows.specs.declared.OpenRows.{OpenRows}
-use Rattle.rows.specs.declared.OpenRows.the-variants.{Absent as NoCount, Count}
-use Rattle.rows.specs.declared.Verdict.{Verdict}
-use Rattle.rows.specs.declared.Verdict.the-variants.{Accepted, Refused}
-use Rattle.rows.specs.Answer.{placeNumber}
+use Rattle.scope.specs.declared.Place.{Place}
+use Rattle.scope.specs.declared.Load.{Load}
+use Rattle.scope.specs.declared.Load.the-variants.{Absent}
+use Rattle.scope.specs.declared.OpenRows.{OpenRows}
+use Rattle.scope.specs.declared.OpenRows.the-variants.{Absent as NoCount, Count}
+use Rattle.scope.specs.declared.Verdict.{Verdict}
+use Rattle.scope.specs.declared.Verdict.the-variants.{Accepted, Refused}
+use Rattle.scope.specs.Answer.{placeNumber}
 use Rattle.report.specs.Text.{noneText}
 use Rattle.report.specs.Report.{loadText, lowerText, upperText, openText, fourColumns, reportLine}
 use Rattle.report.specs.Spelled.{roundTo}

@@ -17,13 +17,13 @@ use Rattle.integer.specs.Fraction.{_over_, _≤ᶠ_, _<ᶠ_}
 use Rattle.integer.specs.Decimal.{digits, rightJustified}
 use Rattle.integer.specs.DecimalLaws.{rightJustified-length}
 use Rattle.integer.specs.Round.{floorDiv, ceilDiv, Floor, Ceil, floorDiv-is, ceilDiv-is}
-use Rattle.rows.specs.declared.Load.{Load}
-use Rattle.rows.specs.declared.Load.the-variants.{Absent, Exact}
-use Rattle.rows.specs.declared.OpenRows.{OpenRows}
-use Rattle.rows.specs.declared.OpenRows.the-variants.{Absent as NoCount, Count}
-use Rattle.rows.specs.declared.Verdict.{Verdict}
-use Rattle.rows.specs.declared.Verdict.the-variants.{Accepted, Refused}
-use Rattle.rows.specs.Answer.{placeNumber}
+use Rattle.scope.specs.declared.Load.{Load}
+use Rattle.scope.specs.declared.Load.the-variants.{Absent, Exact}
+use Rattle.scope.specs.declared.OpenRows.{OpenRows}
+use Rattle.scope.specs.declared.OpenRows.the-variants.{Absent as NoCount, Count}
+use Rattle.scope.specs.declared.Verdict.{Verdict}
+use Rattle.scope.specs.declared.Verdict.the-variants.{Accepted, Refused}
+use Rattle.scope.specs.Answer.{placeNumber}
 use Rattle.report.specs.Text.{fixed, noneText, Said, word, number, said}
 use Rattle.report.specs.Report.{loadText, lowerText, upperText, openText, fourColumns, reportLine}
 use Rattle.report.specs.Says.{columnOf, HeldLoad, HeldRows, Held, NoLoad, NoLower, NoUpper, LoadSays, no-load, rounded, RowsSay, no-rows, rows, Says, says-accepted, says-refused, LineSays}

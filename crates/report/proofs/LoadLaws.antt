@@ -21,8 +21,8 @@ use Rattle.integer.specs.Order.{nonneg, ≤ℤ-pos}
 use Rattle.integer.specs.Decimal.{digits, lastDigits, rightJustified}
 use Rattle.integer.specs.DecimalLaws.{digits-length, lastDigits-length}
 use Rattle.integer.specs.Round.{floorDiv, ceilDiv}
-use Rattle.rows.specs.declared.Load.{Load}
-use Rattle.rows.specs.declared.Load.the-variants.{Absent, Exact}
+use Rattle.scope.specs.declared.Load.{Load}
+use Rattle.scope.specs.declared.Load.the-variants.{Absent, Exact}
 use Rattle.report.specs.declared.division.Parts.{Parts}
 use Rattle.report.specs.Text.{pointed, fixed, noneText}
 use Rattle.report.specs.Report.{loadText}

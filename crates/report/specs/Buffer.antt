@@ -5,8 +5,8 @@ use mathlib.Core.List.{List, _++_}
 use Prim.Native.Nat.{ℕ}
 use lib.Dec.{ltb}
 use lib.ListN.{length, drop}
-use Rattle.rows.specs.declared.Verdict.{Verdict}
-use Rattle.rows.specs.Answer.{numberOf, placeOf}
+use Rattle.scope.specs.declared.Verdict.{Verdict}
+use Rattle.scope.specs.Answer.{numberOf, placeOf}
 use Rattle.report.specs.declared.Reported.{Reported}
 use Rattle.report.specs.declared.Reported.the-variants.{Written, TooShort}
 use Rattle.report.specs.Report.{reportLine}

@@ -4,14 +4,14 @@ use Prim.Native.Nat.{ℕ, zero, suc, _^_}
 use lib.IntN.{ℤ, pos, negsuc, _*ℤ_}
 use Rattle.integer.specs.Decimal.{digits, rightJustified}
 use Rattle.integer.specs.Round.{floorDiv, ceilDiv}
-use Rattle.rows.specs.declared.Place.{Place}
-use Rattle.rows.specs.declared.Load.{Load}
-use Rattle.rows.specs.declared.Load.the-variants.{Absent, Exact}
-use Rattle.rows.specs.declared.OpenRows.{OpenRows}
-use Rattle.rows.specs.declared.OpenRows.the-variants.{Absent as NoCount, Count}
-use Rattle.rows.specs.declared.Verdict.{Verdict}
-use Rattle.rows.specs.declared.Verdict.the-variants.{Accepted, Refused}
-use Rattle.rows.specs.Answer.{placeNumber}
+use Rattle.scope.specs.declared.Place.{Place}
+use Rattle.scope.specs.declared.Load.{Load}
+use Rattle.scope.specs.declared.Load.the-variants.{Absent, Exact}
+use Rattle.scope.specs.declared.OpenRows.{OpenRows}
+use Rattle.scope.specs.declared.OpenRows.the-variants.{Absent as NoCount, Count}
+use Rattle.scope.specs.declared.Verdict.{Verdict}
+use Rattle.scope.specs.declared.Verdict.the-variants.{Accepted, Refused}
+use Rattle.scope.specs.Answer.{placeNumber}
 use Rattle.report.specs.Text.{fixed, noneText}
 
 -- a load with d decimals, rounded once by `round`; a load whose denominator is not above 0 is none (an accepted claim has no such load)

@@ -8,14 +8,14 @@ use lib.IntN.{ℤ, pos, natAbs, _*ℤ_}
 use lib.Signed.{_≤ℤ_}
 use lib.ListN.{length, take, drop}
 use Rattle.integer.specs.Round.{Floor, Ceil}
-use Rattle.rows.specs.declared.Place.{Place}
-use Rattle.rows.specs.declared.Load.{Load}
-use Rattle.rows.specs.declared.Load.the-variants.{Absent, Exact}
-use Rattle.rows.specs.declared.OpenRows.{OpenRows}
-use Rattle.rows.specs.declared.OpenRows.the-variants.{Absent as NoCount, Count}
-use Rattle.rows.specs.declared.Verdict.{Verdict}
-use Rattle.rows.specs.declared.Verdict.the-variants.{Accepted, Refused}
-use Rattle.rows.specs.Answer.{placeNumber}
+use Rattle.scope.specs.declared.Place.{Place}
+use Rattle.scope.specs.declared.Load.{Load}
+use Rattle.scope.specs.declared.Load.the-variants.{Absent, Exact}
+use Rattle.scope.specs.declared.OpenRows.{OpenRows}
+use Rattle.scope.specs.declared.OpenRows.the-variants.{Absent as NoCount, Count}
+use Rattle.scope.specs.declared.Verdict.{Verdict}
+use Rattle.scope.specs.declared.Verdict.the-variants.{Accepted, Refused}
+use Rattle.scope.specs.Answer.{placeNumber}
 use Rattle.report.specs.Text.{Said, word, number, said}
 
 -- column i of a line, counted from 0: "four columns of 28"

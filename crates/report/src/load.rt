@@ -7,7 +7,7 @@ use crate::column::put_none;
 use crate::division::Parts;
 use crate::division::magnitude;
 use crate::division::rounded;
-use rows::Load;
+use scope::Load;
 ghost use mathlib.Core.Path.{_≡_};
 ghost use mathlib.Core.List.{_++_};
 ghost use Prim.Native.Nat.{_+_, _^_, _≤_, _<_};

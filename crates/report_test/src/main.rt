@@ -1,10 +1,10 @@
 // Report lines of verdicts, document 01's loads and the widest numbers among them, compared with `stdout`.
 use libc::STDOUT_FILENO;
 use report::write_report;
-use rows::Load;
-use rows::OpenRows;
-use rows::Place;
-use rows::Verdict;
+use scope::Load;
+use scope::OpenRows;
+use scope::Place;
+use scope::Verdict;
 
 fn show(v: Verdict) {
     let mut buffer = [b'#'; 113];

@@ -14,11 +14,11 @@ use lib.Seq.{getD-drop, take-all}
 use Rattle.integer.specs.Linear.{linear, _&_}
 use Rattle.integer.specs.Bounds.{Within, Within-le, bounds, AllWithin, all-within, AllWithin-drop}
 use Rattle.integer.specs.Tests.{eqZ, yes-eqZ, eqZ-yes}
-use Rattle.rows.specs.Columns.{at, hasField, hasMultipliers, n, l}
-use Rattle.rows.specs.Layout.{Group, width, groups, numbersBefore}
-use Rattle.rows.specs.Mesh.{nodes, elements, edges, sides}
-use Rattle.rows.specs.Claim.{claimHeader, claimLayout, ifThere, stressLines, elementMultipliers, stress, multiplier}
-use Rattle.rows.specs.Facts.{Between, ClaimFacts}
+use Rattle.scope.specs.Columns.{at, hasField, hasMultipliers, n, l}
+use Rattle.scope.specs.Layout.{Group, width, groups, numbersBefore}
+use Rattle.scope.specs.Mesh.{nodes, elements, edges, sides}
+use Rattle.scope.specs.Claim.{claimHeader, claimLayout, ifThere, stressLines, elementMultipliers, stress, multiplier}
+use Rattle.scope.specs.Facts.{Between, ClaimFacts}
 use Rattle.rows.specs.RowContracts.{multipliersFrom}
 
 -- ---- places

@@ -15,10 +15,10 @@ use Rattle.integer.specs.Machine.{Is, Is-Within, within-literal}
 use Rattle.integer.specs.Tests.{eqZ}
 use Rattle.rows.specs.declared.row_sums.EqualityRow.{EqualityRow}
 use Rattle.integer.specs.Ring.{ring, terms}
-use Rattle.rows.specs.Mesh.{nodes, elements, x, y, corner, elementSoil, soilEntry, liveX, liveY, deadX, deadY, edges, edgeEntry, fromNode, toNode}
-use Rattle.rows.specs.Rows.{Row, equalityRows, joined, countFrom, node, sx, sy, t, riseAcross, runAcross, crossAt, twiceArea, balanceX, balanceY, stepX, stepY, stepSquare, fixedIf, normalRow, shearRow}
-use Rattle.rows.specs.Verdict.{rowAt}
-use Rattle.rows.specs.Facts.{Between, MeshFacts}
+use Rattle.scope.specs.Mesh.{nodes, elements, x, y, corner, elementSoil, soilEntry, liveX, liveY, deadX, deadY, edges, edgeEntry, fromNode, toNode}
+use Rattle.scope.specs.Rows.{Row, equalityRows, joined, countFrom, node, sx, sy, t, riseAcross, runAcross, crossAt, twiceArea, balanceX, balanceY, stepX, stepY, stepSquare, fixedIf, normalRow, shearRow}
+use Rattle.scope.specs.Verdict.{rowAt}
+use Rattle.scope.specs.Facts.{Between, MeshFacts}
 use Rattle.rows.specs.RowContracts.{pairs, rowOf, RowFits, Filled, cornerColumns, balancedOf, normalOf, shearOf}
 use Rattle.rows.proofs.RowLaws.{balance-at, side-at}
 

@@ -12,13 +12,13 @@ use lib.Seq.{getD-take, getD-drop}
 use mir.Syntax.{w64}
 use mir.Val.{SFits}
 use borrow.Author.Tests.{eq-eqb, ne-eqb}
-use Rattle.rows.specs.declared.Place.the-variants.{Line}
-use Rattle.rows.specs.declared.Outcome.the-variants.{Passed, Refused}
-use Rattle.rows.specs.Checks.{demand, _then_}
-use Rattle.rows.specs.Columns.{Limit, between, within, allWithin}
-use Rattle.rows.specs.Layout.{Layout, rulesHold, lineCheck}
+use Rattle.scope.specs.declared.Place.the-variants.{Line}
+use Rattle.scope.specs.declared.Outcome.the-variants.{Passed, Refused}
+use Rattle.scope.specs.Checks.{demand, _then_}
+use Rattle.scope.specs.Columns.{Limit, between, within, allWithin}
+use Rattle.scope.specs.Layout.{Layout, rulesHold, lineCheck}
 use Rattle.rows.specs.LineContracts.{runWithin, groupCheck, evenLines, NumberedFrom}
-use Rattle.rows.proofs.Checks.{then-Passed, all-lowest, first-refused}
+use Rattle.scope.proofs.Checks.{then-Passed, all-lowest, first-refused}
 use Rattle.rows.proofs.LineLaws.{read, read-limit}
 use Rattle.rows.proofs.GroupLaws.{lineStep}
 

@@ -13,18 +13,18 @@ use mir.Val.{toZ, ofZ}
 use mir.Facts.{toZ-ofZ}
 use Rattle.integer.specs.Machine.{within-SFits, Is-read}
 use Rattle.integer.specs.Tests.{eqZ}
-use Rattle.rows.specs.declared.Outcome.{Outcome}
-use Rattle.rows.specs.declared.Outcome.the-variants.{Passed, Refused}
-use Rattle.rows.specs.declared.Place.the-variants as P
+use Rattle.scope.specs.declared.Outcome.{Outcome}
+use Rattle.scope.specs.declared.Outcome.the-variants.{Passed, Refused}
+use Rattle.scope.specs.declared.Place.the-variants as P
 use Rattle.rows.specs.declared.row_sums.EqualityRow.{EqualityRow}
-use Rattle.rows.specs.Columns.{at, l, n}
-use Rattle.rows.specs.Checks.{_then_}
-use Rattle.rows.specs.Claim.{stress}
-use Rattle.rows.specs.Mesh.{nodes, elements, edges}
-use Rattle.rows.specs.Rows.{Row, asked, unfixed, equalityRows}
-use Rattle.rows.specs.Sums.{leftSide, rightSide, rowHolds}
-use Rattle.rows.specs.Verdict.{rowAt, fieldCheck}
-use Rattle.rows.specs.Facts.{ClaimFacts}
+use Rattle.scope.specs.Columns.{at, l, n}
+use Rattle.scope.specs.Checks.{_then_}
+use Rattle.scope.specs.Claim.{stress}
+use Rattle.scope.specs.Mesh.{nodes, elements, edges}
+use Rattle.scope.specs.Rows.{Row, asked, unfixed, equalityRows}
+use Rattle.scope.specs.Sums.{leftSide, rightSide, rowHolds}
+use Rattle.scope.specs.Verdict.{rowAt, fieldCheck}
+use Rattle.scope.specs.Facts.{ClaimFacts}
 use Rattle.rows.specs.RowContracts.{rowOf, RowFits, Filled, FieldFits, equalitiesCheck, strengthsCheck}
 use Rattle.rows.proofs.ClaimLaws.{claim-within, rest-within, stress-of, scale-within, load-within, field-long}
 use Rattle.rows.proofs.StrengthLaws.{being}

@@ -19,22 +19,22 @@ use mir.Facts.{toZ-ofZ}
 use borrow.Author.Tests.{le-leb, lt-leb}
 use Rattle.integer.specs.Order.{nonneg}
 use Rattle.integer.specs.Tests.{eqZ, no-eqZ}
-use Rattle.rows.specs.declared.Place.{Place}
-use Rattle.rows.specs.declared.Place.the-variants.{Line}
-use Rattle.rows.specs.declared.Outcome.{Outcome}
-use Rattle.rows.specs.declared.Outcome.the-variants.{Passed, Refused}
+use Rattle.scope.specs.declared.Place.{Place}
+use Rattle.scope.specs.declared.Place.the-variants.{Line}
+use Rattle.scope.specs.declared.Outcome.{Outcome}
+use Rattle.scope.specs.declared.Outcome.the-variants.{Passed, Refused}
 use Rattle.rows.specs.declared.line_checks.LineKind.{LineKind}
 use Rattle.rows.specs.declared.line_checks.LineKind.the-variants.{Soil, Element, Edge}
-use Rattle.rows.specs.Checks.{demand, _then_, lowest}
-use Rattle.rows.specs.Columns.{between, within, allWithin, at, hasField, hasMultipliers}
-use Rattle.rows.specs.Layout.{Group, Layout, Placed, width, groups, lineCount, numberCount, lineOf, lineNumbers, lineCheck, lineAt, linesCheck, count}
-use Rattle.rows.specs.Mesh.{meshHeader, meshLayout, soilLines, elementLines, edgeLines, nodes, elements, soils, edges, sides}
-use Rattle.rows.specs.Claim.{claimHeader, claimLayout, ifThere}
-use Rattle.rows.specs.Facts.{Counts}
+use Rattle.scope.specs.Checks.{demand, _then_, lowest}
+use Rattle.scope.specs.Columns.{between, within, allWithin, at, hasField, hasMultipliers}
+use Rattle.scope.specs.Layout.{Group, Layout, Placed, width, groups, lineCount, numberCount, lineOf, lineNumbers, lineCheck, lineAt, linesCheck, count}
+use Rattle.scope.specs.Mesh.{meshHeader, meshLayout, soilLines, elementLines, edgeLines, nodes, elements, soils, edges, sides}
+use Rattle.scope.specs.Claim.{claimHeader, claimLayout, ifThere}
+use Rattle.scope.specs.Facts.{Counts}
 use Rattle.rows.specs.LineContracts.{groupCheck, groupsCheck, groupOf, columnsOf, meshBody, MeshCounts, claimBody, CountsAre, SmallCounts}
-use Rattle.rows.proofs.Checks.{then-assoc, lowest-all, lowest-add, lowest-cong, first-refused}
-use Rattle.rows.proofs.Lines.{line-here, line-after}
-use Rattle.rows.proofs.ClaimFacts.{is-false}
+use Rattle.scope.proofs.Checks.{then-assoc, lowest-all, lowest-add, lowest-cong, first-refused}
+use Rattle.scope.proofs.Lines.{line-here, line-after}
+use Rattle.scope.proofs.ClaimFacts.{is-false}
 use Rattle.rows.proofs.LineLaws.{both-true, small, read, passed-whole, passed-within, mesh-header-line}
 
 -- ---- the lines of a group, one after another

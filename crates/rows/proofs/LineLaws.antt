@@ -18,18 +18,18 @@ use Rattle.integer.specs.Bounds.{Within}
 use Rattle.integer.specs.Machine.{Within-SFits}
 use Rattle.integer.specs.Order.{≤ℤ-pos}
 use Rattle.integer.specs.Tests.{eqZ, no-eqZ, yes-leZ, no-leZ}
-use Rattle.rows.specs.declared.Place.{Place}
-use Rattle.rows.specs.declared.Place.the-variants.{Line}
-use Rattle.rows.specs.declared.Outcome.the-variants.{Passed, Refused}
-use Rattle.rows.specs.Checks.{demand, _then_}
-use Rattle.rows.specs.Columns as C
-use Rattle.rows.specs.Columns.{Limit, between, free, within, isOneOf, allWithin, Rule, rightAngle, naming, parts, hasField, hasMultipliers, names, allNamed, ruleNumber, ruleTest, at}
-use Rattle.rows.specs.Layout.{Group, Layout, width, groups, lineOf, lineNumbers, rulesHold, lineCheck, lineAt}
-use Rattle.rows.specs.Mesh.{meshLayout, meshHeader, soilLines, edgeLines}
-use Rattle.rows.specs.Claim.{claimHeader, claimLayout}
+use Rattle.scope.specs.declared.Place.{Place}
+use Rattle.scope.specs.declared.Place.the-variants.{Line}
+use Rattle.scope.specs.declared.Outcome.the-variants.{Passed, Refused}
+use Rattle.scope.specs.Checks.{demand, _then_}
+use Rattle.scope.specs.Columns as C
+use Rattle.scope.specs.Columns.{Limit, between, free, within, isOneOf, allWithin, Rule, rightAngle, naming, parts, hasField, hasMultipliers, names, allNamed, ruleNumber, ruleTest, at}
+use Rattle.scope.specs.Layout.{Group, Layout, width, groups, lineOf, lineNumbers, rulesHold, lineCheck, lineAt}
+use Rattle.scope.specs.Mesh.{meshLayout, meshHeader, soilLines, edgeLines}
+use Rattle.scope.specs.Claim.{claimHeader, claimLayout}
 use Rattle.rows.specs.LineContracts.{runWithin, ranges, AsMany}
-use Rattle.rows.proofs.ClaimFacts.{is-true, is-false}
-use Rattle.rows.proofs.Checks.{demand-passed, then-passed}
+use Rattle.scope.proofs.ClaimFacts.{is-true, is-false}
+use Rattle.scope.proofs.Checks.{demand-passed, then-passed}
 
 -- ---- a number and a limit
 

@@ -5,11 +5,11 @@ use mathlib.Core.Bool.{Bool, true, false, _&&_, and-false}
 use Prim.Native.Nat.{ℕ, zero, suc, _+_, _≤_, _<_}
 use native.Mathlib.Numerals.{add-one}
 use native.Mathlib.Omega.{arith}
-use Rattle.rows.specs.declared.Place.{Place}
-use Rattle.rows.specs.declared.Outcome.{Outcome}
-use Rattle.rows.specs.declared.Outcome.the-variants.{Passed, Refused}
-use Rattle.rows.specs.Checks.{demand, _then_, lowest, allBelow}
-use Rattle.rows.proofs.Checks.{passed-is-not-refused, below-suc, lowest-all, first-refused}
+use Rattle.scope.specs.declared.Place.{Place}
+use Rattle.scope.specs.declared.Outcome.{Outcome}
+use Rattle.scope.specs.declared.Outcome.the-variants.{Passed, Refused}
+use Rattle.scope.specs.Checks.{demand, _then_, lowest, allBelow}
+use Rattle.scope.proofs.Checks.{passed-is-not-refused, below-suc, lowest-all, first-refused}
 
 -- ---- tests in a row
 

@@ -7,15 +7,15 @@ use native.Mathlib.Omega.{arith}
 use lib.IntN.{ℤ, pos, _-ℤ_, _*ℤ_}
 use lib.Signed.{ltZ}
 use Rattle.integer.specs.Machine.{Is}
-use Rattle.rows.specs.declared.Outcome.{Outcome}
+use Rattle.scope.specs.declared.Outcome.{Outcome}
 use Rattle.rows.specs.declared.sizes.Sizes.{Sizes}
-use Rattle.rows.specs.Checks.{_then_}
-use Rattle.rows.specs.Layout.{groups, linesBefore}
-use Rattle.rows.specs.Mesh.{meshHeader, soilLines, nodeLines, elementLines, edgeLines, meshLayout, meshGroups, nodes, elements, soils, edges, corner, fromNode, toNode, edgeLine}
-use Rattle.rows.specs.Rows.{node}
-use Rattle.rows.specs.Verdict.{turn, leftTurnAt, turnsCheck, sidesCheck, nodesCheck, edgesCheck, shapeCheck}
+use Rattle.scope.specs.Checks.{_then_}
+use Rattle.scope.specs.Layout.{groups, linesBefore}
+use Rattle.scope.specs.Mesh.{meshHeader, soilLines, nodeLines, elementLines, edgeLines, meshLayout, meshGroups, nodes, elements, soils, edges, corner, fromNode, toNode, edgeLine}
+use Rattle.scope.specs.Rows.{node}
+use Rattle.scope.specs.Verdict.{turn, leftTurnAt, turnsCheck, sidesCheck, nodesCheck, edgesCheck, shapeCheck}
 use Rattle.rows.specs.Contracts.{Sized}
-use Rattle.rows.proofs.Checks.{then-assoc}
+use Rattle.scope.proofs.Checks.{then-assoc}
 
 -- the checks of a shape in two parts
 pub shape-parts : (m : List ℤ) → turnsCheck m then (sidesCheck m then nodesCheck m then edgesCheck m) ≡ shapeCheck m

@@ -12,11 +12,11 @@ use Rattle.integer.specs.Bounds.{Within, Within-le, Within-+ℤ, Within-*ℤ, A
 use Rattle.integer.specs.Machine.{Is, Is-as, Is-Within}
 use Rattle.rows.specs.declared.row_sums.EqualityRow.{EqualityRow}
 use Rattle.rows.specs.declared.multiplier_sums.Sums.{Sums}
-use Rattle.rows.specs.Columns.{at}
-use Rattle.rows.specs.Mesh.{nodes, elements, edges, sides}
-use Rattle.rows.specs.Rows.{Row, equalityRows, strengthRows, rowsOf}
-use Rattle.rows.specs.Sums.{weightedSum, unit, coefficient}
-use Rattle.rows.specs.Verdict.{rowAt}
+use Rattle.scope.specs.Columns.{at}
+use Rattle.scope.specs.Mesh.{nodes, elements, edges, sides}
+use Rattle.scope.specs.Rows.{Row, equalityRows, strengthRows, rowsOf}
+use Rattle.scope.specs.Sums.{weightedSum, unit, coefficient}
+use Rattle.scope.specs.Verdict.{rowAt}
 use Rattle.rows.specs.RowContracts.{pairs, rowOf, RowFits, Filled, SumsAre, Grown, SumsFit, RowSummed, NoSums, Summed, sumBelow, rowSum}
 use Rattle.rows.proofs.SumLaws.{one-entry-more, unit-within, sums-within, sumBelow-next}
 

@@ -12,10 +12,10 @@ use Rattle.integer.specs.Linear.{linear, facts, _&_, nothing}
 use Rattle.integer.specs.Machine.{Is}
 use Rattle.integer.specs.Order.{≤ℤ-pos}
 use Rattle.rows.specs.declared.sizes.Sizes.{Sizes}
-use Rattle.rows.specs.Columns.{at}
-use Rattle.rows.specs.Layout.{groups, numbersBefore, count, entry}
-use Rattle.rows.specs.Mesh.{meshHeader, soilLines, nodeLines, elementLines, edgeLines, meshLayout, meshGroups, nodes, elements, soils, edges, sides, p, q, h, cohesion, soilEntry, x, y, corner, elementSoil, edgeEntry, fromNode, toNode}
-use Rattle.rows.specs.Facts.{Between, MeshFacts, SoilFacts, EdgeFacts}
+use Rattle.scope.specs.Columns.{at}
+use Rattle.scope.specs.Layout.{groups, numbersBefore, count, entry}
+use Rattle.scope.specs.Mesh.{meshHeader, soilLines, nodeLines, elementLines, edgeLines, meshLayout, meshGroups, nodes, elements, soils, edges, sides, p, q, h, cohesion, soilEntry, x, y, corner, elementSoil, edgeEntry, fromNode, toNode}
+use Rattle.scope.specs.Facts.{Between, MeshFacts, SoilFacts, EdgeFacts}
 use Rattle.rows.specs.Contracts.{Sized}
 
 -- ---- counts

@@ -8,13 +8,13 @@ use native.Mathlib.Omega.{arith}
 use lib.IntN.{ℤ, pos}
 use lib.ListN.{length, getD, length-append, length-map, List·getD-append, List·getD-map}
 use lib.Seq.{getD-append-add}
-use Rattle.rows.specs.Mesh.{nodes, elements, edges, sides, p, q, h, cohesion, fromNode, toNode}
-use Rattle.rows.specs.Polygon.{Polygon, Side, polygonSides, polygonOf}
-use Rattle.rows.specs.Rows.{Row, Pair, countFrom, joined, balanceX, balanceY, balanceRows, normalRow, shearRow, sideRows, nodeSoil, strengthPairs, strengthRow, pairRows, strengthRows, equalityRows, rowsOf}
-use Rattle.rows.specs.Verdict.{rowAt}
+use Rattle.scope.specs.Mesh.{nodes, elements, edges, sides, p, q, h, cohesion, fromNode, toNode}
+use Rattle.scope.specs.Polygon.{Polygon, Side, polygonSides, polygonOf}
+use Rattle.scope.specs.Rows.{Row, Pair, countFrom, joined, balanceX, balanceY, balanceRows, normalRow, shearRow, sideRows, nodeSoil, strengthPairs, strengthRow, pairRows, strengthRows, equalityRows, rowsOf}
+use Rattle.scope.specs.Verdict.{rowAt}
 use Rattle.rows.specs.RowContracts.{Listed, sideAt}
-use Rattle.rows.proofs.Lists.{count-length}
-use Rattle.rows.proofs.PolygonRule.{twelve-sides, twenty-sides, thirty-six-sides}
+use Rattle.scope.proofs.Lists.{count-length}
+use Rattle.scope.proofs.PolygonRule.{twelve-sides, twenty-sides, thirty-six-sides}
 use Rattle.rows.proofs.SideLaws.{length-sides}
 
 -- ---- pieces

@@ -14,13 +14,13 @@ use lib.IntN.{ℤ, pos, natAbs}
 use lib.ListN.{length, getD, set, replicate, length-set, length-replicate, List·getD-append}
 use lib.Seq.{getD-set-same, getD-set-other, getD-append-seam}
 use Rattle.integer.specs.Bounds.{Within, all-within}
-use Rattle.rows.specs.Members.{_∈_}
-use Rattle.rows.specs.Columns.{at}
-use Rattle.rows.specs.Polygon.{Point, point, Side, Polygon, sidesTo, polygonSides, quarterTurn, fourQuadrants, twelve, twenty, thirtySix, polygonOf}
-use Rattle.rows.specs.PolygonRule.{PolygonRule}
-use Rattle.rows.specs.Rows.{cross}
+use Rattle.scope.specs.Members.{_∈_}
+use Rattle.scope.specs.Columns.{at}
+use Rattle.scope.specs.Polygon.{Point, point, Side, Polygon, sidesTo, polygonSides, quarterTurn, fourQuadrants, twelve, twenty, thirtySix, polygonOf}
+use Rattle.scope.specs.PolygonRule.{PolygonRule}
+use Rattle.scope.specs.Rows.{cross}
 use Rattle.rows.specs.RowContracts.{Listed, next, coordinates, Table, Steps, tableRun, tableRise, tableCross, StepsUpTo, sideAt, runOf, riseOf, crossOf}
-use Rattle.rows.proofs.Checks.{below-suc}
+use Rattle.scope.proofs.Checks.{below-suc}
 
 -- ---- the corner after a corner
 

@@ -12,10 +12,10 @@ use lib.ListN.{getD, replicate, length-set, length-replicate, getD-replicate}
 use lib.Seq.{getD-set-same, getD-set-other}
 use borrow.Author.Tests.{eq-eqb, ne-eqb}
 use Rattle.rows.specs.declared.sizes.Sizes.{Sizes}
-use Rattle.rows.specs.Checks.{someBelow, allBelow}
-use Rattle.rows.specs.Mesh.{elements, edges, fromNode, toNode}
-use Rattle.rows.specs.Rows.{node}
-use Rattle.rows.specs.Verdict.{hasSide, ownSides, outerEdge}
+use Rattle.scope.specs.Checks.{someBelow, allBelow}
+use Rattle.scope.specs.Mesh.{elements, edges, fromNode, toNode}
+use Rattle.scope.specs.Rows.{node}
+use Rattle.scope.specs.Verdict.{hasSide, ownSides, outerEdge}
 use Rattle.rows.specs.Contracts.{Sized, marked, withMark, Marks, sideBelow, edgeBelow}
 use Rattle.rows.proofs.MeshLaws.{node-below, from-below, to-below}
 

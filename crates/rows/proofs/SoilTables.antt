@@ -11,15 +11,15 @@ use lib.Dec.{eqb}
 use lib.ListN.{length, getD, set, replicate, length-set, length-replicate, getD-replicate}
 use lib.Seq.{getD-set-same, getD-set-other}
 use borrow.Author.Tests.{eqb-false, not-true, eq-eqb, ne-eqb}
-use Rattle.rows.specs.declared.Place.the-variants.{Node}
-use Rattle.rows.specs.declared.Outcome.the-variants.{Passed}
+use Rattle.scope.specs.declared.Place.the-variants.{Node}
+use Rattle.scope.specs.declared.Outcome.the-variants.{Passed}
 use Rattle.rows.specs.declared.sizes.Sizes.{Sizes}
-use Rattle.rows.specs.Checks.{_then_, someBelow}
-use Rattle.rows.specs.Mesh.{nodes, elements, soils, corner, elementSoil}
-use Rattle.rows.specs.Rows.{firstWhere, hasCorner, nodeSoil}
-use Rattle.rows.specs.Verdict.{inElement, turnsCheck, sidesCheck, nodesCheck, edgesCheck, shapeCheck}
+use Rattle.scope.specs.Checks.{_then_, someBelow}
+use Rattle.scope.specs.Mesh.{nodes, elements, soils, corner, elementSoil}
+use Rattle.scope.specs.Rows.{firstWhere, hasCorner, nodeSoil}
+use Rattle.scope.specs.Verdict.{inElement, turnsCheck, sidesCheck, nodesCheck, edgesCheck, shapeCheck}
 use Rattle.rows.specs.Contracts.{Sized, keepFirst, soilBelow, Holds, NodeSoils}
-use Rattle.rows.proofs.Checks.{then-passed}
+use Rattle.scope.proofs.Checks.{then-passed}
 use Rattle.rows.proofs.Loops.{phase-passed}
 
 -- ---- what a node keeps

@@ -13,24 +13,24 @@ use lib.IntN.{ℤ, pos, _+ℤ_, _-ℤ_, _*ℤ_, negℤ}
 use Rattle.integer.specs.Linear.{linear, facts, _&_}
 use Rattle.integer.specs.Ring.{ring, terms}
 use Rattle.integer.specs.Tests.{yes-leZ, yes-ltZ}
-use Rattle.rows.proofs.Checks.{lowest-add, lowest-cong}
+use Rattle.scope.proofs.Checks.{lowest-add, lowest-cong}
 use Rattle.rows.proofs.RowLaws.{nodeRow, strength-at, strength-count}
 use Rattle.integer.specs.Bounds.{Within, bounds}
 use Rattle.integer.specs.Machine.{Is, Is-as, Is-Within}
-use Rattle.rows.specs.Mesh.{nodes, sides, p, q, h, cohesion}
+use Rattle.scope.specs.Mesh.{nodes, sides, p, q, h, cohesion}
 use Rattle.rows.specs.declared.sizes.Sizes.{Sizes}
-use Rattle.rows.specs.Columns.{at, n, l}
-use Rattle.rows.specs.declared.Place.{Place}
-use Rattle.rows.specs.declared.Place.the-variants as P
-use Rattle.rows.specs.declared.Outcome.{Outcome}
-use Rattle.rows.specs.declared.Outcome.the-variants.{Passed, Refused}
-use Rattle.rows.specs.Checks.{demand, _then_, lowest}
-use Rattle.rows.specs.Claim.{stress}
-use Rattle.rows.specs.Polygon.{Side, Polygon, polygonOf}
-use Rattle.rows.specs.Rows.{Row, sx, sy, t, nodeSoil, cross, strengthRow, strengthRows}
-use Rattle.rows.specs.Sums.{weightedSum, leftSide, rightSide, rowHolds}
-use Rattle.rows.specs.Verdict.{rowAt}
-use Rattle.rows.specs.Facts.{Between, SoilFacts}
+use Rattle.scope.specs.Columns.{at, n, l}
+use Rattle.scope.specs.declared.Place.{Place}
+use Rattle.scope.specs.declared.Place.the-variants as P
+use Rattle.scope.specs.declared.Outcome.{Outcome}
+use Rattle.scope.specs.declared.Outcome.the-variants.{Passed, Refused}
+use Rattle.scope.specs.Checks.{demand, _then_, lowest}
+use Rattle.scope.specs.Claim.{stress}
+use Rattle.scope.specs.Polygon.{Side, Polygon, polygonOf}
+use Rattle.scope.specs.Rows.{Row, sx, sy, t, nodeSoil, cross, strengthRow, strengthRows}
+use Rattle.scope.specs.Sums.{weightedSum, leftSide, rightSide, rowHolds}
+use Rattle.scope.specs.Verdict.{rowAt}
+use Rattle.scope.specs.Facts.{Between, SoilFacts}
 use Rattle.rows.specs.Contracts.{Sized}
 use Rattle.rows.specs.RowContracts.{Listed, SoilNumbers, SoilFits, NodeNumbers, NodeFits, NodeState, Steps, StepFits, StepsFit, sideAt, runOf, riseOf, crossOf, sideSlack, nodeCheck, strengthsCheck}
 

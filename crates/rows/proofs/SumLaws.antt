@@ -13,10 +13,10 @@ use lib.Seq.{getD-set-same, getD-set-other}
 use Rattle.integer.specs.Ring.{ring, terms}
 use Rattle.integer.specs.Bounds.{Within, Within-le, Within-+ℤ, Within-*ℤ, AllWithin}
 use Rattle.integer.specs.Machine.{Is, Is-as, Is-Within}
-use Rattle.rows.specs.Columns.{at}
-use Rattle.rows.specs.Rows.{Row}
-use Rattle.rows.specs.Sums.{weightedSum, weighed, unit, coefficient, howMany}
-use Rattle.rows.specs.Verdict.{rowAt}
+use Rattle.scope.specs.Columns.{at}
+use Rattle.scope.specs.Rows.{Row}
+use Rattle.scope.specs.Sums.{weightedSum, weighed, unit, coefficient, howMany}
+use Rattle.scope.specs.Verdict.{rowAt}
 use Rattle.rows.specs.RowContracts.{pairs, rowOf, SumsAre, sumBelow, countBelow, rowSum}
 use Rattle.rows.specs.declared.row_sums.EqualityRow.{EqualityRow}
 

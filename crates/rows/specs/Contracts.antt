@@ -6,14 +6,14 @@ use Prim.Native.Nat.{ℕ, _+_, _*_, _<_}
 use lib.IntN.{ℤ}
 use lib.Dec.{ltb, eqb}
 use lib.ListN.{length, getD, set}
-use Rattle.rows.specs.declared.Outcome.{Outcome}
-use Rattle.rows.specs.declared.Outcome.the-variants.{Passed}
+use Rattle.scope.specs.declared.Outcome.{Outcome}
+use Rattle.scope.specs.declared.Outcome.the-variants.{Passed}
 use Rattle.rows.specs.declared.sizes.Sizes.{Sizes}
-use Rattle.rows.specs.Mesh.{nodes, elements, soils, edges, sides, elementSoil, fromNode, toNode}
-use Rattle.rows.specs.Checks.{someBelow}
-use Rattle.rows.specs.Rows.{firstWhere, hasCorner, nodeSoil}
-use Rattle.rows.specs.Verdict.{hasSide, sidesCheck}
-use Rattle.rows.specs.Facts.{MeshFacts}
+use Rattle.scope.specs.Mesh.{nodes, elements, soils, edges, sides, elementSoil, fromNode, toNode}
+use Rattle.scope.specs.Checks.{someBelow}
+use Rattle.scope.specs.Rows.{firstWhere, hasCorner, nodeSoil}
+use Rattle.scope.specs.Verdict.{hasSide, sidesCheck}
+use Rattle.scope.specs.Facts.{MeshFacts}
 
 -- ---- sizes: the counts of a mesh whose lines have passed, and where its groups begin
 

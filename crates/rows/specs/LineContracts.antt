@@ -6,15 +6,15 @@ use Prim.Native.Nat.{ℕ, suc, _+_, _*_, _≤_, _<_}
 use lib.IntN.{ℤ}
 use lib.Dec.{leb}
 use lib.ListN.{length, take, drop, replicate}
-use Rattle.rows.specs.declared.Place.the-variants.{Line}
-use Rattle.rows.specs.declared.Outcome.{Outcome}
+use Rattle.scope.specs.declared.Place.the-variants.{Line}
+use Rattle.scope.specs.declared.Outcome.{Outcome}
 use Rattle.rows.specs.declared.line_checks.LineKind.{LineKind}
 use Rattle.rows.specs.declared.line_checks.LineKind.the-variants.{Soil, Element, Edge}
-use Rattle.rows.specs.Checks.{demand, _then_, lowest}
-use Rattle.rows.specs.Columns.{Limit, between, within}
-use Rattle.rows.specs.Layout.{Group, Layout, width, lineCheck}
-use Rattle.rows.specs.Mesh.{nodes, elements, edges, sides, soilLines, nodeLines, elementLines, edgeLines}
-use Rattle.rows.specs.Claim.{stressLines, elementMultipliers, edgeMultipliers, strengthMultipliers}
+use Rattle.scope.specs.Checks.{demand, _then_, lowest}
+use Rattle.scope.specs.Columns.{Limit, between, within}
+use Rattle.scope.specs.Layout.{Group, Layout, width, lineCheck}
+use Rattle.scope.specs.Mesh.{nodes, elements, edges, sides, soilLines, nodeLines, elementLines, edgeLines}
+use Rattle.scope.specs.Claim.{stressLines, elementMultipliers, edgeMultipliers, strengthMultipliers}
 
 -- how many numbers at the front of a list are within a limit
 unfoldable pub runWithin : Limit → List ℤ → ℕ

@@ -10,23 +10,23 @@ use lib.Signed.{leZ}
 use lib.ListN.{length, getD, take, replicate}
 use Rattle.integer.specs.Bounds.{Within, AllWithin}
 use Rattle.integer.specs.Machine.{Is}
-use Rattle.rows.specs.declared.Outcome.{Outcome}
-use Rattle.rows.specs.declared.Place.the-variants as P
+use Rattle.scope.specs.declared.Outcome.{Outcome}
+use Rattle.scope.specs.declared.Place.the-variants as P
 use Rattle.rows.specs.declared.sizes.Sizes.{Sizes}
 use Rattle.rows.specs.declared.multiplier_sums.Sums.{Sums}
 use Rattle.rows.specs.declared.polygons.Step.{Step}
 use Rattle.rows.specs.declared.row_sums.EqualityRow.{EqualityRow}
 use Rattle.rows.specs.declared.row_sums.Span.{Span}
-use Rattle.rows.specs.Columns.{at, hasField, n}
-use Rattle.rows.specs.Claim.{ifThere, stress}
-use Rattle.rows.specs.Mesh.{nodes, elements, edges, sides, corner, p, q, h, cohesion}
-use Rattle.rows.specs.Polygon.{Point, point, Side, Polygon, polygonSides, polygonOf}
-use Rattle.rows.specs.Rows.{Kind, asked, unfixed, Row, sx, sy, t, nodeSoil, equalityRows, cross, riseAcross, runAcross}
-use Rattle.rows.specs.Sums.{rowHolds, coefficient}
-use Rattle.rows.specs.Verdict.{rowAt}
-use Rattle.rows.specs.Facts.{ClaimFacts}
+use Rattle.scope.specs.Columns.{at, hasField, n}
+use Rattle.scope.specs.Claim.{ifThere, stress}
+use Rattle.scope.specs.Mesh.{nodes, elements, edges, sides, corner, p, q, h, cohesion}
+use Rattle.scope.specs.Polygon.{Point, point, Side, Polygon, polygonSides, polygonOf}
+use Rattle.scope.specs.Rows.{Kind, asked, unfixed, Row, sx, sy, t, nodeSoil, equalityRows, cross, riseAcross, runAcross}
+use Rattle.scope.specs.Sums.{rowHolds, coefficient}
+use Rattle.scope.specs.Verdict.{rowAt}
+use Rattle.scope.specs.Facts.{ClaimFacts}
 use Rattle.rows.specs.Contracts.{Sized, NodeSoils}
-use Rattle.rows.specs.Checks.{demand, lowest}
+use Rattle.scope.specs.Checks.{demand, lowest}
 
 -- ---- a polygon's sides
 

@@ -10,51 +10,12 @@ pub mod sizes;
 mod strength_rows;
 
 ghost use mathlib.Core.Path.{_≡_};
-ghost use Rattle.rows.specs.Verdict.{meshCheck, claimCheck};
+ghost use Rattle.scope.specs.Verdict.{meshCheck, claimCheck};
 use crate::line_checks::claim_lines;
 use crate::line_checks::mesh_lines;
 use crate::mesh_checks::mesh_shape;
 use crate::sizes::sizes_of;
-
-// "A place is a line, a row, a column, a node or an element", each counted from 1.
-pub enum Place {
-    Line(u32),
-    Row(u32),
-    Column(u32),
-    Node(u32),
-    Element(u32),
-}
-
-// What one check, or a row of checks in order, says.
-pub enum Outcome {
-    Passed,
-    Refused { number: u32, place: Place },
-}
-
-// A load as an exact fraction, or none where the claim lacks that part.
-pub enum Load {
-    Absent,
-    Exact { num: i64, den: i64 },
-}
-
-// How many strength rows are open, or none where the claim lacks a part.
-pub enum OpenRows {
-    Absent,
-    Count(u64),
-}
-
-// What is said of a mesh and a claim: the lower load is l/n, the upper load is W/m.
-pub enum Verdict {
-    Accepted {
-        open_rows: OpenRows,
-        lower: Load,
-        upper: Load,
-    },
-    Refused {
-        number: u32,
-        place: Place,
-    },
-}
+use scope::Outcome;
 
 // What the numbers of a mesh are refused for, 1 to 8, or that they pass.
 pub fn judge_mesh(m: &[i64]) -> Outcome

@@ -1,7 +1,7 @@
 // The checks of the lines of a mesh and of a claim: refusals 1 to 4, and 11 to 13. They take any numbers, and any count of them.
-use crate::Outcome;
-use crate::Place;
 use crate::sizes::count_at;
+use scope::Outcome;
+use scope::Place;
 ghost use mathlib.Core.Path.{_≡_};
 ghost use mathlib.Core.List.{List, [], _∷_};
 ghost use Prim.Native.Nat.{min, _/_, _<_, _≤_, _^_};
@@ -9,10 +9,10 @@ ghost use lib.ListN.{length, take, drop};
 ghost use lib.IntN.{ℤ, pos, _+ℤ_, _*ℤ_};
 ghost use Rattle.integer.specs.Bounds.{Within};
 ghost use Rattle.integer.specs.Tests.{eqZ};
-ghost use Rattle.rows.specs.Columns.{between, within, isOneOf, allWithin, parts, ruleTest};
-ghost use Rattle.rows.specs.Layout.{Layout, lineCheck, lineAt, linesCheck};
-ghost use Rattle.rows.specs.Mesh.{meshLayout, soilLines, elementLines, edgeLines};
-ghost use Rattle.rows.specs.Claim.{claimHeader, claimLayout, ifThere};
+ghost use Rattle.scope.specs.Columns.{between, within, isOneOf, allWithin, parts, ruleTest};
+ghost use Rattle.scope.specs.Layout.{Layout, lineCheck, lineAt, linesCheck};
+ghost use Rattle.scope.specs.Mesh.{meshLayout, soilLines, elementLines, edgeLines};
+ghost use Rattle.scope.specs.Claim.{claimHeader, claimLayout, ifThere};
 ghost use Rattle.rows.specs.LineContracts.{runWithin, ranges, AsMany, groupCheck, groupsCheck, groupOf, columnsOf, evenLines, FewLines, FewColumns, NumberedFrom, meshBody, MeshCounts, claimBody, ClaimCounts, CountsAre, SmallCounts};
 
 // The limits of a mesh's header before its sides, and of a claim's header.

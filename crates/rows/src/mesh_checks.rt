@@ -1,7 +1,5 @@
 // The shape of a mesh whose lines have passed: refusals 5 to 8, and the soil of each node.
 // Sides are looked up in a table, 100 bytes for each node: the byte at a * 100 + b says whether the side a to b is marked.
-use crate::Outcome;
-use crate::Place;
 use crate::sizes::Sizes;
 use crate::sizes::corner_of;
 use crate::sizes::edge_from;
@@ -9,16 +7,18 @@ use crate::sizes::edge_to;
 use crate::sizes::element_soil;
 use crate::sizes::node_x;
 use crate::sizes::node_y;
+use scope::Outcome;
+use scope::Place;
 ghost use mathlib.Core.Path.{_≡_};
 ghost use Prim.Native.Nat.{_+_, _*_, _<_};
 ghost use lib.IntN.{pos, _-ℤ_, _*ℤ_};
 ghost use lib.Signed.{ltZ};
 ghost use Rattle.integer.specs.Bounds.{Within};
 ghost use Rattle.integer.specs.Machine.{Is};
-ghost use Rattle.rows.specs.Mesh.{nodes, elements, edges, x, y, fromNode, toNode};
-ghost use Rattle.rows.specs.Rows.{node};
-ghost use Rattle.rows.specs.Checks.{_then_};
-ghost use Rattle.rows.specs.Verdict.{turn, leftTurnAt, leftTurns, ownSides, outerEdge, turnsCheck, sidesCheck, nodesCheck, edgesCheck, shapeCheck};
+ghost use Rattle.scope.specs.Mesh.{nodes, elements, edges, x, y, fromNode, toNode};
+ghost use Rattle.scope.specs.Rows.{node};
+ghost use Rattle.scope.specs.Checks.{_then_};
+ghost use Rattle.scope.specs.Verdict.{turn, leftTurnAt, leftTurns, ownSides, outerEdge, turnsCheck, sidesCheck, nodesCheck, edgesCheck, shapeCheck};
 ghost use Rattle.rows.specs.Contracts.{Sized, marked, withMark, Marks, sideBelow, edgeBelow, SidesChecked, keepFirst, soilBelow, Holds, NodeSoils};
 
 // ---- 5: a left turn at all four corners

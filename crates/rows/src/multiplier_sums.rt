@@ -2,7 +2,7 @@
 ghost use Prim.Native.Nat.{_+_, _*_, _<_, _≤_};
 ghost use lib.ListN.{length};
 ghost use Rattle.integer.specs.Bounds.{Within, AllWithin};
-ghost use Rattle.rows.specs.Mesh.{nodes, elements, edges};
+ghost use Rattle.scope.specs.Mesh.{nodes, elements, edges};
 ghost use Rattle.rows.specs.Contracts.{Sized};
 ghost use Rattle.rows.specs.RowContracts.{SumsFit, RowSummed, EqualityMultipliers, NoSums, Summed};
 use crate::row_sums::add_row;

@@ -2,16 +2,14 @@
 ghost use mathlib.Core.Path.{_≡_};
 ghost use Prim.Native.Nat.{_+_, _*_, _<_};
 ghost use lib.IntN.{pos};
-ghost use Rattle.rows.specs.Columns.{at, n, l};
-ghost use Rattle.rows.specs.Claim.{stress};
-ghost use Rattle.rows.specs.Mesh.{elements, edges};
-ghost use Rattle.rows.specs.Rows.{equalityRows, strengthRows};
-ghost use Rattle.rows.specs.Sums.{rowHolds};
-ghost use Rattle.rows.specs.Verdict.{rowAt, fieldCheck};
+ghost use Rattle.scope.specs.Columns.{at, n, l};
+ghost use Rattle.scope.specs.Claim.{stress};
+ghost use Rattle.scope.specs.Mesh.{elements, edges};
+ghost use Rattle.scope.specs.Rows.{equalityRows, strengthRows};
+ghost use Rattle.scope.specs.Sums.{rowHolds};
+ghost use Rattle.scope.specs.Verdict.{rowAt, fieldCheck};
 ghost use Rattle.rows.specs.Contracts.{Sized};
 ghost use Rattle.rows.specs.RowContracts.{FieldFits, Judged, equalitiesCheck, strengthsCheck};
-use crate::Outcome;
-use crate::Place;
 use crate::polygons::steps_of;
 use crate::row_sums::equality_row;
 use crate::row_sums::left_side;
@@ -19,6 +17,8 @@ use crate::sizes::Sizes;
 use crate::sizes::number_at;
 use crate::strength_rows::node_check;
 use crate::strength_rows::node_state;
+use scope::Outcome;
+use scope::Place;
 
 // Equality row k holds at the field x with l and n, or asks nothing.
 fn equality_holds(m: &[i64], s: Sizes, x: &[i64], l: i64, n: i64, k: usize) -> bool

@@ -2,7 +2,7 @@
 ghost use mathlib.Core.Path.{_≡_};
 ghost use Prim.Native.Nat.{_*_, _<_};
 ghost use Rattle.integer.specs.Machine.{Is};
-ghost use Rattle.rows.specs.Polygon.{polygonOf};
+ghost use Rattle.scope.specs.Polygon.{polygonOf};
 ghost use Rattle.rows.specs.RowContracts.{Listed, next, Table, StepIs, StepsFrom, Steps};
 
 // "counterclockwise from (r, 0)": x, y, x, y, ..

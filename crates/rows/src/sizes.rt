@@ -5,10 +5,10 @@ ghost use lib.IntN.{pos};
 ghost use lib.Signed.{_≤ℤ_};
 ghost use lib.ListN.{length};
 ghost use Rattle.integer.specs.Machine.{Is};
-ghost use Rattle.rows.specs.Columns.{at};
-ghost use Rattle.rows.specs.Layout.{count};
-ghost use Rattle.rows.specs.Mesh.{nodes, elements, soils, edges, x, y, corner, elementSoil, soilEntry, edgeEntry, fromNode, toNode};
-ghost use Rattle.rows.specs.Facts.{MeshFacts};
+ghost use Rattle.scope.specs.Columns.{at};
+ghost use Rattle.scope.specs.Layout.{count};
+ghost use Rattle.scope.specs.Mesh.{nodes, elements, soils, edges, x, y, corner, elementSoil, soilEntry, edgeEntry, fromNode, toNode};
+ghost use Rattle.scope.specs.Facts.{MeshFacts};
 ghost use Rattle.rows.specs.Contracts.{Sized};
 
 // The counts of the header, and the place of the first number of the nodes, of the elements and of the edges.

@@ -5,16 +5,16 @@ ghost use lib.ListN.{length};
 ghost use lib.IntN.{pos, _-ℤ_, _*ℤ_};
 ghost use Rattle.integer.specs.Machine.{Is};
 ghost use Rattle.integer.specs.Bounds.{Within, AllWithin};
-ghost use Rattle.rows.specs.Columns.{at};
-ghost use Rattle.rows.specs.Mesh.{nodes, soils};
+ghost use Rattle.scope.specs.Columns.{at};
+ghost use Rattle.scope.specs.Mesh.{nodes, soils};
 ghost use Rattle.rows.specs.Contracts.{Sized};
 ghost use Rattle.rows.specs.RowContracts.{SoilNumbers, SoilFits, NodeNumbers, NodeFits, StepFits, StepsFit, sideSlack, Judged, NodeState, nodeCheck};
-use crate::Outcome;
-use crate::Place;
 use crate::polygons::radius_of;
 use crate::sizes::Sizes;
 use crate::sizes::number_at;
 use crate::sizes::soil_entry;
+use scope::Outcome;
+use scope::Place;
 
 // What they read of a soil: r·h, p and 2qC.
 pub fn soil_numbers(m: &[i64], s: Sizes, soil: usize, radius: i64) -> [i64; 3]

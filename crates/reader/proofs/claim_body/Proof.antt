@@ -1,6 +1,6 @@
 -- `reader::claim_body` meets its contract: the parts that are there tell the lines, whose numbers fit.
 -- Assumes nothing.
-use Rattle.rows.specs.Columns.{hasField, hasMultipliers}
+use Rattle.scope.specs.Columns.{hasField, hasMultipliers}
 use Rattle.reader.proofs.Told.{claim-lines, claim-room}
 use borrow.Author.Needs.{needs}
 use Rattle.reader.proofs.claim_body.Statement.{statement}

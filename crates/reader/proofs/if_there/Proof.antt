@@ -2,7 +2,7 @@
 -- Assumes nothing.
 use native.Mathlib.Omega.{arith}
 use Rattle.integer.specs.Machine.{machine, unbounded, told, apart}
-use Rattle.rows.specs.Columns.{at}
+use Rattle.scope.specs.Columns.{at}
 use Rattle.reader.proofs.Told.{part-there, part-absent}
 use borrow.Author.Needs.{needs}
 use Rattle.reader.proofs.if_there.Statement.{statement}

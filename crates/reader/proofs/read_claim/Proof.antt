@@ -4,7 +4,7 @@ use native.Mathlib.Omega.{arith}
 use borrow.Author.Tests.{not-true, not-false}
 use mathlib.Core.List.{List}
 use lib.IntN.{ℤ}
-use Rattle.rows.specs.Claim.{claimLayout}
+use Rattle.scope.specs.Claim.{claimLayout}
 use Rattle.reader.proofs.Whole.{HeaderRead}
 use Rattle.reader.proofs.Told.{claim-no-header, claim-header-read, claim-at, claim-numbers, claim-refused, claim-passed}
 use borrow.Author.Needs.{needs}

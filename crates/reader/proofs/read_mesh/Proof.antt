@@ -2,7 +2,7 @@
 -- Assumes nothing.
 use native.Mathlib.Omega.{arith}
 use borrow.Author.Tests.{not-true, not-false}
-use Rattle.rows.specs.Mesh.{meshLayout}
+use Rattle.scope.specs.Mesh.{meshLayout}
 use Rattle.reader.proofs.Whole.{HeaderRead}
 use Rattle.reader.proofs.Told.{mesh-no-header, mesh-header-read, mesh-at, mesh-numbers, mesh-refused, few-lines, mesh-passed}
 use borrow.Author.Needs.{needs}

@@ -1,8 +1,8 @@
 -- `judge_claim_lines` meets its contract: the counts of a mesh that has passed are small, and they are the mesh's.
 use denote.Ref.{now}
-use Rattle.rows.specs.Verdict.{claimCheck}
-use Rattle.rows.proofs.Sound.{mesh-passed}
-use Rattle.rows.proofs.Facts.{mesh-facts}
+use Rattle.scope.specs.Verdict.{claimCheck}
+use Rattle.scope.proofs.Sound.{mesh-passed}
+use Rattle.scope.proofs.Facts.{mesh-facts}
 use Rattle.rows.proofs.GroupLaws.{small-counts}
 use Rattle.rows.proofs.judge_claim_lines.Statement.{statement}
 use Rattle.rows.proofs.judge_claim_lines.Tie as tie

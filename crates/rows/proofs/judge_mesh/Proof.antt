@@ -1,10 +1,10 @@
 -- `judge_mesh` meets its contract: the shape is checked only on a mesh whose lines have passed.
 use mathlib.Core.Path.{_∙_, sym}
 use denote.Ref.{now}
-use Rattle.rows.specs.Verdict.{meshCheck}
-use Rattle.rows.specs.Mesh.{meshLayout}
-use Rattle.rows.proofs.Sound.{lines-passed}
-use Rattle.rows.proofs.Facts.{mesh-facts}
+use Rattle.scope.specs.Verdict.{meshCheck}
+use Rattle.scope.specs.Mesh.{meshLayout}
+use Rattle.scope.proofs.Sound.{lines-passed}
+use Rattle.scope.proofs.Facts.{mesh-facts}
 use Rattle.rows.proofs.Loops.{then-refuses, then-goes-on}
 use borrow.Author.Needs.{needs}
 use Rattle.rows.proofs.judge_mesh.Statement.{statement}

@@ -7,9 +7,9 @@ use native.Mathlib.Omega.{arith}
 use lib.IntN.{ℤ, pos}
 use lib.ListN.{drop, length-replicate}
 use denote.Ref.{now}
-use Rattle.rows.specs.Columns.{between, upTo}
-use Rattle.rows.specs.Layout.{Group}
-use Rattle.rows.specs.Claim.{claimLayout, stressLines, elementMultipliers, edgeMultipliers, strengthMultipliers}
+use Rattle.scope.specs.Columns.{between, upTo}
+use Rattle.scope.specs.Layout.{Group}
+use Rattle.scope.specs.Claim.{claimLayout, stressLines, elementMultipliers, edgeMultipliers, strengthMultipliers}
 use Rattle.rows.specs.LineContracts.{groupsCheck, evenLines, claimBody, NumberedFrom}
 use Rattle.rows.proofs.GroupLaws.{Reached, reached, stop-here, pass-on, passed-there, left-over, nothing-left}
 use borrow.Author.Needs.{needs}

@@ -3,8 +3,8 @@ use mathlib.Core.Path.{_∙_}
 use mathlib.Core.List.{[]}
 use native.Mathlib.Omega.{arith}
 use denote.Ref.{now}
-use Rattle.rows.specs.Columns.{upTo, parts, ruleNumber}
-use Rattle.rows.specs.Claim.{claimLayout, claimHeader}
+use Rattle.scope.specs.Columns.{upTo, parts, ruleNumber}
+use Rattle.scope.specs.Claim.{claimLayout, claimHeader}
 use Rattle.rows.specs.LineContracts.{ranges}
 use Rattle.rows.proofs.LineLaws.{line-short, line-outside, line-by-rules, one-rule-fails, one-rule-holds, parts-read, so, not-so}
 use borrow.Author.Needs.{needs}

@@ -4,8 +4,8 @@ use Prim.Native.Nat.{_≤_}
 use native.Mathlib.Omega.{arith}
 use lib.ListN.{length}
 use denote.Ref.{now}
-use Rattle.rows.specs.Columns.{at}
-use Rattle.rows.specs.Claim.{claimHeader}
+use Rattle.scope.specs.Columns.{at}
+use Rattle.scope.specs.Claim.{claimHeader}
 use Rattle.rows.proofs.GroupLaws.{claim-header-there, claim-starts, claim-header-group, same-claim-body, few-there, stop-here, go-on}
 use borrow.Author.Needs.{needs}
 use Rattle.rows.proofs.line_checks.claim_lines.Statement.{statement}

@@ -2,8 +2,8 @@
 use mathlib.Core.Path.{_∙_}
 use native.Mathlib.Omega.{arith}
 use denote.Ref.{now}
-use Rattle.rows.specs.Columns.{upTo, ruleNumber}
-use Rattle.rows.specs.Mesh.{meshLayout, edgeLines}
+use Rattle.scope.specs.Columns.{upTo, ruleNumber}
+use Rattle.scope.specs.Mesh.{meshLayout, edgeLines}
 use Rattle.rows.specs.LineContracts.{ranges}
 use Rattle.rows.proofs.LineLaws.{line-short, line-outside, line-by-rules, one-rule-fails, one-rule-holds, edge-limits, edge-names, so, not-so}
 use borrow.Author.Needs.{needs}

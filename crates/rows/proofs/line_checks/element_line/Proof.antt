@@ -3,8 +3,8 @@ use mathlib.Core.Path.{_∙_}
 use native.Mathlib.Omega.{arith}
 use lib.ListN.{take}
 use denote.Ref.{now}
-use Rattle.rows.specs.Columns.{ruleNumber}
-use Rattle.rows.specs.Mesh.{meshLayout, elementLines}
+use Rattle.scope.specs.Columns.{ruleNumber}
+use Rattle.scope.specs.Mesh.{meshLayout, elementLines}
 use Rattle.rows.specs.LineContracts.{ranges}
 use Rattle.rows.proofs.LineLaws.{line-short, line-by-rules, one-rule-fails, one-rule-holds, all-free, element-names, so, not-so}
 use borrow.Author.Needs.{needs}

@@ -3,7 +3,7 @@ use mathlib.Core.Path.{_∙_}
 use Prim.Native.Nat.{_-_}
 use native.Mathlib.Omega.{arith}
 use denote.Ref.{now}
-use Rattle.rows.specs.Mesh.{meshLayout}
+use Rattle.scope.specs.Mesh.{meshLayout}
 use Rattle.rows.specs.LineContracts.{groupOf}
 use Rattle.rows.proofs.GroupLaws.{LinesTo, lines-start, lines-go-on, lines-refused, lines-done, columns-are, few-columns, kind-group}
 use borrow.Author.Needs.{needs}

@@ -2,7 +2,7 @@
 use mathlib.Core.Path.{_∙_}
 use native.Mathlib.Omega.{arith}
 use Rattle.integer.specs.Machine.{machine, unbounded, told, apart, decides}
-use Rattle.rows.specs.Columns.{isOneOf}
+use Rattle.scope.specs.Columns.{isOneOf}
 use Rattle.rows.proofs.LineLaws.{last-sides}
 use Rattle.rows.proofs.line_checks.is_sides.Statement.{statement}
 use Rattle.rows.proofs.line_checks.is_sides.Tie as tie

@@ -6,8 +6,8 @@ use native.Mathlib.Omega.{arith}
 use lib.IntN.{ℤ}
 use lib.ListN.{drop}
 use denote.Ref.{now}
-use Rattle.rows.specs.Layout.{Group}
-use Rattle.rows.specs.Mesh.{meshLayout, soilLines, nodeLines, elementLines, edgeLines}
+use Rattle.scope.specs.Layout.{Group}
+use Rattle.scope.specs.Mesh.{meshLayout, soilLines, nodeLines, elementLines, edgeLines}
 use Rattle.rows.specs.LineContracts.{groupsCheck, groupOf, evenLines, meshBody, NumberedFrom}
 use Rattle.rows.proofs.GroupLaws.{Reached, reached, stop-here, pass-on, passed-there, left-over, nothing-left}
 use borrow.Author.Needs.{needs}

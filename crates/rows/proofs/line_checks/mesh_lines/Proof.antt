@@ -2,7 +2,7 @@
 use mathlib.Core.Path.{_∙_, sym}
 use native.Mathlib.Omega.{arith}
 use denote.Ref.{now}
-use Rattle.rows.specs.Mesh.{meshHeader, nodes, elements, soils, edges}
+use Rattle.scope.specs.Mesh.{meshHeader, nodes, elements, soils, edges}
 use Rattle.rows.proofs.GroupLaws.{Counted, header-counts, mesh-starts, mesh-header-group, same-mesh-body, stop-here, go-on}
 use borrow.Author.Needs.{needs}
 use Rattle.rows.proofs.line_checks.mesh_lines.Statement.{statement}

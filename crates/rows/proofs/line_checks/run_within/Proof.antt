@@ -5,7 +5,7 @@ use lib.ListN.{length}
 use mir.Syntax.{w64}
 use mir.Val.{toZ}
 use denote.Ref.{now}
-use Rattle.rows.specs.Columns.{Limit, between}
+use Rattle.scope.specs.Columns.{Limit, between}
 use Rattle.rows.specs.LineContracts.{runWithin}
 use Rattle.rows.proofs.LineLaws.{RunTo, run-starts, run-goes-on, run-stops, run-ends, read-limit, read-number, so, not-so}
 use borrow.Author.Needs.{needs}

@@ -3,8 +3,8 @@ use mathlib.Core.Path.{_∙_}
 use native.Mathlib.Omega.{arith}
 use denote.Ref.{now}
 use Rattle.integer.specs.Machine.{limits}
-use Rattle.rows.specs.Columns.{upTo, rightAngle, ruleNumber}
-use Rattle.rows.specs.Mesh.{meshLayout, soilLines}
+use Rattle.scope.specs.Columns.{upTo, rightAngle, ruleNumber}
+use Rattle.scope.specs.Mesh.{meshLayout, soilLines}
 use Rattle.rows.specs.LineContracts.{ranges}
 use Rattle.rows.proofs.LineLaws.{line-short, line-outside, line-by-rules, one-rule-fails, one-rule-holds, small-angle, angle-read, so, not-so}
 use borrow.Author.Needs.{needs}

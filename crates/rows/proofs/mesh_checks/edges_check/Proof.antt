@@ -5,12 +5,12 @@ use Prim.Native.Nat.{ℕ, suc, _≤_, _-_}
 use native.Mathlib.Omega.{arith}
 use lib.IntN.{ℤ}
 use borrow.Author.Tests.{not-true, not-false}
-use Rattle.rows.specs.declared.Place.{Place}
-use Rattle.rows.specs.declared.Place.the-variants.{Line}
-use Rattle.rows.specs.declared.Outcome.the-variants.{Passed}
-use Rattle.rows.specs.Checks.{lowest}
-use Rattle.rows.specs.Mesh.{edges, edgeLine}
-use Rattle.rows.specs.Verdict.{outerEdge, edgesCheck}
+use Rattle.scope.specs.declared.Place.{Place}
+use Rattle.scope.specs.declared.Place.the-variants.{Line}
+use Rattle.scope.specs.declared.Outcome.the-variants.{Passed}
+use Rattle.scope.specs.Checks.{lowest}
+use Rattle.scope.specs.Mesh.{edges, edgeLine}
+use Rattle.scope.specs.Verdict.{outerEdge, edgesCheck}
 use Rattle.rows.specs.Contracts.{Marks, edgeBelow}
 use Rattle.rows.proofs.Loops.{Phase, phase-more, phase-fails, phase-done}
 use Rattle.rows.proofs.MeshLaws.{edge-line, edge-line-fits}

@@ -4,8 +4,8 @@ use mathlib.Core.Bool.{true}
 use Prim.Native.Nat.{_≤_, _-_}
 use native.Mathlib.Omega.{arith}
 use borrow.Author.Tests.{not-true, not-false}
-use Rattle.rows.specs.Checks.{allBelow}
-use Rattle.rows.specs.Verdict.{leftTurnAt, leftTurns}
+use Rattle.scope.specs.Checks.{allBelow}
+use Rattle.scope.specs.Verdict.{leftTurnAt, leftTurns}
 use Rattle.rows.proofs.Loops.{all-more, all-fails, all-done}
 use Rattle.rows.proofs.mesh_checks.left_turns.Statement.{statement}
 use Rattle.rows.proofs.mesh_checks.left_turns.Tie as tie

@@ -3,12 +3,12 @@ use mathlib.Core.Path.{_≡_, refl, ap}
 use Prim.Native.Nat.{ℕ, suc, _≤_, _-_}
 use native.Mathlib.Numerals.{add-one}
 use native.Mathlib.Omega.{arith}
-use Rattle.rows.specs.declared.Place.{Place}
-use Rattle.rows.specs.declared.Place.the-variants.{Node}
-use Rattle.rows.specs.declared.Outcome.the-variants.{Passed}
-use Rattle.rows.specs.Checks.{lowest}
-use Rattle.rows.specs.Mesh.{nodes}
-use Rattle.rows.specs.Verdict.{inElement, nodesCheck}
+use Rattle.scope.specs.declared.Place.{Place}
+use Rattle.scope.specs.declared.Place.the-variants.{Node}
+use Rattle.scope.specs.declared.Outcome.the-variants.{Passed}
+use Rattle.scope.specs.Checks.{lowest}
+use Rattle.scope.specs.Mesh.{nodes}
+use Rattle.scope.specs.Verdict.{inElement, nodesCheck}
 use Rattle.rows.proofs.Loops.{Phase, phase-more, phase-fails, phase-done}
 use Rattle.rows.proofs.SoilTables.{soil-none, soil-some}
 use Rattle.rows.proofs.mesh_checks.nodes_check.Statement.{statement}

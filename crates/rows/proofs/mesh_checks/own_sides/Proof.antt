@@ -3,7 +3,7 @@ use mathlib.Core.Path.{_≡_, refl, sym, _∙_, ap}
 use mathlib.Core.Bool.{true, not}
 use Prim.Native.Nat.{_≤_, _-_}
 use native.Mathlib.Omega.{arith}
-use Rattle.rows.specs.Checks.{allBelow}
+use Rattle.scope.specs.Checks.{allBelow}
 use Rattle.rows.proofs.Loops.{all-more, all-fails, all-done}
 use Rattle.rows.proofs.SideTables.{ownSideAt, own-sides-are, own-side-is}
 use Rattle.rows.proofs.mesh_checks.own_sides.Statement.{statement}

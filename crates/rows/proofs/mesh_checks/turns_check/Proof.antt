@@ -4,12 +4,12 @@ use Prim.Native.Nat.{ℕ, suc, _≤_, _-_}
 use native.Mathlib.Numerals.{add-one}
 use native.Mathlib.Omega.{arith}
 use borrow.Author.Tests.{not-true, not-false}
-use Rattle.rows.specs.declared.Place.{Place}
-use Rattle.rows.specs.declared.Place.the-variants.{Element}
-use Rattle.rows.specs.declared.Outcome.the-variants.{Passed}
-use Rattle.rows.specs.Checks.{lowest}
-use Rattle.rows.specs.Mesh.{elements}
-use Rattle.rows.specs.Verdict.{leftTurns, turnsCheck}
+use Rattle.scope.specs.declared.Place.{Place}
+use Rattle.scope.specs.declared.Place.the-variants.{Element}
+use Rattle.scope.specs.declared.Outcome.the-variants.{Passed}
+use Rattle.scope.specs.Checks.{lowest}
+use Rattle.scope.specs.Mesh.{elements}
+use Rattle.scope.specs.Verdict.{leftTurns, turnsCheck}
 use Rattle.rows.proofs.Loops.{Phase, phase-more, phase-fails, phase-done}
 use Rattle.rows.proofs.mesh_checks.turns_check.Statement.{statement}
 use Rattle.rows.proofs.mesh_checks.turns_check.Tie as tie

@@ -5,7 +5,7 @@ use lib.IntN.{pos}
 use lib.Signed.{ltZ}
 use borrow.Author.Needs.{needs}
 use Rattle.integer.specs.Machine.{Is-read, machine, bounded, decides}
-use Rattle.rows.specs.Verdict.{turn}
+use Rattle.scope.specs.Verdict.{turn}
 use Rattle.rows.proofs.MeshLaws.{cross-from}
 use Rattle.rows.proofs.mesh_checks.turns_left.Statement.{statement}
 use Rattle.rows.proofs.mesh_checks.turns_left.Tie as tie

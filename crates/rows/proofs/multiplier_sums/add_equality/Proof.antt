@@ -1,7 +1,7 @@
 -- `add_equality` meets its contract: nothing to add where the multiplier is 0, and else the row times it.
 use native.Mathlib.Omega.{arith}
 use Rattle.integer.specs.Machine.{machine, fits, exact, told, Is-read, Is-Within}
-use Rattle.rows.specs.Columns.{at}
+use Rattle.scope.specs.Columns.{at}
 use Rattle.rows.proofs.FieldLaws.{fits-wider}
 use Rattle.rows.proofs.StrengthLaws.{being}
 use Rattle.rows.proofs.MultiplierLaws.{zero-summed, row-summed}

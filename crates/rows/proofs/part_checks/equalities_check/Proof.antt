@@ -5,10 +5,10 @@ use mir.Val.{ofZ}
 use mathlib.Core.Path.{_≡_, refl, sym, _∙_}
 use Prim.Native.Nat.{suc, _-_, _≤_}
 use native.Mathlib.Omega.{arith}
-use Rattle.rows.specs.declared.Outcome.the-variants.{Passed}
-use Rattle.rows.specs.declared.Place.the-variants as P
-use Rattle.rows.specs.Checks.{lowest}
-use Rattle.rows.specs.Rows.{equalityRows}
+use Rattle.scope.specs.declared.Outcome.the-variants.{Passed}
+use Rattle.scope.specs.declared.Place.the-variants as P
+use Rattle.scope.specs.Checks.{lowest}
+use Rattle.scope.specs.Rows.{equalityRows}
 use Rattle.rows.proofs.Loops.{Phase, phase-more}
 use Rattle.rows.proofs.FieldLaws.{rowTest, field-read, equality-fails, equalities-hold}
 use Rattle.rows.proofs.part_checks.equalities_check.Statement.{statement}

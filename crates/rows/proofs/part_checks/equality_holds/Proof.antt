@@ -1,8 +1,8 @@
 -- `equality_holds` meets its contract: the row's numbers are those of the definition's row, and the machine's test is the test of the two sides.
 use lib.IntN.{ℤ, _*ℤ_}
 use Rattle.integer.specs.Tests.{eqZ}
-use Rattle.rows.specs.Columns.{at}
-use Rattle.rows.specs.Sums.{leftSide}
+use Rattle.scope.specs.Columns.{at}
+use Rattle.scope.specs.Sums.{leftSide}
 use Rattle.rows.specs.RowContracts.{rowOf}
 use Rattle.rows.proofs.FieldLaws.{load-read}
 use mathlib.Core.Path.{sym, _∙_, ap}

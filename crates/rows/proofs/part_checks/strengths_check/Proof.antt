@@ -4,9 +4,9 @@ use mathlib.Core.Path.{_≡_, sym, _∙_}
 use Prim.Native.Nat.{_*_, _-_, _≤_}
 use native.Mathlib.Omega.{arith}
 use borrow.Author.Needs.{needs}
-use Rattle.rows.specs.declared.Outcome.the-variants.{Passed}
-use Rattle.rows.specs.Checks.{lowest}
-use Rattle.rows.specs.Mesh.{sides as sidesOf}
+use Rattle.scope.specs.declared.Outcome.the-variants.{Passed}
+use Rattle.scope.specs.Checks.{lowest}
+use Rattle.scope.specs.Mesh.{sides as sidesOf}
 use Rattle.rows.proofs.StrengthLaws.{sides-listed, strengthDemand, node-fits, steps-fit, node-passes, node-refuses, all-nodes}
 use Rattle.rows.proofs.part_checks.strengths_check.Statement.{statement}
 use Rattle.rows.proofs.part_checks.strengths_check.Tie as tie

@@ -2,7 +2,7 @@
 use mathlib.Core.Path.{sym, ap}
 use native.Mathlib.Omega.{arith}
 use Rattle.integer.specs.Machine.{machine, is}
-use Rattle.rows.specs.Polygon.{polygonOf, twelve, twenty, thirtySix}
+use Rattle.scope.specs.Polygon.{polygonOf, twelve, twenty, thirtySix}
 use Rattle.rows.proofs.SideLaws.{last-listed}
 use Rattle.rows.proofs.polygons.radius_of.Statement.{statement}
 use Rattle.rows.proofs.polygons.radius_of.Tie as tie

@@ -1,6 +1,6 @@
 -- `step_of` meets its contract: four numbers of the table, and their differences and products.
 use Rattle.integer.specs.Machine.{machine, fits, is}
-use Rattle.rows.specs.Columns.{at}
+use Rattle.scope.specs.Columns.{at}
 use Rattle.rows.specs.RowContracts.{tableRun, tableRise, tableCross}
 use native.Mathlib.Omega.{arith}
 use Rattle.integer.specs.Machine.{machine, fits}

@@ -1,7 +1,7 @@
 -- `add_at` meets its contract: the sum fits, and is stored in its place.
 use mathlib.Core.Path.{ap}
 use lib.ListN.{set}
-use Rattle.rows.specs.Columns.{at}
+use Rattle.scope.specs.Columns.{at}
 use native.Mathlib.Omega.{arith}
 use Rattle.integer.specs.Machine.{machine, fits, exact}
 use borrow.Author.Needs.{needs}

@@ -1,8 +1,8 @@
 -- `add_row` meets its contract. The loop's invariant: y times the entries passed is added.
 use lib.IntN.{ℤ, _+ℤ_, _*ℤ_}
 use Rattle.integer.specs.Machine.{unread}
-use Rattle.rows.specs.Columns.{at}
-use Rattle.rows.specs.Sums.{coefficient}
+use Rattle.scope.specs.Columns.{at}
+use Rattle.scope.specs.Sums.{coefficient}
 use Rattle.rows.specs.RowContracts.{rowOf, SumsAre}
 use mathlib.Core.Path.{_≡_, refl, sym, subst}
 use Rattle.integer.specs.Machine.{is, bounded}

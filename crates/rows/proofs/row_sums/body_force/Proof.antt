@@ -1,7 +1,7 @@
 -- `body_force` meets its contract: the element's soil is there, and a product of two bounded numbers fits.
 use mathlib.Core.Path.{subst}
 use Prim.Native.Nat.{_<_}
-use Rattle.rows.specs.Mesh.{soils}
+use Rattle.scope.specs.Mesh.{soils}
 use mathlib.Core.Path.{sym}
 use native.Mathlib.Omega.{arith}
 use Rattle.integer.specs.Machine.{machine, fits, is}

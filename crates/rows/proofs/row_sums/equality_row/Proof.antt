@@ -1,10 +1,10 @@
 -- `equality_row` meets its contract: two rows for each element, then four for each edge.
-use Rattle.rows.specs.Mesh.{elements}
-use Rattle.rows.specs.Rows.{equalityRows}
+use Rattle.scope.specs.Mesh.{elements}
+use Rattle.scope.specs.Rows.{equalityRows}
 use mathlib.Core.Path.{_≡_, ap}
 use native.Mathlib.Omega.{arith}
 use Prim.Native.Nat.{_+_, _*_, _-_, _/_, _%_}
-use Rattle.rows.specs.Verdict.{rowAt}
+use Rattle.scope.specs.Verdict.{rowAt}
 use Rattle.rows.proofs.EqualityLaws.{filled-as, balance-row-is}
 use borrow.Author.Needs.{needs}
 use Rattle.rows.proofs.row_sums.equality_row.Statement.{statement}

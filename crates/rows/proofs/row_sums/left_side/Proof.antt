@@ -1,7 +1,7 @@
 -- `left_side` meets its contract. The loop's invariant: `sum` is the sum over the entries passed.
 use mathlib.Core.Path.{_≡_, ap}
 use lib.IntN.{_+ℤ_, _*ℤ_}
-use Rattle.rows.specs.Sums.{leftSide}
+use Rattle.scope.specs.Sums.{leftSide}
 use Rattle.rows.specs.RowContracts.{rowOf}
 use mathlib.Core.Path.{refl, sym}
 use native.Mathlib.Omega.{arith}
@@ -10,8 +10,8 @@ use lib.ListN.{take}
 use mir.Syntax.{w64}
 use mir.Val.{toZ}
 use Rattle.integer.specs.Machine.{Is, machine, fits, is}
-use Rattle.rows.specs.Columns.{at}
-use Rattle.rows.specs.Sums.{weightedSum}
+use Rattle.scope.specs.Columns.{at}
+use Rattle.scope.specs.Sums.{weightedSum}
 use Rattle.rows.specs.RowContracts.{pairs}
 use Rattle.rows.proofs.SumLaws.{one-entry-more}
 use Rattle.rows.proofs.row_sums.left_side.Statement.{statement}

@@ -1,7 +1,7 @@
 -- `node_at` meets its contract: a corner is a node of the mesh.
 use mathlib.Core.Path.{sym, subst}
 use Prim.Native.Nat.{_<_}
-use Rattle.rows.specs.Mesh.{nodes}
+use Rattle.scope.specs.Mesh.{nodes}
 use borrow.Author.Needs.{needs}
 use Rattle.rows.proofs.row_sums.node_at.Statement.{statement}
 use Rattle.rows.proofs.row_sums.node_at.Tie as tie

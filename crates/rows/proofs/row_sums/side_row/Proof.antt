@@ -2,9 +2,9 @@
 use mathlib.Core.Path.{sym, _∙_, ap, subst}
 use Prim.Native.Nat.{_<_}
 use native.Mathlib.Omega.{arith}
-use Rattle.rows.specs.Mesh.{nodes}
-use Rattle.rows.specs.Rows.{normalRow, shearRow}
-use Rattle.rows.specs.Verdict.{rowAt}
+use Rattle.scope.specs.Mesh.{nodes}
+use Rattle.scope.specs.Rows.{normalRow, shearRow}
+use Rattle.scope.specs.Verdict.{rowAt}
 use Rattle.rows.proofs.EqualityLaws.{filled-as, side-row-is}
 use borrow.Author.Needs.{needs}
 use Rattle.rows.proofs.row_sums.side_row.Statement.{statement}

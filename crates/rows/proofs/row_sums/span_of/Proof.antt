@@ -1,7 +1,7 @@
 -- `span_of` meets its contract: the differences across two corners.
 use native.Mathlib.Omega.{arith}
 use Rattle.integer.specs.Machine.{machine, is}
-use Rattle.rows.specs.Rows.{node, riseAcross, runAcross}
+use Rattle.scope.specs.Rows.{node, riseAcross, runAcross}
 use borrow.Author.Needs.{needs}
 use Rattle.rows.proofs.row_sums.span_of.Statement.{statement}
 use Rattle.rows.proofs.row_sums.span_of.Tie as tie

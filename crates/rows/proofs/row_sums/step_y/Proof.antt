@@ -2,8 +2,8 @@
 use mathlib.Core.Path.{sym, subst}
 use Prim.Native.Nat.{_<_}
 use Rattle.integer.specs.Machine.{Is-as, Is-read}
-use Rattle.rows.specs.Mesh.{nodes}
-use Rattle.rows.specs.Rows.{stepY}
+use Rattle.scope.specs.Mesh.{nodes}
+use Rattle.scope.specs.Rows.{stepY}
 use native.Mathlib.Omega.{arith}
 use borrow.Author.Needs.{needs}
 use Rattle.rows.proofs.row_sums.step_y.Statement.{statement}

@@ -6,8 +6,8 @@ use mir.Syntax.{w64}
 use mir.Val.{toZ, ofZ}
 use borrow.Author.Needs.{needs}
 use Rattle.integer.specs.Machine.{machine, unbounded, by-value, meets}
-use Rattle.rows.specs.Columns.{at}
-use Rattle.rows.specs.Layout.{count}
+use Rattle.scope.specs.Columns.{at}
+use Rattle.scope.specs.Layout.{count}
 use Rattle.rows.proofs.Places.{count-natAbs}
 use Rattle.rows.proofs.sizes.count_at.Statement.{statement}
 use Rattle.rows.proofs.sizes.count_at.Tie as tie

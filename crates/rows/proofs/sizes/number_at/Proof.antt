@@ -2,7 +2,7 @@
 use native.Mathlib.Omega.{arith}
 use borrow.Author.Needs.{needs}
 use Rattle.integer.specs.Machine.{machine, unbounded, exact}
-use Rattle.rows.specs.Columns.{at}
+use Rattle.scope.specs.Columns.{at}
 use Rattle.rows.proofs.sizes.number_at.Statement.{statement}
 use Rattle.rows.proofs.sizes.number_at.Tie as tie
 

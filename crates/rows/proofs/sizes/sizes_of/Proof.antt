@@ -1,6 +1,6 @@
 -- `sizes_of` meets its contract: each count is there, and the sums fit, since the counts are small.
 use native.Mathlib.Omega.{arith}
-use Rattle.rows.specs.Mesh.{nodes, elements, soils}
+use Rattle.scope.specs.Mesh.{nodes, elements, soils}
 use Rattle.rows.proofs.Places.{nodes-there, elements-there, soils-there, edges-there, sides-there, sized}
 use Rattle.rows.proofs.sizes.sizes_of.Statement.{statement}
 use Rattle.rows.proofs.sizes.sizes_of.Tie as tie

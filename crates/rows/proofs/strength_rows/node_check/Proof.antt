@@ -7,9 +7,9 @@ use lib.IntN.{pos}
 use lib.Signed.{leZ}
 use Rattle.integer.specs.Machine.{machine, told}
 use Rattle.integer.specs.Tests.{yes-leZ, no-leZ}
-use Rattle.rows.specs.declared.Outcome.the-variants.{Passed}
-use Rattle.rows.specs.declared.Place.the-variants as P
-use Rattle.rows.specs.Checks.{lowest}
+use Rattle.scope.specs.declared.Outcome.the-variants.{Passed}
+use Rattle.scope.specs.declared.Place.the-variants as P
+use Rattle.scope.specs.Checks.{lowest}
 use Rattle.rows.specs.RowContracts.{sideSlack, nodeCheck}
 use Rattle.rows.proofs.Loops.{Phase, phase-more, phase-fails, phase-done}
 use Rattle.rows.proofs.StrengthLaws.{true-of, false-of}

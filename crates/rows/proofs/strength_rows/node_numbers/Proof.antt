@@ -3,7 +3,7 @@ use mathlib.Core.Path.{refl}
 use Prim.Native.Nat.{_+_, _*_}
 use native.Mathlib.Omega.{arith}
 use Rattle.integer.specs.Machine.{machine, fits, is}
-use Rattle.rows.specs.Columns.{at}
+use Rattle.scope.specs.Columns.{at}
 use Rattle.rows.proofs.StrengthLaws.{being}
 use borrow.Author.Needs.{needs}
 use Rattle.rows.proofs.strength_rows.node_numbers.Statement.{statement}

@@ -3,9 +3,9 @@ use mathlib.Core.Path.{sym, _∙_, ap, subst}
 use Prim.Native.Nat.{_<_}
 use native.Mathlib.Omega.{arith}
 use Rattle.integer.specs.Machine.{Is-read, Is-Within}
-use Rattle.rows.specs.Columns.{n}
-use Rattle.rows.specs.Mesh.{soils}
-use Rattle.rows.specs.Polygon.{polygonOf}
+use Rattle.scope.specs.Columns.{n}
+use Rattle.scope.specs.Mesh.{soils}
+use Rattle.scope.specs.Polygon.{polygonOf}
 use Rattle.rows.proofs.ClaimLaws.{claim-within, rest-within, stress-of, scale-within, field-long}
 use Rattle.rows.proofs.StrengthLaws.{being, soil-fits, node-stated, sides-listed}
 use borrow.Author.Needs.{needs}

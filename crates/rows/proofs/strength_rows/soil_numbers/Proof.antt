@@ -1,9 +1,9 @@
 -- `soil_numbers` meets its contract: each number is computed as the contract says, within the limits of a soil's line.
 use mathlib.Core.Path.{refl}
-use Rattle.rows.specs.Mesh.{p, q, h, cohesion}
+use Rattle.scope.specs.Mesh.{p, q, h, cohesion}
 use native.Mathlib.Omega.{arith}
 use Rattle.integer.specs.Machine.{machine, fits, is}
-use Rattle.rows.specs.Columns.{at}
+use Rattle.scope.specs.Columns.{at}
 use Rattle.rows.proofs.StrengthLaws.{being, p-within, q-within, h-within, cohesion-within}
 use borrow.Author.Needs.{needs}
 use Rattle.rows.proofs.strength_rows.soil_numbers.Statement.{statement}

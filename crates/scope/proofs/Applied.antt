@@ -1,0 +1,155 @@
+-- The theorems applied to document 01's sheet: antt computes that its mesh and parts pass, and the theorems say the rest.
+use mathlib.Core.Path.{_≡_, refl}
+use mathlib.Core.List.{List, [], _∷_}
+use Prim.Native.Nat.{ℕ, suc, _*_}
+use native.Mathlib.Omega.{arith}
+use mathlib.Core.Bool.{Bool}
+use lib.Dec.{lt→ltb}
+use lib.IntN.{ℤ, pos, negsuc, negℤ, _*ℤ_, _-ℤ_}
+use lib.Signed.{ltZ-yes}
+use Rattle.integer.specs.Fraction.{_over_, _≈ᶠ_, _≤ᶠ_, Positive}
+use Rattle.scope.specs.declared.Place.the-variants.{Column}
+use Rattle.scope.specs.declared.Outcome.the-variants.{Passed}
+use Rattle.scope.specs.declared.Verdict.the-variants.{Refused}
+use Rattle.scope.specs.Columns.{at, n, l}
+use Rattle.scope.specs.Layout.{linesCheck}
+use Rattle.scope.specs.Mesh.{nodes}
+use Rattle.scope.specs.Rows.{equalityRows, strengthRows, rowsOf}
+use Rattle.scope.specs.Sums.{weightedSum, weighed, liveSum, limitSum, openRows}
+use Rattle.scope.specs.Claim.{claimLayout, stress, multiplier}
+use Rattle.scope.specs.Verdict.{meshCheck, fieldCheck, multipliersCheck, verdict, rowAt}
+use Rattle.scope.specs.Computed.{computed}
+use Rattle.scope.specs.Sound.{MeshSound}
+use Rattle.scope.specs.Refusals.{HasField, HasMultipliers}
+use Rattle.scope.specs.Accepted.{FieldAccepted, MultipliersAccepted}
+use Rattle.scope.specs.Bracket.{toSpare}
+use Rattle.scope.specs.Parts.{carried, allowed, PartsBracket, OpenRowsCount}
+use Rattle.scope.specs.Worked.{zeros, workedMesh, workedStresses, workedMultipliers, workedClaim, multipliersAlone, sheet, sheet19, sheet29, nineteenFractions, nineteenSixths}
+use Rattle.scope.specs.Fractions.{FractionField, WrittenOver}
+use Rattle.scope.specs.AcceptedFractions.{MeetsMesh}
+use Rattle.integer.specs.Tests.{eqZ}
+use Rattle.scope.proofs.Decides.{all-below, equalℤ}
+use Rattle.scope.proofs.Sound.{mesh-passed, lines-passed, field-passed, multipliers-passed}
+use Rattle.scope.proofs.Parts.{parts-bracket, open-rows-count}
+use Rattle.scope.proofs.AcceptedFractions.{mesh-fractions}
+
+-- ---- what passes is accepted
+
+field-accepted : (m c : List ℤ) → meshCheck m ≡ Passed → linesCheck (claimLayout m) c ≡ Passed → HasField c → fieldCheck (equalityRows m) (strengthRows m) (stress m c) (l c) (n c) ≡ Passed → FieldAccepted m c
+unfolding rowsOf
+field-accepted m c a b h e = record {
+  mesh = mesh-passed m .says a;
+  lines = lines-passed (claimLayout m) c .says b;
+  there = h;
+  meets = field-passed (equalityRows m) (strengthRows m) (stress m c) (l c) (n c) .says e;
+}
+
+multipliers-accepted : (m c : List ℤ) → meshCheck m ≡ Passed → linesCheck (claimLayout m) c ≡ Passed → HasMultipliers c → multipliersCheck (equalityRows m) (rowsOf m) (3 * nodes m) (multiplier m c) ≡ Passed → MultipliersAccepted m c
+multipliers-accepted m c a b h e = record {
+  mesh = mesh-passed m .says a;
+  lines = lines-passed (claimLayout m) c .says b;
+  there = h;
+  meet = multipliers-passed (equalityRows m) (rowsOf m) (3 * nodes m) (multiplier m c) .says e;
+}
+
+-- ---- the sheet: m = 30, W = 600
+
+pub sheet-field : FieldAccepted workedMesh sheet
+unfolding computed zeros workedMesh workedStresses workedMultipliers workedClaim multipliersAlone sheet sheet19 sheet29
+sheet-field = field-accepted workedMesh sheet refl refl refl refl
+
+pub sheet-multipliers : MultipliersAccepted workedMesh sheet
+unfolding computed zeros workedMesh workedStresses workedMultipliers workedClaim multipliersAlone sheet sheet19 sheet29
+sheet-multipliers = multipliers-accepted workedMesh sheet refl refl refl refl
+
+pub sheet-sums : (liveSum (multiplier workedMesh sheet) (rowsOf workedMesh) ≡ pos 30) × (limitSum (multiplier workedMesh sheet) (rowsOf workedMesh) ≡ pos 600)
+unfolding computed zeros workedMesh workedStresses workedMultipliers workedClaim multipliersAlone sheet sheet19 sheet29
+sheet-sums = (refl, refl)
+
+-- 20 carried, 600/30 allowed, and no row open
+pub sheet-bracket : PartsBracket workedMesh sheet workedMesh sheet
+sheet-bracket = parts-bracket workedMesh sheet workedMesh sheet refl sheet-field sheet-multipliers
+
+pub sheet-open : openRows (stress workedMesh sheet) (l sheet) (n sheet) (multiplier workedMesh sheet) (rowsOf workedMesh) ≡ 0
+unfolding computed zeros workedMesh workedStresses workedMultipliers workedClaim multipliersAlone sheet sheet19 sheet29
+sheet-open = refl
+
+pub sheet-closed : carried sheet ≈ᶠ allowed workedMesh sheet
+sheet-closed = open-rows-count workedMesh sheet sheet-field sheet-multipliers .none .0 sheet-open
+
+-- ---- l 19: 600 - 570 = 15 + 15
+
+pub nineteen-field : FieldAccepted workedMesh sheet19
+unfolding computed zeros workedMesh workedStresses workedMultipliers workedClaim multipliersAlone sheet sheet19 sheet29
+nineteen-field = field-accepted workedMesh sheet19 refl refl refl refl
+
+-- the strength rows 25 and 36, sides 1 and 12 of node 3, each with multiplier 1 and 15 to spare; they follow 14 equality rows
+pub nineteen-spare : (toSpare (stress workedMesh sheet19) (l sheet19) (n sheet19) (rowAt (strengthRows workedMesh) 24) ≡ pos 15) × (toSpare (stress workedMesh sheet19) (l sheet19) (n sheet19) (rowAt (strengthRows workedMesh) 35) ≡ pos 15)
+unfolding computed zeros workedMesh workedStresses workedMultipliers workedClaim multipliersAlone sheet sheet19 sheet29 toSpare
+nineteen-spare = (refl, refl)
+
+pub nineteen-gap : weightedSum (toSpare (stress workedMesh sheet19) (l sheet19) (n sheet19)) (weighed (multiplier workedMesh sheet19) (rowsOf workedMesh)) ≡ pos 600 *ℤ pos 1 -ℤ pos 19 *ℤ pos 30
+unfolding computed zeros workedMesh workedStresses workedMultipliers workedClaim multipliersAlone sheet sheet19 sheet29 toSpare
+nineteen-gap = refl
+
+-- ---- the field of l 19 against the multipliers of another claim
+
+pub alone-multipliers : MultipliersAccepted workedMesh multipliersAlone
+unfolding computed zeros workedMesh workedStresses workedMultipliers workedClaim multipliersAlone sheet sheet19 sheet29
+alone-multipliers = multipliers-accepted workedMesh multipliersAlone refl refl refl refl
+
+pub nineteen-alone : PartsBracket workedMesh sheet19 workedMesh multipliersAlone
+nineteen-alone = parts-bracket workedMesh sheet19 workedMesh multipliersAlone refl nineteen-field alone-multipliers
+
+-- ---- an accepted field within a refused claim
+
+pub refused-claim : verdict workedMesh sheet29 ≡ Refused 32 (Column 7)
+unfolding computed zeros workedMesh workedStresses workedMultipliers workedClaim multipliersAlone sheet sheet19 sheet29
+refused-claim = refl
+
+pub field-of-refused : FieldAccepted workedMesh sheet29
+unfolding computed zeros workedMesh workedStresses workedMultipliers workedClaim multipliersAlone sheet sheet19 sheet29
+field-of-refused = field-accepted workedMesh sheet29 refl refl refl refl
+
+pub refused-bracket : PartsBracket workedMesh sheet29 workedMesh sheet
+refused-bracket = parts-bracket workedMesh sheet29 workedMesh sheet refl field-of-refused sheet-multipliers
+
+-- ---- a field in fractions with different denominators
+
+above-0 : (num : ℤ) (d : ℕ) → Positive (num over pos (suc d))
+above-0 num d = record { positive = record { lt = lt→ltb 0 (suc d) (omega arith) } }
+
+fractions : FractionField
+fractions = record {
+  stress = λ k. record { value = nineteenFractions k .0 over pos (suc (nineteenFractions k .1)); proper = above-0 (nineteenFractions k .0) (nineteenFractions k .1) };
+  load = record { value = pos 38 over pos 2; proper = above-0 (pos 38) 1 };
+}
+
+-- each is the one over 6, tested at the twelve columns
+sixths : WrittenOver (3 * nodes workedMesh) fractions (pos 6) nineteenSixths (pos 114)
+unfolding computed zeros workedMesh workedStresses workedMultipliers workedClaim multipliersAlone sheet sheet19 sheet29 nineteenFractions nineteenSixths fractions
+sixths = record {
+  above-0 = ltZ-yes tt;
+  stresses = λ j h. record { cross-≡ = all-below {f = test} {P = Same} (λ j. equalℤ (nineteenSixths j *ℤ pos (suc (nineteenFractions j .1))) (nineteenFractions j .0 *ℤ pos 6)) 12 .holds tt j h };
+  load = record { cross-≡ = refl };
+}
+  where
+    test : ℕ → Bool
+    test j = eqZ (nineteenSixths j *ℤ pos (suc (nineteenFractions j .1))) (nineteenFractions j .0 *ℤ pos 6)
+
+    Same : ℕ → Type 0
+    Same j = nineteenSixths j *ℤ pos (suc (nineteenFractions j .1)) ≡ nineteenFractions j .0 *ℤ pos 6
+
+fractions-meet : MeetsMesh workedMesh fractions
+unfolding computed zeros workedMesh workedStresses workedMultipliers workedClaim multipliersAlone sheet sheet19 sheet29 nineteenFractions nineteenSixths fractions
+fractions-meet = record {
+  denominator = pos 6;
+  numerators = nineteenSixths;
+  numerator = pos 114;
+  written = sixths;
+  meets = field-passed (equalityRows workedMesh) (strengthRows workedMesh) nineteenSixths (pos 114) (pos 6) .says refl;
+}
+
+pub fractions-at-most : pos 38 over pos 2 ≤ᶠ allowed workedMesh sheet
+unfolding fractions
+fractions-at-most = mesh-fractions workedMesh (sheet-field .mesh) .at-most sheet fractions sheet-multipliers fractions-meet

@@ -1,0 +1,141 @@
+-- A test decides a statement: it passes exactly when the statement holds. One law for each way of building a test.
+use mathlib.Core.Path.{_≡_, refl, sym, ap, subst}
+use mathlib.Core.Logic.{_↔_, _⊎_, inl, inr}
+use mathlib.Core.Bool.{Bool, true, false, not, cond, _&&_, _||_}
+use Prim.Native.Nat.{ℕ, zero, suc, _<_, _≤_}
+use native.Mathlib.Omega.{arith}
+use lib.IntN.{ℤ}
+use lib.Signed.{leZ, ltZ, _≤ℤ_, _<ℤ_, leZ-yes, ltZ-yes}
+use lib.Dec.{T, T-not, not-T, eqb, eqb→eq, eqb-refl, leb, leb→le, le→leb}
+use Rattle.integer.specs.Tests.{eqZ, eqZ-yes, yes-eqZ, yes-leZ, yes-ltZ}
+use Rattle.scope.specs.declared.Place.{Place}
+use Rattle.scope.specs.declared.Outcome.{Outcome}
+use Rattle.scope.specs.declared.Outcome.the-variants.{Passed, Refused}
+use Rattle.scope.specs.Checks.{demand, _then_, lowest, someBelow, allBelow}
+use Rattle.scope.proofs.Checks.{below-suc, demand-passed, demand-refused, then-passed, then-refused, lowest-passed, lowest-refused}
+
+pub record Decides (b : Bool) (A : Type 0) : Type 0 where
+  pub holds : T b → A
+  pub passes : A → T b
+
+pub decides : {b : Bool} {A : Type 0} → (A → T b) → (T b → A) → Decides b A
+decides p h = record { holds = h; passes = p }
+
+-- ---- connectives
+
+pub both : {a b : Bool} {A B : Type 0} → Decides a A → Decides b B → Decides (a && b) (A × B)
+both {a = true} d e = record { holds = λ t. (d .holds tt, e .holds t); passes = λ h. e .passes (h .1) }
+both {a = false} d e = record { holds = λ t. absurd t; passes = λ h. d .passes (h .0) }
+
+pub either : {a b : Bool} {A B : Type 0} → Decides a A → Decides b B → Decides (a || b) (A ⊎ B)
+either {a = true} d e = record { holds = λ t. inl (d .holds tt); passes = λ h. tt }
+either {a = false} {b} {A} {B} d e = record { holds = λ t. inr (e .holds t); passes = from }
+  where
+    from : A ⊎ B → T b
+    from (inl h) = absurd (d .passes h)
+    from (inr h) = e .passes h
+
+pub opposite : {a : Bool} {A : Type 0} → Decides a A → Decides (not a) (¬ A)
+opposite {a} d = record { holds = λ t h. T-not a t (d .passes h); passes = λ f. not-T a (λ t. f (d .holds t)) }
+
+-- the same statement in other words
+pub said-as : {a : Bool} {A B : Type 0} → Decides a A → (A → B) → (B → A) → Decides a B
+said-as d f g = record { holds = λ t. f (d .holds t); passes = λ h. d .passes (g h) }
+
+-- ---- numbers
+
+pub equal : (a b : ℕ) → Decides (eqb a b) (a ≡ b)
+equal a b = record { holds = eqb→eq a b; passes = λ e. subst (λ x. T (eqb a x)) e (eqb-refl a) }
+
+pub at-most : (a b : ℕ) → Decides (leb a b) (a ≤ b)
+at-most a b = record { holds = leb→le a b; passes = le→leb a b }
+
+pub equalℤ : (a b : ℤ) → Decides (eqZ a b) (a ≡ b)
+equalℤ a b = record { holds = eqZ-yes; passes = yes-eqZ }
+
+pub at-mostℤ : (a b : ℤ) → Decides (leZ a b) (a ≤ℤ b)
+at-mostℤ a b = record { holds = leZ-yes; passes = yes-leZ }
+
+pub belowℤ : (a b : ℤ) → Decides (ltZ a b) (a <ℤ b)
+belowℤ a b = record { holds = ltZ-yes; passes = yes-ltZ }
+
+-- ---- some and all below n
+
+pub some-below : {f : ℕ → Bool} {P : ℕ → Type 0} → ((k : ℕ) → Decides (f k) (P k)) → (n : ℕ) → Decides (someBelow f n) ((k : ℕ) × (k < n) × P k)
+unfolding someBelow
+some-below d zero = record { holds = λ t. absurd t; passes = λ h. absurd (omega (arith, h .1)) }
+some-below {f} {P} d (suc n) = said-as (either (some-below d n) (d n)) up (λ h. down (below-suc (h .1)) (h .2))
+  where
+    up : ((k : ℕ) × (k < n) × P k) ⊎ P n → (k : ℕ) × (k < suc n) × P k
+    up (inl h) = (h .0, omega (arith, h .1), h .2)
+    up (inr h) = (n, omega arith, h)
+
+    down : {k : ℕ} → (k < n) ⊎ (k ≡ n) → P k → ((k : ℕ) × (k < n) × P k) ⊎ P n
+    down {k} (inl l) h = inl (k, l, h)
+    down {k} (inr l) h = inr (rw l at h)
+
+pub all-below : {f : ℕ → Bool} {P : ℕ → Type 0} → ((k : ℕ) → Decides (f k) (P k)) → (n : ℕ) → Decides (allBelow f n) ((k : ℕ) → k < n → P k)
+unfolding allBelow
+all-below d zero = record { holds = λ t k h. absurd (omega arith); passes = λ h. tt }
+all-below {f} {P} d (suc n) = said-as (both (all-below d n) (d n)) (λ h k l. up h (below-suc l)) (λ h. (λ k l. h k (omega arith), h n (omega arith)))
+  where
+    up : {k : ℕ} → (((k : ℕ) → k < n → P k) × P n) → (k < n) ⊎ (k ≡ n) → P k
+    up {k} h (inl l) = h .0 k l
+    up {k} h (inr l) = rw l (h .1)
+
+-- ---- checks of such tests
+
+-- checks pass exactly when a statement holds
+pub record Passes (o : Outcome) (A : Type 0) : Type 0 where
+  pub says : o ≡ Passed → A
+  pub passed : A → o ≡ Passed
+
+pub put-as : {o : Outcome} {A B : Type 0} → Passes o A → (A → B) → (B → A) → Passes o B
+put-as h f g = record { says = λ e. f (h .says e); passed = λ b. h .passed (g b) }
+
+pub one-check : {b : Bool} {A : Type 0} → Decides b A → (c : ℕ) (p : Place) → Passes (demand b c p) A
+one-check {b} d c p = record { says = λ e. d .holds (demand-passed b c p .0 e); passed = λ h. demand-passed b c p .1 (d .passes h) }
+
+pub and-then : {a b : Outcome} {A B : Type 0} → Passes a A → Passes b B → Passes (a then b) (A × B)
+and-then {a} {b} g h = record {
+  says = λ e. let r : (a ≡ Passed) × (b ≡ Passed) = then-passed a b .0 e in (g .says (r .0), h .says (r .1));
+  passed = λ r. then-passed a b .1 (g .passed (r .0), h .passed (r .1));
+}
+
+pub at-each : {f : ℕ → Outcome} {P : ℕ → Type 0} → ((k : ℕ) → Passes (f k) (P k)) → (n : ℕ) → Passes (lowest f n) ((k : ℕ) → k < n → P k)
+at-each {f} h n = record {
+  says = λ e k l. h k .says (lowest-passed f n .0 e k l);
+  passed = λ r. lowest-passed f n .1 (λ k l. h k .passed (r k l));
+}
+
+-- checks are refused with a number and a place exactly when a statement about them holds
+pub record Refuses (o : Outcome) (R : ℕ → Place → Type 0) : Type 0 where
+  pub why : (c : ℕ) (p : Place) → o ≡ Refused c p → R c p
+  pub refused : (c : ℕ) (p : Place) → R c p → o ≡ Refused c p
+
+pub told-as : {o : Outcome} {R S : ℕ → Place → Type 0} → Refuses o R → ((c : ℕ) (p : Place) → R c p → S c p) → ((c : ℕ) (p : Place) → S c p → R c p) → Refuses o S
+told-as h f g = record { why = λ c p e. f c p (h .why c p e); refused = λ c p s. h .refused c p (g c p s) }
+
+pub one-refusal : {b : Bool} {A : Type 0} → Decides b A → (k : ℕ) (q : Place) → Refuses (demand b k q) (λ c p. (¬ A) × (k ≡ c) × (q ≡ p))
+one-refusal {b} d k q = record {
+  why = λ c p e. let r : T (not b) × (k ≡ c) × (q ≡ p) = demand-refused b k c q p .0 e in (opposite d .holds (r .0), r .1, r .2);
+  refused = λ c p r. demand-refused b k c q p .1 (opposite d .passes (r .0), r .1, r .2);
+}
+
+pub then-refusal : {a b : Outcome} {A : Type 0} {R S : ℕ → Place → Type 0} → Passes a A → Refuses a R → Refuses b S → Refuses (a then b) (λ c p. R c p ⊎ (A × S c p))
+then-refusal {a} {b} {A} {R} {S} h r s = record { why = λ c p e. to c p (then-refused a b c p .0 e); refused = λ c p x. then-refused a b c p .1 (from c p x) }
+  where
+    to : (c : ℕ) (p : Place) → (a ≡ Refused c p) ⊎ ((a ≡ Passed) × (b ≡ Refused c p)) → R c p ⊎ (A × S c p)
+    to c p (inl e) = inl (r .why c p e)
+    to c p (inr e) = inr (h .says (e .0), s .why c p (e .1))
+
+    from : (c : ℕ) (p : Place) → R c p ⊎ (A × S c p) → (a ≡ Refused c p) ⊎ ((a ≡ Passed) × (b ≡ Refused c p))
+    from c p (inl x) = inl (r .refused c p x)
+    from c p (inr x) = inr (h .passed (x .0), s .refused c p (x .1))
+
+-- the lowest place that fails: all before it hold
+pub lowest-refusal : {f : ℕ → Outcome} {P : ℕ → Type 0} {R : ℕ → ℕ → Place → Type 0} → ((k : ℕ) → Passes (f k) (P k)) → ((k : ℕ) → Refuses (f k) (R k)) → (n : ℕ) → Refuses (lowest f n) (λ c p. (k : ℕ) × (k < n) × ((j : ℕ) → j < k → P j) × R k c p)
+lowest-refusal {f} h r n = record {
+  why = λ c p e. let (k, w) = lowest-refused f n c p .0 e in (k, w .0, λ j l. h j .says (w .1 j l), r k .why c p (w .2));
+  refused = λ c p x. lowest-refused f n c p .1 (x .0, (x .1, λ j l. h j .passed (x .2 j l), r (x .0) .refused c p (x .3)));
+}

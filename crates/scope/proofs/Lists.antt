@@ -1,0 +1,72 @@
+-- Membership in the lists that rows are made of: by induction on the list.
+use mathlib.Core.Path.{_≡_, refl, sym, ap, subst}
+use mathlib.Core.Logic.{⊎-elim}
+use mathlib.Core.List.{List, [], _∷_, _++_, List·Memᴰ·head, List·Memᴰ·tail, List·Memᴰ·append-cases, List·Memᴰ·not-nil, Memᴰ·append-left, Memᴰ·append-right, Memᴰ·of-map, map}
+use Prim.Native.Nat.{ℕ, zero, suc, _+_, _≤_, _<_}
+use native.Mathlib.Nat.{eq-or-lt-of-le}
+use native.Mathlib.Omega.{arith}
+use lib.ListN.{length}
+use Rattle.scope.specs.Members.{_∈_}
+use Rattle.scope.specs.Rows.{Row, countFrom, joined}
+use Rattle.scope.specs.Verdict.{rowAt}
+
+pub in-joined : {A B : Type 0} (f : A → List B) (l : List A) {a : A} {b : B} → a ∈ l → b ∈ f a → b ∈ joined f l
+unfolding joined
+in-joined f (c ∷ l) (List·Memᴰ·head e) m = Memᴰ·append-left (joined f l) (rw e at m)
+in-joined f (c ∷ l) (List·Memᴰ·tail k) m = Memᴰ·append-right (f c) (in-joined f l k m)
+
+pub of-joined : {A B : Type 0} (f : A → List B) (l : List A) {b : B} → b ∈ joined f l → (a : A) × (a ∈ l) × (b ∈ f a)
+unfolding joined
+of-joined f (c ∷ l) m =
+    ⊎-elim
+    (λ k. (c, List·Memᴰ·head refl, k))
+    (λ k. let (a, j, b) = of-joined f l k in (a, List·Memᴰ·tail j, b))
+    (List·Memᴰ·append-cases (f c) m)
+
+pub in-count : (k n : ℕ) {i : ℕ} → k ≤ i → i < k + n → i ∈ countFrom k n
+unfolding countFrom
+in-count k zero h g = absurd (omega arith)
+in-count k (suc n) h g =
+    ⊎-elim (λ e. List·Memᴰ·head (sym e)) (λ l. List·Memᴰ·tail (in-count (suc k) n l (omega arith))) (eq-or-lt-of-le h)
+
+pub of-count : (k n : ℕ) {i : ℕ} → i ∈ countFrom k n → (k ≤ i) × (i < k + n)
+unfolding countFrom
+of-count k (suc n) (List·Memᴰ·head e) = omega arith
+of-count k (suc n) (List·Memᴰ·tail m) = let h = of-count (suc k) n m in omega arith
+
+pub count-length : (k n : ℕ) → length (countFrom k n) ≡ n
+unfolding countFrom
+count-length k zero = refl
+count-length k (suc n) = ap suc (count-length (suc k) n)
+
+-- ---- a fact of each element, by how the list is made
+
+module _ {A : Type 0} (P : A → Type 0) where
+  pub each-nil : (a : A) → a ∈ [] → P a
+  each-nil a m = absurd (List·Memᴰ·not-nil m)
+
+  pub each-cons : {b : A} {l : List A} → P b → ((a : A) → a ∈ l → P a) → (a : A) → a ∈ b ∷ l → P a
+  each-cons h f a (List·Memᴰ·head e) = rw e h
+  each-cons h f a (List·Memᴰ·tail m) = f a m
+
+  pub each-++ : {k l : List A} → ((a : A) → a ∈ k → P a) → ((a : A) → a ∈ l → P a) → (a : A) → a ∈ k ++ l → P a
+  each-++ {k} f g a m = ⊎-elim (f a) (g a) (List·Memᴰ·append-cases k m)
+
+  pub each-map : {B : Type 0} (f : B → A) (l : List B) → ((b : B) → b ∈ l → P (f b)) → (a : A) → a ∈ map f l → P a
+  each-map f l h a m = let (b, k, e) = Memᴰ·of-map f l m in subst P e (h b k)
+
+  pub each-joined : {B : Type 0} (f : B → List A) (l : List B) → ((b : B) → b ∈ l → (a : A) → a ∈ f b → P a) → (a : A) → a ∈ joined f l → P a
+  each-joined f l h a m = let (b, k, j) = of-joined f l m in h b k a j
+
+-- ---- rows by their place
+
+pub row-in : (rs : List Row) (k : ℕ) → k < length rs → rowAt rs k ∈ rs
+unfolding rowAt
+row-in [] k h = absurd (omega arith)
+row-in (r ∷ rs) zero h = List·Memᴰ·head refl
+row-in (r ∷ rs) (suc k) h = List·Memᴰ·tail (row-in rs k (omega arith))
+
+pub by-place : (P : Row → Type 0) (rs : List Row) → ((k : ℕ) → k < length rs → P (rowAt rs k)) → (r : Row) → r ∈ rs → P r
+unfolding rowAt
+by-place P (a ∷ rs) h r (List·Memᴰ·head e) = rw e (h 0 (omega arith))
+by-place P (a ∷ rs) h r (List·Memᴰ·tail m) = by-place P rs (λ k b. h (suc k) (omega arith)) r m

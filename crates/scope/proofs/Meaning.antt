@@ -1,0 +1,174 @@
+-- The laws of what the rows mean: ring identities; the element's area and outward normal by its left turns; a node's soil by a search from the lowest element up.
+use mathlib.Core.Path.{_≡_, refl, sym, _∙_}
+use mathlib.Core.Logic.{_↔_, ⊎-elim}
+use mathlib.Core.Bool.{Bool, true, false, cond, not}
+use mathlib.Core.List.{List, [], _∷_}
+use Prim.Native.Nat.{ℕ, zero, suc, _+_, _≤_, _<_, zero-le}
+use native.Mathlib.Omega.{arith}
+use native.Mathlib.Nat.{eq-or-lt-of-le}
+use lib.Dec.{T, T-not, eqb, lit<}
+use lib.IntN.{ℤ, pos, _+ℤ_, _-ℤ_, _*ℤ_, negℤ}
+use lib.Signed.{_<ℤ_}
+use Rattle.integer.specs.Ring.{ring, ring-from, sides as both-sides, terms}
+use Rattle.integer.specs.Order.{by-pos, +ℤ-mono-<, *ℤ-pos, *ℤ-cancel, <ℤ→≤ℤ}
+use Rattle.scope.proofs.Decides.{Decides, equal}
+use Rattle.scope.proofs.Sound.{corner-of}
+use Rattle.scope.specs.Mesh.{elements, x, y, corner, fromNode, toNode}
+use Rattle.scope.specs.Polygon.{Side}
+use Rattle.scope.specs.Rows.{node, crossAt, twiceArea, stepX, stepY, firstWhere, hasCorner, nodeSoil, cross}
+use Rattle.scope.specs.Verdict.{turn}
+use Rattle.scope.specs.Printed.{deviator, circle}
+use Rattle.scope.specs.Meaning.{doubledArea, Divergence, Area, Balanced, Tractions, Inward, OutwardNormal, SideMeaning, HasCorner, LowestElement}
+
+-- ---- balance
+
+pub divergence : (x y : ℕ → ℤ) → Divergence x y
+divergence x y = record {
+  in-x = λ a b c d e f. ring (x 0 ∷ x 1 ∷ x 2 ∷ x 3 ∷ y 0 ∷ y 1 ∷ y 2 ∷ y 3 ∷ b ∷ c ∷ e ∷ f ∷ a ∷ d ∷ []) (both-sides (search terms depth 100) (search terms depth 100)) refl;
+  in-y = λ a b c d e f. ring (x 0 ∷ x 1 ∷ x 2 ∷ x 3 ∷ y 0 ∷ y 1 ∷ y 2 ∷ y 3 ∷ b ∷ c ∷ e ∷ f ∷ a ∷ d ∷ []) (both-sides (search terms depth 100) (search terms depth 100)) refl;
+}
+
+pub area : (m : List ℤ) (e : ℕ) → Area m e
+unfolding twiceArea crossAt node turn
+area m e = record {
+  within = refl;
+  triangles = halves;
+  above-0 = λ left. rw halves (+ℤ-mono-< (left 1 (lit< tt)) (<ℤ→≤ℤ (left 3 (lit< tt))));
+}
+  where
+    halves : twiceArea m e ≡ turn m (corner m e 0) (corner m e 1) (corner m e 2) +ℤ turn m (corner m e 2) (corner m e 3) (corner m e 0)
+    halves =
+        ring
+        (x m (corner m e 0) ∷ x m (corner m e 1) ∷ x m (corner m e 2) ∷ x m (corner m e 3) ∷ y m (corner m e 0) ∷ y m (corner m e 1) ∷ y m (corner m e 2) ∷ y m (corner m e 3) ∷ [])
+        (search terms depth 100) refl
+
+-- D·z = -D·f says z + f = 0, where D is above 0
+cancelled : {L : ℤ} (D z f : ℤ) → pos 0 <ℤ D → L ≡ D *ℤ z → (L ≡ negℤ D *ℤ f) ↔ (z +ℤ f ≡ pos 0)
+cancelled {L} D z f h e = (
+  λ g. *ℤ-cancel h (ring-from (pos 1) (sym e ∙ g) (ring (D ∷ z ∷ f ∷ []) (search terms depth 100) refl)),
+  λ g. e ∙ ring-from D g (ring (D ∷ z ∷ f ∷ []) (search terms depth 100) refl),
+)
+
+pub balanced : (x y : ℕ → ℤ) (n l : ℤ) → pos 0 <ℤ doubledArea x y → Balanced x y n l
+balanced x y n l h = record {
+  in-x = λ a b c d e f F g. cancelled (doubledArea x y) (b +ℤ f) (n *ℤ F +ℤ l *ℤ g) h (divergence x y .in-x a b c d e f);
+  in-y = λ a b c d e f F g. cancelled (doubledArea x y) (e +ℤ c) (n *ℤ F +ℤ l *ℤ g) h (divergence x y .in-y a b c d e f);
+}
+
+-- ---- sides
+
+pub tractions : (u w sx sy t : ℤ) → Tractions u w sx sy t
+tractions u w sx sy t = record {
+  normal = ring (u ∷ w ∷ sx ∷ sy ∷ t ∷ []) (search terms depth 100) refl;
+  shear = ring (u ∷ w ∷ sx ∷ sy ∷ t ∷ []) (search terms depth 100) refl;
+}
+
+-- a node to the left of the edge lies inward
+inward : (m : List ℤ) (g a b z : ℕ) → fromNode m g ≡ a → toNode m g ≡ b → pos 0 <ℤ turn m a b z → Inward m g z
+unfolding turn stepX stepY
+inward m g a b z from to left =
+    rw (from, to) (by-pos left (ring (x m a ∷ x m b ∷ x m z ∷ y m a ∷ y m b ∷ y m z ∷ []) (search terms depth 100) refl))
+
+turn-cycle : (m : List ℤ) (a b c : ℕ) → turn m c a b ≡ turn m a b c
+unfolding turn
+turn-cycle m a b c = ring (x m a ∷ x m b ∷ x m c ∷ y m a ∷ y m b ∷ y m c ∷ []) (search terms depth 100) refl
+
+pub outward-normal : (m : List ℤ) (g e : ℕ) → OutwardNormal m g e
+unfolding node
+outward-normal m g e i h from to left = go i h from to
+  where
+    other-two : (a b c d : ℕ) → fromNode m g ≡ a → toNode m g ≡ b → pos 0 <ℤ turn m a b c → pos 0 <ℤ turn m d a b → Inward m g c × Inward m g d
+    other-two a b c d from to hc hd = (inward m g a b c from to hc, inward m g a b d from to (rw turn-cycle at hd))
+
+    go : (i : ℕ) → i < 4 → fromNode m g ≡ node m e i → toNode m g ≡ node m e (i + 1) → Inward m g (node m e (i + 2)) × Inward m g (node m e (i + 3))
+    go zero h from to = other-two (corner m e 0) (corner m e 1) (corner m e 2) (corner m e 3) from to (left 1 (lit< tt)) (left 0 (lit< tt))
+    go (suc zero) h from to = other-two (corner m e 1) (corner m e 2) (corner m e 3) (corner m e 0) from to (left 2 (lit< tt)) (left 1 (lit< tt))
+    go (suc (suc zero)) h from to = other-two (corner m e 2) (corner m e 3) (corner m e 0) (corner m e 1) from to (left 3 (lit< tt)) (left 2 (lit< tt))
+    go (suc (suc (suc zero))) h from to = other-two (corner m e 3) (corner m e 0) (corner m e 1) (corner m e 2) from to (left 0 (lit< tt)) (left 3 (lit< tt))
+    go (suc (suc (suc (suc i)))) h from to = absurd (omega arith)
+
+-- ---- strength
+
+-- the left side by the two numbers that a corner gives
+at-corner : (r h sx sy t R a b : ℤ) (s : Side) → r *ℤ (h *ℤ (sx -ℤ sy)) ≡ R *ℤ a → r *ℤ (h *ℤ (pos 2 *ℤ t)) ≡ R *ℤ b
+    → deviator r s h sx sy t ≡ (s .to .py -ℤ s .from .py) *ℤ (R *ℤ a) -ℤ (s .to .px -ℤ s .from .px) *ℤ (R *ℤ b)
+at-corner r h sx sy t R a b s e f = split (s .to .px -ℤ s .from .px) (s .to .py -ℤ s .from .py) ∙ rw (e, f)
+  where
+    split : (u w : ℤ) → r *ℤ h *ℤ (w *ℤ (sx -ℤ sy) -ℤ pos 2 *ℤ u *ℤ t) ≡ w *ℤ (r *ℤ (h *ℤ (sx -ℤ sy))) -ℤ u *ℤ (r *ℤ (h *ℤ (pos 2 *ℤ t)))
+    split u w = ring (r ∷ h ∷ sx ∷ sy ∷ t ∷ u ∷ w ∷ []) (search terms depth 100) refl
+
+pub side-meaning : (r : ℤ) (s : Side) (p q h C n sx sy t : ℤ) → SideMeaning r s p q h C n sx sy t
+unfolding cross
+side-meaning r s p q h C n sx sy t =
+    let R : ℤ = circle p q C n sx sy in
+    record {
+      at-from = λ k. at-corner r h sx sy t R (s .from .px) (s .from .py) s (k .along) (k .across) ∙ from-corner R;
+      at-to = λ k. at-corner r h sx sy t R (s .to .px) (s .to .py) s (k .along) (k .across) ∙ to-corner R;
+      at-centre = λ e f turn room. rw (centre e f) (*ℤ-pos turn room);
+    }
+  where
+    a : ℤ
+    a = s .from .px
+
+    b : ℤ
+    b = s .from .py
+
+    c : ℤ
+    c = s .to .px
+
+    d : ℤ
+    d = s .to .py
+
+    from-corner : (R : ℤ) → (d -ℤ b) *ℤ (R *ℤ a) -ℤ (c -ℤ a) *ℤ (R *ℤ b) ≡ (a *ℤ d -ℤ b *ℤ c) *ℤ R
+    from-corner R = ring (s .from .px ∷ s .from .py ∷ s .to .px ∷ s .to .py ∷ R ∷ []) (search terms depth 100) refl
+
+    to-corner : (R : ℤ) → (d -ℤ b) *ℤ (R *ℤ c) -ℤ (c -ℤ a) *ℤ (R *ℤ d) ≡ (a *ℤ d -ℤ b *ℤ c) *ℤ R
+    to-corner R = ring (s .from .px ∷ s .from .py ∷ s .to .px ∷ s .to .py ∷ R ∷ []) (search terms depth 100) refl
+
+    centre : sx ≡ sy → t ≡ pos 0 → deviator r s h sx sy t ≡ pos 0
+    centre e f = rw (e, f) (ring (s .from .px ∷ s .from .py ∷ s .to .px ∷ s .to .py ∷ r ∷ h ∷ sy ∷ []) (search terms depth 100) refl)
+
+-- ---- a node's soil
+
+-- k is the lowest number below n that passes, or is n
+record First (f : ℕ → Bool) (n k : ℕ) : Type 0 where
+  fits : k ≤ n
+  before : (j : ℕ) → j < k → T (not (f j))
+  passes : k < n → T (f k)
+
+first-where : (f : ℕ → Bool) (n : ℕ) → First f n (firstWhere f n)
+unfolding firstWhere
+first-where f zero = record { fits = zero-le; before = λ j h. absurd (omega arith); passes = λ h. absurd (omega arith) }
+first-where f (suc n) = step (firstWhere f n) (first-where f n) (eqb (firstWhere f n) n) (equal (firstWhere f n) n) (f n) (λ t. t) (λ t. t)
+  where
+    step : (k : ℕ) → First f n k → (same : Bool) → Decides same (k ≡ n) → (b : Bool) → (T b → T (f n)) → (T (not b) → T (not (f n)))
+        → First f (suc n) (elim same [ true ↦ cond b n (suc n) | false ↦ k ])
+    step k g true is true pass fail = record { fits = omega arith; before = rw (is .holds tt) at (g .before); passes = λ h. pass tt }
+    step k g true is false pass fail = record {
+      fits = omega arith;
+      before = λ j h. let small : j ≤ n = omega arith in ⊎-elim (λ p. rw p (fail tt)) (λ l. g .before j (rw (is .holds tt) l)) (eq-or-lt-of-le small);
+      passes = λ h. absurd (omega arith);
+    }
+    step k g false is b pass fail =
+        let small = g .fits in record { fits = omega arith; before = g .before; passes = λ h. ⊎-elim (λ e. absurd (is .passes e)) (g .passes) (eq-or-lt-of-le small) }
+
+pub lowest-element : (m : List ℤ) (v e : ℕ) → e < elements m → HasCorner m v e → LowestElement m v
+unfolding nodeSoil
+lowest-element m v e h c =
+    let first = first-where (hasCorner m v) (elements m) in
+    let there = below (firstWhere (hasCorner m v) (elements m)) first in
+    record {
+      element = firstWhere (hasCorner m v) (elements m);
+      in-mesh = there;
+      has-corner = corner-of m v (firstWhere (hasCorner m v) (elements m)) .holds (first .passes there);
+      lowest = λ k below has. T-not (hasCorner m v k) (first .before k below) (corner-of m v k .passes has);
+      soil = refl;
+    }
+  where
+    below : (k : ℕ) → First (hasCorner m v) (elements m) k → k < elements m
+    below k first =
+        let small = first .fits in
+        ⊎-elim
+        (λ p. absurd (T-not (hasCorner m v e) (first .before e (rw p h)) (corner-of m v e .passes c)))
+        (λ l. l)
+        (eq-or-lt-of-le small)

@@ -1,0 +1,143 @@
+-- Each row's data says what document 01 prints: the two differ by moving l to the left and n out of the right side, which the ring solver sees.
+use mathlib.Core.Path.{_≡_, refl, sym, _∙_}
+use mathlib.Core.Bool.{Bool, true, false, cond, _||_}
+use mathlib.Core.Logic.{_↔_, _⊎_}
+use mathlib.Core.List.{List, [], _∷_, List·Memᴰ·head, List·Memᴰ·tail, Memᴰ·append-left, Memᴰ·append-right, Memᴰ·map}
+use Prim.Native.Nat.{ℕ, _<_, zero-le}
+use native.Mathlib.Omega.{arith}
+use lib.IntN.{ℤ, pos, _+ℤ_, _-ℤ_, _*ℤ_, negℤ, +ℤ-assoc, +ℤ-idr}
+use lib.Signed.{_≤ℤ_}
+use Rattle.integer.specs.Ring.{ring, ring-from, sides as both-sides, terms}
+use Rattle.integer.specs.Tests.{eqZ}
+use Rattle.integer.specs.Order.{by-nn, nn-diff}
+use Rattle.scope.proofs.Lists.{in-joined, in-count, of-count, each-nil, each-cons, each-++, each-map, each-joined}
+use Rattle.scope.proofs.Decides.{Decides, either, equalℤ}
+use Rattle.scope.specs.Mesh.{elements, edges, sides, p, q, h, cohesion, deadX, deadY, liveX, liveY, elementSoil, edgeEntry, fromNode, toNode}
+use Rattle.scope.specs.Polygon.{Polygon, Side, polygonSides, polygonOf}
+use Rattle.scope.specs.Rows.{rowsOf, equalityRows, balanceRows, sideRows, strengthPairs, strengthRows, pairRows, asked, unfixed, Row, Pair, sx, sy, t, countFrom, joined, node, riseAcross, runAcross, twiceArea, balanceX, balanceY, stepX, stepY, stepSquare, normalRow, shearRow, fixedIf, cross, strengthRow}
+use Rattle.scope.specs.Sums.{weightedSum, leftSide, rightSide}
+use Rattle.scope.specs.Members.{_∈_}
+use Rattle.scope.specs.Meets.{Asks, RowMet, FieldMeets}
+use Rattle.scope.specs.Printed.{BalanceXAt, BalanceYAt, NormalAt, ShearAt, StrengthAt, MeetsPrinted}
+
+same-equation : {a b c d : ℤ} → a -ℤ b ≡ c -ℤ d → (a ≡ b) ↔ (c ≡ d)
+same-equation {a} {b} {c} {d} e = (
+  λ f. ring-from (pos 1) f (sym e ∙ ring (a ∷ b ∷ []) (search terms depth 100) refl),
+  λ f. ring-from (pos 1) f (e ∙ ring (c ∷ d ∷ []) (search terms depth 100) refl),
+)
+
+same-inequality : {a b c d : ℤ} → b -ℤ a ≡ d -ℤ c → (a ≤ℤ b) ↔ (c ≤ℤ d)
+same-inequality e = (λ f. by-nn (nn-diff f) (sym e), λ f. by-nn (nn-diff f) e)
+
+-- a row of an edge asks its equation where the edge fixes it
+if-fixed : {B : Type 0} {a b : ℤ} (what fixed : ℤ) → ((a ≡ b) ↔ B) → Asks (fixedIf what fixed) a b ↔ ((fixed ≡ what) ⊎ (fixed ≡ pos 3) → B)
+unfolding fixedIf
+if-fixed {B} {a} {b} what fixed e = go (eqZ fixed what || eqZ fixed (pos 3)) (either (equalℤ fixed what) (equalℤ fixed (pos 3)))
+  where
+    go : (is : Bool) → Decides is ((fixed ≡ what) ⊎ (fixed ≡ pos 3)) → Asks (cond is asked unfixed) a b ↔ ((fixed ≡ what) ⊎ (fixed ≡ pos 3) → B)
+    go true d = (λ h k. e .0 h, λ h. e .1 (h (d .holds tt)))
+    go false d = (λ h k. absurd (d .passes k), λ h. tt)
+
+-- the body force: a sum L of stresses with l moved to it and n taken out
+with-force : (S : ℤ) {L : ℤ} (D F f n l : ℤ) → S ≡ L → (S +ℤ D *ℤ f *ℤ l ≡ negℤ (D *ℤ F) *ℤ n) ↔ (L ≡ negℤ D *ℤ (n *ℤ F +ℤ l *ℤ f))
+with-force S {L} D F f n l e = same-equation (ring-from (pos 1) e (ring (S ∷ L ∷ D ∷ F ∷ f ∷ n ∷ l ∷ []) (search terms depth 100) refl))
+
+-- the two sides of a strength row, with k for ad - bc and (e, f) for (c - a, d - b)
+strength-sides : (r h k e f p q C n sx sy t l : ℤ)
+    → k *ℤ (pos 2 *ℤ q *ℤ C) *ℤ n -ℤ ((r *ℤ h *ℤ f +ℤ k *ℤ p) *ℤ sx +ℤ ((k *ℤ p -ℤ r *ℤ h *ℤ f) *ℤ sy +ℤ (negℤ (pos 2 *ℤ (r *ℤ h *ℤ e)) *ℤ t +ℤ pos 0)) +ℤ pos 0 *ℤ l)
+    ≡ k *ℤ (pos 2 *ℤ q *ℤ C *ℤ n -ℤ p *ℤ (sx +ℤ sy)) -ℤ r *ℤ h *ℤ (f *ℤ (sx -ℤ sy) -ℤ pos 2 *ℤ e *ℤ t)
+strength-sides r h k e f p q C n sx sy t l = ring (r ∷ h ∷ k ∷ e ∷ f ∷ p ∷ q ∷ C ∷ n ∷ sx ∷ sy ∷ t ∷ l ∷ []) (both-sides (search terms depth 100) (search terms depth 100)) refl
+
+-- the rows of an element, of an edge and of a pair among the rows of the mesh
+module _ (m : List ℤ) where
+  elementRows : ℕ → List Row
+  elementRows e = balanceX m e ∷ balanceY m e ∷ []
+
+  edgeRows : ℕ → List Row
+  edgeRows g = normalRow m g (fromNode m g) ∷ shearRow m g (fromNode m g) ∷ normalRow m g (toNode m g) ∷ shearRow m g (toNode m g) ∷ []
+
+  of-element : (e : ℕ) {r : Row} → e < elements m → r ∈ elementRows e → r ∈ rowsOf m
+  unfolding rowsOf equalityRows balanceRows elementRows
+  of-element e k j =
+      Memᴰ·append-left (strengthRows m) (Memᴰ·append-left (sideRows m) (in-joined elementRows (countFrom 0 (elements m)) (in-count 0 (elements m) zero-le (omega arith)) j))
+
+  of-edge : (g : ℕ) {r : Row} → g < edges m → r ∈ edgeRows g → r ∈ rowsOf m
+  unfolding rowsOf equalityRows sideRows edgeRows
+  of-edge g k j =
+      Memᴰ·append-left (strengthRows m) (Memᴰ·append-right (balanceRows m) (in-joined edgeRows (countFrom 0 (edges m)) (in-count 0 (edges m) zero-le (omega arith)) j))
+
+  of-pair : (a : Pair) {r : Row} → a ∈ strengthPairs m → r ∈ pairRows (polygonOf (sides m)) m a → r ∈ rowsOf m
+  unfolding rowsOf strengthRows
+  of-pair a k j = Memᴰ·append-right (equalityRows m) (in-joined (pairRows (polygonOf (sides m)) m) (strengthPairs m) k j)
+
+module _ (m : List ℤ) (s : ℕ → ℤ) (l n : ℤ) where
+  pub balance-x : (e : ℕ) → RowMet s l n (balanceX m e) ↔ BalanceXAt m s l n e
+  unfolding balanceX leftSide rightSide weightedSum joined countFrom riseAcross runAcross node
+  balance-x e =
+      with-force (weightedSum s (balanceX m e .entries)) (twiceArea m e) (deadX m (elementSoil m e)) (liveX m (elementSoil m e)) n l (simp (+ℤ-assoc, +ℤ-idr))
+
+  pub balance-y : (e : ℕ) → RowMet s l n (balanceY m e) ↔ BalanceYAt m s l n e
+  unfolding balanceY leftSide rightSide weightedSum joined countFrom riseAcross runAcross node
+  balance-y e =
+      with-force (weightedSum s (balanceY m e .entries)) (twiceArea m e) (deadY m (elementSoil m e)) (liveY m (elementSoil m e)) n l (simp (+ℤ-assoc, +ℤ-idr))
+
+  pub normal : (g v : ℕ) → RowMet s l n (normalRow m g v) ↔ NormalAt m s l n g v
+  unfolding normalRow leftSide rightSide weightedSum stepSquare
+  normal g v =
+      if-fixed (pos 1) (edgeEntry m g 2)
+      (same-equation (ring (stepX m g ∷ stepY m g ∷ s (sx v) ∷ s (sy v) ∷ s (t v) ∷ edgeEntry m g 3 ∷ edgeEntry m g 5 ∷ n ∷ l ∷ []) (search terms depth 100) refl))
+
+  pub shear : (g v : ℕ) → RowMet s l n (shearRow m g v) ↔ ShearAt m s l n g v
+  unfolding shearRow leftSide rightSide weightedSum stepSquare
+  shear g v =
+      if-fixed (pos 2) (edgeEntry m g 2)
+      (same-equation (ring (stepX m g ∷ stepY m g ∷ s (sx v) ∷ s (sy v) ∷ s (t v) ∷ edgeEntry m g 4 ∷ edgeEntry m g 6 ∷ n ∷ l ∷ []) (search terms depth 100) refl))
+
+  pub strength : (r : ℤ) (a : Pair) (d : Side) → RowMet s l n (strengthRow r (p m (a .soil)) (q m (a .soil)) (h m (a .soil)) (cohesion m (a .soil)) (a .at) d) ↔ StrengthAt m s l n r a d
+  unfolding strengthRow leftSide rightSide weightedSum cross
+  strength r a d =
+      same-inequality (strength-sides r (h m (a .soil)) (cross (d .from) (d .to)) (d .to .px -ℤ d .from .px) (d .to .py -ℤ d .from .py) (p m (a .soil)) (q m (a .soil)) (cohesion m (a .soil)) n (s (sx (a .at))) (s (sy (a .at))) (s (t (a .at))) l)
+
+  pub pair-rows : (g : Polygon) (a : Pair) → FieldMeets s l n (pairRows g m a) ↔ ((d : Side) → d ∈ polygonSides (g .corners) → StrengthAt m s l n (g .radius) a d)
+  unfolding pairRows
+  pair-rows g a = (
+    λ f d k. strength (g .radius) a d .0 (f (row d) (Memᴰ·map row k)),
+    λ f. each-map (RowMet s l n) row (polygonSides (g .corners)) (λ d k. strength (g .radius) a d .1 (f d k)),
+  )
+    where
+      row : Side → Row
+      row = strengthRow (g .radius) (p m (a .soil)) (q m (a .soil)) (h m (a .soil)) (cohesion m (a .soil)) (a .at)
+
+  -- ---- the rows of a mesh
+
+  meets-printed : FieldMeets s l n (rowsOf m) → MeetsPrinted m s l n
+  unfolding elementRows edgeRows
+  meets-printed f = record {
+    balance-x = λ e k. balance-x e .0 (f (balanceX m e) (of-element m e k (List·Memᴰ·head refl)));
+    balance-y = λ e k. balance-y e .0 (f (balanceY m e) (of-element m e k (List·Memᴰ·tail (List·Memᴰ·head refl))));
+    normal-from = λ g k. normal g (fromNode m g) .0 (f (normalRow m g (fromNode m g)) (of-edge m g k (List·Memᴰ·head refl)));
+    shear-from = λ g k. shear g (fromNode m g) .0 (f (shearRow m g (fromNode m g)) (of-edge m g k (List·Memᴰ·tail (List·Memᴰ·head refl))));
+    normal-to = λ g k. normal g (toNode m g) .0 (f (normalRow m g (toNode m g)) (of-edge m g k (List·Memᴰ·tail (List·Memᴰ·tail (List·Memᴰ·head refl)))));
+    shear-to = λ g k. shear g (toNode m g) .0 (f (shearRow m g (toNode m g)) (of-edge m g k (List·Memᴰ·tail (List·Memᴰ·tail (List·Memᴰ·tail (List·Memᴰ·head refl))))));
+    strength = λ a k. pair-rows (polygonOf (sides m)) a .0 (λ r j. f r (of-pair m a k j));
+  }
+
+  printed-meets : MeetsPrinted m s l n → FieldMeets s l n (rowsOf m)
+  unfolding rowsOf equalityRows balanceRows sideRows strengthRows
+  printed-meets f =
+      each-++ M
+      (each-++ M
+      (each-joined M _ (countFrom 0 (elements m)) (λ e j. let k = of-count 0 (elements m) j in each-cons M (balance-x e .1 (f .balance-x e (omega arith))) (each-cons M (balance-y e .1 (f .balance-y e (omega arith))) (each-nil M))))
+      (each-joined M _ (countFrom 0 (edges m)) (λ g j.
+      let k : g < edges m = omega (arith, of-count 0 (edges m) j) in
+      each-cons M (normal g (fromNode m g) .1 (f .normal-from g k))
+      (each-cons M (shear g (fromNode m g) .1 (f .shear-from g k))
+      (each-cons M (normal g (toNode m g) .1 (f .normal-to g k))
+      (each-cons M (shear g (toNode m g) .1 (f .shear-to g k)) (each-nil M)))))))
+      (each-joined M _ (strengthPairs m) (λ a j. pair-rows (polygonOf (sides m)) a .1 (f .strength a j)))
+    where
+      M : Row → Type 0
+      M = RowMet s l n
+
+  pub field-printed : FieldMeets s l n (rowsOf m) ↔ MeetsPrinted m s l n
+  field-printed = (meets-printed, printed-meets)

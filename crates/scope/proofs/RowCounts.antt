@@ -1,0 +1,99 @@
+-- How many rows there are and of which kind: a joined list has as many as its pieces have, by induction on the pieces.
+use mathlib.Core.Path.{_≡_, refl, sym, _∙_, ap, ap₂, subst}
+use mathlib.Core.Logic.{_⊎_, inl, inr}
+use mathlib.Core.Bool.{Bool, true, false, cond, _||_}
+use mathlib.Core.List.{List, [], _∷_, _++_, map, List·Memᴰ·head, List·Memᴰ·tail}
+use Prim.Native.Nat.{ℕ, zero, suc, _+_, _*_, _<_, _≤_}
+use native.Mathlib.Nat.{zero-mul}
+use native.Mathlib.Omega.{arith}
+use lib.IntN.{ℤ, pos}
+use lib.ListN.{length, length-append, length-map}
+use Rattle.integer.specs.Tests.{eqZ}
+use Rattle.scope.specs.Members.{_∈_}
+use Rattle.scope.specs.Mesh.{nodes, elements, edges, sides, fromNode, toNode, edgeEntry}
+use Rattle.scope.specs.Polygon.{Point, Side, sidesTo, polygonSides, polygonOf}
+use Rattle.scope.specs.Rows.{Kind, asked, unfixed, strength, Row, Pair, countFrom, joined, balanceX, balanceY, balanceRows, fixedIf, normalRow, shearRow, sideRows, strengthPairs, strengthRow, pairRows, strengthRows, equalityRows, rowsOf}
+use Rattle.scope.proofs.Lists.{count-length, each-nil, each-cons, each-++, each-map, each-joined}
+use Rattle.scope.proofs.PolygonRule.{twelve-sides, twenty-sides, thirty-six-sides}
+
+pub length-joined : {A B : Type 0} (f : A → List B) (w : ℕ) (l : List A) → ((a : A) → a ∈ l → length (f a) ≡ w) → length (joined f l) ≡ length l * w
+unfolding joined
+length-joined f w [] h = sym (zero-mul w)
+length-joined f w (a ∷ l) h =
+    length-append (f a) (joined f l)
+    ∙ omega (arith, h a (List·Memᴰ·head refl), length-joined f w l (λ b m. h b (List·Memᴰ·tail m)))
+
+-- ---- equality rows
+
+balance-count : (m : List ℤ) → length (balanceRows m) ≡ elements m * 2
+unfolding balanceRows
+balance-count m =
+    length-joined (λ e. balanceX m e ∷ balanceY m e ∷ []) 2 (countFrom 0 (elements m)) (λ a i. refl)
+    ∙ ap (λ (k : ℕ). k * 2) (count-length 0 (elements m))
+
+side-count : (m : List ℤ) → length (sideRows m) ≡ edges m * 4
+unfolding sideRows
+side-count m = length-joined _ 4 (countFrom 0 (edges m)) (λ a i. refl) ∙ ap (λ (k : ℕ). k * 4) (count-length 0 (edges m))
+
+pub equality-count : (m : List ℤ) → length (equalityRows m) ≡ elements m * 2 + edges m * 4
+unfolding equalityRows
+equality-count m = length-append (balanceRows m) (sideRows m) ∙ ap₂ _+_ (balance-count m) (side-count m)
+
+-- no equality row is a strength row
+other : {X : Type 0} {k : Kind} → k ≡ asked → k ≡ strength → X
+other e f = let z : _≡_ {A = ℕ} 0 1 = cc in absurd (omega arith)
+
+fixed-or-not : (what fixed : ℤ) → ¬ (fixedIf what fixed ≡ strength)
+unfolding fixedIf
+fixed-or-not what fixed = by (eqZ fixed what || eqZ fixed (pos 3))
+  where
+    by : (b : Bool) → ¬ (cond b asked unfixed ≡ strength)
+    by true e = let z : _≡_ {A = ℕ} 0 1 = cc in omega arith
+    by false e = let z : _≡_ {A = ℕ} 0 1 = cc in omega arith
+
+pub equality-kind : (m : List ℤ) (r : Row) → r ∈ equalityRows m → ¬ (r .kind ≡ strength)
+unfolding equalityRows balanceRows sideRows balanceX balanceY normalRow shearRow
+equality-kind m =
+    each-++ P
+    (each-joined P _ (countFrom 0 (elements m)) (λ e i. each-cons P (λ h. other refl h) (each-cons P (λ h. other refl h) (each-nil P))))
+    (each-joined P _ (countFrom 0 (edges m))
+    (λ g i.
+    each-cons P (fixed-or-not (pos 1) (edgeEntry m g 2))
+    (each-cons P (fixed-or-not (pos 2) (edgeEntry m g 2))
+    (each-cons P (fixed-or-not (pos 1) (edgeEntry m g 2))
+    (each-cons P (fixed-or-not (pos 2) (edgeEntry m g 2)) (each-nil P))))))
+  where
+    P : Row → Type 0
+    P r = ¬ (r .kind ≡ strength)
+
+-- ---- strength rows
+
+sides-to : (end : Point) (v : Point) (vs : List Point) → length (sidesTo end (v ∷ vs)) ≡ suc (length vs)
+unfolding sidesTo
+sides-to end v [] = refl
+sides-to end v (w ∷ vs) = ap suc (sides-to end w vs)
+
+side-of-each : (vs : List Point) → length (polygonSides vs) ≡ length vs
+unfolding polygonSides
+side-of-each [] = refl
+side-of-each (v ∷ vs) = sides-to v v vs
+
+-- a listed polygon has as many sides as it says
+pub polygon-sides : (k : ℕ) → (k ≡ 12) ⊎ ((k ≡ 20) ⊎ (k ≡ 36)) → length (polygonSides (polygonOf k .corners)) ≡ k
+polygon-sides k (inl e) = subst (λ (i : ℕ). length (polygonSides (polygonOf i .corners)) ≡ i) (sym e) (side-of-each (polygonOf 12 .corners) ∙ twelve-sides .count)
+polygon-sides k (inr (inl e)) = subst (λ (i : ℕ). length (polygonSides (polygonOf i .corners)) ≡ i) (sym e) (side-of-each (polygonOf 20 .corners) ∙ twenty-sides .count)
+polygon-sides k (inr (inr e)) = subst (λ (i : ℕ). length (polygonSides (polygonOf i .corners)) ≡ i) (sym e) (side-of-each (polygonOf 36 .corners) ∙ thirty-six-sides .count)
+
+pub strength-count : (m : List ℤ) → (sides m ≡ 12) ⊎ ((sides m ≡ 20) ⊎ (sides m ≡ 36)) → length (strengthRows m) ≡ nodes m * sides m
+unfolding strengthRows pairRows strengthPairs
+strength-count m h =
+    length-joined (pairRows (polygonOf (sides m)) m) (sides m) (strengthPairs m) (λ a i. length-map (polygonSides (polygonOf (sides m) .corners)) _ ∙ polygon-sides (sides m) h)
+    ∙ ap (λ (k : ℕ). k * sides m) (length-map (countFrom 0 (nodes m)) _ ∙ count-length 0 (nodes m))
+
+pub strength-kind : (m : List ℤ) (r : Row) → r ∈ strengthRows m → r .kind ≡ strength
+unfolding strengthRows pairRows strengthRow
+strength-kind m =
+    each-joined P _ (strengthPairs m) (λ a i. each-map P _ (polygonSides (polygonOf (sides m) .corners)) (λ d j. refl))
+  where
+    P : Row → Type 0
+    P r = r .kind ≡ strength

@@ -1,0 +1,34 @@
+-- What is answered (document 01, 'Verdict and report'): the paper's number and place for each case of each enum.
+use Prim.Native.Nat.{ℕ}
+use Rattle.scope.specs.declared.Place.{Place}
+use Rattle.scope.specs.declared.Place.the-variants.{Line, Row, Column, Node, Element}
+use Rattle.scope.specs.declared.Outcome.{Outcome}
+use Rattle.scope.specs.declared.Outcome.the-variants.{Passed, Refused as Fails}
+use Rattle.scope.specs.declared.Verdict.{Verdict}
+use Rattle.scope.specs.declared.Verdict.the-variants.{Accepted, Refused}
+
+-- "A place is a line, a row, a column, a node or an element": the number that is printed and returned for it
+abbrev pub placeNumber : Place → ℕ
+placeNumber (Line k) = k
+placeNumber (Row k) = k
+placeNumber (Column k) = k
+placeNumber (Node k) = k
+placeNumber (Element k) = k
+
+-- "Accepted returns 0, place 0"; "Refused: number, place"
+abbrev pub numberOf : Verdict → ℕ
+numberOf (Accepted o l u) = 0
+numberOf (Refused n p) = n
+
+abbrev pub placeOf : Verdict → ℕ
+placeOf (Accepted o l u) = 0
+placeOf (Refused n p) = placeNumber p
+
+-- the same for a mesh: one that passes has no number and no place
+abbrev pub meshNumberOf : Outcome → ℕ
+meshNumberOf Passed = 0
+meshNumberOf (Fails n p) = n
+
+abbrev pub meshPlaceOf : Outcome → ℕ
+meshPlaceOf Passed = 0
+meshPlaceOf (Fails n p) = placeNumber p

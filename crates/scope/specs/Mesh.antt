@@ -1,0 +1,145 @@
+-- A mesh (document 01, 'The two files', "Mesh, in this order"): its lines, and what its numbers are.
+-- Soils, nodes, elements and edges are counted from 0 here; the file counts from 1.
+use mathlib.Core.List.{List, [], _∷_}
+use Prim.Native.Nat.{ℕ, _+_, _-_}
+use lib.IntN.{ℤ, pos}
+use lib.ListN.{replicate}
+use Rattle.scope.specs.Columns.{between, oneOf, free, upTo, rightAngle, naming, at}
+use Rattle.scope.specs.Layout.{Group, Layout, groups, linesBefore, count, entry}
+
+-- "Header: nodes 4 to 100, elements 1 to 100, soils 1 to 16, edges 0 to 60, sides 12, 20 or 36"
+unfoldable pub meshHeader : Group
+meshHeader = record {
+  lines = 1;
+  limits =
+      between (pos 4) (pos 100)
+      ∷ between (pos 1) (pos 100)
+      ∷ between (pos 1) (pos 16)
+      ∷ between (pos 0) (pos 60)
+      ∷ oneOf (pos 12 ∷ pos 20 ∷ pos 36 ∷ [])
+      ∷ [];
+  rules = [];
+}
+
+unfoldable pub nodes : List ℤ → ℕ
+nodes m = count (at m 0)
+
+unfoldable pub elements : List ℤ → ℕ
+elements m = count (at m 1)
+
+unfoldable pub soils : List ℤ → ℕ
+soils m = count (at m 2)
+
+unfoldable pub edges : List ℤ → ℕ
+edges m = count (at m 3)
+
+unfoldable pub sides : List ℤ → ℕ
+sides m = count (at m 4)
+
+-- "Each soil: p 0 to 1,000, q 1 to 1,000, h 1 to 1,000, cohesion C 0 to 10,000, dead force x and y, live force x and y (each -1,000 to 1,000)"
+unfoldable pub soilLines : ℕ → Group
+soilLines n = record {
+  lines = n;
+  limits =
+      between (pos 0) (pos 1000)
+      ∷ between (pos 1) (pos 1000)
+      ∷ between (pos 1) (pos 1000)
+      ∷ between (pos 0) (pos 10000)
+      ∷ replicate 4 (upTo 1000);
+  rules = rightAngle ∷ [];
+}
+
+-- "Each node: x, y, 0 to 1,000"
+unfoldable pub nodeLines : ℕ → Group
+nodeLines n = record { lines = n; limits = replicate 2 (between (pos 0) (pos 1000)); rules = [] }
+
+-- "Each element: four nodes, counterclockwise; a soil"
+unfoldable pub elementLines : ℕ → ℕ → ℕ → Group
+elementLines n ns ss = record {
+  lines = n;
+  limits = replicate 5 free;
+  rules = naming ((0, ns) ∷ (1, ns) ∷ (2, ns) ∷ (3, ns) ∷ (4, ss) ∷ []) ∷ [];
+}
+
+-- "Each edge: from-node, to-node, what is fixed (1 normal, 2 shear, 3 both), dead normal, dead shear, live normal, live shear (-10,000 to 10,000)"
+unfoldable pub edgeLines : ℕ → ℕ → Group
+edgeLines n ns = record {
+  lines = n;
+  limits = free ∷ free ∷ between (pos 1) (pos 3) ∷ replicate 4 (upTo 10000);
+  rules = naming ((0, ns) ∷ (1, ns) ∷ []) ∷ [];
+}
+
+-- the lines of a mesh: refusals 1 to 4
+unfoldable pub meshLayout : Layout
+meshLayout = record {
+  formNumber = 1;
+  limitNumber = 2;
+  header = meshHeader;
+  body = λ m.
+      soilLines (soils m)
+      ∷ nodeLines (nodes m)
+      ∷ elementLines (elements m) (nodes m) (soils m)
+      ∷ edgeLines (edges m) (nodes m)
+      ∷ [];
+}
+
+unfoldable pub meshGroups : List ℤ → List Group
+meshGroups m = groups meshLayout m
+
+-- ---- what the numbers are
+
+-- soil s: p, q and h ("The friction angle has sine p/h and cosine q/h"), cohesion, dead force F and live force f
+unfoldable pub soilEntry : List ℤ → ℕ → ℕ → ℤ
+soilEntry m s c = entry (meshGroups m) m 1 s c
+
+unfoldable pub p : List ℤ → ℕ → ℤ
+p m s = soilEntry m s 0
+
+unfoldable pub q : List ℤ → ℕ → ℤ
+q m s = soilEntry m s 1
+
+unfoldable pub h : List ℤ → ℕ → ℤ
+h m s = soilEntry m s 2
+
+unfoldable pub cohesion : List ℤ → ℕ → ℤ
+cohesion m s = soilEntry m s 3
+
+unfoldable pub deadX : List ℤ → ℕ → ℤ
+deadX m s = soilEntry m s 4
+
+unfoldable pub deadY : List ℤ → ℕ → ℤ
+deadY m s = soilEntry m s 5
+
+unfoldable pub liveX : List ℤ → ℕ → ℤ
+liveX m s = soilEntry m s 6
+
+unfoldable pub liveY : List ℤ → ℕ → ℤ
+liveY m s = soilEntry m s 7
+
+-- node v
+unfoldable pub x : List ℤ → ℕ → ℤ
+x m v = entry (meshGroups m) m 2 v 0
+
+unfoldable pub y : List ℤ → ℕ → ℤ
+y m v = entry (meshGroups m) m 2 v 1
+
+-- element e: the node at its corner i, for i from 0 to 3, and its soil
+unfoldable pub corner : List ℤ → ℕ → ℕ → ℕ
+corner m e i = count (entry (meshGroups m) m 3 e i) - 1
+
+unfoldable pub elementSoil : List ℤ → ℕ → ℕ
+elementSoil m e = count (entry (meshGroups m) m 3 e 4) - 1
+
+-- edge g: its two nodes, what is fixed, and the dead and live numbers
+unfoldable pub edgeEntry : List ℤ → ℕ → ℕ → ℤ
+edgeEntry m g c = entry (meshGroups m) m 4 g c
+
+unfoldable pub fromNode : List ℤ → ℕ → ℕ
+fromNode m g = count (edgeEntry m g 0) - 1
+
+unfoldable pub toNode : List ℤ → ℕ → ℕ
+toNode m g = count (edgeEntry m g 1) - 1
+
+-- the line of edge g, counted from 0
+unfoldable pub edgeLine : List ℤ → ℕ → ℕ
+edgeLine m g = linesBefore (meshGroups m) 4 + g

@@ -1,0 +1,43 @@
+-- The rule for a polygon (document 01, 'Rows', Strength): "Polygon corners are all whole-number points on the circle of radius r .., counterclockwise from (r, 0)".
+use mathlib.Core.Path.{_≡_}
+use mathlib.Core.List.{List, _∷_, _++_}
+use Prim.Native.Nat.{ℕ, _≤_, max}
+use lib.IntN.{ℤ, pos, _+ℤ_, _-ℤ_, _*ℤ_, negℤ, natAbs}
+use lib.Signed.{_<ℤ_}
+use lib.ListN.{length}
+use Rattle.scope.specs.Members.{_∈_}
+use Rattle.scope.specs.Polygon.{Point, point, Polygon, Side, polygonSides}
+use Rattle.scope.specs.Rows.{cross}
+
+abbrev pub OnCircle : ℤ → Point → Type 0
+OnCircle r v = v .px *ℤ v .px +ℤ v .py *ℤ v .py ≡ r *ℤ r
+
+-- from (r, 0) along the upper half to (-r, 0), then along the lower half: with a left turn from each corner to the next this is once around, counterclockwise
+pub record OnceAround (r : ℤ) (corners : List Point) : Type 0 where
+  pub upper : List Point
+  pub lower : List Point
+  pub halves : corners ≡ (point r (pos 0) ∷ upper) ++ (point (negℤ r) (pos 0) ∷ lower)
+  pub above : (v : Point) → v ∈ upper → pos 0 <ℤ v .py
+  pub below : (v : Point) → v ∈ lower → v .py <ℤ pos 0
+
+-- the longer of a side's two steps, |c - a| and |d - b|, and the size of its ad - bc
+abbrev pub stepSize : Side → ℕ
+stepSize s = max (natAbs (s .to .px -ℤ s .from .px)) (natAbs (s .to .py -ℤ s .from .py))
+
+abbrev pub crossSize : Side → ℕ
+crossSize s = natAbs (cross (s .from) (s .to))
+
+pub record Largest (size : Side → ℕ) (sides : List Side) (k : ℕ) : Type 0 where
+  pub bounds : (s : Side) → s ∈ sides → size s ≤ k
+  pub reached : (s : Side) × (s ∈ sides) × (size s ≡ k)
+
+-- a polygon of that many sides, with its largest step and its largest cross product
+pub record PolygonRule (g : Polygon) (sides step product : ℕ) : Type 0 where
+  pub has-radius : pos 0 <ℤ g .radius
+  pub count : length (g .corners) ≡ sides
+  pub on-circle : (v : Point) → v ∈ g .corners → OnCircle (g .radius) v
+  pub none-left-out : (v : Point) → OnCircle (g .radius) v → v ∈ g .corners
+  pub once-around : OnceAround (g .radius) (g .corners)
+  pub left-turns : (s : Side) → s ∈ polygonSides (g .corners) → pos 0 <ℤ cross (s .from) (s .to)
+  pub largest-step : Largest stepSize (polygonSides (g .corners)) step
+  pub largest-cross : Largest crossSize (polygonSides (g .corners)) product

@@ -1,0 +1,124 @@
+-- The rows as document 01 prints them ('Rows'), over whole numbers, with l and n on the paper's side; and what a field that meets the rows of a mesh meets.
+use mathlib.Core.Path.{_≡_}
+use mathlib.Core.Logic.{_⊎_}
+use mathlib.Core.List.{List}
+use Prim.Native.Nat.{ℕ, _+_, _%_, _<_}
+use lib.IntN.{ℤ, pos, _+ℤ_, _-ℤ_, _*ℤ_, negℤ}
+use lib.Signed.{_≤ℤ_}
+use Rattle.scope.specs.Members.{_∈_}
+use Rattle.scope.specs.Mesh.{elements, edges, sides, p, q, h, cohesion, deadX, deadY, liveX, liveY, x, y, corner, elementSoil, edgeEntry, fromNode, toNode}
+use Rattle.scope.specs.Polygon.{Side, polygonSides, polygonOf}
+use Rattle.scope.specs.Rows.{sx, sy, t, twiceArea, stepX, stepY, Pair, strengthPairs}
+
+-- ---- balance: an element's corners are numbered 0 to 3; x, y, sx, sy and t go by corner; D is twice its area
+
+-- "neighbours i+1 and i-1 around it"
+abbrev pub next : ℕ → ℕ
+next i = (i + 1) % 4
+
+abbrev pub last : ℕ → ℕ
+last i = (i + 3) % 4
+
+-- the sum over the corners
+abbrev pub cornerSum : (ℕ → ℤ) → ℤ
+cornerSum f = f 0 +ℤ f 1 +ℤ f 2 +ℤ f 3
+
+-- "sum of (y[i+1]-y[i-1])·sx[i] + (x[i-1]-x[i+1])·t[i] = -D·(n·Fx + l·fx)": its left side, then the equation
+abbrev pub forceX : (x y sx t : ℕ → ℤ) → ℤ
+forceX x y sx t = cornerSum (λ i. (y (next i) -ℤ y (last i)) *ℤ sx i +ℤ (x (last i) -ℤ x (next i)) *ℤ t i)
+
+abbrev pub BalanceX : (x y sx t : ℕ → ℤ) (D Fx fx n l : ℤ) → Type 0
+BalanceX x y sx t D Fx fx n l = forceX x y sx t ≡ negℤ D *ℤ (n *ℤ Fx +ℤ l *ℤ fx)
+
+-- "sum of (x[i-1]-x[i+1])·sy[i] + (y[i+1]-y[i-1])·t[i] = -D·(n·Fy + l·fy)"
+abbrev pub forceY : (x y sy t : ℕ → ℤ) → ℤ
+forceY x y sy t = cornerSum (λ i. (x (last i) -ℤ x (next i)) *ℤ sy i +ℤ (y (next i) -ℤ y (last i)) *ℤ t i)
+
+abbrev pub BalanceY : (x y sy t : ℕ → ℤ) (D Fy fy n l : ℤ) → Type 0
+BalanceY x y sy t D Fy fy n l = forceY x y sy t ≡ negℤ D *ℤ (n *ℤ Fy +ℤ l *ℤ fy)
+
+-- ---- sides: (u, w) is the edge's step
+
+-- "normal: w²·sx - 2uw·t + u²·sy = (u²+w²)·(n·dead + l·live)"
+abbrev pub normalForce : (u w sx sy t : ℤ) → ℤ
+normalForce u w sx sy t = w *ℤ w *ℤ sx -ℤ pos 2 *ℤ u *ℤ w *ℤ t +ℤ u *ℤ u *ℤ sy
+
+abbrev pub Normal : (u w sx sy t dead live n l : ℤ) → Type 0
+Normal u w sx sy t dead live n l = normalForce u w sx sy t ≡ (u *ℤ u +ℤ w *ℤ w) *ℤ (n *ℤ dead +ℤ l *ℤ live)
+
+-- "shear: uw·(sx-sy) + (w²-u²)·t = (u²+w²)·(n·dead + l·live)"
+abbrev pub shearForce : (u w sx sy t : ℤ) → ℤ
+shearForce u w sx sy t = u *ℤ w *ℤ (sx -ℤ sy) +ℤ (w *ℤ w -ℤ u *ℤ u) *ℤ t
+
+abbrev pub Shear : (u w sx sy t dead live n l : ℤ) → Type 0
+Shear u w sx sy t dead live n l = shearForce u w sx sy t ≡ (u *ℤ u +ℤ w *ℤ w) *ℤ (n *ℤ dead +ℤ l *ℤ live)
+
+-- "what is fixed (1 normal, 2 shear, 3 both)"
+abbrev pub FixesNormal : ℤ → Type 0
+FixesNormal fixed = (fixed ≡ pos 1) ⊎ (fixed ≡ pos 3)
+
+abbrev pub FixesShear : ℤ → Type 0
+FixesShear fixed = (fixed ≡ pos 2) ⊎ (fixed ≡ pos 3)
+
+-- ---- strength
+
+-- "r·h·[(d-b)(sx-sy) - 2(c-a)t] ≤ (ad-bc)·[2qCn - p(sx+sy)]", for the side from (a, b) to (c, d): its left side, the bracket on its right, its right side
+abbrev pub deviator : (r : ℤ) → Side → (h sx sy t : ℤ) → ℤ
+deviator r s h sx sy t =
+    let a : ℤ = s .from .px in
+    let b : ℤ = s .from .py in
+    let c : ℤ = s .to .px in
+    let d : ℤ = s .to .py in
+    r *ℤ h *ℤ ((d -ℤ b) *ℤ (sx -ℤ sy) -ℤ pos 2 *ℤ (c -ℤ a) *ℤ t)
+
+abbrev pub circle : (p q C n sx sy : ℤ) → ℤ
+circle p q C n sx sy = pos 2 *ℤ q *ℤ C *ℤ n -ℤ p *ℤ (sx +ℤ sy)
+
+abbrev pub resistance : Side → (p q C n sx sy : ℤ) → ℤ
+resistance s p q C n sx sy =
+    let a : ℤ = s .from .px in
+    let b : ℤ = s .from .py in
+    let c : ℤ = s .to .px in
+    let d : ℤ = s .to .py in
+    (a *ℤ d -ℤ b *ℤ c) *ℤ circle p q C n sx sy
+
+abbrev pub Strength : (r : ℤ) → Side → (p q h C n sx sy t : ℤ) → Type 0
+Strength r s p q h C n sx sy t = deviator r s h sx sy t ≤ℤ resistance s p q C n sx sy
+
+-- ---- a field on the mesh m: its stresses s by column, with l and n
+
+module _ (m : List ℤ) (s : ℕ → ℤ) (l n : ℤ) where
+  -- element e
+  abbrev pub BalanceXAt : ℕ → Type 0
+  BalanceXAt e =
+      BalanceX (λ i. x m (corner m e i)) (λ i. y m (corner m e i)) (λ i. s (sx (corner m e i))) (λ i. s (t (corner m e i)))
+      (twiceArea m e) (deadX m (elementSoil m e)) (liveX m (elementSoil m e)) n l
+
+  abbrev pub BalanceYAt : ℕ → Type 0
+  BalanceYAt e =
+      BalanceY (λ i. x m (corner m e i)) (λ i. y m (corner m e i)) (λ i. s (sy (corner m e i))) (λ i. s (t (corner m e i)))
+      (twiceArea m e) (deadY m (elementSoil m e)) (liveY m (elementSoil m e)) n l
+
+  -- edge g at its end v: "An unfixed one .. asks nothing"
+  abbrev pub NormalAt : ℕ → ℕ → Type 0
+  NormalAt g v =
+      FixesNormal (edgeEntry m g 2) → Normal (stepX m g) (stepY m g) (s (sx v)) (s (sy v)) (s (t v)) (edgeEntry m g 3) (edgeEntry m g 5) n l
+
+  abbrev pub ShearAt : ℕ → ℕ → Type 0
+  ShearAt g v =
+      FixesShear (edgeEntry m g 2) → Shear (stepX m g) (stepY m g) (s (sx v)) (s (sy v)) (s (t v)) (edgeEntry m g 4) (edgeEntry m g 6) n l
+
+  -- the pair a of a node and a soil, for the side d of a polygon of radius r
+  abbrev pub StrengthAt : ℤ → Pair → Side → Type 0
+  StrengthAt r a d =
+      Strength r d (p m (a .soil)) (q m (a .soil)) (h m (a .soil)) (cohesion m (a .soil)) n (s (sx (a .at))) (s (sy (a .at))) (s (t (a .at)))
+
+  -- all that document 01 asks of the field
+  pub record MeetsPrinted : Type 0 where
+    pub balance-x : (e : ℕ) → e < elements m → BalanceXAt e
+    pub balance-y : (e : ℕ) → e < elements m → BalanceYAt e
+    pub normal-from : (g : ℕ) → g < edges m → NormalAt g (fromNode m g)
+    pub shear-from : (g : ℕ) → g < edges m → ShearAt g (fromNode m g)
+    pub normal-to : (g : ℕ) → g < edges m → NormalAt g (toNode m g)
+    pub shear-to : (g : ℕ) → g < edges m → ShearAt g (toNode m g)
+    pub strength : (a : Pair) → a ∈ strengthPairs m → (d : Side) → d ∈ polygonSides (polygonOf (sides m) .corners) → StrengthAt (polygonOf (sides m) .radius) a d

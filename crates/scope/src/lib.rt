@@ -1,0 +1,41 @@
+// What is answered (document 01, 'Verdict and report'): the enums that the definitions and every crate speak of. This crate has no functions.
+
+// "A place is a line, a row, a column, a node or an element", each counted from 1.
+pub enum Place {
+    Line(u32),
+    Row(u32),
+    Column(u32),
+    Node(u32),
+    Element(u32),
+}
+
+// What one check, or a row of checks in order, says.
+pub enum Outcome {
+    Passed,
+    Refused { number: u32, place: Place },
+}
+
+// A load as an exact fraction, or none where the claim lacks that part.
+pub enum Load {
+    Absent,
+    Exact { num: i64, den: i64 },
+}
+
+// How many strength rows are open, or none where the claim lacks a part.
+pub enum OpenRows {
+    Absent,
+    Count(u64),
+}
+
+// What is said of a mesh and a claim: the lower load is l/n, the upper load is W/m.
+pub enum Verdict {
+    Accepted {
+        open_rows: OpenRows,
+        lower: Load,
+        upper: Load,
+    },
+    Refused {
+        number: u32,
+        place: Place,
+    },
+}
