@@ -2,3 +2,4 @@
 pub mod Contracts
 pub mod LineContracts
 pub mod RowContracts
+pub mod NumbersAnswer

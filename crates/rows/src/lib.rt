@@ -17,6 +17,20 @@ use crate::mesh_checks::mesh_shape;
 use crate::sizes::sizes_of;
 use scope::Outcome;
 
+// What a solver that hands over numbers is answered, as C reads it: the verdict's number and place; for an accepted claim which parts are there, the loads l/n and W/m as they stand, and the open rows. What is not there is 0.
+#[repr(C)]
+pub struct NumbersAnswer {
+    pub number: u32,
+    pub place: u32,
+    pub field: u32,
+    pub multipliers: u32,
+    pub l: i64,
+    pub n: i64,
+    pub w: i64,
+    pub m: i64,
+    pub open_rows: u64,
+}
+
 // What the numbers of a mesh are refused for, 1 to 8, or that they pass.
 pub fn judge_mesh(m: &[i64]) -> Outcome
     ensures { λ r. ⌜ r ≡ meshCheck (now (m .entry)) ⌝ }
