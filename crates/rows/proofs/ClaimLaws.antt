@@ -153,3 +153,7 @@ module _ {m c : List ℤ} (f : ClaimFacts m c) where
   -- the stresses are there
   pub field-long : at c 0 ≡ pos 1 → nodes m * 3 ≤ length (take (length c - 4) (drop 4 c))
   field-long e = rw (rest-is 4 c, length-drop 4 c) (omega (arith, f .size, field-there f e (nodes m)))
+
+  -- the header is there
+  pub claim-long : 4 ≤ length c
+  claim-long = omega (arith, f .size)

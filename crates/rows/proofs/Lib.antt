@@ -15,3 +15,9 @@ pub mod ClaimLaws
 pub mod FieldLaws
 pub mod StrengthLaws
 pub mod MultiplierLaws
+pub mod NodeLaws
+pub mod LimitLaws
+pub mod OpenLaws
+pub mod PartLaws
+pub mod VerdictLaws
+pub mod AnswerLaws

@@ -17,7 +17,8 @@ use Rattle.scope.specs.Mesh.{nodes, elements, edges, sides}
 use Rattle.scope.specs.Rows.{Row, equalityRows, strengthRows, rowsOf}
 use Rattle.scope.specs.Sums.{weightedSum, unit, coefficient}
 use Rattle.scope.specs.Verdict.{rowAt}
-use Rattle.rows.specs.RowContracts.{pairs, rowOf, RowFits, Filled, SumsAre, Grown, SumsFit, RowSummed, NoSums, Summed, sumBelow, rowSum}
+use Rattle.rows.specs.RowContracts.{pairs, rowOf, RowFits, Filled, SumsAre}
+use Rattle.rows.specs.MultiplierContracts.{Grown, SumsFit, RowSummed, NoSums, Summed, sumBelow, rowSum}
 use Rattle.rows.proofs.SumLaws.{one-entry-more, unit-within, sums-within, sumBelow-next}
 
 -- ---- one equality row
@@ -34,10 +35,10 @@ module _ {r : EqualityRow} {n : ℕ} (fit : RowFits r n) (j : ℕ) where
   unfolding coefficient rowOf
   coefficient-within = Within-le (entries-within (r .count) (fit .few)) (omega (arith, fit .few))
 
-grown-by : {a b d : ℤ} {B : ℕ} → b ≡ a +ℤ d → Within B d → Grown a b d B
+pub grown-by : {a b d : ℤ} {B : ℕ} → b ≡ a +ℤ d → Within B d → Grown a b d B
 grown-by e h = record { by = e; step = h }
 
-nothing-added : (a w d : ℤ) {B : ℕ} → w ≡ pos 0 → Grown a a (w *ℤ d) B
+pub nothing-added : (a w d : ℤ) {B : ℕ} → w ≡ pos 0 → Grown a a (w *ℤ d) B
 nothing-added a w d {B} e =
     rw e (grown-by (ring (a ∷ d ∷ []) (search terms depth 100) refl) (subst (Within B) (sym (zero-*ℤ d)) (record { within = zero-le })))
 
@@ -45,18 +46,21 @@ module _ (m y : List ℤ) (k : ℕ) where
   pub zero-summed : (columns : List ℤ) (a : Sums) → at y k ≡ pos 0 → RowSummed m y k columns columns a a
   zero-summed columns a e = record { columns = λ j. nothing-added (at columns j) (at y k) _ e; limit = nothing-added (a .w) (at y k) _ e; live = nothing-added (a .m) (at y k) _ e }
 
-  pub row-summed : {r : EqualityRow} {n B : ℕ} {before after : List ℤ} {a b : Sums} {w : ℤ} → Filled r (rowAt (equalityRows m) k) n → w ≡ at y k → Within 100000 (at y k)
+  pub row-summed : {r : EqualityRow} {n B : ℕ} {before after : List ℤ} {a b : Sums} {w : ℤ} → Filled r (rowAt (equalityRows m) k) n → rowAt (rowsOf m) k ≡ rowAt (equalityRows m) k → w ≡ at y k → Within 100000 (at y k)
       → SumsAre B after (λ j. at before j +ℤ w *ℤ coefficient j (rowOf r)) → b .w ≡ a .w +ℤ at y k *ℤ r .right → b .m ≡ a .m +ℤ at y k *ℤ r .live → RowSummed m y k before after a b
   unfolding rowOf
-  row-summed {r} {before = before} {a = a} {w = w} f e h s ew em = record {
-    columns = λ j. grown-by (s .each j .same ∙ rw (e, f .is)) (Within-le (Within-*ℤ h (subst (λ z. Within 16000000 (coefficient j z)) (f .is) (coefficient-within (f .fits) j))) (omega arith));
-    limit = grown-by (ew ∙ ap (λ z. a .w +ℤ at y k *ℤ z .right) (f .is)) (Within-le (Within-*ℤ h (subst (λ z. Within 20000000000 (z .right)) (f .is) (f .fits .rightFits))) (omega arith));
-    live = grown-by (em ∙ ap (λ z. a .m +ℤ at y k *ℤ z .live) (f .is)) (Within-le (Within-*ℤ h (subst (λ z. Within 20000000000 (z .live)) (f .is) (f .fits .liveFits))) (omega arith));
+  row-summed {r} {before = before} {a = a} {w = w} f among e h s ew em = record {
+    columns = λ j. grown-by (s .each j .same ∙ rw (e, is)) (Within-le (Within-*ℤ h (subst (λ z. Within 16000000 (coefficient j z)) is (coefficient-within (f .fits) j))) (omega arith));
+    limit = grown-by (ew ∙ ap (λ z. a .w +ℤ at y k *ℤ z .right) is) (Within-le (Within-*ℤ h (subst (λ z. Within 20000000000 (z .right)) is (f .fits .rightFits))) (omega arith));
+    live = grown-by (em ∙ ap (λ z. a .m +ℤ at y k *ℤ z .live) is) (Within-le (Within-*ℤ h (subst (λ z. Within 20000000000 (z .live)) is (f .fits .liveFits))) (omega arith));
   }
+    where
+      is : rowOf r ≡ rowAt (rowsOf m) k
+      is = f .is ∙ sym among
 
 -- ---- all equality rows
 
-grown-is : {a b d p : ℤ} {A B : ℕ} → Grown a b d B → Is a p A → Is b (p +ℤ d) (A + B)
+pub grown-is : {a b d p : ℤ} {A B : ℕ} → Grown a b d B → Is a p A → Is b (p +ℤ d) (A + B)
 grown-is {d = d} g h = record { same = g .by ∙ ap (λ z. z +ℤ d) (h .same); inside = Within-+ℤ (h .inside) (g .step) }
 
 pub none-summed : (m y : List ℤ) {columns : List ℤ} {sums : Sums} → NoSums columns → sums .w ≡ pos 0 → sums .m ≡ pos 0 → Summed m y 0 columns sums

@@ -1,6 +1,6 @@
 -- The strength rows of a node by its numbers: the identity of the printed inequality's sides with those of the row, and sums over the sides.
 use mathlib.Core.Path.{_≡_, refl, sym, _∙_, ap, ap₂, subst}
-use mathlib.Core.Bool.{Bool, true, false, not}
+use mathlib.Core.Bool.{Bool, true, false, not, _&&_}
 use mathlib.Core.List.{List, [], _∷_}
 use Prim.Native.Nat.{ℕ, zero, suc, _+_, _*_, _-_, _≤_, _<_}
 use native.Mathlib.Nat.{le-refl, zero-mul, suc-mul, mul-le-mul, mul-le-mul-right}
@@ -28,7 +28,7 @@ use Rattle.scope.specs.Checks.{demand, _then_, lowest}
 use Rattle.scope.specs.Claim.{stress}
 use Rattle.scope.specs.Polygon.{Side, Polygon, polygonOf}
 use Rattle.scope.specs.Rows.{Row, sx, sy, t, nodeSoil, cross, strengthRow, strengthRows}
-use Rattle.scope.specs.Sums.{weightedSum, leftSide, rightSide, rowHolds}
+use Rattle.scope.specs.Sums.{weightedSum, leftSide, rightSide, rowHolds, isOpen}
 use Rattle.scope.specs.Verdict.{rowAt}
 use Rattle.scope.specs.Facts.{Between, SoilFacts}
 use Rattle.rows.specs.Contracts.{Sized}
@@ -113,6 +113,15 @@ leZ-slack a b {z} e = same-test (λ t. yes-leZ (up (leZ-yes t))) (λ t. yes-leZ 
     down : pos 0 ≤ℤ z → a ≤ℤ b
     down h = linear (e & h) (search facts depth 40) (omega arith)
 
+ltZ-slack : (a b : ℤ) {z : ℤ} → z ≡ b -ℤ a → ltZ a b ≡ ltZ (pos 0) z
+ltZ-slack a b {z} e = same-test (λ t. yes-ltZ (up (ltZ-yes t))) (λ t. yes-ltZ (down (ltZ-yes t)))
+  where
+    up : a <ℤ b → pos 0 <ℤ z
+    up h = linear (e & h) (search facts depth 40) (omega arith)
+
+    down : pos 0 <ℤ z → a <ℤ b
+    down h = linear (e & h) (search facts depth 40) (omega arith)
+
 -- the right side less the left, as it is printed and as the row has it
 regrouped : (r p q h C x y z run rise k l n : ℤ)
     → k *ℤ (pos 2 *ℤ q *ℤ C *ℤ n -ℤ p *ℤ (x +ℤ y)) -ℤ r *ℤ h *ℤ (rise *ℤ (x -ℤ y) -ℤ run *ℤ (pos 2 *ℤ z))
@@ -136,6 +145,10 @@ module _ (m c : List ℤ) (v k : ℕ) {d tab : List ℤ} (state : NodeState d m 
   pub strength-test : rowHolds (stress m c) l (n c) (nodeRow m v (sideAt (polygonOf (sides m)) k)) ≡ leZ (pos 0) (sideSlack d tab k)
   unfolding rowHolds nodeRow strengthRow
   strength-test = leZ-slack (leftSide (stress m c) l (nodeRow m v (sideAt (polygonOf (sides m)) k))) (rightSide (n c) (nodeRow m v (sideAt (polygonOf (sides m)) k))) row-slack
+
+  pub open-test : (w : ℤ) → isOpen (stress m c) l (n c) (w, nodeRow m v (sideAt (polygonOf (sides m)) k)) ≡ (ltZ (pos 0) w && ltZ (pos 0) (sideSlack d tab k))
+  unfolding isOpen nodeRow strengthRow
+  open-test w = ap (λ b. ltZ (pos 0) w && b) (ltZ-slack (leftSide (stress m c) l (nodeRow m v (sideAt (polygonOf (sides m)) k))) (rightSide (n c) (nodeRow m v (sideAt (polygonOf (sides m)) k))) row-slack)
 
 -- ---- the loop over nodes
 

@@ -17,7 +17,8 @@ use Rattle.scope.specs.Columns.{at}
 use Rattle.scope.specs.Rows.{Row}
 use Rattle.scope.specs.Sums.{weightedSum, weighed, unit, coefficient, howMany}
 use Rattle.scope.specs.Verdict.{rowAt}
-use Rattle.rows.specs.RowContracts.{pairs, rowOf, SumsAre, sumBelow, countBelow, rowSum}
+use Rattle.rows.specs.RowContracts.{pairs, rowOf, SumsAre}
+use Rattle.rows.specs.MultiplierContracts.{sumBelow, countBelow, rowSum}
 use Rattle.rows.specs.declared.row_sums.EqualityRow.{EqualityRow}
 
 -- ---- the entries of a row
@@ -151,3 +152,36 @@ pub weighed-count : (f : ℤ × Row → Bool) (w : ℕ → ℤ) (rs : List Row) 
 unfolding howMany weighed rowAt countBelow
 weighed-count f w [] = refl
 weighed-count f w (r ∷ rs) = ap (λ z. cond (f (w 0, r)) 1 0 + z) (weighed-count f (λ k. w (suc k)) rs) ∙ sym (countBelow-front (λ k. f (w k, rowAt (r ∷ rs) k)) (length rs))
+
+-- ---- counts below a number
+
+pub countBelow-next : (f : ℕ → Bool) (n : ℕ) → countBelow f (n + 1) ≡ countBelow f n + cond (f n) 1 0
+unfolding countBelow
+countBelow-next f n = ap (countBelow f) (add-one n)
+
+pub countBelow-cong : (f g : ℕ → Bool) (n : ℕ) → ((k : ℕ) → k < n → f k ≡ g k) → countBelow f n ≡ countBelow g n
+unfolding countBelow
+countBelow-cong f g zero h = refl
+countBelow-cong f g (suc n) h = ap₂ (λ a b. a + cond b 1 0) (countBelow-cong f g n (λ k l. h k (omega arith))) (h n (omega arith))
+
+pub countBelow-add : (f : ℕ → Bool) (a b : ℕ) → countBelow f (a + b) ≡ countBelow f a + countBelow (λ k. f (a + k)) b
+unfolding countBelow
+countBelow-add f a zero = ap (countBelow f) (add-zero a) ∙ sym (add-zero (countBelow f a))
+countBelow-add f a (suc b) =
+    ap (countBelow f) (add-suc a b)
+    ∙ ap (λ z. z + cond (f (a + b)) 1 0) (countBelow-add f a b)
+    ∙ add-assoc (countBelow f a) (countBelow (λ k. f (a + k)) b) (cond (f (a + b)) 1 0)
+
+pub countBelow-none : (f : ℕ → Bool) (n : ℕ) → ((k : ℕ) → k < n → f k ≡ false) → countBelow f n ≡ 0
+unfolding countBelow
+countBelow-none f zero h = refl
+countBelow-none f (suc n) h = ap₂ (λ a b. a + cond b 1 0) (countBelow-none f n (λ k l. h k (omega arith))) (h n (omega arith))
+
+pub countBelow-most : (f : ℕ → Bool) (n : ℕ) → countBelow f n ≤ n
+unfolding countBelow
+countBelow-most f zero = zero-le
+countBelow-most f (suc n) = omega (arith, countBelow-most f n, one-most (f n))
+  where
+    one-most : (b : Bool) → cond b 1 0 ≤ 1
+    one-most true = omega arith
+    one-most false = omega arith

@@ -2,4 +2,7 @@
 pub mod Contracts
 pub mod LineContracts
 pub mod RowContracts
+pub mod MultiplierContracts
+pub mod LimitContracts
+pub mod OpenContracts
 pub mod NumbersAnswer

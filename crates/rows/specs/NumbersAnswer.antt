@@ -8,7 +8,7 @@ use Rattle.scope.specs.declared.OpenRows.the-variants.{Absent as NoCount, Count
 use Rattle.scope.specs.declared.Verdict.{Verdict}
 use Rattle.scope.specs.declared.Verdict.the-variants.{Accepted, Refused}
 use Rattle.scope.specs.Answer.{placeNumber}
-use Rattle.rows.specs.declared.NumbersAnswer.{NumbersAnswer}
+use Rattle.rows.specs.declared.numbers_answer.NumbersAnswer.{NumbersAnswer}
 
 -- whether a load is there, and its two numbers
 abbrev pub there : Load → ℕ

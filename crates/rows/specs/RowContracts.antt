@@ -13,7 +13,6 @@ use Rattle.integer.specs.Machine.{Is}
 use Rattle.scope.specs.declared.Outcome.{Outcome}
 use Rattle.scope.specs.declared.Place.the-variants as P
 use Rattle.rows.specs.declared.sizes.Sizes.{Sizes}
-use Rattle.rows.specs.declared.multiplier_sums.Sums.{Sums}
 use Rattle.rows.specs.declared.polygons.Step.{Step}
 use Rattle.rows.specs.declared.row_sums.EqualityRow.{EqualityRow}
 use Rattle.rows.specs.declared.row_sums.Span.{Span}
@@ -276,52 +275,3 @@ pub record NodeState (d m c : List ℤ) (v : ℕ) : Type 0 where
   pub spread : Is (at d 1) (stress m c (sx v) -ℤ stress m c (sy v)) 2000000000
   pub twist : Is (at d 2) (pos 2 *ℤ stress m c (t v)) 2000000000
   pub reserve : Is (at d 3) (pos 2 *ℤ q m (nodeSoil m v) *ℤ cohesion m (nodeSoil m v) *ℤ n c -ℤ p m (nodeSoil m v) *ℤ (stress m c (sx v) +ℤ stress m c (sy v))) 4000000000000
-
--- ---- multipliers
-
--- the sum of f below n, and how many below n pass a test
-unfoldable pub sumBelow : (ℕ → ℤ) → ℕ → ℤ
-sumBelow f zero = pos 0
-sumBelow f (suc n) = sumBelow f n +ℤ f n
-
-unfoldable pub countBelow : (ℕ → Bool) → ℕ → ℕ
-countBelow f zero = 0
-countBelow f (suc n) = countBelow f n + cond (f n) 1 0
-
--- F over the first n rows, each times its multiplier
-unfoldable pub rowSum : (Row → ℤ) → (ℕ → ℤ) → List Row → ℕ → ℤ
-rowSum F w rs n = sumBelow (λ k. w k *ℤ F (rowAt rs k)) n
-
--- a number that grew by d, which is within B
-pub record Grown (a b d : ℤ) (B : ℕ) : Type 0 where
-  pub by : b ≡ a +ℤ d
-  pub step : Within B d
-
--- sums that have room for more
-pub record SumsFit (columns : List ℤ) (sums : Sums) : Type 0 where
-  pub columnsFit : AllWithin 1000000000000000000 columns
-  pub limitFits : Within 2000000000000000000 (sums .w)
-  pub liveFits : Within 2000000000000000000 (sums .m)
-
--- equality row k, times its multiplier, is added to the column sums, to W and to m
-pub record RowSummed (m y : List ℤ) (k : ℕ) (before after : List ℤ) (a b : Sums) : Type 0 where
-  pub columns : (j : ℕ) → Grown (at before j) (at after j) (at y k *ℤ coefficient j (rowAt (equalityRows m) k)) 1600000000000
-  pub limit : Grown (a .w) (b .w) (at y k *ℤ rowAt (equalityRows m) k .right) 2000000000000000
-  pub live : Grown (a .m) (b .m) (at y k *ℤ rowAt (equalityRows m) k .live) 2000000000000000
-
--- the multipliers of the equality rows are there
-pub record EqualityMultipliers (m y : List ℤ) : Type 0 where
-  pub long : elements m * 2 + edges m * 4 ≤ length y
-  pub bounds : AllWithin 100000 y
-
--- 300 sums that are 0
-pub record NoSums (columns : List ℤ) : Type 0 where
-  pub size : length columns ≡ 300
-  pub none : (j : ℕ) → at columns j ≡ pos 0
-
--- the first k equality rows, each times its multiplier, are summed
-pub record Summed (m y : List ℤ) (k : ℕ) (columns : List ℤ) (sums : Sums) : Type 0 where
-  pub size : length columns ≡ 300
-  pub columnsAre : SumsAre (k * 1600000000000) columns (λ j. rowSum (coefficient j) (at y) (equalityRows m) k)
-  pub limitIs : Is (sums .w) (rowSum (λ r. r .right) (at y) (equalityRows m) k) (k * 2000000000000000)
-  pub liveIs : Is (sums .m) (rowSum (λ r. r .live) (at y) (equalityRows m) k) (k * 2000000000000000)

@@ -1,8 +1,12 @@
 // The check of numbers: document 01's rows and sums, and its verdict on the numbers of a mesh and of a claim.
 
+mod claim_parts;
 pub mod line_checks;
 mod mesh_checks;
+mod multiplier_checks;
 mod multiplier_sums;
+pub mod numbers_answer;
+mod open_rows;
 mod part_checks;
 mod polygons;
 mod row_sums;
@@ -10,26 +14,18 @@ pub mod sizes;
 mod strength_rows;
 
 ghost use mathlib.Core.Path.{_≡_};
-ghost use Rattle.scope.specs.Verdict.{meshCheck, claimCheck};
+ghost use Rattle.scope.specs.Verdict.{meshCheck, claimCheck, claimVerdict, verdict};
+ghost use Rattle.rows.specs.NumbersAnswer.{answerOf};
+use crate::claim_parts::parts_verdict;
 use crate::line_checks::claim_lines;
 use crate::line_checks::mesh_lines;
 use crate::mesh_checks::mesh_shape;
+use crate::mesh_checks::node_soils;
+use crate::numbers_answer::NumbersAnswer;
+use crate::numbers_answer::answer_of;
 use crate::sizes::sizes_of;
 use scope::Outcome;
-
-// What a solver that hands over numbers is answered, as C reads it: the verdict's number and place; for an accepted claim which parts are there, the loads l/n and W/m as they stand, and the open rows. What is not there is 0.
-#[repr(C)]
-pub struct NumbersAnswer {
-    pub number: u32,
-    pub place: u32,
-    pub field: u32,
-    pub multipliers: u32,
-    pub l: i64,
-    pub n: i64,
-    pub w: i64,
-    pub m: i64,
-    pub open_rows: u64,
-}
+use scope::Verdict;
 
 // What the numbers of a mesh are refused for, 1 to 8, or that they pass.
 pub fn judge_mesh(m: &[i64]) -> Outcome
@@ -52,4 +48,37 @@ pub fn judge_claim_lines(m: &[i64], c: &[i64]) -> Outcome
 {
     let s = sizes_of(m);
     claim_lines(c, s.nodes, s.elements, s.edges, s.sides)
+}
+
+// The verdict on a claim's numbers on a judged mesh.
+pub fn judge_claim(m: &[i64], c: &[i64]) -> Verdict
+    requires { ⌜ meshCheck (now m) ≡ Outcome.Passed ⌝ }
+    ensures { λ r. ⌜ r ≡ claimVerdict (now (m .entry)) (now (c .entry)) ⌝ }
+{
+    let lines = judge_claim_lines(m, c);
+    if let Outcome::Refused { number, place } = lines {
+        return Verdict::Refused { number, place };
+    }
+    let s = sizes_of(m);
+    let soils = node_soils(m, s);
+    parts_verdict(m, c, s, &soils)
+}
+
+// The verdict on a mesh and a claim handed over as numbers.
+pub fn check_numbers(m: &[i64], c: &[i64]) -> Verdict
+    ensures { λ r. ⌜ r ≡ verdict (now (m .entry)) (now (c .entry)) ⌝ }
+{
+    let mesh = judge_mesh(m);
+    if let Outcome::Refused { number, place } = mesh {
+        return Verdict::Refused { number, place };
+    }
+    judge_claim(m, c)
+}
+
+// The same for a solver that calls from C.
+#[no_mangle]
+pub extern "C" fn pechuvo_check_numbers(m: &[i64], c: &[i64]) -> NumbersAnswer
+    ensures { λ r. ⌜ r ≡ answerOf (verdict (now (m .entry)) (now (c .entry))) ⌝ }
+{
+    answer_of(check_numbers(m, c))
 }

@@ -389,7 +389,7 @@ fn claim_groups(
 }
 
 // k where the part is there.
-fn if_there(flag: i64, k: usize) -> usize
+pub fn if_there(flag: i64, k: usize) -> usize
     ensures { λ r. ⌜ r ≡ ifThere (eqZ flag (pos 1)) k ⌝ }
 {
     if flag == 1 {

@@ -232,7 +232,7 @@ fn step_y(m: &[i64], s: Sizes, g: usize) -> i64
 }
 
 // Whether an edge fixes its normal (1) or its shear (2).
-fn fixes(what: i64, fixed: i64) -> bool
+pub fn fixes(what: i64, fixed: i64) -> bool
     requires { ⌜ Within 10000 what ⌝ ∗ ⌜ Within 10000 fixed ⌝ }
     ensures { λ r. ⌜ r ≡ (eqZ fixed what || eqZ fixed (pos 3)) ⌝ }
 {

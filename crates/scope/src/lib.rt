@@ -1,4 +1,7 @@
-// What is answered (document 01, 'Verdict and report'): the enums that the definitions and every crate speak of. This crate has no functions.
+// What is answered (document 01, 'Verdict and report'): the enums that the definitions and every crate speak of, and the number of a place.
+
+ghost use mathlib.Core.Path.{_≡_};
+ghost use Rattle.scope.specs.Answer.{placeNumber};
 
 // "A place is a line, a row, a column, a node or an element", each counted from 1.
 pub enum Place {
@@ -7,6 +10,19 @@ pub enum Place {
     Column(u32),
     Node(u32),
     Element(u32),
+}
+
+// The number that is printed and returned for a place.
+pub fn place_number(place: Place) -> u32
+    ensures { λ r. ⌜ r ≡ placeNumber place ⌝ }
+{
+    match place {
+        Place::Line(k) => k,
+        Place::Row(k) => k,
+        Place::Column(k) => k,
+        Place::Node(k) => k,
+        Place::Element(k) => k,
+    }
 }
 
 // What one check, or a row of checks in order, says.

@@ -3,6 +3,7 @@ use native.Mathlib.Omega.{arith}
 use Rattle.integer.specs.Machine.{machine, fits, exact, told, Is-read, Is-Within}
 use Rattle.scope.specs.Columns.{at}
 use Rattle.rows.proofs.FieldLaws.{fits-wider}
+use Rattle.rows.proofs.RowLaws.{equality-among}
 use Rattle.rows.proofs.StrengthLaws.{being}
 use Rattle.rows.proofs.MultiplierLaws.{zero-summed, row-summed}
 use borrow.Author.Needs.{needs}
@@ -75,7 +76,7 @@ returns-2 c =
     let live = c .before .before .before .before .before .before .before .before .before .before .before .equality-row .ensures .fits .liveFits in
     let limit = start .pre .1 .1 .1 .1 .limitFits in
     let total = start .pre .1 .1 .1 .1 .liveFits in
-    row-summed _ _ _ (c .before .before .before .before .before .before .before .before .before .before .before .equality-row .ensures) (Is-read w (omega arith) .same) (w .inside) (c .before .before .before .before .before .add-row .ensures) (exact (search machine depth 30) (omega arith)) (exact (search machine depth 30) (omega arith))
+    row-summed _ _ _ (c .before .before .before .before .before .before .before .before .before .before .before .equality-row .ensures) (equality-among _ _ (start .pre .0 .1)) (Is-read w (omega arith) .same) (w .inside) (c .before .before .before .before .before .add-row .ensures) (exact (search machine depth 30) (omega arith)) (exact (search machine depth 30) (omega arith))
 
 pub add-equality-spec : {M : Type 1} → statement M
 add-equality-spec =

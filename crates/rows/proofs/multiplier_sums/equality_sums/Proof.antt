@@ -3,7 +3,7 @@ use mathlib.Core.Path.{_≡_, refl, sym, _∙_, subst}
 use Prim.Native.Nat.{_+_, _*_, _-_, _≤_}
 use native.Mathlib.Omega.{arith}
 use Rattle.scope.specs.Mesh.{elements, edges}
-use Rattle.rows.specs.RowContracts.{Summed}
+use Rattle.rows.specs.MultiplierContracts.{Summed}
 use Rattle.rows.proofs.MultiplierLaws.{none-summed, one-summed, room}
 use Rattle.rows.proofs.multiplier_sums.equality_sums.Statement.{statement}
 use Rattle.rows.proofs.multiplier_sums.equality_sums.Tie as tie

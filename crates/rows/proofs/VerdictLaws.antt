@@ -1,0 +1,52 @@
+-- The verdict as its stages give it: mesh, claim lines, parts; one law for each way out.
+use mathlib.Core.Path.{_≡_, refl, sym, _∙_, ap}
+use mathlib.Core.List.{List}
+use Prim.Native.Nat.{ℕ}
+use lib.IntN.{ℤ}
+use Rattle.scope.specs.declared.Place.{Place}
+use Rattle.scope.specs.declared.Outcome.the-variants.{Passed, Refused as Fails}
+use Rattle.scope.specs.declared.Verdict.{Verdict}
+use Rattle.scope.specs.declared.Verdict.the-variants.{Accepted, Refused}
+use Rattle.scope.specs.Mesh.{meshLayout}
+use Rattle.scope.specs.Claim.{claimLayout}
+use Rattle.scope.specs.Facts.{MeshFacts}
+use Rattle.scope.specs.Verdict.{shapeCheck, meshCheck, claimCheck, partsCheck, openCount, lowerLoad, upperLoad, answer, claimVerdict, verdict}
+use Rattle.scope.proofs.Checks.{then-passed}
+use Rattle.scope.proofs.Sound.{lines-passed}
+use Rattle.scope.proofs.Facts.{mesh-facts}
+use Rattle.scope.proofs.ClaimFacts.{claim-facts}
+use Rattle.rows.specs.declared.sizes.Sizes.{Sizes}
+use Rattle.rows.specs.Contracts.{Sized, NodeSoils}
+use Rattle.rows.specs.RowContracts.{Judged}
+
+-- what a mesh that passes is
+pub record MeshKnown (m : List ℤ) : Type 0 where
+  pub facts : MeshFacts m
+  pub shape : shapeCheck m ≡ Passed
+
+pub mesh-known : {m : List ℤ} → meshCheck m ≡ Passed → MeshKnown m
+unfolding meshCheck
+mesh-known {m} e =
+    let h = then-passed _ _ .0 e in
+    record { facts = mesh-facts m (lines-passed meshLayout m .says (h .0)); shape = h .1 }
+
+pub judged : {m c : List ℤ} {s : Sizes} {soils : List ℕ} → meshCheck m ≡ Passed → claimCheck m c ≡ Passed → Sized m s → NodeSoils m soils → Judged m c s soils
+unfolding claimCheck
+judged {m} {c} e f s n = record { sized = s; claim = claim-facts m c (lines-passed (claimLayout m) c .says f) (mesh-known e .facts); nodeSoils = n }
+
+module _ (m c : List ℤ) where
+  pub mesh-refused : {k : ℕ} {p : Place} → meshCheck m ≡ Fails k p → Refused k p ≡ verdict m c
+  unfolding verdict answer
+  mesh-refused e = sym (rw e)
+
+  pub mesh-goes-on : {r : Verdict} → meshCheck m ≡ Passed → r ≡ claimVerdict m c → r ≡ verdict m c
+  unfolding verdict answer
+  mesh-goes-on e f = f ∙ sym (rw e)
+
+  pub claim-refused : {k : ℕ} {p : Place} → claimCheck m c ≡ Fails k p → Refused k p ≡ claimVerdict m c
+  unfolding claimVerdict answer
+  claim-refused e = sym (rw e)
+
+  pub claim-goes-on : {r : Verdict} → claimCheck m c ≡ Passed → r ≡ answer (partsCheck m c) (Accepted (openCount m c) (lowerLoad c) (upperLoad m c)) → r ≡ claimVerdict m c
+  unfolding claimVerdict
+  claim-goes-on e f = f ∙ sym (rw e)
