@@ -4,7 +4,6 @@ use Prim.Native.Nat.{ℕ, zero, suc, _^_}
 use lib.IntN.{ℤ, pos, negsuc, _*ℤ_}
 use Rattle.integer.specs.Decimal.{digits, rightJustified}
 use Rattle.integer.specs.Round.{floorDiv, ceilDiv}
-use Rattle.rows.specs.declared.Place.{Place}
 use Rattle.rows.specs.declared.Load.{Load}
 use Rattle.rows.specs.declared.Load.the-variants.{Absent, Exact}
 use Rattle.rows.specs.declared.OpenRows.{OpenRows}
