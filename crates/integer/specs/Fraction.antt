@@ -1,6 +1,6 @@
 -- Fractions with positive denominators, compared by cross products: `a over m ≤ᶠ b over n` is a·n ≤ b·m, and so for `<ᶠ` and for `≈ᶠ`, which says that two fractions are equal.
 -- `≤ᶠ` is reflexive, total, decidable, transitive between positive denominators, and two fractions are each at most the other exactly when their cross products are equal.
--- Example (`example-third-below`, checked after `≤ᶠ-trans`): what is at most 1/3 is at most 2/5, where the comparison of literals is `leZ-yes tt`:
+-- Example (`example-third-below`, checked after `≤ᶠ-trans`): f ≤ 2/5, from p : f has a denominator above 0 and h : f ≤ 1/3, where literals are compared by `leZ-yes tt`:
 --     ≤ᶠ-trans p (record { positive = ltZ-yes tt }) (record { positive = ltZ-yes tt }) h (record { cross-≤ = leZ-yes tt })
 use mathlib.Core.Path.{_≡_, refl, sym}
 use mathlib.Core.List.{[], _∷_}

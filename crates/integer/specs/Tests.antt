@@ -1,8 +1,7 @@
 -- The Boolean tests of whole numbers: `eqZ`, defined here, and `leZ` and `ltZ` of `lib.Signed`, each with what it says when it passes (`-yes`) and when it fails (`-no`), and which way it goes (`yes-`, `no-`).
 -- All three compute at literals, so that `tt` proves `T (eqZ (pos 3) (pos 3))`, and a specification that is made of them is run by `refl`.
 -- `lib.Signed` has `leZ-yes`, `ltZ-yes` and `ltZ-no`.
--- Example (`example-computed`, checked after `eqZ`): -5 ≤ 3 and 3 = 3 is true, by
---     refl
+-- Example (`example-computed`, checked after `eqZ`): the test of -5 ≤ 3 and 3 = 3 is true, by `refl`.
 use mathlib.Core.Path.{_≡_, refl, ap, subst}
 use mathlib.Core.Bool.{Bool, true, false, not, _&&_}
 use lib.Dec.{T, eqb, eqb→eq, eqb-refl, lt→ltb, nleb→lt, T-not, not-T}
