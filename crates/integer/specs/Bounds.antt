@@ -1,8 +1,9 @@
 -- Bounds of whole numbers: `Within B z` says that z is at most B in size, and `AllWithin B l` that every member of a list is.
 -- Laws for sums, differences, signs, products, quotients, remainders, and sums over lists; a bound from two inequalities and back.
--- `linear` takes bounds among its facts, and proves one, with the set `bounds` for `facts`, as in `middle` at the end:
---     linear (h & k) (search bounds depth 40) (omega arith)
 -- What a bound is for, the needs of 64-bit arithmetic, is `Machine.antt`.
+-- `linear` takes bounds among its facts, and proves one, with the set `bounds` for `facts`.
+-- Example (`example-middle`, checked after `bounds`): y is within 1010, from h : x within 1000, k : x < y and l : y ≤ x + 10:
+--     linear (h & k & l) (search bounds depth 40) (omega arith)
 use mathlib.Core.Path.{refl, sym}
 use mathlib.Core.List.{List, [], _∷_, List·Memᴰ, List·Memᴰ·head, List·Memᴰ·tail}
 use Prim.Native.Nat.{ℕ, suc, _+_, _*_, _/_, _%_, _≤_, _<_, zero-le}
@@ -90,6 +91,10 @@ fact-Within {B} h =
 
 pub ruleset bounds = (facts, fact-Within)
 
+-- example: a range, from a bound and two tests
+example-middle : (x y : ℤ) → Within 1000 x → x <ℤ y → y ≤ℤ (x +ℤ pos 10) → Within 1010 y
+example-middle x y h k l = linear (h & k & l) (search bounds depth 40) (omega arith)
+
 -- ---- all members of a list
 
 pub record AllWithin (B : ℕ) (l : List ℤ) : Type 0 where
@@ -116,7 +121,3 @@ AllWithin-take {l = l} k h = all-within (take k l) (λ i p. let q : i < k = omeg
 pub sumOf-Within : {A : Type 0} {B : ℕ} (f : A → ℤ) (l : List A) → ((a : A) → List·Memᴰ a l → Within B (f a)) → Within (length l * B) (sumOf f l)
 sumOf-Within f [] h = record { within = zero-le }
 sumOf-Within f (a ∷ l) h = Within-le (Within-+ℤ (h a (List·Memᴰ·head refl)) (sumOf-Within f l (λ b m. h b (List·Memᴰ·tail m)))) (omega arith)
-
--- ---- an example: a range, from a bound and two tests
-middle : (x y : ℤ) → Within 1000 x → x <ℤ y → y ≤ℤ (x +ℤ pos 10) → Within 1010 y
-middle x y h k l = linear (h & k & l) (search bounds depth 40) (omega arith)

@@ -1,5 +1,8 @@
 -- Whole numbers in decimal, as bytes: digits with no leading zero, the value of digits, a text right-justified in a column.
 -- What is written here is defined by the last digit and what is read by the first, so that neither is the other turned round.
+-- Example (`example-column`, checked after `rightJustified`): 120 in a column of five bytes is two spaces and the bytes of 1, 2 and 0, by `refl`.
+-- Example (`example-read`, checked after `valueAfter`): the value of those three bytes is 120, by `refl`.
+use mathlib.Core.Path.{_≡_, refl}
 use mathlib.Core.Bool.{Bool, true, false, _&&_}
 use mathlib.Core.List.{List, [], _∷_, _++_}
 use Prim.Native.Nat.{ℕ, zero, suc, _+_, _*_, _-_, _/_, _%_}
@@ -27,6 +30,11 @@ lastDigits (suc d) k = lastDigits d (k / 10) ++ ((48 + k % 10) ∷ [])
 unfoldable pub rightJustified : ℕ → List ℕ → List ℕ
 rightJustified w text = replicate (w - length text) 32 ++ text
 
+-- example: a number in a column
+example-column : rightJustified 5 (digits 120) ≡ 32 ∷ 32 ∷ 49 ∷ 50 ∷ 48 ∷ []
+unfolding rightJustified digits digitsWithin
+example-column = refl
+
 -- ---- reading
 
 unfoldable pub isDigit : ℕ → Bool
@@ -40,6 +48,11 @@ allDigits (b ∷ bs) = isDigit b && allDigits bs
 unfoldable pub valueAfter : ℕ → List ℕ → ℕ
 valueAfter a [] = a
 valueAfter a (b ∷ bs) = valueAfter (a * 10 + (b - 48)) bs
+
+-- example: the value of three bytes
+example-read : valueAfter 0 (49 ∷ 50 ∷ 48 ∷ []) ≡ 120
+unfolding valueAfter
+example-read = refl
 
 -- at least one digit, and a zero stands first only where it stands alone
 unfoldable pub properDigits : List ℕ → Bool

@@ -1,4 +1,6 @@
 -- Laws of decimal digits: what is written is read back, and what is read was written. Both go digit by digit: one more digit d after a value a makes 10·a + d.
+-- Example (`example-one-number`, checked after `value-digits`): two numbers with the same digits, h : digits j ≡ digits k, are equal:
+--     sym (value-digits j) ∙ ap (valueAfter 0) h ∙ value-digits k
 use mathlib.Core.Path.{_≡_, refl, sym, ap, _∙_}
 use mathlib.Core.Bool.{true, _&&_}
 use mathlib.Core.List.{List, [], _∷_, _++_, append-nil, append-assoc}
@@ -122,6 +124,10 @@ value-digits =
     by-digits (λ k. valueAfter 0 (digits k) ≡ k)
     (λ k h. rw (digits-one k h) (omega arith))
     (λ k h i. rw (digits-more k h, valueAfter-++, i) (omega arith))
+
+-- example: digits are those of one number
+example-one-number : (j k : ℕ) → digits j ≡ digits k → j ≡ k
+example-one-number j k h = sym (value-digits j) ∙ ap (valueAfter 0) h ∙ value-digits k
 
 -- one more digit after a proper text that is not 0
 proper-after : (bs : List ℕ) (b : ℕ) → T (properDigits bs) → 0 < valueAfter 0 bs → T (isDigit b) → T (properDigits (bs ++ (b ∷ [])))

@@ -1,6 +1,7 @@
 -- Fractions with positive denominators, compared by cross products: `a over m ≤ᶠ b over n` is a·n ≤ b·m, and so for `<ᶠ` and for `≈ᶠ`, which says that two fractions are equal.
 -- `≤ᶠ` is reflexive, total, decidable, transitive between positive denominators, and two fractions are each at most the other exactly when their cross products are equal.
--- A use is `third-below` at the end: a chain of comparisons by `≤ᶠ-trans`, with a literal's comparison by `leZ-yes tt`.
+-- Example (`example-third-below`, checked after `≤ᶠ-trans`): f ≤ 2/5, from p : f has a denominator above 0 and h : f ≤ 1/3, where literals are compared by `leZ-yes tt`:
+--     ≤ᶠ-trans p (record { positive = ltZ-yes tt }) (record { positive = ltZ-yes tt }) h (record { cross-≤ = leZ-yes tt })
 use mathlib.Core.Path.{_≡_, refl, sym}
 use mathlib.Core.List.{[], _∷_}
 use mathlib.Core.Logic.{_⊎_, inl, inr, ⊎-elim}
@@ -53,6 +54,10 @@ pub ≤ᶠ-trans : {f g h : Frac} → Positive f → Positive g → Positive h �
           (by-nn (+ℤ-mono (nn-diff u) (nn-diff v)) (ring (f .num ∷ f .den ∷ g .num ∷ g .den ∷ h .num ∷ h .den ∷ []) (search terms depth 100) refl));
     }
 
+-- example: a chain of comparisons
+example-third-below : (f : Frac) → Positive f → f ≤ᶠ pos 1 over pos 3 → f ≤ᶠ pos 2 over pos 5
+example-third-below f p h = ≤ᶠ-trans p (record { positive = ltZ-yes tt }) (record { positive = ltZ-yes tt }) h (record { cross-≤ = leZ-yes tt })
+
 -- ---- equal fractions
 
 pub ≤ᶠ-antisym : {f g : Frac} → f ≤ᶠ g → g ≤ᶠ f → f ≈ᶠ g
@@ -71,7 +76,3 @@ pub ≈ᶠ-trans : {f g h : Frac} → Positive f → Positive g → Positive h �
 -- a fraction does not change when both its parts are multiplied
 pub ≈ᶠ-scale : (k a m : ℤ) → (k *ℤ a) over (k *ℤ m) ≈ᶠ a over m
 ≈ᶠ-scale k a m = record { cross-≡ = ring (k ∷ a ∷ m ∷ []) (search terms depth 100) refl }
-
--- ---- an example
-third-below : (f : Frac) → Positive f → f ≤ᶠ pos 1 over pos 3 → f ≤ᶠ pos 2 over pos 5
-third-below f p h = ≤ᶠ-trans p (record { positive = ltZ-yes tt }) (record { positive = ltZ-yes tt }) h (record { cross-≤ = leZ-yes tt })

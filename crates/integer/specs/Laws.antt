@@ -1,6 +1,7 @@
 -- The laws of ℤ as a commutative ring that `lib.IntN` does not have: products regroup, distribute over sums and carry signs; ℤ has no divisors of zero.
 -- Any other identity of sums, differences, products and signs is one line of the solver in `Ring.antt`.
--- An example of use: `simp (*ℤ-negℤ, negℤ-*ℤ)` moves every sign in front of its product, as in `sign-squared` at the end.
+-- Example (`example-signs`, checked after `*ℤ-negℤ`): two signs cancel in a product, (-a)·(-b) = a·b, once each stands in front of it:
+--     simp (*ℤ-negℤ, negℤ-*ℤ, negℤ-negℤ)
 use mathlib.Core.Path.{_≡_, refl, sym, _∙_, ap, ap₂}
 use mathlib.Core.Logic.{_⊎_, inl, inr}
 use Prim.Native.Nat.{ℕ, zero, suc, _+_, _*_, _-_, _≤_, _<_}
@@ -61,6 +62,10 @@ negℤ-*ℤ a b =
 pub *ℤ-negℤ : (a b : ℤ) → a *ℤ negℤ b ≡ negℤ (a *ℤ b)
 *ℤ-negℤ a b = *ℤ-comm a (negℤ b) ∙ negℤ-*ℤ b a ∙ ap negℤ (*ℤ-comm b a)
 
+-- example: two signs cancel
+example-signs : (a b : ℤ) → negℤ a *ℤ negℤ b ≡ a *ℤ b
+example-signs a b = simp (*ℤ-negℤ, negℤ-*ℤ, negℤ-negℤ)
+
 pub *ℤ-assoc : (a b c : ℤ) → (a *ℤ b) *ℤ c ≡ a *ℤ (b *ℤ c)
 *ℤ-assoc a b c =
     ℤ-steps (λ a. (a *ℤ b) *ℤ c ≡ a *ℤ (b *ℤ c))
@@ -113,6 +118,3 @@ zero-product a b e = sides (natAbs a) (natAbs b) (sym (natAbs-*ℤ a b) ∙ ap n
     sides zero n h f g = inl (f refl)
     sides (suc m) zero h f g = inr (g refl)
     sides (suc m) (suc n) h f g = absurd (omega arith)
-
-sign-squared : (a b : ℤ) → negℤ a *ℤ negℤ b ≡ a *ℤ b
-sign-squared a b = simp (*ℤ-negℤ, negℤ-*ℤ, negℤ-negℤ)

@@ -4,6 +4,8 @@
 -- and `linear nothing ..` where no such fact is needed. Facts on natural numbers need no mention: `omega` reads them where they stand.
 -- Each number is read as a difference of two natural numbers, by a rule for each operator; `search` finds the readings, and `omega` proves what the goal then says of natural numbers.
 -- A product of unknowns is multiplied out, and each monomial is one more unknown to `omega`. Readings go 12 operators deep; a search that stops at its count wants `fits 10000` after `depth 40`.
+-- Example (`example-order`, checked after `linear`): a + 3 ≤ c, from h : a + 2 ≤ b and k : b < c - 3n:
+--     linear (h & k) (search facts depth 40) (omega arith)
 use mathlib.Core.Path.{_≡_, refl, sym, _∙_, ap, ap₂}
 use mathlib.Core.List.{[], _∷_}
 use Prim.Native.Nat.{ℕ, suc, _+_, _*_, _-_, _≤_, _<_}
@@ -192,17 +194,18 @@ pub ruleset facts = (lin-pos, lin-negsuc, lin-subℕ, lin-negℤ, lin-+ℤ, lin-
 pub linear : {H G : Type 0} → H → (f : Facts H G) → (f .known .plain → f .goal .plain) → G
 linear h f o = f .goal .from (o (f .known .to h))
 
--- ---- examples
+-- example: order, with a natural number n
+example-order : (a b c : ℤ) (n : ℕ) → (a +ℤ pos 2) ≤ℤ b → b <ℤ (c -ℤ pos 3 *ℤ pos n) → (a +ℤ pos 3) ≤ℤ c
+example-order a b c n h k = linear (h & k) (search facts depth 40) (omega arith)
 
-order : (a b c : ℤ) (n : ℕ) → (a +ℤ pos 2) ≤ℤ b → b <ℤ (c -ℤ pos 3 *ℤ pos n) → (a +ℤ pos 3) ≤ℤ c
-order a b c n h k = linear (h & k) (search facts depth 40) (omega arith)
+-- example: equations
+example-equation : (a b c d : ℤ) → a ≡ b +ℤ pos 2 → b ≡ c -ℤ d → a +ℤ d ≡ c +ℤ pos 2
+example-equation a b c d h k = linear (h & k) (search facts depth 40) (omega arith)
 
-equation : (a b c d : ℤ) → a ≡ b +ℤ pos 2 → b ≡ c -ℤ d → a +ℤ d ≡ c +ℤ pos 2
-equation a b c d h k = linear (h & k) (search facts depth 40) (omega arith)
+-- example: the negation of an inequality
+example-contradiction : (a b : ℤ) → a <ℤ b → ¬ ((b -ℤ pos 1) ≤ℤ (a -ℤ pos 1))
+example-contradiction a b h = linear h (search facts depth 40) (omega arith)
 
-contradiction : (a b : ℤ) → a <ℤ b → ¬ ((b -ℤ pos 1) ≤ℤ (a -ℤ pos 1))
-contradiction a b h = linear h (search facts depth 40) (omega arith)
-
--- a fact on a product is handed over like any other
-products : (a b c d : ℤ) → pos 0 ≤ℤ ((b -ℤ a) *ℤ (d -ℤ c)) → (a *ℤ d +ℤ b *ℤ c) ≤ℤ (d *ℤ b +ℤ a *ℤ c)
-products a b c d h = linear h (search facts depth 40) (omega arith)
+-- example: a fact on a product is handed over like any other
+example-products : (a b c d : ℤ) → pos 0 ≤ℤ ((b -ℤ a) *ℤ (d -ℤ c)) → (a *ℤ d +ℤ b *ℤ c) ≤ℤ (d *ℤ b +ℤ a *ℤ c)
+example-products a b c d h = linear h (search facts depth 40) (omega arith)

@@ -22,7 +22,9 @@
 -- Where z is a definition of `specs/` the answer says `unfolding` of it. Where `search` stops at its count, it wants `fits 10000` after `depth 30`; where it breaks off, among many calls,
 -- bind its facts first: `let h = c .term .ensures in fits S (omega arith)`. For a value that the arms of a branch gave, see the proof of `doubled_size`.
 --
--- The functions of `src/lib.rt` are examples of each, with their proofs in `proofs/`. Of `combined`, which returns `a * b - c`, this is all:
+-- Example (`example-fits`, checked after `fits`): the difference of a·b and c, as the machine has it, fits 64 bits, from bounds of a, b and c:
+--     fits (search machine depth 30) (omega arith)
+-- The functions of `src/lib.rt` are examples of each line above, with their proofs in `proofs/`. Of `combined`, which returns `a * b - c`, this is all:
 --     mul-result c = fits (search machine depth 30) (omega arith)
 --     sub-result c = fits (search machine depth 30) (omega arith)
 --     returns c = is (search machine depth 30) (omega arith) refl
@@ -399,6 +401,10 @@ pub ruleset limits = (within-literal, within-wider, within-element, within-resul
 -- the result of an operation fits
 pub fits : {v : ℤ} (h : Machine v) → max (h .peak) (h .bound) < 2 ^ 63 → SFits w64 v
 fits h o = Is-SFits (h .says (left-below (h .peak) (h .bound) o)) (right-below (h .peak) (h .bound) o)
+
+-- example: a product of parameters less a parameter
+example-fits : (a b c : ℤ) → Within 1000 a → Within 1000 b → Within 1000000 c → SFits w64 (toZ w64 (ofZ w64 (toZ w64 (ofZ w64 a) *ℤ toZ w64 (ofZ w64 b))) -ℤ toZ w64 (ofZ w64 c))
+example-fits a b c h k l = fits (search machine depth 30) (omega arith)
 
 -- its value
 pub exact : {v : ℤ} (h : Machine v) → h .peak < 2 ^ 63 → v ≡ h .plain

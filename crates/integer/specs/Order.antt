@@ -1,6 +1,8 @@
 -- The order of ℤ: laws of `_≤ℤ_` and `_<ℤ_` of `lib.Signed`, which has `≤ℤ-refl`, `<ℤ-irrefl`, `<ℤ-≤ℤ-trans` and `clashℤ`.
 -- `≤ℤ` and `<ℤ` bind tighter than `+ℤ`: put brackets around a side that is a sum or a product.
--- A linear consequence of facts is one line of `Linear.antt`. For what is not linear there are certificates: `by-nn` reduces `a ≤ℤ b` to a number that is not negative and an identity for `ring`, as in `mean` at the end.
+-- A linear consequence of facts is one line of `Linear.antt`. For what is not linear there are certificates: `by-nn` reduces `a ≤ℤ b` to a number that is not negative and an identity for `ring`.
+-- Example (`example-mean`, checked after `by-nn`): 2ab ≤ a² + b², since the difference is a square:
+--     by-nn (square-nonneg (a -ℤ b)) (ring (a ∷ b ∷ []) (search terms depth 100) refl)
 use mathlib.Core.Path.{_≡_, refl, sym, _∙_, ap, ap₂, subst}
 use mathlib.Core.List.{[], _∷_}
 use mathlib.Core.Logic.{_⊎_, inl, inr, ⊎-elim}
@@ -13,6 +15,21 @@ use lib.IntN.{ℤ, pos, negsuc, _+ℤ_, _-ℤ_, _*ℤ_, negℤ, sucℤ, natAbs, 
 use lib.Signed.{leZ, ltZ, _≤ℤ_, _<ℤ_, ≤ℤ-refl, <ℤ-irrefl, <ℤ-≤ℤ-trans, clashℤ, leZ-yes, ltZ-yes, ltZ-no}
 use Rattle.integer.specs.Laws.{+ℤ-swap}
 use Rattle.integer.specs.Ring.{ring, ring-from, terms}
+
+-- ---- natural numbers in ℤ
+
+pub pos-≤ℤ : {m n : ℕ} → m ≤ n → pos m ≤ℤ pos n
+pos-≤ℤ {m} {n} h = leZ-yes (le→leb m n h)
+
+pub ≤ℤ-pos : {m n : ℕ} → pos m ≤ℤ pos n → m ≤ n
+≤ℤ-pos {m} {n} h = leb→le m n (h .le)
+
+pub nonneg : (n : ℕ) → pos 0 ≤ℤ pos n
+nonneg n = pos-≤ℤ zero-le
+
+pub square-nonneg : (a : ℤ) → pos 0 ≤ℤ (a *ℤ a)
+square-nonneg (pos n) = nonneg (n * n)
+square-nonneg (negsuc n) = nonneg (suc n * suc n)
 
 -- ---- a ≤ b as b ≡ a + k
 
@@ -44,11 +61,15 @@ diff-le {a} k e = subst (λ x. a ≤ℤ x) (sym e) (le-plus a k)
 
 -- ---- consequences by certificate
 
--- a ≤ b, since b - a is a number that is not negative; a < b, since it is positive
+-- a ≤ b, since b - a is a number that is not negative
 pub by-nn : {a b z : ℤ} → pos 0 ≤ℤ z → b -ℤ a ≡ z → a ≤ℤ b
 by-nn {a} {b} {z} h e =
     let (k, d) = le-diff h in
     diff-le k (ring-from (pos 1) (e ∙ d) (ring (a ∷ b ∷ pos k ∷ []) (search terms depth 100) refl))
+
+-- example: 2ab ≤ a² + b²
+example-mean : (a b : ℤ) → (pos 2 *ℤ a *ℤ b) ≤ℤ (a *ℤ a +ℤ b *ℤ b)
+example-mean a b = by-nn (square-nonneg (a -ℤ b)) (ring (a ∷ b ∷ []) (search terms depth 100) refl)
 
 pub nn-diff : {a b : ℤ} → a ≤ℤ b → pos 0 ≤ℤ (b -ℤ a)
 nn-diff {a} {b} h =
@@ -108,6 +129,7 @@ pub <ℤ→suc≤ℤ : {a b : ℤ} → a <ℤ b → (a +ℤ pos 1) ≤ℤ b
 pub suc≤ℤ→<ℤ : {a b : ℤ} → (a +ℤ pos 1) ≤ℤ b → a <ℤ b
 suc≤ℤ→<ℤ {a} {b} h = ltZ-yes (le-lt a b ((rw (+ℤ-one a) at h) .le))
 
+-- a < b, since b - a is positive
 pub by-pos : {a b z : ℤ} → pos 0 <ℤ z → b -ℤ a ≡ z → a <ℤ b
 by-pos {a} {b} {z} h e = suc≤ℤ→<ℤ (by-nn (nn-diff (<ℤ→suc≤ℤ h)) (ring-from (pos 1) e (ring (a ∷ b ∷ z ∷ []) (search terms depth 100) refl)))
 
@@ -134,16 +156,6 @@ pub ≤ℤ-dec : (a b : ℤ) → Dec (a ≤ℤ b)
 
 pub <ℤ-dec : (a b : ℤ) → Dec (a <ℤ b)
 <ℤ-dec a b = ⊎-elim (λ h. yes h) (λ h. no (λ k. clashℤ k h)) (<ℤ-or-≤ℤ a b)
-
--- natural numbers in ℤ
-pub pos-≤ℤ : {m n : ℕ} → m ≤ n → pos m ≤ℤ pos n
-pos-≤ℤ {m} {n} h = leZ-yes (le→leb m n h)
-
-pub ≤ℤ-pos : {m n : ℕ} → pos m ≤ℤ pos n → m ≤ n
-≤ℤ-pos {m} {n} h = leb→le m n (h .le)
-
-pub nonneg : (n : ℕ) → pos 0 ≤ℤ pos n
-nonneg n = pos-≤ℤ zero-le
 
 -- a number that is not negative is a natural number
 pub nonneg-pos : {a : ℤ} → pos 0 ≤ℤ a → a ≡ pos (natAbs a)
@@ -176,10 +188,6 @@ pub *ℤ-nonneg : {a b : ℤ} → pos 0 ≤ℤ a → pos 0 ≤ℤ b → pos 0 �
 *ℤ-nonneg {a = pos m} {b = negsuc n} h k = absurd (k .le)
 *ℤ-nonneg {a = negsuc m} h k = absurd (h .le)
 
-pub square-nonneg : (a : ℤ) → pos 0 ≤ℤ (a *ℤ a)
-square-nonneg (pos n) = nonneg (n * n)
-square-nonneg (negsuc n) = nonneg (suc n * suc n)
-
 pub *ℤ-mono : {a b c : ℤ} → a ≤ℤ b → pos 0 ≤ℤ c → (a *ℤ c) ≤ℤ (b *ℤ c)
 *ℤ-mono {a} {b} {c} h k = by-nn (*ℤ-nonneg (nn-diff h) k) (ring (a ∷ b ∷ c ∷ []) (search terms depth 100) refl)
 
@@ -202,7 +210,3 @@ pub *ℤ-cancel-< : {a b c : ℤ} → pos 0 ≤ℤ c → (a *ℤ c) <ℤ (b *ℤ
 
 pub *ℤ-cancel : {a b c : ℤ} → pos 0 <ℤ c → a *ℤ c ≡ b *ℤ c → a ≡ b
 *ℤ-cancel k e = ≤ℤ-antisym (*ℤ-cancel-≤ k (≡→≤ℤ e)) (*ℤ-cancel-≤ k (≡→≤ℤ (sym e)))
-
--- ---- an example: 2ab ≤ a² + b², since the difference is a square
-mean : (a b : ℤ) → (pos 2 *ℤ a *ℤ b) ≤ℤ (a *ℤ a +ℤ b *ℤ b)
-mean a b = by-nn (square-nonneg (a -ℤ b)) (ring (a ∷ b ∷ []) (search terms depth 100) refl)

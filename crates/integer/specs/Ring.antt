@@ -8,6 +8,8 @@
 -- `search` finds the expressions that stand for the two sides, one rule of `terms` an operator. `refl` has antt compute the polynomial of their difference, which must be 0.
 -- If `search` fails, an atom is missing from the list, or it stopped at its count and wants `fits 10000` after `depth 100`.
 -- If `refl` fails, write `?` for it: the goal shows the polynomial that is left, `node i p q` for xᵢ · p + q.
+-- Example (`example-square-of-sum`, checked after `ring`): (a + b)² = a² + 2ab + b² is
+--     ring (a ∷ b ∷ []) (search terms depth 100) refl
 use mathlib.Core.Path.{_≡_, refl, sym, _∙_, ap, ap₂}
 use mathlib.Core.List.{List, [], _∷_}
 use Prim.Native.Nat.{ℕ, zero, suc, _+_, _*_, compare, Ordering, Ordering·lt, Ordering·eq, Ordering·gt}
@@ -259,6 +261,29 @@ ring ρ {x} {y} s e =
     eq-of-diff x y
     (sym (ap₂ _-ℤ_ (s .left .says) (s .right .says)) ∙ norm-value ρ (add (s .left .expr) (neg (s .right .expr))) ∙ ap (eval ρ) e)
 
+-- example: the square of a sum
+example-square-of-sum : (a b : ℤ) → (a +ℤ b) *ℤ (a +ℤ b) ≡ a *ℤ a +ℤ pos 2 *ℤ a *ℤ b +ℤ b *ℤ b
+example-square-of-sum a b = ring (a ∷ b ∷ []) (search terms depth 100) refl
+
+-- example: literals and natural numbers among whole numbers
+example-literals : (a : ℤ) (m n : ℕ) → (a -ℤ pos 3) *ℤ pos (suc m * n) +ℤ (negsuc m +ℤ pos 5) ≡ pos m *ℤ (pos n *ℤ (a -ℤ pos 3) -ℤ pos 1) +ℤ (a -ℤ pos 3) *ℤ pos n +ℤ pos 4
+example-literals a m n = ring (a ∷ pos m ∷ pos n ∷ []) (search terms depth 100) refl
+
+-- example: Brahmagupta's identity
+example-brahmagupta : (a b c d n : ℤ)
+    → (a *ℤ a +ℤ n *ℤ (b *ℤ b)) *ℤ (c *ℤ c +ℤ n *ℤ (d *ℤ d))
+    ≡ (a *ℤ c -ℤ n *ℤ b *ℤ d) *ℤ (a *ℤ c -ℤ n *ℤ b *ℤ d) +ℤ n *ℤ ((a *ℤ d +ℤ b *ℤ c) *ℤ (a *ℤ d +ℤ b *ℤ c))
+example-brahmagupta a b c d n = ring (a ∷ b ∷ c ∷ d ∷ n ∷ []) (search terms depth 100) refl
+
+-- example: Euler's identity of four squares, with eight atoms
+example-four-squares : (a b c d e f g h : ℤ)
+    → (a *ℤ a +ℤ b *ℤ b +ℤ c *ℤ c +ℤ d *ℤ d) *ℤ (e *ℤ e +ℤ f *ℤ f +ℤ g *ℤ g +ℤ h *ℤ h)
+    ≡ (a *ℤ e +ℤ b *ℤ f +ℤ c *ℤ g +ℤ d *ℤ h) *ℤ (a *ℤ e +ℤ b *ℤ f +ℤ c *ℤ g +ℤ d *ℤ h)
+    +ℤ (a *ℤ f -ℤ b *ℤ e +ℤ c *ℤ h -ℤ d *ℤ g) *ℤ (a *ℤ f -ℤ b *ℤ e +ℤ c *ℤ h -ℤ d *ℤ g)
+    +ℤ (a *ℤ g -ℤ b *ℤ h -ℤ c *ℤ e +ℤ d *ℤ f) *ℤ (a *ℤ g -ℤ b *ℤ h -ℤ c *ℤ e +ℤ d *ℤ f)
+    +ℤ (a *ℤ h +ℤ b *ℤ g -ℤ c *ℤ f -ℤ d *ℤ e) *ℤ (a *ℤ h +ℤ b *ℤ g -ℤ c *ℤ f -ℤ d *ℤ e)
+example-four-squares a b c d e f g h = ring (a ∷ b ∷ c ∷ d ∷ e ∷ f ∷ g ∷ h ∷ []) (search terms depth 100) refl
+
 -- the same over ℕ, with a list of natural numbers
 abbrev pub posAll : List ℕ → List ℤ
 posAll [] = []
@@ -267,35 +292,14 @@ posAll (n ∷ ns) = pos n ∷ posAll ns
 pub ringℕ : (ns : List ℕ) {m n : ℕ} (s : Sides (posAll ns) (pos m) (pos n)) → difference s ≡ con (pos 0) → m ≡ n
 ringℕ ns s e = pos-injective (ring (posAll ns) s e)
 
+-- example: the square of a sum of natural numbers
+example-square-of-sumℕ : (a b : ℕ) → (a + b) * (a + b) ≡ a * a + 2 * a * b + b * b
+example-square-of-sumℕ a b = ringℕ (a ∷ b ∷ []) (search terms depth 100) refl
+
 -- x ≡ y, as a multiple of an equation
 pub ring-from : {a b x y : ℤ} (k : ℤ) → a ≡ b → x -ℤ y ≡ k *ℤ (a -ℤ b) → x ≡ y
 ring-from {a} {b} {x} {y} k h e = eq-of-diff x y (e ∙ rw (h, +ℤ-invr, *ℤ-zero))
 
--- ---- examples
-
-square-of-sum : (a b : ℤ) → (a +ℤ b) *ℤ (a +ℤ b) ≡ a *ℤ a +ℤ pos 2 *ℤ a *ℤ b +ℤ b *ℤ b
-square-of-sum a b = ring (a ∷ b ∷ []) (search terms depth 100) refl
-
-brahmagupta : (a b c d n : ℤ)
-    → (a *ℤ a +ℤ n *ℤ (b *ℤ b)) *ℤ (c *ℤ c +ℤ n *ℤ (d *ℤ d))
-    ≡ (a *ℤ c -ℤ n *ℤ b *ℤ d) *ℤ (a *ℤ c -ℤ n *ℤ b *ℤ d) +ℤ n *ℤ ((a *ℤ d +ℤ b *ℤ c) *ℤ (a *ℤ d +ℤ b *ℤ c))
-brahmagupta a b c d n = ring (a ∷ b ∷ c ∷ d ∷ n ∷ []) (search terms depth 100) refl
-
--- Cramer's rule, from two equations
-cramer : (a b c d e f x y : ℤ) → a *ℤ x +ℤ b *ℤ y ≡ e → c *ℤ x +ℤ d *ℤ y ≡ f → (a *ℤ d -ℤ b *ℤ c) *ℤ x ≡ e *ℤ d -ℤ b *ℤ f
-cramer a b c d e f x y h k = ring-from d h (ring-from (negℤ b) k (ring (a ∷ b ∷ c ∷ d ∷ e ∷ f ∷ x ∷ y ∷ []) (search terms depth 100) refl))
-
-four-squares : (a b c d e f g h : ℤ)
-    → (a *ℤ a +ℤ b *ℤ b +ℤ c *ℤ c +ℤ d *ℤ d) *ℤ (e *ℤ e +ℤ f *ℤ f +ℤ g *ℤ g +ℤ h *ℤ h)
-    ≡ (a *ℤ e +ℤ b *ℤ f +ℤ c *ℤ g +ℤ d *ℤ h) *ℤ (a *ℤ e +ℤ b *ℤ f +ℤ c *ℤ g +ℤ d *ℤ h)
-    +ℤ (a *ℤ f -ℤ b *ℤ e +ℤ c *ℤ h -ℤ d *ℤ g) *ℤ (a *ℤ f -ℤ b *ℤ e +ℤ c *ℤ h -ℤ d *ℤ g)
-    +ℤ (a *ℤ g -ℤ b *ℤ h -ℤ c *ℤ e +ℤ d *ℤ f) *ℤ (a *ℤ g -ℤ b *ℤ h -ℤ c *ℤ e +ℤ d *ℤ f)
-    +ℤ (a *ℤ h +ℤ b *ℤ g -ℤ c *ℤ f -ℤ d *ℤ e) *ℤ (a *ℤ h +ℤ b *ℤ g -ℤ c *ℤ f -ℤ d *ℤ e)
-four-squares a b c d e f g h = ring (a ∷ b ∷ c ∷ d ∷ e ∷ f ∷ g ∷ h ∷ []) (search terms depth 100) refl
-
-square-of-sumℕ : (a b : ℕ) → (a + b) * (a + b) ≡ a * a + 2 * a * b + b * b
-square-of-sumℕ a b = ringℕ (a ∷ b ∷ []) (search terms depth 100) refl
-
--- literals and natural numbers among whole numbers
-with-literals : (a : ℤ) (m n : ℕ) → (a -ℤ pos 3) *ℤ pos (suc m * n) +ℤ (negsuc m +ℤ pos 5) ≡ pos m *ℤ (pos n *ℤ (a -ℤ pos 3) -ℤ pos 1) +ℤ (a -ℤ pos 3) *ℤ pos n +ℤ pos 4
-with-literals a m n = ring (a ∷ pos m ∷ pos n ∷ []) (search terms depth 100) refl
+-- example: Cramer's rule, from two equations
+example-cramer : (a b c d e f x y : ℤ) → a *ℤ x +ℤ b *ℤ y ≡ e → c *ℤ x +ℤ d *ℤ y ≡ f → (a *ℤ d -ℤ b *ℤ c) *ℤ x ≡ e *ℤ d -ℤ b *ℤ f
+example-cramer a b c d e f x y h k = ring-from d h (ring-from (negℤ b) k (ring (a ∷ b ∷ c ∷ d ∷ e ∷ f ∷ x ∷ y ∷ []) (search terms depth 100) refl))

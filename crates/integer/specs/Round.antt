@@ -1,8 +1,10 @@
 -- Floor and ceiling of a fraction z / d, for a whole number z and a natural number d above 0. Both compute at literals by the native division.
 -- `Floor z d q` says q·d ≤ z < (q + 1)·d, and `Ceil z d q` says (q - 1)·d < z ≤ q·d. Each holds of one number only: the one that `floorDiv` or `ceilDiv` computes.
--- To show that a number is the floor show its two inequalities and use `floor-unique`, as in `half` at the end.
+-- Example (`example-third`, checked after `ceilDiv`): the floor of -1000000/3 is -333334 and its ceiling -333333, each by `refl`.
+-- Example (`example-half`, checked after `floor-unique`): to show that k is the floor of (2k + 1)/2 show its two inequalities:
+--     floor-unique (floorDiv-is (pos 2 *ℤ k +ℤ pos 1) (omega arith)) (record { at-most = ..; next-above = .. })
 use mathlib.Core.Path.{_≡_, refl}
-use Prim.Native.Nat.{ℕ, _+_, _*_, _/_, _%_, _≤_, _<_}
+use Prim.Native.Nat.{ℕ, _+_, _*_, _/_, _%_, _<_}
 use native.Mathlib.Nat.{div-add-mod', mod-lt}
 use native.Mathlib.Omega.{arith}
 use lib.IntN.{ℤ, pos, negsuc, _+ℤ_, _-ℤ_, _*ℤ_, negℤ}
@@ -16,6 +18,10 @@ floorDiv (negsuc n) d = negsuc (n / d)
 
 abbrev pub ceilDiv : ℤ → ℕ → ℤ
 ceilDiv z d = negℤ (floorDiv (negℤ z) d)
+
+-- example: both compute at literals
+example-third : (floorDiv (negsuc 999999) 3 ≡ negsuc 333333) × (ceilDiv (negsuc 999999) 3 ≡ negsuc 333332)
+example-third = (refl, refl)
 
 pub record Floor (z : ℤ) (d : ℕ) (q : ℤ) : Type 0 where
   pub at-most : (q *ℤ pos d) ≤ℤ z
@@ -65,17 +71,14 @@ ceil-least {z} {d} {q} c k h =
 pub floor-unique : {z : ℤ} {d : ℕ} {q r : ℤ} → Floor z d q → Floor z d r → q ≡ r
 floor-unique {q = q} {r = r} f g = ≤ℤ-antisym (floor-greatest g q (f .at-most)) (floor-greatest f r (g .at-most))
 
-pub ceil-unique : {z : ℤ} {d : ℕ} {q r : ℤ} → Ceil z d q → Ceil z d r → q ≡ r
-ceil-unique {q = q} {r = r} c b = ≤ℤ-antisym (ceil-least c r (b .at-least)) (ceil-least b q (c .at-least))
-
--- ---- an example: the floor of (2 k + 1) / 2 is k
-half : (k : ℤ) → floorDiv (pos 2 *ℤ k +ℤ pos 1) 2 ≡ k
-half k =
+-- example: the floor of (2 k + 1) / 2 is k
+example-half : (k : ℤ) → floorDiv (pos 2 *ℤ k +ℤ pos 1) 2 ≡ k
+example-half k =
     floor-unique (floorDiv-is (pos 2 *ℤ k +ℤ pos 1) (omega arith))
     (record {
       at-most = linear nothing (search facts depth 40) (omega arith);
       next-above = linear nothing (search facts depth 40) (omega arith);
     })
 
-computed : ceilDiv (negsuc 6) 2 ≡ negsuc 2
-computed = refl
+pub ceil-unique : {z : ℤ} {d : ℕ} {q r : ℤ} → Ceil z d q → Ceil z d r → q ≡ r
+ceil-unique {q = q} {r = r} c b = ≤ℤ-antisym (ceil-least c r (b .at-least)) (ceil-least b q (c .at-least))

@@ -1,6 +1,7 @@
 -- Sums over lists: `sumOf f l` is the sum of f over the members of l, and computes at a list that is written out.
 -- Laws: of a list put together from parts, of a mapped list, of a sum and a multiple of functions, of a sum within a sum, comparison member by member, and one member more, as a loop takes it.
--- A use is `taken-apart` at the end: such sums are rewritten by `simp` and closed by `ring`.
+-- Example (`example-taken-apart`, checked after `sumOf-*ℤ`): Σ(k·f + c·g) + c = k·Σf + c·(Σg + 1), taken apart by `simp` and closed by `ring`:
+--     simp (sumOf-+ℤ, sumOf-*ℤ) (ring (k ∷ c ∷ sumOf f l ∷ sumOf g l ∷ []) (search terms depth 100) refl)
 use mathlib.Core.Path.{_≡_, refl, sym, _∙_, ap, ap₂}
 use mathlib.Core.List.{List, [], _∷_, _++_, map, List·Memᴰ, List·Memᴰ·head, List·Memᴰ·tail}
 use Prim.Native.Nat.{ℕ, _+_, _<_}
@@ -18,10 +19,11 @@ module _ {A : Type 0} where
   sumOf f [] = pos 0
   sumOf f (a ∷ l) = f a +ℤ sumOf f l
 
-  pub sumOf-++ : (f : A → ℤ) (l m : List A) → sumOf f (l ++ m) ≡ sumOf f l +ℤ sumOf f m
-  sumOf-++ f [] m = sym (+ℤ-idl (sumOf f m))
-  sumOf-++ f (a ∷ l) m = ap (λ x. f a +ℤ x) (sumOf-++ f l m) ∙ sym (+ℤ-assoc (f a) (sumOf f l) (sumOf f m))
+-- example: a sum over a list that is written out
+example-computed : sumOf (λ i. pos i -ℤ pos 2) (1 ∷ 2 ∷ 3 ∷ 4 ∷ []) ≡ pos 2
+example-computed = refl
 
+module _ {A : Type 0} where
   pub sumOf-+ℤ : (f g : A → ℤ) (l : List A) → sumOf (λ a. f a +ℤ g a) l ≡ sumOf f l +ℤ sumOf g l
   sumOf-+ℤ f g [] = refl
   sumOf-+ℤ f g (a ∷ l) = ap (λ x. (f a +ℤ g a) +ℤ x) (sumOf-+ℤ f g l) ∙ +ℤ-swap (f a) (g a) (sumOf f l) (sumOf g l)
@@ -29,6 +31,15 @@ module _ {A : Type 0} where
   pub sumOf-*ℤ : (k : ℤ) (f : A → ℤ) (l : List A) → sumOf (λ a. k *ℤ f a) l ≡ k *ℤ sumOf f l
   sumOf-*ℤ k f [] = sym (*ℤ-zero k)
   sumOf-*ℤ k f (a ∷ l) = ap (λ x. k *ℤ f a +ℤ x) (sumOf-*ℤ k f l) ∙ sym (*ℤ-+ℤ k (f a) (sumOf f l))
+
+-- example: a sum taken apart by `simp`, and closed by `ring`
+example-taken-apart : (k c : ℤ) (f g : ℕ → ℤ) (l : List ℕ) → sumOf (λ i. k *ℤ f i +ℤ c *ℤ g i) l +ℤ c ≡ k *ℤ sumOf f l +ℤ c *ℤ (sumOf g l +ℤ pos 1)
+example-taken-apart k c f g l = simp (sumOf-+ℤ, sumOf-*ℤ) (ring (k ∷ c ∷ sumOf f l ∷ sumOf g l ∷ []) (search terms depth 100) refl)
+
+module _ {A : Type 0} where
+  pub sumOf-++ : (f : A → ℤ) (l m : List A) → sumOf f (l ++ m) ≡ sumOf f l +ℤ sumOf f m
+  sumOf-++ f [] m = sym (+ℤ-idl (sumOf f m))
+  sumOf-++ f (a ∷ l) m = ap (λ x. f a +ℤ x) (sumOf-++ f l m) ∙ sym (+ℤ-assoc (f a) (sumOf f l) (sumOf f m))
 
   pub sumOf-zero : (l : List A) → sumOf (λ a. pos 0) l ≡ pos 0
   sumOf-zero [] = refl
@@ -58,11 +69,3 @@ module _ {A B : Type 0} where
   sumOf-exchange f [] m = sym (sumOf-zero m)
   sumOf-exchange f (a ∷ l) m =
       ap (λ x. sumOf (f a) m +ℤ x) (sumOf-exchange f l m) ∙ sym (sumOf-+ℤ (f a) (λ b. sumOf (λ a. f a b) l) m)
-
--- ---- examples
-
-taken-apart : (k c : ℤ) (f g : ℕ → ℤ) (l : List ℕ) → sumOf (λ i. k *ℤ f i +ℤ c *ℤ g i) l +ℤ c ≡ k *ℤ sumOf f l +ℤ c *ℤ (sumOf g l +ℤ pos 1)
-taken-apart k c f g l = simp (sumOf-+ℤ, sumOf-*ℤ) (ring (k ∷ c ∷ sumOf f l ∷ sumOf g l ∷ []) (search terms depth 100) refl)
-
-computed : sumOf (λ i. pos i -ℤ pos 2) (1 ∷ 2 ∷ 3 ∷ 4 ∷ []) ≡ pos 2
-computed = refl

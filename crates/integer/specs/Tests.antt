@@ -1,6 +1,7 @@
 -- The Boolean tests of whole numbers: `eqZ`, defined here, and `leZ` and `ltZ` of `lib.Signed`, each with what it says when it passes (`-yes`) and when it fails (`-no`), and which way it goes (`yes-`, `no-`).
--- All three compute at literals, so that `tt` proves `T (eqZ (pos 3) (pos 3))`, and a specification that is made of them is run by `refl`, as in `sample`.
+-- All three compute at literals, so that `tt` proves `T (eqZ (pos 3) (pos 3))`, and a specification that is made of them is run by `refl`.
 -- `lib.Signed` has `leZ-yes`, `ltZ-yes` and `ltZ-no`.
+-- Example (`example-computed`, checked after `eqZ`): the test of -5 ≤ 3 and 3 = 3 is true, by `refl`.
 use mathlib.Core.Path.{_≡_, refl, ap, subst}
 use mathlib.Core.Bool.{Bool, true, false, not, _&&_}
 use lib.Dec.{T, eqb, eqb→eq, eqb-refl, lt→ltb, nleb→lt, T-not, not-T}
@@ -12,6 +13,10 @@ eqZ (pos a) (pos b) = eqb a b
 eqZ (pos a) (negsuc b) = false
 eqZ (negsuc a) (pos b) = false
 eqZ (negsuc a) (negsuc b) = eqb a b
+
+-- example: two tests at literals compute
+example-computed : (leZ (negsuc 4) (pos 3) && eqZ (pos 3) (pos 3)) ≡ true
+example-computed = refl
 
 -- ---- equality
 
@@ -56,6 +61,3 @@ no-leZ {a} {b} h = not-T (leZ a b) (λ t. <ℤ-irrefl (<ℤ-≤ℤ-trans h (reco
 
 pub no-ltZ : {a b : ℤ} → b ≤ℤ a → T (not (ltZ a b))
 no-ltZ {a} {b} h = not-T (ltZ a b) (λ t. <ℤ-irrefl (<ℤ-≤ℤ-trans (record { lt = t }) h))
-
-sample : (leZ (negsuc 4) (pos 3) && eqZ (pos 3) (pos 3)) ≡ true
-sample = refl

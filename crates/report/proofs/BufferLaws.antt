@@ -1,6 +1,5 @@
 -- The line in the buffer: each column is put behind those before it, and the bytes after the line stay.
 use mathlib.Core.Path.{_≡_, sym, ap, ap₂, _∙_}
-use mathlib.Core.Bool.{true, false}
 use mathlib.Core.List.{List, _∷_, _++_, append-assoc}
 use Prim.Native.Nat.{ℕ, _+_, _≤_, _<_}
 use native.Mathlib.Omega.{arith}
@@ -19,7 +18,6 @@ use Rattle.scope.specs.declared.Verdict.the-variants.{Accepted, Refused}
 use Rattle.scope.specs.Answer.{placeNumber}
 use Rattle.report.specs.Text.{noneText}
 use Rattle.report.specs.Report.{loadText, lowerText, upperText, openText, fourColumns, reportLine}
-use Rattle.report.specs.Spelled.{roundTo}
 use Rattle.report.specs.declared.Reported.the-variants.{Written, TooShort}
 use Rattle.report.specs.Buffer.{afterReport, reported, Reports}
 
@@ -89,13 +87,9 @@ module _ (buffer a b c e : List ℕ) where
           ∙ set-at (((a ++ b) ++ c) ++ e) (getD buffer 112 0) (drop 113 buffer) 10 112 labce
           ∙ simp append-assoc
 
-      line-stored : (p q r s : List ℕ) → a ≡ rightJustified 28 p → b ≡ rightJustified 28 q → c ≡ rightJustified 28 r → e ≡ rightJustified 28 s → set fourth 112 10 ≡ fourColumns p q r s ++ drop 113 buffer
+      pub line-stored : (p q r s : List ℕ) → a ≡ rightJustified 28 p → b ≡ rightJustified 28 q → c ≡ rightJustified 28 r → e ≡ rightJustified 28 s → set fourth 112 10 ≡ fourColumns p q r s ++ drop 113 buffer
       unfolding fourColumns
       line-stored p q r s i j k l = line-is ∙ sym (simp (← i, ← j, ← k, ← l, append-assoc))
-
-      pub four-columns : (d k : ℕ) (o : OpenRows) (lower upper : Load) → a ≡ rightJustified 28 (digits k) → b ≡ rightJustified 28 (openText o) → c ≡ rightJustified 28 (loadText (roundTo false) d lower) → e ≡ rightJustified 28 (loadText (roundTo true) d upper) → set fourth 112 10 ≡ fourColumns (digits k) (openText o) (lowerText d lower) (upperText d upper) ++ drop 113 buffer
-      unfolding lowerText upperText
-      four-columns d k o lower upper = line-stored (digits k) (openText o) (lowerText d lower) (upperText d upper)
 
 -- ---- by cases of the verdict
 

@@ -4,7 +4,6 @@ use Prim.Native.Nat.{ℕ, zero, suc, _^_}
 use lib.IntN.{ℤ, pos, negsuc, _*ℤ_}
 use Rattle.integer.specs.Decimal.{digits, rightJustified}
 use Rattle.integer.specs.Round.{floorDiv, ceilDiv}
-use Rattle.scope.specs.declared.Place.{Place}
 use Rattle.scope.specs.declared.Load.{Load}
 use Rattle.scope.specs.declared.Load.the-variants.{Absent, Exact}
 use Rattle.scope.specs.declared.OpenRows.{OpenRows}

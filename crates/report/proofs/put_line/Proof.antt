@@ -1,6 +1,7 @@
 -- Each column is put behind those before it, and byte 10 behind the last.
 use borrow.Author.Needs.{needs}
-use Rattle.report.proofs.BufferLaws.{four-columns, line-long}
+use Rattle.report.specs.Report.{lowerText, upperText}
+use Rattle.report.proofs.BufferLaws.{line-stored, line-long}
 use Rattle.report.proofs.put_line.Statement.{statement}
 use Rattle.report.proofs.put_line.Tie as tie
 
@@ -59,7 +60,8 @@ same-length : tie.Need-same-length
 same-length c = search line-long
 
 returns : tie.Need-returns
-returns c = search four-columns
+unfolding lowerText upperText
+returns c = search line-stored
 
 pub put-line-spec : {M : Type 1} → statement M
 put-line-spec =
