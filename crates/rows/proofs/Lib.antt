@@ -1,4 +1,4 @@
--- The laws that the proofs of the functions use, each file after those that it uses.
+-- The laws that the proofs of the functions use, each file after those that it uses; then what a caller may rely on.
 pub mod LineLaws
 pub mod GroupLaws
 pub mod EvenLaws
@@ -15,3 +15,5 @@ pub mod ClaimLaws
 pub mod FieldLaws
 pub mod StrengthLaws
 pub mod MultiplierLaws
+pub mod Promises
+pub mod PromisesApplied
