@@ -8,7 +8,7 @@ use native.Mathlib.Omega.{arith}
 use lib.Dec.{T, eqb}
 use lib.IntN.{ℤ, pos}
 use borrow.Table.Steps.{cases}
-use Rattle.integer.specs.Fraction.{Frac, _over_, _≈ᶠ_, _≤ᶠ_, Positive, ≤ᶠ-trans, ≈ᶠ→≤ᶠ, ≈ᶠ-sym, ≈ᶠ-trans}
+use Rattle.integer.specs.Fraction.{_over_, _≈ᶠ_, _≤ᶠ_, Positive, ≤ᶠ-trans, ≈ᶠ→≤ᶠ, ≈ᶠ-sym, ≈ᶠ-trans}
 use Rattle.integer.specs.Tests.{eqZ, eqZ-yes, eqZ-no}
 use Rattle.scope.specs.declared.Place.{Place}
 use Rattle.scope.specs.declared.Place.the-variants.{Line, Row, Column, Node, Element}
@@ -375,23 +375,25 @@ whole-bracket : (m d k : List ℤ) → SameRows m d → MultipliersAccepted d k 
 whole-bracket m d k same w t j e met =
     bracket t j e (multiplier d k) (rowsOf d) (3 * nodes d) (mesh-columns d (nodes-named d (w .mesh))) (subst (FieldMeets t j e) same met) (multipliers-meet d k w)
 
-pub fractions-bracket : {d k : List ℤ} {s : NumbersAnswer} → Answers d k s → s .multipliers ≡ 1 → (m : List ℤ) → MeshSound m → SameRows m d → FractionsBracket m d k s
-fractions-bracket {d} {k} {s} g e m sound same =
-    let w = multipliers-of d k s g e in
-    let j = reported-numbers (multiplier-part d k s g) e in
-    let limit : Frac = limitSum (multiplier d k) (rowsOf d) over liveSum (multiplier d k) (rowsOf d) in
-    let proper : Positive limit = record { positive = w .meet .live } in
+pub fractions-allowed : (m d k : List ℤ) → MeshSound m → SameRows m d → MultipliersAccepted d k → FractionsBracket m d k (allowed d k)
+unfolding allowed
+fractions-allowed m d k sound same w =
+    let proper : Positive (allowed d k) = record { positive = w .meet .live } in
     record {
       laws = mesh-fractions m sound .laws;
       at-most = λ f met.
-          rw (j .0, j .1)
-          (≤ᶠ-trans (f .load .proper) (record { positive = met .written .above-0 }) proper (≈ᶠ→≤ᶠ (≈ᶠ-sym (met .written .load)))
-          (record { cross-≤ = whole-bracket m d k same w (met .numerators) (met .numerator) (met .denominator) (met .meets) .at-most }));
+          ≤ᶠ-trans (f .load .proper) (record { positive = met .written .above-0 }) proper (≈ᶠ→≤ᶠ (≈ᶠ-sym (met .written .load)))
+          (record { cross-≤ = whole-bracket m d k same w (met .numerators) (met .numerator) (met .denominator) (met .meets) .at-most });
       equal = λ f met b t a written.
           let whole : Bracket t a b (multiplier d k) (rowsOf d) = whole-bracket m d k same w t a b (mesh-fractions m sound .laws .same-for-each f .0 met b t a written) in
-          let over-b : Positive (a over b) = record { positive = written .above-0 } in
-          rw (j .0, j .1) (
+          let over-b : Positive (a over b) = record { positive = written .above-0 } in (
             λ x. whole .equal .0 (≈ᶠ-trans over-b (f .load .proper) proper (written .load) x .cross-≡),
             λ x. ≈ᶠ-trans (f .load .proper) over-b proper (≈ᶠ-sym (written .load)) (record { cross-≡ = whole .equal .1 x }),
           );
     }
+
+pub fractions-bracket : {d k : List ℤ} {s : NumbersAnswer} → Answers d k s → s .multipliers ≡ 1 → (m : List ℤ) → MeshSound m → SameRows m d → FractionsBracket m d k (s .w over s .m)
+unfolding allowed
+fractions-bracket {d} {k} {s} g e m sound same =
+    let j = reported-numbers (multiplier-part d k s g) e in
+    rw (j .0, j .1) (fractions-allowed m d k sound same (multipliers-of d k s g e))

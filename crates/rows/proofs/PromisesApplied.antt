@@ -75,7 +75,7 @@ pub alone-answered : Answers secondSoil multipliersAlone aloneAnswer
 unfolding computed zeros workedStresses workedMultipliers multipliersAlone secondSoil
 alone-answered = refl
 
-same-rows : SameRows workedMesh secondSoil
+pub same-rows : SameRows workedMesh secondSoil
 unfolding computed zeros workedMesh secondSoil
 same-rows = refl
 
@@ -133,13 +133,13 @@ pub refused-alone : PartsBracket workedMesh sheet29 secondSoil multipliersAlone
 refused-alone = accepted-parts refused-answered same-rows tells-field alone-accepted
 
 -- the field of l 19 in fractions, over another denominator in each column: 1 to 12
-fraction : ℤ → ℕ → Fraction
+unfoldable pub fraction : ℤ → ℕ → Fraction
 fraction a d = record { value = a over pos (suc d); proper = record { positive = record { lt = lt→ltb 0 (suc d) (omega arith) } } }
 
-fractions : FractionField
+unfoldable pub fractions : FractionField
 fractions = record { stress = λ j. fraction (stress workedMesh sheet19 j *ℤ pos (suc j)) j; load = fraction (pos 38) 1 }
 
-fractions-meet : MeetsMesh workedMesh fractions
+pub fractions-meet : MeetsMesh workedMesh fractions
 unfolding fraction fractions
 fractions-meet = record {
   denominator = pos 1;

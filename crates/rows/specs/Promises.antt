@@ -9,7 +9,7 @@ use lib.IntN.{ℤ, pos}
 use lib.Signed.{_<ℤ_}
 use lib.Dec.{eqb}
 use lib.ListN.{length}
-use Rattle.integer.specs.Fraction.{_over_, _≈ᶠ_, _≤ᶠ_}
+use Rattle.integer.specs.Fraction.{Frac, _over_, _≈ᶠ_, _≤ᶠ_}
 use Rattle.scope.specs.declared.Place.{Place}
 use Rattle.scope.specs.declared.Place.the-variants.{Line, Row, Column, Node, Element}
 use Rattle.scope.specs.Columns.{n, l}
@@ -109,14 +109,14 @@ pub record OpenRowsReported (m c : List ℤ) (r : NumbersAnswer) : Type 0 where
   pub closed : r .field ≡ 1 → r .multipliers ≡ 1 → (r .«open_rows» ≡ 0) ↔ (r .l over r .n ≈ᶠ r .w over r .m)
   pub one-part : (r .field ≢ 1) ⊎ (r .multipliers ≢ 1) → r .«open_rows» ≡ 0
 
--- "A field in fractions has any fractions as each node's sx, sy and t and as its load": on a mesh m that passes, the answer s has multipliers for the same rows
-pub record FractionsBracket (m d k : List ℤ) (s : NumbersAnswer) : Type 0 where
+-- "A field in fractions has any fractions as each node's sx, sy and t and as its load": on a mesh m that passes, against the limit W/m of accepted multipliers of a claim k on a mesh d with the same rows
+pub record FractionsBracket (m d k : List ℤ) (limit : Frac) : Type 0 where
   -- each can be written over one denominator, and whether it meets the rows is the same for every one
   pub laws : FractionLaws (3 * nodes m) (rowsOf m)
   -- none that meets the rows carries more than the multipliers allow
-  pub at-most : (f : FractionField) → MeetsMesh m f → f .load .value ≤ᶠ s .w over s .m
+  pub at-most : (f : FractionField) → MeetsMesh m f → f .load .value ≤ᶠ limit
   -- equal exactly when no strength row is open, over any denominator that it is written over
-  pub equal : (f : FractionField) → MeetsMesh m f → (e : ℤ) (t : ℕ → ℤ) (j : ℤ) → WrittenOver (3 * nodes m) f e t j → (f .load .value ≈ᶠ s .w over s .m) ↔ NoneOpen t j e (multiplier d k) (rowsOf d)
+  pub equal : (f : FractionField) → MeetsMesh m f → (e : ℤ) (t : ℕ → ℤ) (j : ℤ) → WrittenOver (3 * nodes m) f e t j → (f .load .value ≈ᶠ limit) ↔ NoneOpen t j e (multiplier d k) (rowsOf d)
 
 -- the field that a claim carries, over its n, is such a field
 pub record FieldInFractions (m c : List ℤ) (r : NumbersAnswer) : Type 0 where
