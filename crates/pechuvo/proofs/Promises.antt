@@ -48,7 +48,7 @@ use Rattle.report.specs.Report.{reportLine, decimals}
 use Rattle.report.specs.Says.{LoadSays, no-load, rounded, Says, says-accepted, says-refused, LineSays}
 use Rattle.report.proofs.Line.{line-says, lower-within, upper-within}
 use Rattle.judge.specs.Judge.{fileWidth, filesVerdict}
-use Rattle.judge.specs.Handed.{Handed, meshOf, claimOf, OnTheSameMesh, HandedBracket}
+use Rattle.judge.specs.Handed.{Handed, meshOf, claimOf, HasAcceptedMultipliers, OnTheSameMesh, HandedBracket}
 use Rattle.judge.proofs.Numbers.{numbers-verdict, width-there}
 use Rattle.judge.proofs.Form as Form
 use Rattle.judge.proofs.Handed.{handed-bracket}
@@ -299,6 +299,10 @@ call-multipliers (on-numbers m c r h) t z = multipliers-exactly m c (r .number) 
 -- the field of one call and the multipliers of another or of the same, each on files or on numbers, on meshes with the same rows
 pub calls-bracket : {a b : Handed} {i j : ℕ} → Call a i → Call b j → OnTheSameMesh a b → TellsField (claimOf a) i → HasMultipliers (claimOf b) → j ≡ 0 → HandedBracket a b
 calls-bracket {a} {b} p q same t w z = handed-bracket a b same (call-field p t) (call-multipliers q w z)
+
+-- against accepted multipliers of any claim, one that is refused for its field too
+pub accepted-parts : {a : Handed} {i : ℕ} → Call a i → (b : Handed) → OnTheSameMesh a b → TellsField (claimOf a) i → HasAcceptedMultipliers b → HandedBracket a b
+accepted-parts {a} p b same t w = handed-bracket a b same (call-field p t) w
 
 -- a field in fractions against the multipliers of a call
 pub fractions-bracket : {b : Handed} {j : ℕ} → Call b j → HasMultipliers (claimOf b) → j ≡ 0 → (m : List ℤ) → MeshSound m → SameRows m (meshOf b) → FractionsBracket m (meshOf b) (claimOf b) (allowed (meshOf b) (claimOf b))

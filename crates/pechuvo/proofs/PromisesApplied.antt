@@ -3,9 +3,9 @@ use mathlib.Core.Path.{_≡_, refl, sym, _∙_, ap}
 use mathlib.Core.Logic.{inl, inr, _≢_}
 use mathlib.Core.List.{List, [], _∷_, List·Memᴰ·head}
 use mathlib.Core.Option.{some}
-use Prim.Native.Nat.{ℕ, _<_, _≤_}
+use Prim.Native.Nat.{ℕ, _*_, _<_, _≤_}
 use native.Mathlib.Omega.{arith}
-use lib.IntN.{pos}
+use lib.IntN.{ℤ, pos}
 use lib.ListN.{length, take, drop, replicate, getD, length-replicate}
 use Rattle.integer.specs.Decimal.{digitsWithin, digits, lastDigits, rightJustified, isDigit, allDigits, valueAfter, properDigits}
 use Rattle.integer.specs.Fraction.{_over_, _≈ᶠ_, _≤ᶠ_}
@@ -13,12 +13,14 @@ use Rattle.scope.specs.declared.Place.the-variants.{Column}
 use Rattle.scope.specs.Computed.{computed}
 use Rattle.scope.specs.Members.{_∈_}
 use Rattle.scope.specs.Mesh.{meshLayout, nodes}
-use Rattle.scope.specs.Rows.{nodeSoil, rowsOf}
+use Rattle.scope.specs.Rows.{nodeSoil, equalityRows, rowsOf}
+use Rattle.scope.specs.Claim.{claimLayout, multiplier}
 use Rattle.scope.specs.Refusals.{HasField, HasMultipliers, Refusal}
 use Rattle.scope.specs.Accepted.{FieldAccepted, MultipliersAccepted, ClaimAccepted}
 use Rattle.scope.specs.AcceptedField.{MeetsCriterion}
 use Rattle.scope.specs.Parts.{carried, allowed}
 use Rattle.scope.specs.Worked as Numbers
+use Rattle.scope.proofs.Sound.{mesh-passed, lines-passed, multipliers-passed}
 use Rattle.rows.specs.Promises.{placeFor, TellsField}
 use Rattle.rows.proofs.PromisesApplied.{secondSoil, answer19, aloneAnswer, nineteen-answered, alone-answered, sheet-accepted, same-rows, fraction, fractions, fractions-meet}
 use Rattle.reader.specs.Spelling.{spelling, column, unsigned, negated, signed, readColumn}
@@ -28,12 +30,12 @@ use Rattle.report.specs.Text.{pointed, fixed, noneText, word, number as shows, 
 use Rattle.report.specs.Report.{loadText, lowerText, upperText, openText, fourColumns, reportLine, decimals}
 use Rattle.report.specs.Says.{columnOf}
 use Rattle.judge.specs.Judge.{meshNumbers, claimNumbers, fileWidth, filesVerdict}
-use Rattle.judge.specs.Handed.{files, numbers, meshOf, claimOf, HandedBracket}
+use Rattle.judge.specs.Handed.{files, numbers, meshOf, claimOf, HasAcceptedMultipliers, HandedBracket}
 use Rattle.pechuvo.specs.Check.{reportBytes, check}
 use Rattle.pechuvo.specs.Bytes as Bytes
 use Rattle.pechuvo.specs.Sheets.{Sheet, sheet, printed, starred, workedMesh}
 use Rattle.pechuvo.specs.Promises.{Answers, meshIn, claimIn, LowerPrinted, UpperPrinted, OpenRowsPrinted, Call, on-files, on-numbers, AsAFile}
-use Rattle.pechuvo.proofs.Promises.{any-call, long-files, on-numbers-read, form-exactly, prints-columns, prints-open-rows, calls-bracket, fractions-bracket, as-a-file, starred-written}
+use Rattle.pechuvo.proofs.Promises.{any-call, long-files, on-numbers-read, form-exactly, prints-columns, prints-open-rows, calls-bracket, accepted-parts, fractions-bracket, as-a-file, starred-written}
 
 -- every definition between the bytes of two files and the bytes of the line
 unfoldable opened : Unit {0}
@@ -225,6 +227,27 @@ file-and-numbers = calls-bracket refused-call alone-call (ap rowsOf refused-mesh
 pub numbers-and-file : HandedBracket (numbers Numbers.workedMesh Numbers.sheet19) (files (at 0 .mesh) (at 0 .claim))
 unfolding computed meshOf claimOf Numbers.zeros Numbers.workedStresses Numbers.workedMultipliers Numbers.workedClaim Numbers.sheet19
 numbers-and-file = calls-bracket numbers-call sheet-call (ap rowsOf (sym sheet-mesh)) (refl, inl refl) sheet-has refl
+
+-- against the multipliers of the claim with l 21, which is refused with 22 for its field
+pub beyond-strength : HasAcceptedMultipliers (files (at 2 .mesh) (at 2 .claim))
+unfolding opened
+beyond-strength =
+    let m : List ℤ = meshIn (at 2 .mesh) in
+    let c : List ℤ = claimIn (at 2 .mesh) (at 2 .claim) in
+    record {
+      mesh = mesh-passed m .says refl;
+      lines = lines-passed (claimLayout m) c .says refl;
+      there = refl;
+      meet = multipliers-passed (equalityRows m) (rowsOf m) (3 * nodes m) (multiplier m c) .says refl;
+    }
+
+beyond-mesh : meshOf (files (at 2 .mesh) (at 2 .claim)) ≡ Numbers.workedMesh
+unfolding opened Numbers.zeros Numbers.workedMesh
+beyond-mesh = refl
+
+pub sheet-and-refused : HandedBracket (files (at 0 .mesh) (at 0 .claim)) (files (at 2 .mesh) (at 2 .claim))
+unfolding claimOf
+sheet-and-refused = accepted-parts sheet-call (files (at 2 .mesh) (at 2 .claim)) (ap rowsOf (sheet-mesh ∙ sym beyond-mesh)) (sheet-parts .0, inl refl) beyond-strength
 
 -- a field in fractions over twelve denominators, and the multipliers of a file
 pub fractions-and-file : pos 38 over pos 2 ≤ᶠ allowed (meshOf (files (at 0 .mesh) (at 0 .claim))) (claimOf (files (at 0 .mesh) (at 0 .claim)))
