@@ -4,3 +4,5 @@ pub mod Check
 pub mod Held
 pub mod Words
 pub mod OpenColumn
+pub mod Promises
+pub mod PromisesApplied

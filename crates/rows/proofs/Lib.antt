@@ -1,4 +1,4 @@
--- The laws that the proofs of the functions use, each file after those that it uses.
+-- The laws that the proofs of the functions use, each file after those that it uses; then what a caller may rely on.
 pub mod LineLaws
 pub mod GroupLaws
 pub mod EvenLaws
@@ -21,3 +21,5 @@ pub mod OpenLaws
 pub mod PartLaws
 pub mod VerdictLaws
 pub mod AnswerLaws
+pub mod Promises
+pub mod PromisesApplied

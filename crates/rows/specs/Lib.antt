@@ -1,4 +1,4 @@
--- What the contracts of the check of numbers say, file by file of the code.
+-- What the contracts of the check of numbers say, file by file of the code, and what a caller may rely on.
 pub mod Contracts
 pub mod LineContracts
 pub mod RowContracts
@@ -6,3 +6,4 @@ pub mod MultiplierContracts
 pub mod LimitContracts
 pub mod OpenContracts
 pub mod NumbersAnswer
+pub mod Promises

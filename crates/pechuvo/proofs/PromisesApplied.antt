@@ -1,0 +1,268 @@
+-- Each promise of the check of two files applied to document 01's sheets as bytes: antt computes what is returned and written, and the promise says the rest.
+use mathlib.Core.Path.{_≡_, refl, sym, _∙_, ap}
+use mathlib.Core.Logic.{inl, inr, _≢_}
+use mathlib.Core.List.{List, [], _∷_, List·Memᴰ·head}
+use mathlib.Core.Option.{some}
+use Prim.Native.Nat.{ℕ, _*_, _<_, _≤_}
+use native.Mathlib.Omega.{arith}
+use lib.IntN.{ℤ, pos}
+use lib.ListN.{length, take, drop, replicate, getD, length-replicate}
+use Rattle.integer.specs.Decimal.{digitsWithin, digits, lastDigits, rightJustified, isDigit, allDigits, valueAfter, properDigits}
+use Rattle.integer.specs.Fraction.{_over_, _≈ᶠ_, _≤ᶠ_}
+use Rattle.scope.specs.declared.Place.the-variants.{Column}
+use Rattle.scope.specs.Computed.{computed}
+use Rattle.scope.specs.Members.{_∈_}
+use Rattle.scope.specs.Mesh.{meshLayout, nodes}
+use Rattle.scope.specs.Rows.{nodeSoil, equalityRows, rowsOf}
+use Rattle.scope.specs.Claim.{claimLayout, multiplier}
+use Rattle.scope.specs.Refusals.{HasField, HasMultipliers, Refusal}
+use Rattle.scope.specs.Accepted.{FieldAccepted, MultipliersAccepted, ClaimAccepted}
+use Rattle.scope.specs.AcceptedField.{MeetsCriterion}
+use Rattle.scope.specs.Parts.{carried, allowed}
+use Rattle.scope.specs.Worked as Numbers
+use Rattle.scope.proofs.Sound.{mesh-passed, lines-passed, multipliers-passed}
+use Rattle.rows.specs.Promises.{placeFor, TellsField}
+use Rattle.rows.proofs.PromisesApplied.{secondSoil, answer19, aloneAnswer, nineteen-answered, alone-answered, sheet-accepted, same-rows, fraction, fractions, fractions-meet}
+use Rattle.reader.specs.Spelling.{spelling, column, unsigned, negated, signed, readColumn}
+use Rattle.reader.specs.File.{lineBytes, readColumns, readLine, widths, readLines, hasPassed, headerPasses, numbersOf, columns, writeLines, fileOf}
+use Rattle.reader.specs.WellFormed.{FormFails}
+use Rattle.report.specs.Text.{pointed, fixed, noneText, word, number as shows, beforePoint, afterPoint, decimal, saidNumber, signedDecimal, isNone, said}
+use Rattle.report.specs.Report.{loadText, lowerText, upperText, openText, fourColumns, reportLine, decimals}
+use Rattle.report.specs.Says.{columnOf}
+use Rattle.judge.specs.Judge.{meshNumbers, claimNumbers, fileWidth, filesVerdict}
+use Rattle.judge.specs.Handed.{files, numbers, meshOf, claimOf, HasAcceptedMultipliers, HandedBracket}
+use Rattle.pechuvo.specs.Check.{reportBytes, check}
+use Rattle.pechuvo.specs.Bytes as Bytes
+use Rattle.pechuvo.specs.Sheets.{Sheet, sheet, printed, starred, workedMesh}
+use Rattle.pechuvo.specs.Promises.{Answers, meshIn, claimIn, LowerPrinted, UpperPrinted, OpenRowsPrinted, Call, on-files, on-numbers, AsAFile}
+use Rattle.pechuvo.proofs.Promises.{any-call, long-files, on-numbers-read, form-exactly, prints-columns, prints-open-rows, calls-bracket, accepted-parts, fractions-bracket, as-a-file, starred-written}
+
+-- every definition between the bytes of two files and the bytes of the line
+unfoldable opened : Unit {0}
+unfolding digitsWithin digits lastDigits rightJustified isDigit allDigits valueAfter properDigits computed spelling column unsigned negated signed readColumn lineBytes readColumns readLine widths readLines hasPassed headerPasses numbersOf columns writeLines fileOf pointed fixed noneText beforePoint afterPoint decimal saidNumber signedDecimal isNone said columnOf loadText lowerText upperText openText fourColumns reportLine decimals meshNumbers claimNumbers fileWidth filesVerdict meshOf claimOf reportBytes check Bytes.bytes Bytes.withWord Bytes.numbersAfter Bytes.numbers sheet printed starred workedMesh
+opened = tt
+
+-- sheet k of the starred ones, counted from 0, and a buffer of 113 bytes
+abbrev pub at : ℕ → Sheet
+at k = getD starred k (sheet "" "" "")
+
+abbrev pub room : List ℕ
+room = replicate 113 0
+
+-- ---- what is answered: the sheet; l 19; the -30 as -29; the empty mesh; 1/3
+
+pub sheet-answered : Answers (at 0 .mesh) (at 0 .claim) room 0 0 (at 0 .line)
+unfolding opened
+sheet-answered = record { numberIs = refl; placeIs = refl; bufferIs = refl }
+
+pub nineteen-file : Answers (at 1 .mesh) (at 1 .claim) room 0 0 (at 1 .line)
+unfolding opened
+nineteen-file = record { numberIs = refl; placeIs = refl; bufferIs = refl }
+
+pub refused-answered : Answers (at 4 .mesh) (at 4 .claim) room 32 7 (at 4 .line)
+unfolding opened
+refused-answered = record { numberIs = refl; placeIs = refl; bufferIs = refl }
+
+pub empty-answered : Answers [] [] room 1 1 (at 5 .line)
+unfolding opened
+empty-answered = record { numberIs = refl; placeIs = refl; bufferIs = refl }
+
+pub third-answered : Answers (at 7 .mesh) (at 7 .claim) room 0 0 (at 7 .line)
+unfolding opened
+third-answered = record { numberIs = refl; placeIs = refl; bufferIs = refl }
+
+-- the buffer of 113 bytes has room, and the parts are there
+fits : 113 ≤ length room
+fits = omega (arith, length-replicate {A = ℕ} 113 0)
+
+sheet-parts : HasField (claimIn (at 0 .mesh) (at 0 .claim)) × HasMultipliers (claimIn (at 0 .mesh) (at 0 .claim))
+unfolding opened
+sheet-parts = (refl, refl)
+
+nineteen-parts : HasField (claimIn (at 1 .mesh) (at 1 .claim)) × HasMultipliers (claimIn (at 1 .mesh) (at 1 .claim))
+unfolding opened
+nineteen-parts = (refl, refl)
+
+third-parts : HasField (claimIn (at 7 .mesh) (at 7 .claim)) × HasMultipliers (claimIn (at 7 .mesh) (at 7 .claim))
+unfolding opened
+third-parts = (refl, refl)
+
+-- ---- demand 1
+
+-- "112 bytes: 41"
+pub short-buffer : (number place : ℕ) (after : List ℕ) → Answers (at 0 .mesh) (at 0 .claim) (replicate 112 0) number place after → (number ≡ 41) × (place ≡ 0) × (after ≡ replicate 112 0)
+short-buffer number place after h = any-call (at 0 .mesh) (at 0 .claim) (replicate 112 0) number place after h .too-short (omega (arith, length-replicate {A = ℕ} 112 0))
+
+-- a byte beyond 113 stays
+pub byte-114 : (number place : ℕ) (after : List ℕ) → Answers (at 0 .mesh) (at 0 .claim) (replicate 114 7) number place after → drop 113 after ≡ 7 ∷ []
+byte-114 number place after h = any-call (at 0 .mesh) (at 0 .claim) (replicate 114 7) number place after h .rest
+
+-- a file of 65,537 spaces
+pub too-long : (number place : ℕ) (after : List ℕ) → Answers (replicate 65537 32) [] room number place after → number ≢ 0
+too-long number place after h = long-files (replicate 65537 32) [] room number place after h .never-accepted (inl (omega (arith, length-replicate {A = ℕ} 65537 32)))
+
+-- ---- demand 2
+
+pub sheet-accepted-file : ClaimAccepted (meshIn (at 0 .mesh)) (claimIn (at 0 .mesh) (at 0 .claim))
+sheet-accepted-file = on-numbers-read (at 0 .mesh) (at 0 .claim) room 0 0 (at 0 .line) sheet-answered fits .returns-zero .exactly .0 refl
+
+pub refused-column-7 : Refusal (meshIn (at 4 .mesh)) (claimIn (at 4 .mesh) (at 4 .claim)) 32 (Column 7)
+unfolding placeFor
+refused-column-7 = on-numbers-read (at 4 .mesh) (at 4 .claim) room 32 7 (at 4 .line) refused-answered fits .refuses .exactly 32 7 (λ e. omega arith) .0 (refl, refl)
+
+-- its field is accepted, and meets the criterion at node 3
+tells-field : TellsField (claimIn (at 4 .mesh) (at 4 .claim)) 32
+unfolding opened
+tells-field = (refl, inr (omega arith, omega arith))
+
+pub field-of-refused : FieldAccepted (meshIn (at 4 .mesh)) (claimIn (at 4 .mesh) (at 4 .claim))
+field-of-refused = on-numbers-read (at 4 .mesh) (at 4 .claim) room 32 7 (at 4 .line) refused-answered fits .field .told .1 tells-field
+
+four-nodes : 2 < nodes (meshIn (at 4 .mesh))
+unfolding opened
+four-nodes = omega arith
+
+pub criterion-at-node-3 : MeetsCriterion (meshIn (at 4 .mesh)) (claimIn (at 4 .mesh) (at 4 .claim)) (record { at = 2; soil = nodeSoil (meshIn (at 4 .mesh)) 2 })
+criterion-at-node-3 = on-numbers-read (at 4 .mesh) (at 4 .claim) room 32 7 (at 4 .line) refused-answered fits .criterion tells-field 2 four-nodes
+
+pub sheet-multipliers : MultipliersAccepted (meshIn (at 0 .mesh)) (claimIn (at 0 .mesh) (at 0 .claim))
+sheet-multipliers = on-numbers-read (at 0 .mesh) (at 0 .claim) room 0 0 (at 0 .line) sheet-answered fits .multipliers .told .0 (sheet-parts .1, refl) .0
+
+-- the empty mesh fails in its form at line 1
+pub empty-form : FormFails fileWidth meshLayout [] 0
+empty-form = form-exactly [] [] room 1 1 (at 5 .line) empty-answered fits .mesh-form 0 .0 (refl, refl)
+
+-- 1/3 as lower 0.333333, as upper 0.333334
+pub third-lower : LowerPrinted (claimIn (at 7 .mesh) (at 7 .claim)) (take 113 (at 7 .line))
+third-lower = prints-columns (at 7 .mesh) (at 7 .claim) room 0 0 (at 7 .line) third-answered fits .lower refl (third-parts .0)
+
+pub third-upper : UpperPrinted (meshIn (at 7 .mesh)) (claimIn (at 7 .mesh) (at 7 .claim)) (take 113 (at 7 .line))
+third-upper = prints-columns (at 7 .mesh) (at 7 .claim) room 0 0 (at 7 .line) third-answered fits .upper refl (third-parts .1)
+
+third-columns : (said (columnOf 2 (take 113 (at 7 .line))) ≡ some (shows (pos 333333) 6)) × (said (columnOf 3 (take 113 (at 7 .line))) ≡ some (shows (pos 333334) 6))
+unfolding opened
+third-columns = (refl, refl)
+
+pub third-millionths : (third-lower .millionths ≡ pos 333333) × (third-upper .millionths ≡ pos 333334)
+third-millionths = (
+  let a = third-lower .reads in let b = third-columns .0 in cc,
+  let a = third-upper .reads in let b = third-columns .1 in cc,
+)
+
+-- "Refused: number, place, none, none"
+pub refused-columns : (said (columnOf 1 (take 113 (at 4 .line))) ≡ some (shows (pos 7) 0)) × (said (columnOf 2 (take 113 (at 4 .line))) ≡ some word)
+refused-columns =
+    let prints = prints-columns (at 4 .mesh) (at 4 .claim) room 32 7 (at 4 .line) refused-answered fits in
+    (prints .refused (λ e. omega arith), prints .lower-none .1 (inl (λ e. omega arith)))
+
+-- ---- demand 3
+
+-- two open rows of l 19
+pub nineteen-open : OpenRowsPrinted (meshIn (at 1 .mesh)) (claimIn (at 1 .mesh) (at 1 .claim)) (take 113 (at 1 .line))
+nineteen-open = prints-open-rows (at 1 .mesh) (at 1 .claim) room 0 0 (at 1 .line) nineteen-file fits refl (nineteen-parts .0) (nineteen-parts .1)
+
+nineteen-column : said (columnOf 1 (take 113 (at 1 .line))) ≡ some (shows (pos 2) 0)
+unfolding opened
+nineteen-column = refl
+
+pub nineteen-two : nineteen-open .number ≡ 2
+nineteen-two = let a = nineteen-open .reads in let b = nineteen-column in cc
+
+-- "1/3 on 1/3 prints 0.333333 and 0.333334 with 0 open rows"
+third-open : OpenRowsPrinted (meshIn (at 7 .mesh)) (claimIn (at 7 .mesh) (at 7 .claim)) (take 113 (at 7 .line))
+third-open = prints-open-rows (at 7 .mesh) (at 7 .claim) room 0 0 (at 7 .line) third-answered fits refl (third-parts .0) (third-parts .1)
+
+third-column : said (columnOf 1 (take 113 (at 7 .line))) ≡ some (shows (pos 0) 0)
+unfolding opened
+third-column = refl
+
+pub third-closed : carried (claimIn (at 7 .mesh) (at 7 .claim)) ≈ᶠ allowed (meshIn (at 7 .mesh)) (claimIn (at 7 .mesh) (at 7 .claim))
+third-closed = third-open .closed .0 (let a = third-open .reads in let b = third-column in cc)
+
+-- the calls, on files and on numbers
+refused-call : Call (files (at 4 .mesh) (at 4 .claim)) 32
+refused-call = on-files (at 4 .mesh) (at 4 .claim) room 32 7 (at 4 .line) refused-answered
+
+sheet-call : Call (files (at 0 .mesh) (at 0 .claim)) 0
+sheet-call = on-files (at 0 .mesh) (at 0 .claim) room 0 0 (at 0 .line) sheet-answered
+
+numbers-call : Call (numbers Numbers.workedMesh Numbers.sheet19) 0
+numbers-call = on-numbers Numbers.workedMesh Numbers.sheet19 answer19 nineteen-answered
+
+alone-call : Call (numbers secondSoil Numbers.multipliersAlone) 0
+alone-call = on-numbers secondSoil Numbers.multipliersAlone aloneAnswer alone-answered
+
+-- the meshes of the files are the numbers of document 01's sheet
+sheet-mesh : meshOf (files (at 0 .mesh) (at 0 .claim)) ≡ Numbers.workedMesh
+unfolding opened Numbers.zeros Numbers.workedMesh
+sheet-mesh = refl
+
+refused-mesh : meshOf (files (at 4 .mesh) (at 4 .claim)) ≡ Numbers.workedMesh
+unfolding opened Numbers.zeros Numbers.workedMesh
+refused-mesh = refl
+
+sheet-has : HasMultipliers (claimOf (files (at 0 .mesh) (at 0 .claim)))
+unfolding claimOf
+sheet-has = sheet-parts .1
+
+refused-tells : TellsField (claimOf (files (at 4 .mesh) (at 4 .claim))) 32
+unfolding claimOf
+refused-tells = tells-field
+
+-- one claim
+pub one-file : HandedBracket (files (at 0 .mesh) (at 0 .claim)) (files (at 0 .mesh) (at 0 .claim))
+unfolding claimOf
+one-file = calls-bracket sheet-call sheet-call refl (sheet-parts .0, inl refl) sheet-has refl
+
+-- two files: the field of the claim that is refused for its multipliers, and the sheet's multipliers
+pub two-files : HandedBracket (files (at 4 .mesh) (at 4 .claim)) (files (at 0 .mesh) (at 0 .claim))
+two-files = calls-bracket refused-call sheet-call (ap rowsOf (refused-mesh ∙ sym sheet-mesh)) refused-tells sheet-has refl
+
+-- the field of a file, and multipliers handed over as numbers on another mesh with the same rows
+pub file-and-numbers : HandedBracket (files (at 4 .mesh) (at 4 .claim)) (numbers secondSoil Numbers.multipliersAlone)
+unfolding computed meshOf claimOf Numbers.zeros Numbers.workedMultipliers Numbers.multipliersAlone
+file-and-numbers = calls-bracket refused-call alone-call (ap rowsOf refused-mesh ∙ same-rows) refused-tells refl refl
+
+-- the other way round: a field handed over as numbers, and the multipliers of a file
+pub numbers-and-file : HandedBracket (numbers Numbers.workedMesh Numbers.sheet19) (files (at 0 .mesh) (at 0 .claim))
+unfolding computed meshOf claimOf Numbers.zeros Numbers.workedStresses Numbers.workedMultipliers Numbers.workedClaim Numbers.sheet19
+numbers-and-file = calls-bracket numbers-call sheet-call (ap rowsOf (sym sheet-mesh)) (refl, inl refl) sheet-has refl
+
+-- against the multipliers of the claim with l 21, which is refused with 22 for its field
+pub beyond-strength : HasAcceptedMultipliers (files (at 2 .mesh) (at 2 .claim))
+unfolding opened
+beyond-strength =
+    let m : List ℤ = meshIn (at 2 .mesh) in
+    let c : List ℤ = claimIn (at 2 .mesh) (at 2 .claim) in
+    record {
+      mesh = mesh-passed m .says refl;
+      lines = lines-passed (claimLayout m) c .says refl;
+      there = refl;
+      meet = multipliers-passed (equalityRows m) (rowsOf m) (3 * nodes m) (multiplier m c) .says refl;
+    }
+
+beyond-mesh : meshOf (files (at 2 .mesh) (at 2 .claim)) ≡ Numbers.workedMesh
+unfolding opened Numbers.zeros Numbers.workedMesh
+beyond-mesh = refl
+
+pub sheet-and-refused : HandedBracket (files (at 0 .mesh) (at 0 .claim)) (files (at 2 .mesh) (at 2 .claim))
+unfolding claimOf
+sheet-and-refused = accepted-parts sheet-call (files (at 2 .mesh) (at 2 .claim)) (ap rowsOf (sheet-mesh ∙ sym beyond-mesh)) (sheet-parts .0, inl refl) beyond-strength
+
+-- a field in fractions over twelve denominators, and the multipliers of a file
+pub fractions-and-file : pos 38 over pos 2 ≤ᶠ allowed (meshOf (files (at 0 .mesh) (at 0 .claim))) (claimOf (files (at 0 .mesh) (at 0 .claim)))
+unfolding fraction fractions
+fractions-and-file = fractions-bracket sheet-call sheet-has refl Numbers.workedMesh (sheet-accepted .mesh) (ap rowsOf (sym sheet-mesh)) .at-most fractions fractions-meet
+
+-- numbers handed over get the answer of a file of them
+pub nineteen-as-a-file : AsAFile Numbers.workedMesh Numbers.sheet19 answer19
+nineteen-as-a-file = as-a-file nineteen-answered
+
+-- ---- the sheets
+
+pub sheet-written : (number place : ℕ) (after : List ℕ) → Answers (at 0 .mesh) (at 0 .claim) room number place after → take 113 after ≡ at 0 .line
+unfolding starred
+sheet-written number place after h = starred-written (at 0) first room after number place h fits
+  where
+    first : at 0 ∈ starred
+    first = List·Memᴰ·head refl

@@ -1,0 +1,128 @@
+-- What a caller of `pechuvo_check` may rely on: demands 1, 2 and 3 of document 01, each promise a plain statement about the number and the place that are returned and about the bytes of the buffer.
+-- Each is proved of every call (`proofs/Promises.antt`) and applied to document 01's sheet (`proofs/PromisesApplied.antt`). What number and place say of the two files' numbers is said as for numbers handed over (`rows/specs/Promises.antt`).
+use mathlib.Core.Path.{_≡_}
+use mathlib.Core.Logic.{_↔_, _⊎_, _≢_}
+use mathlib.Core.List.{List}
+use mathlib.Core.Option.{some}
+use Prim.Native.Nat.{ℕ, suc, _≤_, _<_}
+use lib.IntN.{ℤ, pos, _+ℤ_, _-ℤ_}
+use lib.ListN.{length, take, drop}
+use Rattle.integer.specs.Fraction.{_over_, _≈ᶠ_, _≤ᶠ_, _<ᶠ_}
+use Rattle.scope.specs.Columns.{n, l}
+use Rattle.scope.specs.Mesh.{meshLayout}
+use Rattle.scope.specs.Rows.{rowsOf}
+use Rattle.scope.specs.Claim.{claimLayout, stress, multiplier}
+use Rattle.scope.specs.Verdict.{rowAt}
+use Rattle.scope.specs.Sound.{MeshSound}
+use Rattle.scope.specs.Refusals.{HasField, HasMultipliers}
+use Rattle.scope.specs.Bracket.{Open}
+use Rattle.scope.specs.Parts.{carried, allowed, NumberOf}
+use Rattle.rows.specs.declared.numbers_answer.NumbersAnswer.{NumbersAnswer}
+use Rattle.rows.specs.Promises as Handed-over
+use Rattle.rows.specs.Promises.{Returned, ReturnsZero, RefusesExactly, TellsField, FieldExactly, MultipliersExactly, CriterionAtEachNode}
+use Rattle.rows.specs.NumbersAnswer.{answerOf}
+use Rattle.reader.specs.File.{fileOf}
+use Rattle.reader.specs.WellFormed.{Fit, FormFails}
+use Rattle.report.specs.Text.{word, number as shows, said}
+use Rattle.report.specs.Report.{reportLine, decimals}
+use Rattle.report.specs.Says.{columnOf, LineSays}
+use Rattle.judge.specs.Judge.{meshNumbers, claimNumbers, fileWidth, filesVerdict}
+use Rattle.judge.specs.Handed.{Handed, files, numbers}
+use Rattle.pechuvo.specs.Check.{check}
+use Rattle.pechuvo.specs.Sheets.{Sheet}
+
+-- the contract of `pechuvo_check`: what is returned for the bytes of two files and of a buffer before the call, and the buffer's bytes after it
+pub record Answers (mesh claim before : List ℕ) (number place : ℕ) (after : List ℕ) : Type 0 where
+  pub numberIs : number ≡ check mesh claim before .number
+  pub placeIs : place ≡ check mesh claim before .place
+  pub bufferIs : after ≡ check mesh claim before .buffer
+
+-- the numbers of the mesh file, and those of the claim file
+abbrev pub meshIn : List ℕ → List ℤ
+meshIn mesh = meshNumbers fileWidth mesh
+
+abbrev pub claimIn : List ℕ → List ℕ → List ℤ
+claimIn mesh claim = claimNumbers fileWidth (meshIn mesh) claim
+
+-- ==== Demand 1: what any call returns and writes
+
+pub record AnyCall (mesh claim before : List ℕ) (number place : ℕ) (after : List ℕ) : Type 0 where
+  -- "41, place 0, untouched: buffer under 113 bytes", and 41 in no other case
+  pub too-short : length before < 113 → (number ≡ 41) × (place ≡ 0) × (after ≡ before)
+  pub only-then : number ≡ 41 → length before < 113
+  -- else the verdict's number and place, and its line: "four columns of 28, right-justified, and byte 10"
+  pub returns : 113 ≤ length before → Returned (meshIn mesh) (claimIn mesh claim) number place
+  pub line : 113 ≤ length before → take 113 after ≡ reportLine decimals (filesVerdict fileWidth mesh claim)
+  pub says : 113 ≤ length before → LineSays decimals (filesVerdict fileWidth mesh claim) (take 113 after)
+  -- "Bytes beyond 113 are never written"
+  pub rest : drop 113 after ≡ drop 113 before
+  pub size : length after ≡ length before
+
+-- "at most 65,536 bytes of each ..; a longer file is too long for any mesh or claim and is refused as its first 65,536 bytes are"
+pub record LongFiles (mesh claim before : List ℕ) (number place : ℕ) (after : List ℕ) : Type 0 where
+  pub cut : Answers (take 65536 mesh) (take 65536 claim) before number place after
+  pub never-accepted : (65536 < length mesh) ⊎ (65536 < length claim) → number ≢ 0
+
+-- ==== Demand 2: what is accepted, what is refused, what is printed; where the buffer has 113 bytes
+
+-- 0 exactly when, each refusal with its place exactly when, each part accepted exactly when, and the criterion at each node
+pub record OnFiles (mesh claim : List ℕ) (number place : ℕ) : Type 0 where
+  pub returns-zero : ReturnsZero (meshIn mesh) (claimIn mesh claim) number place
+  pub refuses : RefusesExactly (meshIn mesh) (claimIn mesh claim) number place
+  pub field : FieldExactly (meshIn mesh) (claimIn mesh claim) number
+  pub multipliers : MultipliersExactly (meshIn mesh) (claimIn mesh claim) number
+  pub criterion : TellsField (claimIn mesh claim) number → CriterionAtEachNode (meshIn mesh) (claimIn mesh claim)
+
+-- "mesh form: length, character, spelling, bytes missing or left over", and "claim form", said of the bytes
+pub record FormExactly (mesh claim : List ℕ) (number place : ℕ) : Type 0 where
+  pub mesh-form : (j : ℕ) → ((number ≡ 1) × (place ≡ suc j)) ↔ FormFails fileWidth meshLayout mesh j
+  pub claim-form : (j : ℕ) → ((number ≡ 11) × (place ≡ suc j)) ↔ (MeshSound (meshIn mesh) × FormFails fileWidth (claimLayout (meshIn mesh)) claim j)
+
+-- "Both loads have six decimals .. The lower goes towards minus infinity": the third column reads as v millionths, v/10^6 ≤ l/n < (v + 1)/10^6
+pub record LowerPrinted (c : List ℤ) (line : List ℕ) : Type 0 where
+  pub millionths : ℤ
+  pub reads : said (columnOf 2 line) ≡ some (shows millionths 6)
+  pub at-most : millionths over pos 1000000 ≤ᶠ carried c
+  pub within : carried c <ᶠ (millionths +ℤ pos 1) over pos 1000000
+
+-- ".. the upper towards plus infinity": the fourth column, (v - 1)/10^6 < W/m ≤ v/10^6
+pub record UpperPrinted (m c : List ℤ) (line : List ℕ) : Type 0 where
+  pub millionths : ℤ
+  pub reads : said (columnOf 3 line) ≡ some (shows millionths 6)
+  pub at-least : allowed m c ≤ᶠ millionths over pos 1000000
+  pub within : (millionths -ℤ pos 1) over pos 1000000 <ᶠ allowed m c
+
+-- the four columns: "Accepted .. reports: 0; the open rows ..; l/n; W/m"; "Refused: number, place, none, none"; "Whichever part the claim lacks gives the four letters none"
+pub record Prints (m c : List ℤ) (number place : ℕ) (line : List ℕ) : Type 0 where
+  pub first : said (columnOf 0 line) ≡ some (shows (pos number) 0)
+  pub refused : number ≢ 0 → said (columnOf 1 line) ≡ some (shows (pos place) 0)
+  pub lower : number ≡ 0 → HasField c → LowerPrinted c line
+  pub lower-none : (said (columnOf 2 line) ≡ some word) ↔ ((number ≢ 0) ⊎ (¬ HasField c))
+  pub upper : number ≡ 0 → HasMultipliers c → UpperPrinted m c line
+  pub upper-none : (said (columnOf 3 line) ≡ some word) ↔ ((number ≢ 0) ⊎ (¬ HasMultipliers c))
+  pub rows-none : number ≡ 0 → (said (columnOf 1 line) ≡ some word) ↔ ((¬ HasField c) ⊎ (¬ HasMultipliers c))
+
+-- ==== Demand 3: loads compared
+
+-- "the open rows (strength rows with multiplier above 0 and left side below right)": the second column of an accepted claim with both parts reads as their number, and it is 0 exactly when l/n and W/m are equal
+pub record OpenRowsPrinted (m c : List ℤ) (line : List ℕ) : Type 0 where
+  pub number : ℕ
+  pub reads : said (columnOf 1 line) ≡ some (shows (pos number) 0)
+  pub count : NumberOf (λ k. Open (stress m c) (l c) (n c) (multiplier m c k) (rowAt (rowsOf m) k)) (length (rowsOf m)) number
+  pub closed : (number ≡ 0) ↔ (carried c ≈ᶠ allowed m c)
+
+-- a call that was made, on two files or on numbers, and the number that it returned
+pub data Call : Handed → ℕ → Type 0 where
+  on-files : (mesh claim before : List ℕ) (number place : ℕ) (after : List ℕ) → Answers mesh claim before number place after → Call (files mesh claim) number
+  on-numbers : (m c : List ℤ) (r : NumbersAnswer) → Handed-over.Answers m c r → Call (numbers m c) (r .number)
+
+-- "Numbers handed to it get the refusals that a file of them, with columns as wide as needed, would get"
+pub record AsAFile (m c : List ℤ) (r : NumbersAnswer) : Type 0 where
+  pub some-width : (w : ℕ) × Fit w m × Fit w c
+  pub every-width : (w : ℕ) → Fit w m → Fit w c → r ≡ answerOf (filesVerdict w (fileOf w meshLayout m) (fileOf w (claimLayout m) c))
+
+-- ==== The sheets
+
+-- each sheet's line stands at the front of the buffer
+abbrev pub Written : Sheet → Type 0
+Written s = (before after : List ℕ) (number place : ℕ) → Answers (s .mesh) (s .claim) before number place after → 113 ≤ length before → take 113 after ≡ s .line
