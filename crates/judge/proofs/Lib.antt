@@ -2,3 +2,5 @@
 pub mod Numbers
 pub mod Form
 pub mod Handed
+pub mod ClaimBytes
+pub mod Judged

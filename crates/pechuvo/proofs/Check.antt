@@ -9,7 +9,7 @@ use native.Mathlib.Omega.{arith}
 use lib.Dec.{ltb}
 use lib.IntN.{ℤ, pos, negsuc}
 use lib.Signed.{_≤ℤ_}
-use lib.ListN.{length, take, getD, length-replicate}
+use lib.ListN.{length, take, getD}
 use borrow.Table.Steps.{cases}
 use Rattle.integer.specs.Order.{≤ℤ-pos}
 use Rattle.scope.specs.declared.Place.the-variants.{Line}
@@ -18,7 +18,7 @@ use Rattle.scope.specs.declared.Outcome.the-variants.{Passed, Refused as Fails}
 use Rattle.scope.specs.Columns.{free, at, hasField, hasMultipliers}
 use Rattle.scope.specs.Layout.{count, width, lineCheck, linesCheck}
 use Rattle.scope.specs.Mesh.{meshLayout, meshHeader, soilLines, nodeLines, elementLines, edgeLines, nodes, elements, soils, edges, sides}
-use Rattle.scope.specs.Claim.{claimLayout, claimHeader, ifThere, stressLines, elementMultipliers, edgeMultipliers, strengthMultipliers}
+use Rattle.scope.specs.Claim.{claimLayout, ifThere}
 use Rattle.scope.specs.Sound.{Within}
 use Rattle.scope.specs.Facts.{Counts}
 use Rattle.scope.specs.Answer.{numberOf}
@@ -33,7 +33,9 @@ use Rattle.reader.specs.WellFormed.{bytesOf}
 use Rattle.reader.proofs.Regular.{mesh-regular, claim-regular}
 use Rattle.reader.proofs.Cut.{numbers-cut, passed-length, group-bytes, no-bytes}
 use Rattle.judge.specs.Judge.{fileWidth, meshNumbers, claimNumbers, filesVerdict}
+use Rattle.judge.specs.ClaimBytes.{claimBytes}
 use Rattle.judge.proofs.Numbers.{mesh-lines-refused, some-side}
+use Rattle.judge.proofs.ClaimBytes.{claim-bytes}
 use Rattle.pechuvo.specs.Check.{reportBytes, check}
 
 count-most : (z : ℤ) {k : ℕ} → z ≤ℤ pos k → count z ≤ k
@@ -68,18 +70,13 @@ mesh-header-line : lineBytes 12 (width (meshLayout .header)) ≤ 65536
 unfolding meshLayout meshHeader lineBytes
 mesh-header-line = omega arith
 
--- the bytes of the lines after a claim's header
-claim-bytes : (m c : List ℤ) → bytesOf 12 (widths (claimLayout m .body c)) ≡ ifThere (hasField c) (nodes m) * 37 + (ifThere (hasMultipliers c) (elements m) * 25 + (ifThere (hasMultipliers c) (edges m) * 49 + ifThere (hasMultipliers c) (nodes m) * (sides m * 12 + 1)))
-unfolding claimLayout stressLines elementMultipliers edgeMultipliers strengthMultipliers lineBytes
-claim-bytes m c = simp (group-bytes, no-bytes, length-replicate) (omega arith)
-
 there-most : (b : Bool) (k : ℕ) → ifThere b k ≤ k
 unfolding ifThere
 there-most true k = omega arith
 there-most false k = omega arith
 
 claim-short : (m c : List ℤ) → Counts m → lineBytes 12 (width (claimLayout m .header)) + bytesOf 12 (widths (claimLayout m .body c)) < 65536
-unfolding claimLayout claimHeader lineBytes
+unfolding claimBytes fileWidth
 claim-short m c k =
     let ns = k .nodesMost in
     let es = k .elementsMost in
@@ -90,7 +87,7 @@ claim-short m c k =
     let d = there-most (hasMultipliers c) (edges m) in
     let e = there-most (hasMultipliers c) (nodes m) in
     let p : ifThere (hasMultipliers c) (nodes m) * (sides m * 12 + 1) ≤ 100 * 433 = mul-le-mul {n₂ = 100} {m₂ = 433} (omega arith) (omega arith) in
-    rw (claim-bytes m c) (omega arith)
+    omega (arith, claim-bytes m c)
   where
     sides-most : (sides m ≡ 12) ⊎ ((sides m ≡ 20) ⊎ (sides m ≡ 36)) → sides m ≤ 36
     sides-most (inl h) = omega arith

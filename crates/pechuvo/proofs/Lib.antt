@@ -1,6 +1,7 @@
 -- The theorems about the whole check.
 pub mod Sheets
 pub mod Check
+pub mod Answers
 pub mod Held
 pub mod Words
 pub mod OpenColumn

@@ -54,7 +54,8 @@ use Rattle.judge.proofs.Form as Form
 use Rattle.judge.proofs.Handed.{handed-bracket}
 use Rattle.pechuvo.specs.Check.{reportBytes, check}
 use Rattle.pechuvo.specs.Sheets.{Sheet, printed, starred}
-use Rattle.pechuvo.specs.Promises.{Answers, meshIn, claimIn, AnyCall, LongFiles, OnFiles, FormExactly, LowerPrinted, UpperPrinted, Prints, OpenRowsPrinted, Call, on-files, on-numbers, AsAFile, Written}
+use Rattle.pechuvo.specs.Answers.{Answers}
+use Rattle.pechuvo.specs.Promises.{meshIn, claimIn, AnyCall, LongFiles, OnFiles, FormExactly, LowerPrinted, UpperPrinted, Prints, OpenRowsPrinted, Call, on-files, on-numbers, AsAFile, Written}
 use Rattle.pechuvo.proofs.Check.{check-cut, longer-refused}
 use Rattle.pechuvo.proofs.Held.{held}
 use Rattle.pechuvo.proofs.Words.{lower-word, upper-word, rows-word}

@@ -34,7 +34,8 @@ use Rattle.judge.specs.Handed.{files, numbers, meshOf, claimOf, HasAcceptedMult
 use Rattle.pechuvo.specs.Check.{reportBytes, check}
 use Rattle.pechuvo.specs.Bytes as Bytes
 use Rattle.pechuvo.specs.Sheets.{Sheet, sheet, printed, starred, workedMesh}
-use Rattle.pechuvo.specs.Promises.{Answers, meshIn, claimIn, LowerPrinted, UpperPrinted, OpenRowsPrinted, Call, on-files, on-numbers, AsAFile}
+use Rattle.pechuvo.specs.Answers.{Answers}
+use Rattle.pechuvo.specs.Promises.{meshIn, claimIn, LowerPrinted, UpperPrinted, OpenRowsPrinted, Call, on-files, on-numbers, AsAFile}
 use Rattle.pechuvo.proofs.Promises.{any-call, long-files, on-numbers-read, form-exactly, prints-columns, prints-open-rows, calls-bracket, accepted-parts, fractions-bracket, as-a-file, starred-written}
 
 -- every definition between the bytes of two files and the bytes of the line

@@ -28,14 +28,8 @@ use Rattle.report.specs.Report.{reportLine, decimals}
 use Rattle.report.specs.Says.{columnOf, LineSays}
 use Rattle.judge.specs.Judge.{meshNumbers, claimNumbers, fileWidth, filesVerdict}
 use Rattle.judge.specs.Handed.{Handed, files, numbers}
-use Rattle.pechuvo.specs.Check.{check}
+use Rattle.pechuvo.specs.Answers.{Answers}
 use Rattle.pechuvo.specs.Sheets.{Sheet}
-
--- the contract of `pechuvo_check`: what is returned for the bytes of two files and of a buffer before the call, and the buffer's bytes after it
-pub record Answers (mesh claim before : List ℕ) (number place : ℕ) (after : List ℕ) : Type 0 where
-  pub numberIs : number ≡ check mesh claim before .number
-  pub placeIs : place ≡ check mesh claim before .place
-  pub bufferIs : after ≡ check mesh claim before .buffer
 
 -- the numbers of the mesh file, and those of the claim file
 abbrev pub meshIn : List ℕ → List ℤ

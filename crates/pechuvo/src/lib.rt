@@ -1,1 +1,49 @@
-// The check of a mesh file and a claim file, as C calls it.
+// The check of a mesh file and a claim file, as C calls it: two byte strings into a report line and the verdict's numbers.
+
+use judge::judge_files;
+use report::Reported;
+use report::write_report;
+use scope::Verdict;
+use scope::place_number;
+ghost use mathlib.Core.Path.{_≡_};
+ghost use Rattle.report.specs.Buffer.{reportedNumber, reportedPlace};
+ghost use Rattle.pechuvo.specs.Answers.{Answers};
+
+// What is returned: 0 and 0 for an accepted claim, else a refusal's number and its place.
+#[repr(C)]
+pub struct Answer {
+    pub number: u32,
+    pub place: u32,
+}
+
+// "41, place 0: buffer under 113 bytes"; else the verdict's number and place.
+fn answer_of(v: Verdict, reported: Reported) -> Answer
+    ensures { λ r. ⌜ (r .number ≡ reportedNumber v reported) × (r .place ≡ reportedPlace v reported) ⌝ }
+{
+    if let Reported::TooShort = reported {
+        return Answer {
+            number: 41,
+            place: 0,
+        };
+    }
+    match v {
+        Verdict::Accepted { .. } => Answer {
+            number: 0,
+            place: 0,
+        },
+        Verdict::Refused { number, place } => Answer {
+            number,
+            place: place_number(place),
+        },
+    }
+}
+
+// The report of a mesh file and a claim file at the front of the buffer that is lent.
+#[no_mangle]
+pub extern "C" fn pechuvo_check(mesh: &[u8], claim: &[u8], report: &mut [u8]) -> Answer
+    ensures { λ r. ⌜ Answers (now (mesh .entry)) (now (claim .entry)) (now (report .entry)) (r .number) (r .place) (now (report .exit)) ⌝ }
+{
+    let v = judge_files(mesh, claim);
+    let reported = write_report(v, report);
+    answer_of(v, reported)
+}

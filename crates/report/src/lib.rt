@@ -8,14 +8,13 @@ use column::put_number;
 use load::put_load;
 use scope::Load;
 use scope::OpenRows;
-use scope::Place;
 use scope::Verdict;
+use scope::place_number;
 ghost use mathlib.Core.Path.{_≡_};
 ghost use mathlib.Core.List.{_++_};
 ghost use Prim.Native.Nat.{_≤_};
 ghost use lib.ListN.{length, drop};
 ghost use Rattle.integer.specs.Decimal.{digits, rightJustified};
-ghost use Rattle.scope.specs.Answer.{placeNumber};
 ghost use Rattle.report.specs.Report.{lowerText, upperText, openText, fourColumns, reportLine, decimals};
 ghost use Rattle.report.specs.Buffer.{Reports};
 
@@ -29,18 +28,6 @@ const LINE: usize = 113;
 
 // "Both loads have six decimals"
 const DECIMALS: usize = 6;
-
-fn place_number(place: Place) -> u32
-    ensures { λ r. ⌜ r ≡ placeNumber place ⌝ }
-{
-    match place {
-        Place::Line(k) => k,
-        Place::Row(k) => k,
-        Place::Column(k) => k,
-        Place::Node(k) => k,
-        Place::Element(k) => k,
-    }
-}
 
 // The open rows, or none where there is no count.
 fn put_open(column: &mut [u8], open_rows: OpenRows)

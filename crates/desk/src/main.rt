@@ -1,0 +1,41 @@
+// The desk program: writes the report line of the mesh file and the claim file that its two arguments name.
+
+use libc::STDOUT_FILENO;
+use pechuvo::pechuvo_check;
+ghost use mathlib.Core.Path.{_≡_};
+ghost use Rattle.io.specs.Counts.{Counts};
+ghost use Rattle.judge.specs.Judge.{fileWidth, filesVerdict};
+ghost use Rattle.report.specs.Report.{reportLine, decimals};
+
+// Reads the file that argument i names, as far as `bytes` goes, and answers how many bytes it has. "A file that can't be opened counts as empty"; so does a missing argument, whose name is empty.
+fn read_argument(i: usize, bytes: &mut [u8]) -> usize
+    ensures { λ r. ⌜ Counts r (now (bytes .exit)) ⌝ }
+{
+    let mut name = io::buffer();
+    let length = os::arg(i, &mut name);
+    let file = os::open_read(&name[..length]);
+    if file < 0 {
+        return 0;
+    }
+    let count = io::read_full(file, bytes);
+    libc::close(file);
+    count
+}
+
+// The report line of two files.
+fn report_line(mesh: &[u8], claim: &[u8]) -> [u8; 113]
+    ensures { λ r. ⌜ r ≡ reportLine decimals (filesVerdict fileWidth (now (mesh .entry)) (now (claim .entry))) ⌝ }
+{
+    let mut line = [0u8; 113];
+    pechuvo_check(mesh, claim, &mut line);
+    line
+}
+
+fn main() {
+    let mut mesh = io::large_buffer();
+    let mesh_count = read_argument(1, &mut mesh);
+    let mut claim = io::large_buffer();
+    let claim_count = read_argument(2, &mut claim);
+    let line = report_line(&mesh[..mesh_count], &claim[..claim_count]);
+    io::write_all(STDOUT_FILENO, &line);
+}

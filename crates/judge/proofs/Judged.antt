@@ -1,0 +1,79 @@
+-- What is read into a list that is lent, and judged there: the front of the list is the file's numbers.
+use mathlib.Core.Path.{_≡_, sym, ap, _∙_}
+use mathlib.Core.List.{List}
+use Prim.Native.Nat.{ℕ, _≤_}
+use native.Mathlib.Omega.{arith}
+use lib.IntN.{ℤ}
+use lib.ListN.{length, take, drop, length-append}
+use lib.Seq.{take-at}
+use Rattle.scope.specs.declared.Outcome.{Outcome}
+use Rattle.scope.specs.declared.Outcome.the-variants.{Passed, Refused as Fails}
+use Rattle.scope.specs.declared.Place.{Place}
+use Rattle.scope.specs.declared.Verdict.{Verdict}
+use Rattle.scope.specs.declared.Verdict.the-variants.{Refused}
+use Rattle.scope.specs.Mesh.{meshLayout}
+use Rattle.scope.specs.Facts.{MeshFacts}
+use Rattle.scope.specs.Verdict.{meshCheck, claimVerdict, answer, verdict}
+use Rattle.scope.proofs.Sound.{mesh-passed}
+use Rattle.scope.proofs.Facts.{mesh-facts}
+use Rattle.rows.specs.declared.sizes.Sizes.{Sizes}
+use Rattle.rows.specs.Contracts.{Sized}
+use Rattle.rows.specs.LineContracts.{SmallCounts}
+use Rattle.rows.proofs.GroupLaws.{small-counts}
+use Rattle.reader.specs.File.{numbersOf}
+use Rattle.reader.specs.Listed.{Listed, ClaimListed}
+use Rattle.judge.specs.declared.JudgedMesh.{JudgedMesh}
+use Rattle.judge.specs.Judge.{meshNumbers, claimNumbers, fileWidth, filesVerdict}
+use Rattle.judge.specs.Judged.{MeshJudged}
+
+-- ---- a list with numbers at its front
+
+module _ {zs before after : List ℤ} {r : ℕ} (l : Listed zs before r after) where
+  pub front : take r after ≡ zs
+  front = ap (take r) (l .list) ∙ take-at zs (drop r before) r (sym (l .count))
+
+  pub fits : r ≤ length after
+  fits = omega (arith, l .count, ap length (l .list), length-append zs (drop r before))
+
+  pub as-many : r ≡ length (take r after)
+  as-many = l .count ∙ sym (ap length front)
+
+-- ---- a mesh
+
+pub mesh-judged : {mesh : List ℕ} {before after : List ℤ} {r : ℕ} {o : Outcome} → Listed (numbersOf 12 meshLayout mesh) before r after → o ≡ meshCheck (take r after) → MeshJudged mesh before (record { count = r; outcome = o }) after
+unfolding meshNumbers fileWidth
+mesh-judged l e = record { count = l .count; numbers = l .list; outcome = e ∙ ap meshCheck (front l) }
+
+pub judged-listed : {mesh : List ℕ} {before after : List ℤ} {r : JudgedMesh} → MeshJudged mesh before r after → Listed (meshNumbers fileWidth mesh) before (r .count) after
+judged-listed j = record { count = j .count; list = j .numbers }
+
+pub judged-facts : (m : List ℤ) → meshCheck m ≡ Passed → MeshFacts m
+judged-facts m e = mesh-facts m (mesh-passed m .says e .lines)
+
+-- ---- a claim
+
+-- the counts that the reader of a claim asks for
+pub sizes-small : {m : List ℤ} {s : Sizes} → Sized m s → SmallCounts (s .nodes) (s .elements) (s .edges) (s .sides)
+sizes-small z =
+    small-counts (z .facts .counts) (record { nodesAre = z .nodesAre; elementsAre = z .elementsAre; edgesAre = z .edgesAre; sidesAre = z .sidesAre })
+
+pub claim-listed : {m before after : List ℤ} {s : Sizes} {claim : List ℕ} {r : ℕ} → Sized m s → ClaimListed claim (s .nodes) (s .elements) (s .edges) (s .sides) before r after → Listed (claimNumbers fileWidth m claim) before r after
+unfolding claimNumbers fileWidth
+claim-listed {m} z l = l .against m (sym (z .nodesAre)) (sym (z .elementsAre)) (sym (z .edgesAre)) (sym (z .sidesAre))
+
+-- ---- two files
+
+module _ {mesh : List ℕ} {before after : List ℤ} {r : JudgedMesh} (j : MeshJudged mesh before r after) where
+  pub judged-passed : r .outcome ≡ Passed → meshCheck (take (r .count) after) ≡ Passed
+  judged-passed e = ap meshCheck (front (judged-listed j)) ∙ sym (j .outcome) ∙ e
+
+  pub files-refused : (claim : List ℕ) {k : ℕ} {p : Place} → r .outcome ≡ Fails k p → Refused k p ≡ filesVerdict fileWidth mesh claim
+  unfolding filesVerdict verdict answer
+  files-refused claim e = rw (sym (j .outcome) ∙ e)
+
+  pub files-judged : (claim : List ℕ) {v : Verdict} → r .outcome ≡ Passed → v ≡ claimVerdict (take (r .count) after) (claimNumbers fileWidth (take (r .count) after) claim) → v ≡ filesVerdict fileWidth mesh claim
+  unfolding filesVerdict verdict answer
+  files-judged claim e v =
+      v
+      ∙ ap (λ m. claimVerdict m (claimNumbers fileWidth m claim)) (front (judged-listed j))
+      ∙ rw (sym (j .outcome) ∙ e)

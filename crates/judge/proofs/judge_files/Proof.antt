@@ -1,0 +1,51 @@
+-- `judge_files` meets its contract: the claim is judged only on a mesh that has passed.
+use borrow.Author.Needs.{needs}
+use Rattle.judge.proofs.Judged.{fits, as-many, judged-listed, judged-passed, files-refused, files-judged}
+use Rattle.judge.proofs.judge_files.Statement.{statement}
+use Rattle.judge.proofs.judge_files.Tie as tie
+
+slice-aggregate-judge-mesh-file : tie.Need-slice-aggregate-judge-mesh-file
+slice-aggregate-judge-mesh-file c = search needs
+
+judge-mesh-file-requires : tie.Need-judge-mesh-file-requires
+judge-mesh-file-requires c κs = search needs
+
+enum-known-outcome : tie.Need-enum-known-outcome
+enum-known-outcome c = search needs
+
+enum-told : tie.Need-enum-told
+enum-told c = search needs
+
+array-share-prefix-numbers : tie.Need-array-share-prefix-numbers
+array-share-prefix-numbers c = fits (judged-listed (c .before .before .before .judge-mesh-file .ensures))
+
+slice-aggregate-judge-claim-file : tie.Need-slice-aggregate-judge-claim-file
+slice-aggregate-judge-claim-file c = as-many (judged-listed (c .before .before .before .before .judge-mesh-file .ensures))
+
+judge-claim-file-requires : tie.Need-judge-claim-file-requires
+judge-claim-file-requires c κs =
+    judged-passed (c .before .before .before .before .judge-mesh-file .ensures) (c .before .enum-told .given .1)
+
+returns : tie.Need-returns
+returns c = files-refused (c .before .before .before .before .judge-mesh-file .ensures) _ (c .before .outcome .given .1)
+
+returns-2 : tie.Need-returns-2
+returns-2 c =
+    files-judged (c .before .before .before .before .before .judge-mesh-file .ensures)
+    _
+    (c .before .before .enum-told .given .1)
+    (c .judge-claim-file .ensures)
+
+pub judge-files-spec : {M : Type 1} → statement M
+judge-files-spec =
+    tie.close
+    (tie.spec
+    slice-aggregate-judge-mesh-file
+    judge-mesh-file-requires
+    enum-known-outcome
+    enum-told
+    array-share-prefix-numbers
+    slice-aggregate-judge-claim-file
+    judge-claim-file-requires
+    returns
+    returns-2)

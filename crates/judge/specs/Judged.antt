@@ -1,0 +1,15 @@
+-- What judging a mesh file answers and leaves in the list that is lent.
+use mathlib.Core.Path.{_≡_}
+use mathlib.Core.List.{List, _++_}
+use Prim.Native.Nat.{ℕ}
+use lib.IntN.{ℤ}
+use lib.ListN.{length, drop}
+use Rattle.scope.specs.Verdict.{meshCheck}
+use Rattle.judge.specs.declared.JudgedMesh.{JudgedMesh}
+use Rattle.judge.specs.Judge.{meshNumbers, fileWidth}
+
+-- the numbers of the mesh file stand at the front of the list `before`, which makes it `after`, nothing else is touched, and r has their count and what they are refused for
+pub record MeshJudged (mesh : List ℕ) (before : List ℤ) (r : JudgedMesh) (after : List ℤ) : Type 0 where
+  pub count : r .count ≡ length (meshNumbers fileWidth mesh)
+  pub numbers : after ≡ meshNumbers fileWidth mesh ++ drop (r .count) before
+  pub outcome : r .outcome ≡ meshCheck (meshNumbers fileWidth mesh)

@@ -1,0 +1,11 @@
+-- What one call of the check answers and leaves in the buffer that is lent: the whole check's equations.
+use mathlib.Core.Path.{_≡_}
+use mathlib.Core.List.{List}
+use Prim.Native.Nat.{ℕ}
+use Rattle.pechuvo.specs.Check.{check}
+
+-- the check of two files answers a number and a place, and makes the bytes `before` of the buffer `after`
+pub record Answers (mesh claim before : List ℕ) (number place : ℕ) (after : List ℕ) : Type 0 where
+  pub numberIs : number ≡ check mesh claim before .number
+  pub placeIs : place ≡ check mesh claim before .place
+  pub bufferIs : after ≡ check mesh claim before .buffer

@@ -1,0 +1,42 @@
+/* Prints the report line of a mesh file and a claim file. From the repository's root:
+
+     rt staticlib pechuvo
+     cc -Iinclude examples/check.c target/staticlib/libpechuvo.a -o target/check
+     target/check crates/desk/data/worked.mesh crates/desk/data/worked.claim
+
+   The status is 0 where the claim is accepted, 1 where it is refused, 2 where a file is missing. */
+#include <stdio.h>
+
+#include "pechuvo.h"
+
+/* No mesh and no claim has as many bytes. */
+#define MOST 65536
+
+static size_t read_file(const char *name, uint8_t *bytes) {
+  FILE *file = fopen(name, "rb");
+  if (file == NULL) {
+    perror(name);
+    return MOST + 1;
+  }
+  size_t length = fread(bytes, 1, MOST, file);
+  fclose(file);
+  return length;
+}
+
+int main(int count, char **words) {
+  static uint8_t mesh[MOST], claim[MOST];
+  uint8_t report[PECHUVO_REPORT];
+  if (count != 3) {
+    fprintf(stderr, "usage: %s MESH CLAIM\n", words[0]);
+    return 2;
+  }
+  size_t mesh_length = read_file(words[1], mesh);
+  size_t claim_length = read_file(words[2], claim);
+  if (mesh_length > MOST || claim_length > MOST) {
+    return 2;
+  }
+  struct pechuvo_answer answer =
+      pechuvo_check(mesh, mesh_length, claim, claim_length, report, sizeof report);
+  fwrite(report, 1, sizeof report, stdout);
+  return answer.number != 0;
+}

@@ -1,0 +1,92 @@
+/* The check of load factor certificates on quadrilateral soil meshes, for C.
+
+   Two archives, each with one call:
+     rt staticlib pechuvo    target/staticlib/libpechuvo.a   pechuvo_check
+     rt staticlib rows       target/staticlib/librows.a      pechuvo_check_numbers
+
+   Both calls take every input, whatever its bytes or numbers, and answer in bounded time. They
+   read only what is lent, keep nothing from call to call, allocate nothing and write nothing but
+   the report, so calls in several threads do not disturb each other.
+
+   What the caller sees to:
+   - Each pointer goes with the length of what it points to, in elements. A length of 0 goes with
+     any pointer; nothing is read or written through it.
+   - Numbers are aligned as int64_t is.
+   - The report buffer overlaps neither input, and nothing else writes to the inputs or touches the
+     buffer during the call. The two inputs may overlap.
+
+   What is returned as number and place:
+
+     number  place     when
+      0      0         accepted: each part that the claim has passes its checks
+      1      line      mesh form: length, character, spelling, bytes missing or left over
+      2      line      mesh number outside its limits
+      3      line      p^2 + q^2 is not h^2
+      4      line      names a node or soil that isn't there
+      5      element   not a left turn at all four corners
+      6      element   a directed side that a lower element has
+      7      node      in no element
+      8      line      edge is no element's side, or its reverse is one, or an earlier edge has it
+     11      line      claim form
+     12      line      claim number outside its limits
+     13      line 1    both parts absent; field with n = 0; no field and n or l not 0
+     21      row       equality fails (balance and side rows, counted together from 1)
+     22      row       strength fails (strength rows, counted from 1)
+     31      row       nonzero multiplier on an unfixed row
+     32      column    column sum not 0
+     33      column 0  m is 0 or less
+     41      0         report buffer under 113 bytes; pechuvo_check only
+
+   The first that applies is returned: 41, the mesh from 1 to 8, the claim from 11 to 33, and of
+   one number the lowest place. Lines, elements, nodes, rows and columns are counted from 1. */
+#ifndef PECHUVO_H
+#define PECHUVO_H
+
+#include <stddef.h>
+#include <stdint.h>
+
+#ifdef __cplusplus
+extern "C" {
+#endif
+
+/* The bytes of a report line. */
+#define PECHUVO_REPORT 113
+
+struct pechuvo_answer {
+  uint32_t number;
+  uint32_t place;
+};
+
+/* Checks a mesh file and a claim file. The first 113 bytes of the report buffer become the report:
+   four columns of 28 bytes, right-justified in spaces, and byte 10; no other byte of it is written.
+   Accepted: 0, the open rows, the load l/n rounded down, the limit W/m rounded up, each with six
+   decimals, `none` for what the claim lacks. Refused: number, place, none, none. A buffer under
+   113 bytes is left untouched. */
+struct pechuvo_answer pechuvo_check(const uint8_t *mesh, size_t mesh_length,
+                                    const uint8_t *claim, size_t claim_length,
+                                    uint8_t *report, size_t report_length);
+
+/* The loads of an accepted claim as exact fractions, l/n and w/m, as they stand and not reduced. */
+struct pechuvo_numbers {
+  uint32_t number;
+  uint32_t place;
+  uint32_t field;       /* 1 where an accepted claim has a field, else 0 */
+  uint32_t multipliers; /* 1 where an accepted claim has multipliers, else 0 */
+  int64_t l;            /* l and n: 0 unless field is 1 */
+  int64_t n;
+  int64_t w;            /* w and m: 0 unless multipliers is 1 */
+  int64_t m;
+  uint64_t open_rows;   /* 0 unless both are 1 */
+};
+
+/* Checks the numbers of a mesh and of a claim, each list in the order of the file. They get the
+   refusals that files of them would get: 1 and 11 come from a list that is too short or too long,
+   at the line where that shows. */
+struct pechuvo_numbers pechuvo_check_numbers(const int64_t *mesh, size_t mesh_count,
+                                             const int64_t *claim, size_t claim_count);
+
+#ifdef __cplusplus
+}
+#endif
+
+#endif
