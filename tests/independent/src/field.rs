@@ -2,8 +2,8 @@
 //! Every sum fits 64 bits: the largest right side, of an edge, stays below 2.1e18.
 
 use crate::claim::Field;
-use crate::mesh::{Edge, Element, Mesh, Soil};
-use crate::polygon::Polygon;
+use crate::mesh::{Edge, Element, Mesh};
+use crate::polygon::Side;
 use crate::{refuse, Refusal};
 
 /// The coefficients of an element's balance rows at its corners, y[i+1]-y[i-1] and x[i-1]-x[i+1],
@@ -70,43 +70,38 @@ fn check_sides(mesh: &Mesh, field: &Field) -> Result<(), Refusal> {
     Ok(())
 }
 
-/// The strength rows of one node with one field, as right side minus left side.
-struct Slack<'a> {
-    polygon: &'a Polygon,
+/// The strength rows of one node with one field.
+struct Node {
     /// r·h·(sx - sy), r·h·2t, and 2qCn - p(sx + sy).
     difference: i64,
     shear: i64,
     radius: i64,
 }
 
-impl<'a> Slack<'a> {
-    fn new(polygon: &'a Polygon, soil: &Soil, n: i64, [sx, sy, t]: [i64; 3]) -> Self {
-        let scale = polygon.radius * soil.h;
-        Slack {
-            polygon,
+impl Node {
+    fn new(mesh: &Mesh, field: &Field, node: usize) -> Self {
+        let soil = &mesh.soils[mesh.node_soil[node]];
+        let [sx, sy, t] = field.stresses[node];
+        let scale = mesh.polygon.radius * soil.h;
+        Node {
             difference: scale * (sx - sy),
             shear: scale * 2 * t,
-            radius: 2 * soil.q * soil.cohesion * n - soil.p * (sx + sy),
+            radius: 2 * soil.q * soil.cohesion * field.n - soil.p * (sx + sy),
         }
     }
 
-    fn rows(&self) -> impl Iterator<Item = i64> + '_ {
-        self.polygon.sides.iter().map(|side| {
-            side.cross * self.radius - side.step[1] * self.difference + side.step[0] * self.shear
-        })
+    /// Right side minus left side of the row of a polygon side.
+    fn slack(&self, side: &Side) -> i64 {
+        side.cross * self.radius - side.step[1] * self.difference + side.step[0] * self.shear
     }
 }
 
-fn node_slack<'a>(mesh: &'a Mesh, field: &Field, node: usize) -> Slack<'a> {
-    let soil = &mesh.soils[mesh.node_soil[node]];
-    Slack::new(&mesh.polygon, soil, field.n, field.stresses[node])
-}
-
 fn check_strength(mesh: &Mesh, field: &Field) -> Result<(), Refusal> {
-    for node in 0..mesh.nodes.len() {
-        let failed = node_slack(mesh, field, node).rows().position(|slack| slack < 0);
-        if let Some(side) = failed {
-            return refuse(22, node * mesh.polygon.sides.len() + side + 1);
+    let sides = mesh.polygon.sides;
+    for k in 0..mesh.nodes.len() {
+        let node = Node::new(mesh, field, k);
+        if let Some(side) = sides.iter().position(|side| node.slack(side) < 0) {
+            return refuse(22, k * sides.len() + side + 1);
         }
     }
     Ok(())
@@ -114,10 +109,12 @@ fn check_strength(mesh: &Mesh, field: &Field) -> Result<(), Refusal> {
 
 /// Strength rows with a multiplier above 0 and a left side below the right.
 pub fn open_rows(mesh: &Mesh, field: &Field, multipliers: &[i64]) -> u64 {
+    let sides = mesh.polygon.sides;
     let mut open = 0;
-    for (node, line) in multipliers.chunks_exact(mesh.polygon.sides.len()).enumerate() {
-        let slacks = node_slack(mesh, field, node);
-        open += slacks.rows().zip(line).filter(|&(slack, &y)| slack > 0 && y > 0).count() as u64;
+    for (k, line) in multipliers.chunks_exact(sides.len()).enumerate() {
+        let node = Node::new(mesh, field, k);
+        let is_open = |(side, &y): &(&Side, &i64)| y > 0 && node.slack(side) > 0;
+        open += sides.iter().zip(line).filter(is_open).count() as u64;
     }
     open
 }

@@ -23,17 +23,18 @@ impl<'a> FileLines<'a> {
 
 impl Lines for FileLines<'_> {
     fn next(&mut self, out: &mut [i64]) -> bool {
-        let columns = WIDTH * out.len();
-        if self.rest.len() <= columns || self.rest[columns] != b'\n' {
+        let length = WIDTH * out.len();
+        if self.rest.len() <= length || self.rest[length] != b'\n' {
             return false;
         }
-        for (number, column) in out.iter_mut().zip(self.rest.chunks_exact(WIDTH)) {
+        let (columns, _) = self.rest[..length].as_chunks::<WIDTH>();
+        for (number, column) in out.iter_mut().zip(columns) {
             match spelled(column) {
                 Some(value) => *number = value,
                 None => return false,
             }
         }
-        self.rest = &self.rest[columns + 1..];
+        self.rest = &self.rest[length + 1..];
         true
     }
 
@@ -70,12 +71,16 @@ impl Lines for NumberLines<'_> {
 
 /// The value of a column: spaces, then a minus if any, then digits without a leading zero;
 /// a zero has no minus.
-fn spelled(column: &[u8]) -> Option<i64> {
-    let start = column.iter().position(|&byte| byte != b' ')?;
-    match &column[start..] {
-        [b'0'] => Some(0),
-        [b'-', digits @ ..] => Some(-positive(digits)?),
-        digits => positive(digits),
+fn spelled(column: &[u8; WIDTH]) -> Option<i64> {
+    // Most numbers are short: eight spaces are passed at once.
+    let mut start = if column[..8] == *b"        " { 8 } else { 0 };
+    while start < WIDTH - 1 && column[start] == b' ' {
+        start += 1;
+    }
+    match column[start] {
+        b'-' => Some(-positive(&column[start + 1..])?),
+        b'0' if start == WIDTH - 1 => Some(0),
+        _ => positive(&column[start..]),
     }
 }
 
