@@ -31,7 +31,14 @@ extern "C" fn archive_check(sheet: &Sheet, line: &mut [u8; 113]) -> Answer {
     let (mesh, claim) = (&sheet.mesh, &sheet.claim);
     // SAFETY: each pointer is lent with its own length for the time of the call.
     unsafe {
-        pechuvo_check(mesh.as_ptr(), mesh.len(), claim.as_ptr(), claim.len(), line.as_mut_ptr(), 113)
+        pechuvo_check(
+            mesh.as_ptr(),
+            mesh.len(),
+            claim.as_ptr(),
+            claim.len(),
+            line.as_mut_ptr(),
+            113,
+        )
     }
 }
 
@@ -60,19 +67,32 @@ fn nanoseconds(check: Check, sheet: &Sheet) -> f64 {
 
 fn read(name: &str) -> Sheet {
     let part = |ending: &str| std::fs::read(format!("{name}.{ending}")).expect("a sheet's file");
-    Sheet { name: name.to_string(), mesh: part("mesh"), claim: part("claim") }
+    Sheet {
+        name: name.to_string(),
+        mesh: part("mesh"),
+        claim: part("claim"),
+    }
 }
 
 fn time(sheet: &Sheet) {
-    let (proved, independent) = (nanoseconds(archive_check, sheet), nanoseconds(independent_check, sheet));
+    let (proved, independent) = (
+        nanoseconds(archive_check, sheet),
+        nanoseconds(independent_check, sheet),
+    );
     let bytes = sheet.mesh.len() + sheet.claim.len();
     let ratio = proved / independent;
-    println!("{:<28} {bytes:>7} {proved:>12.0} {independent:>12.0} {ratio:>7.2}", sheet.name);
+    println!(
+        "{:<28} {bytes:>7} {proved:>12.0} {independent:>12.0} {ratio:>7.2}",
+        sheet.name
+    );
 }
 
 fn once(sheet: &Sheet) {
     let (mut proved, mut independent) = ([0; 113], [0; 113]);
-    assert_eq!(archive_check(sheet, &mut proved), independent_check(sheet, &mut independent));
+    assert_eq!(
+        archive_check(sheet, &mut proved),
+        independent_check(sheet, &mut independent)
+    );
     assert_eq!(proved, independent);
 }
 
@@ -82,6 +102,9 @@ fn main() {
     if words[0] == "once" {
         return sheets.for_each(|sheet| once(&sheet));
     }
-    println!("{:<28} {:>7} {:>12} {:>12} {:>7}", "sheet", "bytes", "proved, ns", "indep., ns", "ratio");
+    println!(
+        "{:<28} {:>7} {:>12} {:>12} {:>7}",
+        "sheet", "bytes", "proved, ns", "indep., ns", "ratio"
+    );
     sheets.for_each(|sheet| time(&sheet));
 }

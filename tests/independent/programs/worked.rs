@@ -43,7 +43,9 @@ fn one_in_three_million() -> Sheet {
             "4 1 1 2 12 / 0 1 1 10000 0 0 0 0 / 0 0 / 169 0 / 288 120 / 0 120 / 1 2 3 4 1 / \
              1 2 3 -1 1 6000 6600 / 2 3 3 0 0 -6000 6500",
         ),
-        claim: printed(&format!("0 1 0 0 / 0 0 / 0 0 -119 -120 / 119 -120 0 0{zeros}")),
+        claim: printed(&format!(
+            "0 1 0 0 / 0 0 / 0 0 -119 -120 / 119 -120 0 0{zeros}"
+        )),
     }
 }
 
@@ -51,7 +53,11 @@ fn hundred_nodes(nodes: i64) -> Vec<u8> {
     let mut mesh = vec![vec![nodes, 81, 1, 0, 12], vec![0, 1, 1, 10, 0, 0, 0, 0]];
     mesh.extend((0..nodes).map(|node| vec![node % 10, node / 10]));
     let corner = |e: i64| e / 9 * 10 + e % 9 + 1;
-    mesh.extend((0..81).map(corner).map(|c| vec![c, c + 1, c + 11, c + 10, 1]));
+    mesh.extend(
+        (0..81)
+            .map(corner)
+            .map(|c| vec![c, c + 1, c + 11, c + 10, 1]),
+    );
     file(&mesh)
 }
 

@@ -38,7 +38,11 @@ impl Claim {
             let balance = reader.group(mesh.elements.len(), 100_000)?;
             let sides = reader.group(mesh.edges.len(), 100_000)?;
             let strength = reader.strength(mesh.nodes.len(), mesh.polygon.sides.len())?;
-            multipliers = Some(Multipliers { balance, sides, strength });
+            multipliers = Some(Multipliers {
+                balance,
+                sides,
+                strength,
+            });
         }
         if !reader.lines.at_end() {
             return refuse(11, reader.place + 1);
@@ -84,7 +88,11 @@ impl<L: Lines> Reader<'_, L> {
         Ok((field, multipliers, n, l))
     }
 
-    fn group<const K: usize>(&mut self, count: usize, bound: i64) -> Result<Vec<[i64; K]>, Refusal> {
+    fn group<const K: usize>(
+        &mut self,
+        count: usize,
+        bound: i64,
+    ) -> Result<Vec<[i64; K]>, Refusal> {
         let mut all = vec![[0; K]; count];
         for numbers in &mut all {
             self.line(numbers, -bound, bound)?;

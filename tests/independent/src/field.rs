@@ -53,7 +53,8 @@ fn check_balance(mesh: &Mesh, field: &Field) -> Result<(), Refusal> {
 fn check_sides(mesh: &Mesh, field: &Field) -> Result<(), Refusal> {
     for (k, edge) in mesh.edges.iter().enumerate() {
         let (u, w) = step(mesh, edge);
-        let asked = |part: usize| (u * u + w * w) * (field.n * edge.dead[part] + field.l * edge.live[part]);
+        let asked =
+            |part: usize| (u * u + w * w) * (field.n * edge.dead[part] + field.l * edge.live[part]);
         let (normal, shear) = (asked(0), asked(1));
         let fails = |node: usize| {
             let [sx, sy, t] = field.stresses[node];

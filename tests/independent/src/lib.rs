@@ -23,7 +23,10 @@ pub struct Refusal {
 }
 
 pub fn refuse<T>(number: u32, place: usize) -> Result<T, Refusal> {
-    Err(Refusal { number, place: place as u32 })
+    Err(Refusal {
+        number,
+        place: place as u32,
+    })
 }
 
 /// An exact fraction as it stands, not reduced.
@@ -57,8 +60,15 @@ fn judge(mesh: &mut impl Lines, claim: &mut impl Lines) -> Verdict {
         (Some(f), Some(y)) => Some(field::open_rows(&mesh, f, &y.strength)),
         _ => None,
     };
-    let carried = claim.field.as_ref().map(|f| Load { numerator: f.l, denominator: f.n });
-    Ok(Accepted { carried, limit, open_rows })
+    let carried = claim.field.as_ref().map(|f| Load {
+        numerator: f.l,
+        denominator: f.n,
+    });
+    Ok(Accepted {
+        carried,
+        limit,
+        open_rows,
+    })
 }
 
 /// The verdict on two files.
@@ -77,12 +87,18 @@ pub struct Answer {
 /// The whole check: the line goes into the first 113 bytes, a shorter buffer stays untouched.
 pub fn check(mesh: &[u8], claim: &[u8], report: &mut [u8]) -> Answer {
     let Some(line) = report.first_chunk_mut::<{ report::LINE }>() else {
-        return Answer { number: 41, place: 0 };
+        return Answer {
+            number: 41,
+            place: 0,
+        };
     };
     let verdict = judge_files(mesh, claim);
     report::write(&verdict, line);
     match verdict {
-        Ok(_) => Answer { number: 0, place: 0 },
+        Ok(_) => Answer {
+            number: 0,
+            place: 0,
+        },
         Err(Refusal { number, place }) => Answer { number, place },
     }
 }
@@ -105,9 +121,16 @@ pub struct Numbers {
 /// The check of the numbers of a mesh and of a claim.
 pub fn check_numbers(mesh: &[i64], claim: &[i64]) -> Numbers {
     match judge(&mut NumberLines::new(mesh), &mut NumberLines::new(claim)) {
-        Err(Refusal { number, place }) => Numbers { number, place, ..Numbers::default() },
+        Err(Refusal { number, place }) => Numbers {
+            number,
+            place,
+            ..Numbers::default()
+        },
         Ok(accepted) => {
-            let absent = Load { numerator: 0, denominator: 0 };
+            let absent = Load {
+                numerator: 0,
+                denominator: 0,
+            };
             let carried = accepted.carried.unwrap_or(absent);
             let limit = accepted.limit.unwrap_or(absent);
             Numbers {

@@ -76,7 +76,14 @@ impl Mesh {
         let successors = directed_sides(&elements)?;
         let node_soil = node_soils(nodes, &elements)?;
         check_edges(&edges, &successors, edge_line)?;
-        Ok(Mesh { polygon, soils, nodes: all_nodes, elements, edges, node_soil })
+        Ok(Mesh {
+            polygon,
+            soils,
+            nodes: all_nodes,
+            elements,
+            edges,
+            node_soil,
+        })
     }
 }
 
@@ -135,7 +142,14 @@ impl<L: Lines> Reader<'_, L> {
         if p * p + q * q != h * h {
             return self.refuse(3);
         }
-        Ok(Soil { p, q, h, cohesion, dead: [dead_x, dead_y], live: [live_x, live_y] })
+        Ok(Soil {
+            p,
+            q,
+            h,
+            cohesion,
+            dead: [dead_x, dead_y],
+            live: [live_x, live_y],
+        })
     }
 
     fn node(&mut self) -> Result<[i64; 2], Refusal> {
@@ -149,10 +163,14 @@ impl<L: Lines> Reader<'_, L> {
 
     fn element(&mut self, nodes: usize, soils: usize) -> Result<Element, Refusal> {
         let [a, b, c, d, soil] = self.line()?;
-        match ([a, b, c, d].map(|corner| named(corner, nodes)), named(soil, soils)) {
-            ([Some(a), Some(b), Some(c), Some(d)], Some(soil)) => {
-                Ok(Element { corners: [a, b, c, d], soil })
-            }
+        match (
+            [a, b, c, d].map(|corner| named(corner, nodes)),
+            named(soil, soils),
+        ) {
+            ([Some(a), Some(b), Some(c), Some(d)], Some(soil)) => Ok(Element {
+                corners: [a, b, c, d],
+                soil,
+            }),
             _ => self.refuse(4),
         }
     }
@@ -182,8 +200,10 @@ fn check_turns(nodes: &[[i64; 2]], elements: &[Element]) -> Result<(), Refusal> 
         let at = element.corners.map(|corner| nodes[corner]);
         let left = |i: usize| {
             let (before, here, after) = (at[(i + 3) % 4], at[i], at[(i + 1) % 4]);
-            let (into, out) =
-                ([here[0] - before[0], here[1] - before[1]], [after[0] - here[0], after[1] - here[1]]);
+            let (into, out) = (
+                [here[0] - before[0], here[1] - before[1]],
+                [after[0] - here[0], after[1] - here[1]],
+            );
             into[0] * out[1] > into[1] * out[0]
         };
         if !(0..4).all(left) {

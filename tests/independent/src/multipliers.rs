@@ -15,7 +15,11 @@ struct Sums {
 
 pub fn check(mesh: &Mesh, multipliers: &Multipliers) -> Result<Load, Refusal> {
     check_unfixed(mesh, multipliers)?;
-    let mut sums = Sums { columns: vec![[0; 3]; mesh.nodes.len()], m: 0, w: 0 };
+    let mut sums = Sums {
+        columns: vec![[0; 3]; mesh.nodes.len()],
+        m: 0,
+        w: 0,
+    };
     sums.add_balance(mesh, multipliers);
     sums.add_sides(mesh, multipliers);
     sums.add_strength(mesh, multipliers);
@@ -25,8 +29,12 @@ pub fn check(mesh: &Mesh, multipliers: &Multipliers) -> Result<Load, Refusal> {
     if sums.m <= 0 {
         return refuse(33, 0);
     }
-    let whole = |sum: i128| i64::try_from(sum).expect("document 01's limits keep W and m in 64 bits");
-    Ok(Load { numerator: whole(sums.w), denominator: whole(sums.m) })
+    let whole =
+        |sum: i128| i64::try_from(sum).expect("document 01's limits keep W and m in 64 bits");
+    Ok(Load {
+        numerator: whole(sums.w),
+        denominator: whole(sums.m),
+    })
 }
 
 fn check_unfixed(mesh: &Mesh, multipliers: &Multipliers) -> Result<(), Refusal> {
@@ -60,7 +68,9 @@ impl Sums {
         for (edge, &line) in mesh.edges.iter().zip(&multipliers.sides) {
             let (u, w) = step(mesh, edge);
             let [normal, shear, normal_to, shear_to] = line;
-            for (node, normal, shear) in [(edge.from, normal, shear), (edge.to, normal_to, shear_to)] {
+            for (node, normal, shear) in
+                [(edge.from, normal, shear), (edge.to, normal_to, shear_to)]
+            {
                 let column = &mut self.columns[node];
                 column[0] += w * w * normal + u * w * shear;
                 column[1] += u * u * normal - u * w * shear;

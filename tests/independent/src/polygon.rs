@@ -31,7 +31,10 @@ static THIRTY_SIX: [Side; 36] = sides(&[
 
 /// All sides from the corners of the first quadrant; each quadrant is the one before, turned.
 const fn sides<const N: usize>(quadrant: &[(i64, i64)]) -> [Side; N] {
-    let mut all = [Side { step: [0, 0], cross: 0 }; N];
+    let mut all = [Side {
+        step: [0, 0],
+        cross: 0,
+    }; N];
     let mut k = 0;
     while k < N {
         let (a, b) = quadrant[k % (N / 4)];
@@ -42,7 +45,10 @@ const fn sides<const N: usize>(quadrant: &[(i64, i64)]) -> [Side; N] {
             2 => [a - c, b - d],
             _ => [d - b, a - c],
         };
-        all[k] = Side { step, cross: a * d - b * c };
+        all[k] = Side {
+            step,
+            cross: a * d - b * c,
+        };
         k += 1;
     }
     all
@@ -51,9 +57,18 @@ const fn sides<const N: usize>(quadrant: &[(i64, i64)]) -> [Side; N] {
 impl Polygon {
     pub fn of(sides: i64) -> Option<Polygon> {
         match sides {
-            12 => Some(Polygon { radius: 5, sides: &TWELVE }),
-            20 => Some(Polygon { radius: 25, sides: &TWENTY }),
-            36 => Some(Polygon { radius: 65, sides: &THIRTY_SIX }),
+            12 => Some(Polygon {
+                radius: 5,
+                sides: &TWELVE,
+            }),
+            20 => Some(Polygon {
+                radius: 25,
+                sides: &TWENTY,
+            }),
+            36 => Some(Polygon {
+                radius: 65,
+                sides: &THIRTY_SIX,
+            }),
             _ => None,
         }
     }

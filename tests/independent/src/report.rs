@@ -37,7 +37,10 @@ fn floor(load: Load) -> i128 {
 }
 
 fn ceiling(load: Load) -> i128 {
-    -floor(Load { numerator: -load.numerator, ..load })
+    -floor(Load {
+        numerator: -load.numerator,
+        ..load
+    })
 }
 
 fn put_word(column: &mut [u8]) {

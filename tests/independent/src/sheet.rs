@@ -13,7 +13,11 @@ pub struct Sheet {
 
 /// The lines of a file as the paper prints them: numbers apart by a space, lines by " / ".
 pub fn printed(text: &str) -> Lines {
-    let line = |line: &str| line.split_whitespace().map(|n| n.parse().expect("a number")).collect();
+    let line = |line: &str| {
+        line.split_whitespace()
+            .map(|n| n.parse().expect("a number"))
+            .collect()
+    };
     text.split('/').map(line).collect()
 }
 
@@ -33,7 +37,9 @@ pub fn file(lines: &Lines) -> Vec<u8> {
 pub fn read(bytes: &[u8]) -> Lines {
     let line = |line: &[u8]| {
         let column = |c: &[u8]| std::str::from_utf8(c).ok()?.trim_start().parse().ok();
-        line.chunks(WIDTH).map(|c| column(c).expect("a number")).collect()
+        line.chunks(WIDTH)
+            .map(|c| column(c).expect("a number"))
+            .collect()
     };
     let body = bytes.strip_suffix(b"\n").expect("a last line");
     body.split(|&byte| byte == b'\n').map(line).collect()

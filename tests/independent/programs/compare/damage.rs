@@ -5,8 +5,29 @@ use independent::sheet::{Lines, Sheet};
 
 /// The limits of document 01, and what stands next to them.
 const LIMITS: [i64; 23] = [
-    0, 1, 2, 3, 4, 12, 16, 20, 36, 60, 100, 1000, -1000, 10_000, -10_000, 100_000, -100_000,
-    100_000_000, -100_000_000, 1_000_000_000, -1_000_000_000, 999_999_999_998, -99_999_999_998,
+    0,
+    1,
+    2,
+    3,
+    4,
+    12,
+    16,
+    20,
+    36,
+    60,
+    100,
+    1000,
+    -1000,
+    10_000,
+    -10_000,
+    100_000,
+    -100_000,
+    100_000_000,
+    -100_000_000,
+    1_000_000_000,
+    -1_000_000_000,
+    999_999_999_998,
+    -99_999_999_998,
 ];
 
 fn near_limit(random: &mut Random) -> i64 {
@@ -43,9 +64,14 @@ fn line(random: &mut Random, lines: &mut Lines) {
 
 /// Where a mesh's soils, nodes, elements and edges begin, if earlier damage left them in place.
 fn groups(mesh: &Lines) -> Option<[usize; 5]> {
-    let [nodes, elements, soils, edges, _] = mesh[0][..] else { return None };
+    let [nodes, elements, soils, edges, _] = mesh[0][..] else {
+        return None;
+    };
     let mut ends = [1usize; 5];
-    for (k, (count, width)) in [(soils, 8), (nodes, 2), (elements, 5), (edges, 7)].into_iter().enumerate() {
+    for (k, (count, width)) in [(soils, 8), (nodes, 2), (elements, 5), (edges, 7)]
+        .into_iter()
+        .enumerate()
+    {
         ends[k + 1] = ends[k].checked_add(usize::try_from(count).ok()?)?;
         let lines = mesh.get(ends[k]..ends[k + 1])?;
         if k < 3 && lines.is_empty() || lines.iter().any(|line| line.len() != width) {
@@ -57,7 +83,9 @@ fn groups(mesh: &Lines) -> Option<[usize; 5]> {
 
 /// One line of a mesh so that each refusal from 3 to 8 comes about in each of its ways.
 fn shape(random: &mut Random, mesh: &mut Lines) {
-    let Some([soils, nodes, elements, edges, end]) = groups(mesh) else { return };
+    let Some([soils, nodes, elements, edges, end]) = groups(mesh) else {
+        return;
+    };
     let soil = soils + random.below(nodes - soils);
     let element = elements + random.below(edges - elements);
     let other = elements + random.below(edges - elements);
@@ -84,7 +112,11 @@ fn shape(random: &mut Random, mesh: &mut Lines) {
 fn edge_of(random: &mut Random, mesh: &mut Lines, element: usize, edge: usize) {
     let corner = random.below(4);
     let (from, to) = (mesh[element][corner], mesh[element][(corner + 1) % 4]);
-    let (from, to) = if random.one_in(4) { (to, from) } else { (from, to) };
+    let (from, to) = if random.one_in(4) {
+        (to, from)
+    } else {
+        (from, to)
+    };
     mesh[edge][..2].copy_from_slice(&[from, to]);
 }
 
@@ -143,8 +175,9 @@ const SPELLINGS: [&[u8; 12]; 16] = [
 
 fn spell(random: &mut Random, bytes: &mut [u8]) {
     let spelling = random.pick(&SPELLINGS);
-    let line_starts: Vec<usize> =
-        (0..bytes.len()).filter(|&k| k == 0 || bytes[k - 1] == b'\n').collect();
+    let line_starts: Vec<usize> = (0..bytes.len())
+        .filter(|&k| k == 0 || bytes[k - 1] == b'\n')
+        .collect();
     if line_starts.is_empty() {
         return;
     }

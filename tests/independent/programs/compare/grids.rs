@@ -46,14 +46,24 @@ fn coordinates(random: &mut Random, cells: usize) -> Vec<i64> {
         at += random.pick(&[1, 1, 2, 2, 4]);
         all.push(at);
     }
-    let unit = if at > 10 { 1 } else { random.pick(&[1, 1, 10, 100]) };
+    let unit = if at > 10 {
+        1
+    } else {
+        random.pick(&[1, 1, 10, 100])
+    };
     all.iter().map(|step| step * unit).collect()
 }
 
 fn soil(random: &mut Random) -> Vec<i64> {
     let mut line = random.pick(&FRICTION).to_vec();
     line.push(random.between(0, 10_000));
-    line.extend((0..4).map(|_| if random.one_in(2) { random.between(-9, 9) } else { 0 }));
+    line.extend((0..4).map(|_| {
+        if random.one_in(2) {
+            random.between(-9, 9)
+        } else {
+            0
+        }
+    }));
     line
 }
 
@@ -79,13 +89,27 @@ impl Grid {
         let soils: Lines = (0..1 + random.below(4)).map(|_| soil(random)).collect();
         let layer_soil: Vec<usize> = (0..rows).map(|_| random.below(soils.len())).collect();
         let forces = |k: usize| -> Vec<[i64; 2]> {
-            layer_soil.iter().map(|&s| [soils[s][4 + k], soils[s][6 + k]]).collect()
+            layer_soil
+                .iter()
+                .map(|&s| [soils[s][4 + k], soils[s][6 + k]])
+                .collect()
         };
         let t = integrated(random, &ys, &forces(0));
         let sy = integrated(random, &ys, &forces(1));
         let sx = [random.between(-40, 40), random.between(-40, 40)];
         let sides = random.pick(&[12, 20, 36]);
-        Grid { columns, rows, xs, ys, sides, soils, layer_soil, sx, sy, t }
+        Grid {
+            columns,
+            rows,
+            xs,
+            ys,
+            sides,
+            soils,
+            layer_soil,
+            sx,
+            sy,
+            t,
+        }
     }
 
     fn node(&self, column: usize, row: usize) -> i64 {
@@ -121,11 +145,17 @@ impl Grid {
         let mut fixed = || if all_fixed { 3 } else { random.between(1, 3) };
         let mut edges = Vec::new();
         for row in (0..self.rows).rev() {
-            let (low, high) = (self.node(self.columns, row), self.node(self.columns, row + 1));
+            let (low, high) = (
+                self.node(self.columns, row),
+                self.node(self.columns, row + 1),
+            );
             edges.push(self.upright_edge(low, high, row, fixed()));
         }
         for column in (0..self.columns).rev() {
-            let (left, right) = (self.node(column, self.rows), self.node(column + 1, self.rows));
+            let (left, right) = (
+                self.node(column, self.rows),
+                self.node(column + 1, self.rows),
+            );
             edges.push(self.level_edge(right, left, self.rows, fixed()));
         }
         for row in 0..self.rows {
@@ -141,7 +171,12 @@ impl Grid {
 
     fn mesh(&self, edges: &Lines) -> Lines {
         let nodes = (self.columns + 1) * (self.rows + 1);
-        let counts = [nodes, self.columns * self.rows, self.soils.len(), edges.len()];
+        let counts = [
+            nodes,
+            self.columns * self.rows,
+            self.soils.len(),
+            edges.len(),
+        ];
         let mut mesh = vec![counts.iter().map(|&count| count as i64).collect::<Vec<_>>()];
         mesh[0].push(self.sides);
         mesh.extend(self.soils.iter().cloned());
@@ -178,7 +213,11 @@ impl Grid {
     /// largest, or next to (-r, 0); the right side's and the top's normal rows undo them.
     fn add_corner(&self, random: &mut Random, lines: &mut Lines) {
         let half = self.sides as usize / 2;
-        let pair = if random.one_in(2) { [0, 2 * half - 1] } else { [half - 1, half] };
+        let pair = if random.one_in(2) {
+            [0, 2 * half - 1]
+        } else {
+            [half - 1, half]
+        };
         let soil = &self.soils[self.layer_soil[self.rows - 1]];
         let (r, rise) = radius_and_rise(self.sides);
         let sign = if pair[0] == 0 { 1 } else { -1 };
@@ -199,7 +238,10 @@ impl Grid {
         let (a, b) = (400 * random.between(-9, 9), 400 * random.between(-9, 9));
         let elements = self.columns * self.rows;
         let at = |node: i64| {
-            let (row, column) = ((node - 1) as usize / self.xs.len(), (node - 1) as usize % self.xs.len());
+            let (row, column) = (
+                (node - 1) as usize / self.xs.len(),
+                (node - 1) as usize % self.xs.len(),
+            );
             (self.xs[column], self.ys[row])
         };
         lines[..elements].fill(vec![a, b]);
@@ -236,5 +278,8 @@ pub fn sheet(random: &mut Random) -> Sheet {
         }
         claim.extend(lines);
     }
-    Sheet { mesh: grid.mesh(&edges), claim }
+    Sheet {
+        mesh: grid.mesh(&edges),
+        claim,
+    }
 }

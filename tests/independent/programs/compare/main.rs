@@ -3,6 +3,7 @@
 //! Arguments: the sheets, each as a .mesh and a .claim file of one name.
 
 mod archive;
+mod causes;
 mod damage;
 mod grids;
 mod random;
@@ -41,7 +42,21 @@ impl Tally {
         *self.files.entry(ours.number).or_default() += 1;
         if theirs != ours || proved != independent {
             let line = String::from_utf8_lossy(&proved).into_owned();
-            self.disagree(&format!("{theirs:?} not {ours:?}, room {room}: {line}"), mesh, claim);
+            self.disagree(
+                &format!("{theirs:?} not {ours:?}, room {room}: {line}"),
+                mesh,
+                claim,
+            );
+        }
+    }
+
+    /// Both give the answer that was worked out by hand for cause number `k`.
+    fn expect(&mut self, mesh: &[u8], claim: &[u8], number: u32, place: u32, k: usize) {
+        self.file(mesh, claim, 113, b'#');
+        let ours = independent::check(mesh, claim, &mut [0; 113]);
+        if (ours.number, ours.place) != (number, place) {
+            let what = format!("{ours:?}, the paper says {number}, {place}: cause {k}");
+            self.disagree(&what, mesh, claim);
         }
     }
 
@@ -51,7 +66,11 @@ impl Tally {
         *self.lists.entry(ours.number).or_default() += 1;
         if theirs != ours {
             let text = |list: &[i64]| format!("{list:?}").into_bytes();
-            self.disagree(&format!("{theirs:?} not {ours:?}"), &text(mesh), &text(claim));
+            self.disagree(
+                &format!("{theirs:?} not {ours:?}"),
+                &text(mesh),
+                &text(claim),
+            );
         }
     }
 
@@ -62,7 +81,12 @@ impl Tally {
             1..=3 => 113 + random.below(8),
             _ => 113,
         };
-        self.file(&sheet.mesh_file(), &sheet.claim_file(), room, random.below(256) as u8);
+        self.file(
+            &sheet.mesh_file(),
+            &sheet.claim_file(),
+            room,
+            random.below(256) as u8,
+        );
         self.list(&sheet.mesh.concat(), &sheet.claim.concat());
     }
 
@@ -70,7 +94,11 @@ impl Tally {
         println!("number      files    numbers");
         for number in NUMBERS.iter().chain(&[41]) {
             let count = |of: &BTreeMap<u32, u64>| of.get(number).copied().unwrap_or(0);
-            println!("{number:>6} {:>10} {:>10}", count(&self.files), count(&self.lists));
+            println!(
+                "{number:>6} {:>10} {:>10}",
+                count(&self.files),
+                count(&self.lists)
+            );
         }
         println!("disagreements: {}", self.disagreements);
     }
@@ -78,7 +106,9 @@ impl Tally {
     /// Every number came, and the two agreed each time.
     fn good(&self) -> bool {
         self.disagreements == 0
-            && NUMBERS.iter().all(|n| self.files.contains_key(n) && self.lists.contains_key(n))
+            && NUMBERS
+                .iter()
+                .all(|n| self.files.contains_key(n) && self.lists.contains_key(n))
             && self.files.contains_key(&41)
     }
 }
@@ -107,6 +137,34 @@ fn every_byte(tally: &mut Tally, random: &mut Random, sheet: &Sheet) {
     }
 }
 
+/// Each cause gets the answer that the paper gives it, from both.
+fn every_cause(tally: &mut Tally, random: &mut Random) {
+    let sheets = [
+        (causes::pair(), causes::MESH),
+        (Sheet::worked(), causes::CLAIM),
+    ];
+    for (sheet, table) in &sheets {
+        for (k, &(changes, number, place)) in table.iter().enumerate() {
+            let damaged = causes::changed(sheet, changes);
+            tally.expect(
+                &damaged.mesh_file(),
+                &damaged.claim_file(),
+                number,
+                place,
+                k,
+            );
+            tally.sheet(random, &damaged);
+        }
+        let (mesh, claim) = (sheet.mesh_file(), sheet.claim_file());
+        for (k, (bytes, line)) in causes::misformed(&mesh).iter().enumerate() {
+            tally.expect(bytes, &claim, 1, *line, k);
+        }
+        for (k, (bytes, line)) in causes::misformed(&claim).iter().enumerate() {
+            tally.expect(&mesh, bytes, 11, *line, k);
+        }
+    }
+}
+
 /// One sheet with up to three changes to its numbers, then to its bytes, then to its lists.
 fn damaged(tally: &mut Tally, random: &mut Random, seed: &Sheet) {
     let mut sheet = seed.clone();
@@ -126,16 +184,25 @@ fn damaged(tally: &mut Tally, random: &mut Random, seed: &Sheet) {
 
 fn read_sheet(name: &str) -> Sheet {
     let part = |ending: &str| std::fs::read(format!("{name}.{ending}")).expect("a sheet's file");
-    Sheet { mesh: sheet::read(&part("mesh")), claim: sheet::read(&part("claim")) }
+    Sheet {
+        mesh: sheet::read(&part("mesh")),
+        claim: sheet::read(&part("claim")),
+    }
 }
 
 fn main() {
     let mut random = Random::new(0x9E37_79B9_7F4A_7C15);
     let mut tally = Tally::default();
-    let mut seeds: Vec<Sheet> = std::env::args().skip(1).map(|name| read_sheet(&name)).collect();
+    let mut seeds: Vec<Sheet> = std::env::args()
+        .skip(1)
+        .map(|name| read_sheet(&name))
+        .collect();
     println!("sheets: {}", seeds.len());
     seeds.push(Sheet::worked());
-    seeds.iter().for_each(|sheet| tally.sheet(&mut random, sheet));
+    seeds
+        .iter()
+        .for_each(|sheet| tally.sheet(&mut random, sheet));
+    every_cause(&mut tally, &mut random);
     every_room(&mut tally, &Sheet::worked());
     every_byte(&mut tally, &mut random, &Sheet::worked());
     for _ in 0..30_000 {
@@ -144,7 +211,9 @@ fn main() {
         damaged(&mut tally, &mut random, &grid);
     }
     for _ in 0..500 {
-        seeds.iter().for_each(|sheet| damaged(&mut tally, &mut random, sheet));
+        seeds
+            .iter()
+            .for_each(|sheet| damaged(&mut tally, &mut random, sheet));
     }
     tally.print();
     std::process::exit(if tally.good() { 0 } else { 1 });
