@@ -55,6 +55,8 @@ def limit(rows, multipliers):
 def make_claim(lines, part="both", margin=0.0, spread=0.0):
     """The lines of a claim for a mesh's lines, and a word on how each part was made."""
     mesh = mesh_rows.mesh_of(lines)
+    if mesh_rows.folded(mesh):
+        raise SystemExit(f"elements {mesh_rows.folded(mesh)} have a corner that is no left turn")
     rows = mesh_rows.rows_of(mesh)
     field = multipliers = None
     notes = []

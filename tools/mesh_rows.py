@@ -48,6 +48,20 @@ def mesh_of(lines):
     return Mesh(sides, all_soils, all_nodes, all_elements, all_edges)
 
 
+def folded(mesh):
+    """The numbers of elements that the check refuses with 5: a corner that is no left turn."""
+    numbers = []
+    for number, (*corner, _) in enumerate(mesh.elements):
+        at = [mesh.nodes[node] for node in corner]
+        turns = []
+        for i in range(4):
+            (x0, y0), (x, y), (x1, y1) = at[i - 1], at[i], at[(i + 1) % 4]
+            turns.append((x - x0) * (y1 - y) - (y - y0) * (x1 - x))
+        if min(turns) <= 0:
+            numbers.append(number + 1)
+    return numbers
+
+
 def corners(sides):
     """All corners of the polygon, counterclockwise from (r, 0)."""
     quadrant = POLYGONS[sides][:-1]

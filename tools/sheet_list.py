@@ -17,16 +17,20 @@ def sand(p, q, h, cohesion, dead=(0, 0), live=(0, 0)):
     return [p, q, h, cohesion, *dead, *live]
 
 
+def outline(i, j, size=1):
+    """The corners of a grid cell, or of a square of cells, counterclockwise."""
+    return [(i, j), (i + size, j), (i + size, j + size), (i, j + size)]
+
+
 def mesh_lines(cells, at, soil_of, edge_of, soils, sides):
     """A mesh of grid cells (i, j): `at` places its points, `soil_of` names the soil of a cell, and
     `edge_of` gives an outer side from point a to point b its fixing and loads, or None."""
-    outline = lambda i, j: [(i, j), (i + 1, j), (i + 1, j + 1), (i, j + 1)]
     points = sorted({point for cell in cells for point in outline(*cell)}, key=lambda p: (p[1], p[0]))
     number = {point: k + 1 for k, point in enumerate(points)}
     elements, directed = [], []
     for cell in cells:
         corner = outline(*cell)
-        elements.append([number[point] for point in corner] + [soil_of(*cell)])
+        elements.append([number[point] for point in corner] + [soil_of(*cell[:2])])
         directed += zip(corner, corner[1:] + corner[:1])
     outer = [(a, b) for a, b in directed if (b, a) not in set(directed)]
     loads = [(a, b, edge_of(a, b)) for a, b in outer]
@@ -134,6 +138,52 @@ def pieces(soils, sides, edged):
     return mesh_lines(cells, scaled(13), soil_of, edge, soils, sides)
 
 
+def sheared(columns, rows, size, run, soils, sides, tractions):
+    """A block whose columns lean by `run` in each layer; `tractions` gives the live normal and
+    shear of its four sides: foot, right, top, left."""
+
+    def at(i, j):
+        return size * i + run * (rows - j), size * j
+
+    def edge(a, b):
+        if a[1] == b[1]:
+            side = 2 if a[1] == rows else 0
+        else:
+            side = 1 if a[0] == columns else 3
+        return 3, 0, 0, *tractions[side]
+
+    return mesh_lines(block_cells(columns, rows), at, one_soil, edge, soils, sides)
+
+
+def largest(soils, sides):
+    """As much as a mesh may have: 100 nodes, 100 elements, 60 edges. Nineteen elements lie over
+    four others each, which the paper allows, and give a second edge to sides of the block."""
+    double = [(i, 0, 2) for i in range(8)] + [(i, 7, 2) for i in range(8)] + [(0, j, 2) for j in (2, 4, 5)]
+    inner = ((9, 2), (7, 2))
+
+    def edge(a, b):
+        if (a, b) == inner:
+            return SMOOTH
+        if a[1] == b[1] == 9:
+            return 3, 0, 0, -1, 0
+        if a[0] == b[0] == 9:
+            return FREE
+        return SMOOTH if a[1] == b[1] == 0 or a[0] == b[0] == 0 else None
+
+    soil_of = lambda i, j: (i + j) % len(soils) + 1
+    return mesh_lines(block_cells(9, 9) + double, scaled(65), soil_of, edge, soils, sides)
+
+
+def moved(mesh, shifts):
+    """The mesh with some nodes (numbered from 1) moved."""
+    first = 1 + mesh[0][2]
+    lines = [list(line) for line in mesh]
+    for node, (x, y) in shifts.items():
+        line = lines[first + node - 1]
+        line[0], line[1] = line[0] + x, line[1] + y
+    return lines
+
+
 def printed(text):
     """Lines as the paper prints them."""
     return [[int(number) for number in line.split()] for line in text.split("/")]
@@ -235,4 +285,47 @@ def other_sheets():
     ]
 
 
-SHEETS = paper_sheets() + known_sheets() + other_sheets()
+def load_sheets():
+    """Sheets with shear on level, upright and leaning edges, and with irregular elements."""
+    pure = [(0, -1), (0, 1), (0, -1), (0, 1)]
+    leaning = [(0, 0), (-1, 1), (0, 0), (-1, 1)]
+    mixed = [(-2, -1), (-3, 1), (-2, -1), (-3, 1)]
+    return [
+        Sheet("shear_block", sheared(1, 1, 1, 0, [clay(10)], 12, pure)),
+        Sheet("shear_block_20", sheared(2, 2, 25, 0, [clay(10)], 20, pure)),
+        Sheet("shear_block_sand", sheared(2, 1, 5, 0, [sand(3, 4, 5, 10)], 12, pure)),
+        Sheet("shear_leaning", sheared(2, 2, 10, 10, [clay(10)], 12, leaning)),
+        Sheet("shear_leaning_36", sheared(1, 1, 65, 65, [clay(10)], 36, leaning)),
+        Sheet("shear_leaning_sand", sheared(1, 2, 5, 5, [sand(3, 4, 5, 10)], 12, leaning)),
+        Sheet("shear_mixed", sheared(2, 2, 5, 0, [clay(10)], 12, mixed)),
+        Sheet("irregular_block", moved(block(2, 2, 20, [clay(10)], 12), {5: (-10, -5)})),
+        Sheet("irregular_cut", moved(cut(2, 2, 20, 1, 1, [clay(100, live=(0, -1))], 12), {4: (5, -10)})),
+        Sheet("irregular_footing", moved(footing(3, 2, 20, 1, [clay(10)], 12), {7: (-5, -5)})),
+        Sheet("irregular_footing_rounded", moved(footing(3, 2, 20, 1, [clay(10)], 12), {6: (-5, 5)})),
+        Sheet("largest", largest([clay(40 + 3 * k % 16) for k in range(16)], 36)),
+    ]
+
+
+def corner_sheets():
+    """Numbers at the limits, by hand: stresses, n and l, and the widest loads either way.
+
+    Level and upright edges both fix t at a corner they share, so equal multipliers on their
+    shear rows leave every column 0 and add up what the two edges ask."""
+    small = "4 1 1 3 12 / 0 1 1 10000 0 0 0 0 / 900 900 / 1000 900 / 1000 1000 / 900 1000 / 1 2 3 4 1 / "
+    small += "3 4 3 0 0 -10 0 / 2 3 3 0 0 0 0 / 4 1 3 0 0 0 0"
+    field = "1 1 50000 100000000" + " / 0 -1000000000 0" * 4 + " / 0 0 / 30 0 0 0 / 0 0 -30 0 / 0 0 0 0"
+    full = " / 10000 0 0 0 0 0 0 0 0 0 0 10000"
+    two = "8 2 1 6 36 / 0 1000 1000 10000 0 0 0 0 / 0 0 / 1000 0 / 1000 1000 / 0 1000 / "
+    two += "0 0 / 1 0 / 1 1 / 0 1 / 1 2 3 4 1 / 5 6 7 8 1 / "
+    two += "1 2 3 0 {d} 0 0 / 2 3 3 0 {d} 0 0 / 3 4 3 0 {d} 0 0 / 4 1 3 0 {d} 0 0 / 5 6 3 0 0 0 0 / 6 7 3 0 0 0 -1"
+    pair = "0 1 0 0 / 0 0 / 0 0" + " / 0 {y} 0 {y}" * 4 + " / 0 0 0 1 / 0 1 0 0"
+    lines = lambda y: (" / " + " ".join([str(y)] * 36)) * 8
+    sheet = lambda name, mesh, claim: Sheet(name, printed(mesh), claim=printed(claim))
+    return [
+        sheet("limits", small, field + 2 * ZEROS + full + ZEROS),
+        sheet("widest_limit", two.format(d=10000), pair.format(y=100000) + lines(10000)),
+        sheet("lowest_limit", two.format(d=-10000), pair.format(y=100000) + lines(0)),
+    ]
+
+
+SHEETS = paper_sheets() + known_sheets() + other_sheets() + load_sheets() + corner_sheets()
