@@ -52,7 +52,7 @@ def accepted_line(mesh_lines, claim):
 
 def write_sheet(folder, sheet):
     """One sheet; returns its line."""
-    claim, note, columns = sheet.claim, "numbers of the paper", sheet.line
+    claim, note, columns = sheet.claim, "by hand", sheet.line
     if claim is None:
         claim, note = claim_from_solver.make_claim(sheet.mesh, sheet.part, sheet.margin, sheet.spread)
     if columns is None:
