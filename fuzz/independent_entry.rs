@@ -1,0 +1,40 @@
+//! The independent implementation under C names, for the fuzzer's harness.
+
+use independent::{Answer, Numbers};
+
+/// A length of 0 goes with any pointer.
+unsafe fn slice<'a, T>(start: *const T, length: usize) -> &'a [T] {
+    if length == 0 {
+        &[]
+    } else {
+        // SAFETY: the harness lends `length` items from `start` on.
+        unsafe { std::slice::from_raw_parts(start, length) }
+    }
+}
+
+#[no_mangle]
+unsafe extern "C" fn independent_check(
+    mesh: *const u8,
+    mesh_len: usize,
+    claim: *const u8,
+    claim_len: usize,
+    report: *mut u8,
+    report_len: usize,
+) -> Answer {
+    // SAFETY: the harness lends each pointer with its own length; its report is never null.
+    unsafe {
+        let report = std::slice::from_raw_parts_mut(report, report_len);
+        independent::check(slice(mesh, mesh_len), slice(claim, claim_len), report)
+    }
+}
+
+#[no_mangle]
+unsafe extern "C" fn independent_check_numbers(
+    mesh: *const i64,
+    mesh_len: usize,
+    claim: *const i64,
+    claim_len: usize,
+) -> Numbers {
+    // SAFETY: as above.
+    unsafe { independent::check_numbers(slice(mesh, mesh_len), slice(claim, claim_len)) }
+}

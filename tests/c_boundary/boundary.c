@@ -1,0 +1,182 @@
+/* The C boundary: what a call may read and write, seen by pages that no one may touch.
+   boundary SHEET.. uses closed pages; boundary heap SHEET.. exact heap blocks, for valgrind.
+   A read or write out of bounds ends the program by a signal, anything else by an exit status. */
+#include <stdint.h>
+#include <stdio.h>
+#include <stdlib.h>
+#include <string.h>
+
+#include "memory.h"
+#include "pechuvo.h"
+
+enum { LINE = 113, ROOM = 160, LARGEST = 70000 };
+
+static unsigned long calls;
+
+static void expect(int good, const char *what) {
+  calls += 1;
+  if (!good) {
+    printf("FAILED: %s\n", what);
+    exit(1);
+  }
+}
+
+static struct block read_file(const char *name, const char *ending) {
+  static unsigned char bytes[LARGEST];
+  char path[512];
+  snprintf(path, sizeof path, "%s.%s", name, ending);
+  FILE *file = fopen(path, "rb");
+  if (file == NULL) {
+    perror(path);
+    exit(2);
+  }
+  size_t length = fread(bytes, 1, sizeof bytes, file);
+  fclose(file);
+  return lend(bytes, length, ON_HEAP);
+}
+
+/* One call on memory lent in one way; the report buffer has `room` bytes and each is checked:
+   the line or nothing in the first 113, `fill` in all others. */
+static void call(struct block mesh, struct block claim, size_t room, enum lending how,
+                 struct pechuvo_answer answer, const unsigned char *line) {
+  struct block m = lend(mesh.bytes, mesh.length, how);
+  struct block c = lend(claim.bytes, claim.length, how);
+  unsigned char before[ROOM];
+  memset(before, 0xA5, sizeof before);
+  struct block report = lend(before, room, how);
+  close_for_writing(m);
+  close_for_writing(c);
+  struct pechuvo_answer got =
+      pechuvo_check(m.bytes, m.length, c.bytes, c.length, report.bytes, report.length);
+  if (room < LINE) {
+    expect(got.number == 41 && got.place == 0, "a short buffer gets 41, place 0");
+    expect(memcmp(report.bytes, before, room) == 0, "a short buffer stays untouched");
+  } else {
+    expect(got.number == answer.number && got.place == answer.place, "the answer");
+    expect(memcmp(report.bytes, line, LINE) == 0, "the line");
+    expect(memcmp(report.bytes + LINE, before, room - LINE) == 0, "bytes beyond 113 are kept");
+  }
+  expect(mesh.length == 0 || memcmp(m.bytes, mesh.bytes, mesh.length) == 0, "the mesh is kept");
+  expect(claim.length == 0 || memcmp(c.bytes, claim.bytes, claim.length) == 0, "the claim is kept");
+  give_back(m);
+  give_back(c);
+  give_back(report);
+}
+
+/* The same answer and line from memory lent in each of the given ways. */
+static void call_each_way(struct block mesh, struct block claim, size_t room, int heap) {
+  unsigned char line[LINE];
+  struct pechuvo_answer answer =
+      pechuvo_check(mesh.bytes, mesh.length, claim.bytes, claim.length, line, LINE);
+  if (heap) {
+    call(mesh, claim, room, ON_HEAP, answer, line);
+    return;
+  }
+  call(mesh, claim, room, AT_END, answer, line);
+  call(mesh, claim, room, AT_START, answer, line);
+}
+
+/* The files cut short at every `step`th byte: nothing behind the cut is read. */
+static void cut_files(struct block mesh, struct block claim, size_t step, int heap) {
+  struct block part = mesh;
+  for (part.length = 0; part.length < mesh.length; part.length += step) {
+    call_each_way(part, claim, LINE, heap);
+  }
+  part = claim;
+  for (part.length = 0; part.length < claim.length; part.length += step) {
+    call_each_way(mesh, part, LINE, heap);
+  }
+}
+
+/* A length of 0 goes with any pointer. */
+static void empty_slices(struct block mesh, struct block claim) {
+  struct block closed = lend(NULL, 0, AT_END);
+  unsigned char *pointers[] = {NULL, (unsigned char *)1, closed.bytes, mesh.bytes};
+  for (size_t k = 0; k < sizeof pointers / sizeof pointers[0]; k++) {
+    unsigned char *any = pointers[k];
+    unsigned char line[LINE];
+    struct pechuvo_answer got = pechuvo_check(any, 0, claim.bytes, claim.length, line, LINE);
+    expect(got.number == 1 && got.place == 1, "an empty mesh gets 1, line 1");
+    got = pechuvo_check(mesh.bytes, mesh.length, any, 0, line, LINE);
+    expect(got.number == 11 && got.place == 1, "an empty claim gets 11, line 1");
+    got = pechuvo_check(mesh.bytes, mesh.length, claim.bytes, claim.length, any, 0);
+    expect(got.number == 41 && got.place == 0, "an empty buffer gets 41, place 0");
+    struct pechuvo_numbers numbers = pechuvo_check_numbers((int64_t *)(void *)any, 0, NULL, 0);
+    expect(numbers.number == 1 && numbers.place == 1, "an empty list gets 1, line 1");
+  }
+  give_back(closed);
+}
+
+/* The numbers of a well-formed file, in order. */
+static struct block numbers_of(struct block file) {
+  struct block list = lend(NULL, file.length / 12 * sizeof(int64_t), ON_HEAP);
+  int64_t *numbers = (int64_t *)(void *)list.bytes;
+  size_t count = 0;
+  for (size_t at = 0; at + 12 < file.length; at += file.bytes[at + 12] == '\n' ? 13 : 12) {
+    char column[13] = {0};
+    memcpy(column, file.bytes + at, 12);
+    numbers[count++] = strtoll(column, NULL, 10);
+  }
+  list.length = count * sizeof(int64_t);
+  return list;
+}
+
+static struct pechuvo_numbers check_lists(struct block mesh, struct block claim) {
+  return pechuvo_check_numbers((const int64_t *)(void *)mesh.bytes, mesh.length / sizeof(int64_t),
+                               (const int64_t *)(void *)claim.bytes, claim.length / sizeof(int64_t));
+}
+
+static int same(struct pechuvo_numbers a, struct pechuvo_numbers b) {
+  return a.number == b.number && a.place == b.place && a.field == b.field &&
+         a.multipliers == b.multipliers && a.l == b.l && a.n == b.n && a.w == b.w && a.m == b.m &&
+         a.open_rows == b.open_rows;
+}
+
+/* Two lists, each cut after `length` of its numbers, from memory lent in one way. */
+static void call_lists(struct block mesh, struct block claim, enum lending how) {
+  struct block m = lend(mesh.bytes, mesh.length, how);
+  struct block c = lend(claim.bytes, claim.length, how);
+  close_for_writing(m);
+  close_for_writing(c);
+  expect(same(check_lists(m, c), check_lists(mesh, claim)), "the answer on numbers");
+  give_back(m);
+  give_back(c);
+}
+
+static void lists(struct block mesh_file, struct block claim_file, size_t step, int heap) {
+  struct block mesh = numbers_of(mesh_file), claim = numbers_of(claim_file), part = mesh;
+  for (part.length = 0; part.length <= mesh.length; part.length += step * sizeof(int64_t)) {
+    call_lists(part, claim, heap ? ON_HEAP : AT_END);
+  }
+  part = claim;
+  for (part.length = 0; part.length <= claim.length; part.length += step * sizeof(int64_t)) {
+    call_lists(mesh, part, heap ? ON_HEAP : AT_END);
+  }
+  call_lists(mesh, claim, heap ? ON_HEAP : AT_START);
+  give_back(mesh);
+  give_back(claim);
+}
+
+static void sheet(const char *name, int heap) {
+  struct block mesh = read_file(name, "mesh"), claim = read_file(name, "claim");
+  size_t bytes = mesh.length + claim.length;
+  size_t step = heap ? bytes / 10 + 1 : bytes / 2000 + 1;
+  for (size_t room = 0; room <= 120; room += heap ? 8 : 1) {
+    call_each_way(mesh, claim, room, heap);
+  }
+  call_each_way(mesh, claim, LINE, heap);
+  cut_files(mesh, claim, step, heap);
+  lists(mesh, claim, step / 8 + 1, heap);
+  empty_slices(mesh, claim);
+  give_back(mesh);
+  give_back(claim);
+}
+
+int main(int count, char **words) {
+  int heap = count > 1 && strcmp(words[1], "heap") == 0;
+  for (int k = 1 + heap; k < count; k++) {
+    sheet(words[k], heap);
+  }
+  printf("%d sheets, %lu facts checked\n", count - 1 - heap, calls);
+  return calls > 0 ? 0 : 1;
+}

@@ -1,0 +1,85 @@
+//! Prints what the independent implementation answers to the sheets of document 01's section
+//! "A whole sheet, and its neighbours"; the answers that the paper gives are in worked.expected.
+
+use independent::sheet::{file, printed, Sheet};
+
+fn show(name: &str, mesh: &[u8], claim: &[u8], room: usize) {
+    let mut buffer = vec![b'#'; room];
+    let answer = independent::check(mesh, claim, &mut buffer);
+    let text = String::from_utf8_lossy(&buffer).replace('\n', "|");
+    let line = text.split_whitespace().collect::<Vec<_>>().join(" ");
+    println!("{name}: {}, {}: {line}", answer.number, answer.place);
+}
+
+fn show_sheet(name: &str, sheet: &Sheet) {
+    show(name, &sheet.mesh_file(), &sheet.claim_file(), 113);
+}
+
+/// The worked sheet with another load and another sy at every node.
+fn loaded(l: i64, sy: i64) -> Sheet {
+    let mut sheet = Sheet::worked();
+    sheet.claim[0][3] = l;
+    for node in 1..=4 {
+        sheet.claim[node][1] = sy;
+    }
+    sheet
+}
+
+/// The top carries dead + live·λ and no more than 20, so that λ is at most (20 - dead)/live;
+/// the field has λ = l/3.
+fn thirds(dead: i64, live: i64, l: i64) -> Sheet {
+    let mut sheet = loaded(l, -3 * dead - live * l);
+    sheet.mesh[7] = vec![3, 4, 3, -dead, 0, -live, 0];
+    sheet.claim[0][2] = 3;
+    sheet
+}
+
+/// Two edges at one node ask λ = -1/3000000 of any field: the foot (169, 0) fixes sy and t, the
+/// side (119, 120) fixes its own normal and shear, and 119·sy - 120·t follows from both.
+fn one_in_three_million() -> Sheet {
+    let zeros = " / 0 0 0 0 0 0 0 0 0 0 0 0".repeat(4);
+    Sheet {
+        mesh: printed(
+            "4 1 1 2 12 / 0 1 1 10000 0 0 0 0 / 0 0 / 169 0 / 288 120 / 0 120 / 1 2 3 4 1 / \
+             1 2 3 -1 1 6000 6600 / 2 3 3 0 0 -6000 6500",
+        ),
+        claim: printed(&format!(
+            "0 1 0 0 / 0 0 / 0 0 -119 -120 / 119 -120 0 0{zeros}"
+        )),
+    }
+}
+
+fn hundred_nodes(nodes: i64) -> Vec<u8> {
+    let mut mesh = vec![vec![nodes, 81, 1, 0, 12], vec![0, 1, 1, 10, 0, 0, 0, 0]];
+    mesh.extend((0..nodes).map(|node| vec![node % 10, node / 10]));
+    let corner = |e: i64| e / 9 * 10 + e % 9 + 1;
+    mesh.extend(
+        (0..81)
+            .map(corner)
+            .map(|c| vec![c, c + 1, c + 11, c + 10, 1]),
+    );
+    file(&mesh)
+}
+
+fn main() {
+    show_sheet("worked sheet", &Sheet::worked());
+    show_sheet("l 19, sy -19", &loaded(19, -19));
+    show_sheet("l 21, sy -21", &loaded(21, -21));
+    show_sheet("l 20, sy -21", &loaded(20, -21));
+    let mut sheet = Sheet::worked();
+    sheet.claim[7][2] = -29;
+    show_sheet("-30 as -29", &sheet);
+    show("empty mesh", b"", &Sheet::worked().claim_file(), 113);
+    let mut sheet = Sheet::worked();
+    sheet.mesh[1][..3].copy_from_slice(&[3, 4, 6]);
+    show_sheet("soil 3 4 6", &sheet);
+    show_sheet("1/3", &thirds(0, 60, 1));
+    show_sheet("-1/3", &thirds(40, 60, -1));
+    show_sheet("-1/3000000", &one_in_three_million());
+    let worked = Sheet::worked();
+    show("112 bytes", &worked.mesh_file(), &worked.claim_file(), 112);
+    show("113 bytes", &worked.mesh_file(), &worked.claim_file(), 113);
+    show("115 bytes", &worked.mesh_file(), &worked.claim_file(), 115);
+    show("100 nodes", &hundred_nodes(100), b"", 113);
+    show("101 nodes", &hundred_nodes(101), b"", 113);
+}

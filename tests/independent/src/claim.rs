@@ -1,0 +1,110 @@
+//! The claim's lines: refusals 11, 12 and 13.
+
+use crate::lines::Lines;
+use crate::mesh::Mesh;
+use crate::{refuse, Refusal};
+
+pub struct Field {
+    pub n: i64,
+    pub l: i64,
+    /// sx, sy and t of each node.
+    pub stresses: Vec<[i64; 3]>,
+}
+
+pub struct Multipliers {
+    pub balance: Vec<[i64; 2]>,
+    /// Normal and shear at from, then at to.
+    pub sides: Vec<[i64; 4]>,
+    /// One for each polygon side of each node, node by node.
+    pub strength: Vec<i64>,
+}
+
+pub struct Claim {
+    pub field: Option<Field>,
+    pub multipliers: Option<Multipliers>,
+}
+
+impl Claim {
+    pub fn read(lines: &mut impl Lines, mesh: &Mesh) -> Result<Claim, Refusal> {
+        let mut reader = Reader { lines, place: 0 };
+        let (has_field, has_multipliers, n, l) = reader.header()?;
+        let mut field = None;
+        if has_field {
+            let stresses = reader.group(mesh.nodes.len(), 1_000_000_000)?;
+            field = Some(Field { n, l, stresses });
+        }
+        let mut multipliers = None;
+        if has_multipliers {
+            let balance = reader.group(mesh.elements.len(), 100_000)?;
+            let sides = reader.group(mesh.edges.len(), 100_000)?;
+            let strength = reader.strength(mesh.nodes.len(), mesh.polygon.sides.len())?;
+            multipliers = Some(Multipliers {
+                balance,
+                sides,
+                strength,
+            });
+        }
+        if !reader.lines.at_end() {
+            return refuse(11, reader.place + 1);
+        }
+        Ok(Claim { field, multipliers })
+    }
+}
+
+/// Reads lines and knows which one it has read.
+struct Reader<'a, L: Lines> {
+    lines: &'a mut L,
+    place: usize,
+}
+
+impl<L: Lines> Reader<'_, L> {
+    fn line(&mut self, out: &mut [i64], low: i64, high: i64) -> Result<(), Refusal> {
+        self.place += 1;
+        if !self.lines.next(out) {
+            return refuse(11, self.place);
+        }
+        if !out.iter().all(|&number| low <= number && number <= high) {
+            return refuse(12, self.place);
+        }
+        Ok(())
+    }
+
+    fn header(&mut self) -> Result<(bool, bool, i64, i64), Refusal> {
+        let mut header = [0; 4];
+        self.line(&mut header, i64::MIN, i64::MAX)?;
+        let [field, multipliers, n, l] = header;
+        let limits = (0..=1).contains(&field)
+            && (0..=1).contains(&multipliers)
+            && (0..=100_000).contains(&n)
+            && (-100_000_000..=100_000_000).contains(&l);
+        if !limits {
+            return refuse(12, 1);
+        }
+        let (field, multipliers) = (field == 1, multipliers == 1);
+        let absent = !field && !multipliers;
+        if absent || field && n == 0 || !field && (n != 0 || l != 0) {
+            return refuse(13, 1);
+        }
+        Ok((field, multipliers, n, l))
+    }
+
+    fn group<const K: usize>(
+        &mut self,
+        count: usize,
+        bound: i64,
+    ) -> Result<Vec<[i64; K]>, Refusal> {
+        let mut all = vec![[0; K]; count];
+        for numbers in &mut all {
+            self.line(numbers, -bound, bound)?;
+        }
+        Ok(all)
+    }
+
+    fn strength(&mut self, nodes: usize, sides: usize) -> Result<Vec<i64>, Refusal> {
+        let mut all = vec![0; nodes * sides];
+        for numbers in all.chunks_exact_mut(sides) {
+            self.line(numbers, 0, 10_000)?;
+        }
+        Ok(all)
+    }
+}

@@ -1,0 +1,121 @@
+//! A field against the rows: refusals 21 and 22, and the open rows.
+//! Every sum fits 64 bits: the largest right side, of an edge, stays below 2.1e18.
+
+use crate::claim::Field;
+use crate::mesh::{Edge, Element, Mesh};
+use crate::polygon::Side;
+use crate::{refuse, Refusal};
+
+/// The coefficients of an element's balance rows at its corners, y[i+1]-y[i-1] and x[i-1]-x[i+1],
+/// and D, twice its area.
+pub fn balance(mesh: &Mesh, element: &Element) -> ([[i64; 2]; 4], i64) {
+    let at = element.corners.map(|corner| mesh.nodes[corner]);
+    let mut coefficients = [[0; 2]; 4];
+    let mut doubled_area = 0;
+    for i in 0..4 {
+        let (after, before) = (at[(i + 1) % 4], at[(i + 3) % 4]);
+        coefficients[i] = [after[1] - before[1], before[0] - after[0]];
+        doubled_area += at[i][0] * coefficients[i][0];
+    }
+    (coefficients, doubled_area)
+}
+
+/// The step (u, w) of an edge.
+pub fn step(mesh: &Mesh, edge: &Edge) -> (i64, i64) {
+    let (from, to) = (mesh.nodes[edge.from], mesh.nodes[edge.to]);
+    (to[0] - from[0], to[1] - from[1])
+}
+
+pub fn check(mesh: &Mesh, field: &Field) -> Result<(), Refusal> {
+    check_balance(mesh, field)?;
+    check_sides(mesh, field)?;
+    check_strength(mesh, field)
+}
+
+fn check_balance(mesh: &Mesh, field: &Field) -> Result<(), Refusal> {
+    for (e, element) in mesh.elements.iter().enumerate() {
+        let (coefficients, doubled_area) = balance(mesh, element);
+        let soil = &mesh.soils[element.soil];
+        let force = |k: usize| doubled_area * (field.n * soil.dead[k] + field.l * soil.live[k]);
+        let mut sums = [force(0), force(1)];
+        for (corner, [by_y, by_x]) in element.corners.iter().zip(coefficients) {
+            let [sx, sy, t] = field.stresses[*corner];
+            sums[0] += by_y * sx + by_x * t;
+            sums[1] += by_x * sy + by_y * t;
+        }
+        if let Some(row) = sums.iter().position(|&sum| sum != 0) {
+            return refuse(21, 2 * e + row + 1);
+        }
+    }
+    Ok(())
+}
+
+fn check_sides(mesh: &Mesh, field: &Field) -> Result<(), Refusal> {
+    for (k, edge) in mesh.edges.iter().enumerate() {
+        let (u, w) = step(mesh, edge);
+        let asked =
+            |part: usize| (u * u + w * w) * (field.n * edge.dead[part] + field.l * edge.live[part]);
+        let (normal, shear) = (asked(0), asked(1));
+        let fails = |node: usize| {
+            let [sx, sy, t] = field.stresses[node];
+            [
+                edge.fixed[0] && w * w * sx - 2 * u * w * t + u * u * sy != normal,
+                edge.fixed[1] && u * w * (sx - sy) + (w * w - u * u) * t != shear,
+            ]
+        };
+        let [[a, b], [c, d]] = [fails(edge.from), fails(edge.to)];
+        if let Some(row) = [a, b, c, d].iter().position(|&failed| failed) {
+            return refuse(21, 2 * mesh.elements.len() + 4 * k + row + 1);
+        }
+    }
+    Ok(())
+}
+
+/// The strength rows of one node with one field.
+struct Node {
+    /// r·h·(sx - sy), r·h·2t, and 2qCn - p(sx + sy).
+    difference: i64,
+    shear: i64,
+    radius: i64,
+}
+
+impl Node {
+    fn new(mesh: &Mesh, field: &Field, node: usize) -> Self {
+        let soil = &mesh.soils[mesh.node_soil[node]];
+        let [sx, sy, t] = field.stresses[node];
+        let scale = mesh.polygon.radius * soil.h;
+        Node {
+            difference: scale * (sx - sy),
+            shear: scale * 2 * t,
+            radius: 2 * soil.q * soil.cohesion * field.n - soil.p * (sx + sy),
+        }
+    }
+
+    /// Right side minus left side of the row of a polygon side.
+    fn slack(&self, side: &Side) -> i64 {
+        side.cross * self.radius - side.step[1] * self.difference + side.step[0] * self.shear
+    }
+}
+
+fn check_strength(mesh: &Mesh, field: &Field) -> Result<(), Refusal> {
+    let sides = mesh.polygon.sides;
+    for k in 0..mesh.nodes.len() {
+        let node = Node::new(mesh, field, k);
+        if let Some(side) = sides.iter().position(|side| node.slack(side) < 0) {
+            return refuse(22, k * sides.len() + side + 1);
+        }
+    }
+    Ok(())
+}
+
+/// Strength rows with a multiplier above 0 and a left side below the right.
+pub fn open_rows(mesh: &Mesh, field: &Field, multipliers: &[i64]) -> u64 {
+    let sides = mesh.polygon.sides;
+    let mut open = 0;
+    for (k, line) in multipliers.chunks_exact(sides.len()).enumerate() {
+        let node = Node::new(mesh, field, k);
+        let is_open = |(side, &y): &(&Side, &i64)| y > 0 && node.slack(side) > 0;
+        open += sides.iter().zip(line).filter(is_open).count() as u64;
+    }
+    open
+}

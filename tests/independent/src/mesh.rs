@@ -1,0 +1,257 @@
+//! The mesh: its lines and their refusals 1 to 4, then its shape and refusals 5 to 8.
+
+use crate::lines::Lines;
+use crate::polygon::Polygon;
+use crate::{refuse, Refusal};
+
+pub struct Soil {
+    pub p: i64,
+    pub q: i64,
+    pub h: i64,
+    pub cohesion: i64,
+    pub dead: [i64; 2],
+    pub live: [i64; 2],
+}
+
+/// Corners and soil count from 0 here.
+pub struct Element {
+    pub corners: [usize; 4],
+    pub soil: usize,
+}
+
+/// Loads are normal, then shear; nodes count from 0 here.
+pub struct Edge {
+    pub from: usize,
+    pub to: usize,
+    pub fixed: [bool; 2],
+    pub dead: [i64; 2],
+    pub live: [i64; 2],
+}
+
+pub struct Mesh {
+    pub polygon: Polygon,
+    pub soils: Vec<Soil>,
+    pub nodes: Vec<[i64; 2]>,
+    pub elements: Vec<Element>,
+    pub edges: Vec<Edge>,
+    /// The soil of the lowest-numbered element around each node.
+    pub node_soil: Vec<usize>,
+}
+
+fn within(number: i64, low: i64, high: i64) -> bool {
+    low <= number && number <= high
+}
+
+fn all_within(numbers: &[i64], bound: i64) -> bool {
+    numbers.iter().all(|&number| within(number, -bound, bound))
+}
+
+/// The index of a thing that is numbered from 1.
+fn named(number: i64, count: usize) -> Option<usize> {
+    if within(number, 1, count as i64) {
+        Some(number as usize - 1)
+    } else {
+        None
+    }
+}
+
+impl Mesh {
+    pub fn read(lines: &mut impl Lines) -> Result<Mesh, Refusal> {
+        let mut reader = Reader { lines, place: 0 };
+        let header = reader.line::<5>()?;
+        let Some(polygon) = header_polygon(&header) else {
+            return reader.refuse(2);
+        };
+        let [nodes, elements, soils, edges] = [0, 1, 2, 3].map(|k| header[k] as usize);
+        let soils = reader.group(soils, Reader::soil)?;
+        let all_nodes = reader.group(nodes, Reader::node)?;
+        let elements = reader.group(elements, |r| r.element(nodes, soils.len()))?;
+        let edge_line = reader.place + 1;
+        let edges = reader.group(edges, |r| r.edge(nodes))?;
+        if !reader.lines.at_end() {
+            reader.place += 1;
+            return reader.refuse(1);
+        }
+        check_turns(&all_nodes, &elements)?;
+        let successors = directed_sides(&elements)?;
+        let node_soil = node_soils(nodes, &elements)?;
+        check_edges(&edges, &successors, edge_line)?;
+        Ok(Mesh {
+            polygon,
+            soils,
+            nodes: all_nodes,
+            elements,
+            edges,
+            node_soil,
+        })
+    }
+}
+
+fn header_polygon(header: &[i64; 5]) -> Option<Polygon> {
+    let [nodes, elements, soils, edges, sides] = *header;
+    let counts = within(nodes, 4, 100)
+        && within(elements, 1, 100)
+        && within(soils, 1, 16)
+        && within(edges, 0, 60);
+    if counts {
+        Polygon::of(sides)
+    } else {
+        None
+    }
+}
+
+/// Reads lines and knows which one it has read.
+struct Reader<'a, L: Lines> {
+    lines: &'a mut L,
+    place: usize,
+}
+
+impl<L: Lines> Reader<'_, L> {
+    fn refuse<T>(&self, number: u32) -> Result<T, Refusal> {
+        refuse(number, self.place)
+    }
+
+    fn line<const K: usize>(&mut self) -> Result<[i64; K], Refusal> {
+        self.place += 1;
+        let mut numbers = [0; K];
+        if self.lines.next(&mut numbers) {
+            Ok(numbers)
+        } else {
+            self.refuse(1)
+        }
+    }
+
+    fn group<T>(
+        &mut self,
+        count: usize,
+        mut one: impl FnMut(&mut Self) -> Result<T, Refusal>,
+    ) -> Result<Vec<T>, Refusal> {
+        (0..count).map(|_| one(self)).collect()
+    }
+
+    fn soil(&mut self) -> Result<Soil, Refusal> {
+        let [p, q, h, cohesion, dead_x, dead_y, live_x, live_y] = self.line()?;
+        let limits = within(p, 0, 1000)
+            && within(q, 1, 1000)
+            && within(h, 1, 1000)
+            && within(cohesion, 0, 10_000)
+            && all_within(&[dead_x, dead_y, live_x, live_y], 1000);
+        if !limits {
+            return self.refuse(2);
+        }
+        if p * p + q * q != h * h {
+            return self.refuse(3);
+        }
+        Ok(Soil {
+            p,
+            q,
+            h,
+            cohesion,
+            dead: [dead_x, dead_y],
+            live: [live_x, live_y],
+        })
+    }
+
+    fn node(&mut self) -> Result<[i64; 2], Refusal> {
+        let [x, y] = self.line()?;
+        if within(x, 0, 1000) && within(y, 0, 1000) {
+            Ok([x, y])
+        } else {
+            self.refuse(2)
+        }
+    }
+
+    fn element(&mut self, nodes: usize, soils: usize) -> Result<Element, Refusal> {
+        let [a, b, c, d, soil] = self.line()?;
+        match (
+            [a, b, c, d].map(|corner| named(corner, nodes)),
+            named(soil, soils),
+        ) {
+            ([Some(a), Some(b), Some(c), Some(d)], Some(soil)) => Ok(Element {
+                corners: [a, b, c, d],
+                soil,
+            }),
+            _ => self.refuse(4),
+        }
+    }
+
+    fn edge(&mut self, nodes: usize) -> Result<Edge, Refusal> {
+        let [from, to, fixed, dead_normal, dead_shear, live_normal, live_shear] = self.line()?;
+        let loads = [dead_normal, dead_shear, live_normal, live_shear];
+        if !within(fixed, 1, 3) || !all_within(&loads, 10_000) {
+            return self.refuse(2);
+        }
+        let (Some(from), Some(to)) = (named(from, nodes), named(to, nodes)) else {
+            return self.refuse(4);
+        };
+        Ok(Edge {
+            from,
+            to,
+            fixed: [fixed != 2, fixed != 1],
+            dead: [dead_normal, dead_shear],
+            live: [live_normal, live_shear],
+        })
+    }
+}
+
+/// Refusal 5: each corner is a strict left turn.
+fn check_turns(nodes: &[[i64; 2]], elements: &[Element]) -> Result<(), Refusal> {
+    for (e, element) in elements.iter().enumerate() {
+        let at = element.corners.map(|corner| nodes[corner]);
+        let left = |i: usize| {
+            let (before, here, after) = (at[(i + 3) % 4], at[i], at[(i + 1) % 4]);
+            let (into, out) = (
+                [here[0] - before[0], here[1] - before[1]],
+                [after[0] - here[0], after[1] - here[1]],
+            );
+            into[0] * out[1] > into[1] * out[0]
+        };
+        if !(0..4).all(left) {
+            return refuse(5, e + 1);
+        }
+    }
+    Ok(())
+}
+
+/// Refusal 6. Bit `to` of entry `from` says that some element has that directed side.
+fn directed_sides(elements: &[Element]) -> Result<[u128; 100], Refusal> {
+    let mut successors = [0u128; 100];
+    for (e, element) in elements.iter().enumerate() {
+        let [a, b, c, d] = element.corners;
+        for (from, to) in [(a, b), (b, c), (c, d), (d, a)] {
+            if successors[from] >> to & 1 == 1 {
+                return refuse(6, e + 1);
+            }
+            successors[from] |= 1 << to;
+        }
+    }
+    Ok(successors)
+}
+
+/// Refusal 7, and the soil of each node.
+fn node_soils(nodes: usize, elements: &[Element]) -> Result<Vec<usize>, Refusal> {
+    let mut soil_of = vec![usize::MAX; nodes];
+    for element in elements.iter().rev() {
+        for corner in element.corners {
+            soil_of[corner] = element.soil;
+        }
+    }
+    match soil_of.iter().position(|&soil| soil == usize::MAX) {
+        Some(node) => refuse(7, node + 1),
+        None => Ok(soil_of),
+    }
+}
+
+/// Refusal 8: an edge is an outer side, as directed, and is there once.
+fn check_edges(edges: &[Edge], successors: &[u128; 100], first_line: usize) -> Result<(), Refusal> {
+    let mut seen = [0u128; 100];
+    for (k, &Edge { from, to, .. }) in edges.iter().enumerate() {
+        let side = successors[from] >> to & 1 == 1;
+        let reverse = successors[to] >> from & 1 == 1;
+        if !side || reverse || seen[from] >> to & 1 == 1 {
+            return refuse(8, first_line + k);
+        }
+        seen[from] |= 1 << to;
+    }
+    Ok(())
+}

@@ -1,0 +1,331 @@
+"""The sheets of this repository: meshes by family, and how each claim is to be made."""
+
+from collections import namedtuple
+
+# claim: None, or the lines themselves; line: None, or the report's four columns.
+Sheet = namedtuple("Sheet", "name mesh part margin spread claim line", defaults=("both", 0.0, 0.0, None, None))
+
+FREE = (3, 0, 0, 0, 0)
+SMOOTH = (2, 0, 0, 0, 0)
+
+
+def clay(cohesion, dead=(0, 0), live=(0, 0)):
+    return [0, 1, 1, cohesion, *dead, *live]
+
+
+def sand(p, q, h, cohesion, dead=(0, 0), live=(0, 0)):
+    return [p, q, h, cohesion, *dead, *live]
+
+
+def outline(i, j, size=1):
+    """The corners of a grid cell, or of a square of cells, counterclockwise."""
+    return [(i, j), (i + size, j), (i + size, j + size), (i, j + size)]
+
+
+def mesh_lines(cells, at, soil_of, edge_of, soils, sides):
+    """A mesh of grid cells (i, j): `at` places its points, `soil_of` names the soil of a cell, and
+    `edge_of` gives an outer side from point a to point b its fixing and loads, or None."""
+    points = sorted({point for cell in cells for point in outline(*cell)}, key=lambda p: (p[1], p[0]))
+    number = {point: k + 1 for k, point in enumerate(points)}
+    elements, directed = [], []
+    for cell in cells:
+        corner = outline(*cell)
+        elements.append([number[point] for point in corner] + [soil_of(*cell[:2])])
+        directed += zip(corner, corner[1:] + corner[:1])
+    outer = [(a, b) for a, b in directed if (b, a) not in set(directed)]
+    loads = [(a, b, edge_of(a, b)) for a, b in outer]
+    edges = [[number[a], number[b], *load] for a, b, load in loads if load]
+    header = [len(points), len(elements), len(soils), len(edges), sides]
+    return [header, *soils, *([*at(*point)] for point in points), *elements, *edges]
+
+
+def block_cells(columns, rows):
+    return [(i, j) for j in range(rows) for i in range(columns)]
+
+
+def scaled(size, height=None):
+    return lambda i, j: (size * i, (height or size) * j)
+
+
+def one_soil(_i, _j):
+    return 1
+
+
+def block(columns, rows, size, soils, sides, confining=0, soil_of=one_soil):
+    """A block between smooth plates: foot and left side slide, the right side is confined, and
+    the top is loaded. Its load is known: 2c + s without friction, Kp·s + 2c·sqrt(Kp) with it."""
+
+    def edge(a, b):
+        if a[1] == b[1] == rows:
+            return 3, 0, 0, -1, 0
+        if a[0] == b[0] == columns:
+            return 3, -confining, 0, 0, 0
+        return SMOOTH
+
+    return mesh_lines(block_cells(columns, rows), scaled(size), soil_of, edge, soils, sides)
+
+
+def footing(columns, rows, size, width, soils, sides, soil_of=one_soil, surcharge=0):
+    """Half of a smooth strip footing: `width` cells are loaded, the cell beside them has no edge
+    line, since one node can't carry both loads, and the left side is the line of symmetry."""
+
+    def edge(a, b):
+        if a[1] == b[1] == rows:
+            if max(a[0], b[0]) <= width:
+                return 3, 0, 0, -1, 0
+            return None if min(a[0], b[0]) <= width else (3, -surcharge, 0, 0, 0)
+        return SMOOTH if a[0] == b[0] == 0 else None
+
+    return mesh_lines(block_cells(columns, rows), scaled(size), soil_of, edge, soils, sides)
+
+
+def cut(columns, rows, size, column, row, soils, sides, soil_of=one_soil, surcharge=0):
+    """A vertical cut: the ground right of `column` and above `row` is gone."""
+    cells = [(i, j) for i, j in block_cells(columns, rows) if i < column or j < row]
+
+    def edge(a, b):
+        if a[1] == b[1] == rows:
+            return 3, -surcharge, 0, 0, 0
+        wall = a[0] == b[0] == column and min(a[1], b[1]) >= row
+        floor = a[1] == b[1] == row and min(a[0], b[0]) >= column
+        return FREE if wall or floor else None
+
+    return mesh_lines(cells, scaled(size), soil_of, edge, soils, sides)
+
+
+def slope(columns, rows, size, run, soils, sides, fixed=3):
+    """A bank on a rigid floor, its columns leaning so that its right face steps `run` to the left
+    in each layer: top and face are free, floor and left side may carry anything."""
+
+    def at(i, j):
+        return size * i + run * (rows - j), size * j
+
+    def edge(a, b):
+        if a[1] == b[1] == rows or a[0] == b[0] == columns:
+            return fixed, 0, 0, 0, 0
+        return None
+
+    return mesh_lines(block_cells(columns, rows), at, one_soil, edge, soils, sides)
+
+
+def wall(columns, rows, size, soils, sides, push, fixed=1):
+    """Ground behind a smooth wall on its left that pushes (live) or yields (live the other way)."""
+
+    def edge(a, b):
+        if a[1] == b[1] == rows:
+            return FREE
+        if a[0] == b[0] == 0:
+            return fixed, 0, 0, push, 0
+        return SMOOTH
+
+    return mesh_lines(block_cells(columns, rows), scaled(size), one_soil, edge, soils, sides)
+
+
+def pieces(soils, sides, edged):
+    """Twenty-five separate squares, soils in turn; the first `edged` of them carry the load."""
+    cells = [(2 * i, 2 * j) for j in range(5) for i in range(5)]
+    loaded = set(cells[:edged])
+
+    def edge(a, b):
+        cell = min(a[0], b[0]) // 2 * 2, min(a[1], b[1]) // 2 * 2
+        if cell not in loaded:
+            return None
+        if a[1] == b[1] == cell[1] + 1:
+            return 3, 0, 0, -1, 0
+        return FREE if a[0] == b[0] == cell[0] + 1 else SMOOTH
+
+    soil_of = lambda i, j: (5 * (j // 2) + i // 2) % len(soils) + 1
+    return mesh_lines(cells, scaled(13), soil_of, edge, soils, sides)
+
+
+def sheared(columns, rows, size, run, soils, sides, tractions):
+    """A block whose columns lean by `run` in each layer; `tractions` gives the live normal and
+    shear of its four sides: foot, right, top, left."""
+
+    def at(i, j):
+        return size * i + run * (rows - j), size * j
+
+    def edge(a, b):
+        if a[1] == b[1]:
+            side = 2 if a[1] == rows else 0
+        else:
+            side = 1 if a[0] == columns else 3
+        return 3, 0, 0, *tractions[side]
+
+    return mesh_lines(block_cells(columns, rows), at, one_soil, edge, soils, sides)
+
+
+def largest(soils, sides):
+    """As much as a mesh may have: 100 nodes, 100 elements, 60 edges. Nineteen elements lie over
+    four others each, which the paper allows, and give a second edge to sides of the block."""
+    double = [(i, 0, 2) for i in range(8)] + [(i, 7, 2) for i in range(8)] + [(0, j, 2) for j in (2, 4, 5)]
+    inner = ((9, 2), (7, 2))
+
+    def edge(a, b):
+        if (a, b) == inner:
+            return SMOOTH
+        if a[1] == b[1] == 9:
+            return 3, 0, 0, -1, 0
+        if a[0] == b[0] == 9:
+            return FREE
+        return SMOOTH if a[1] == b[1] == 0 or a[0] == b[0] == 0 else None
+
+    soil_of = lambda i, j: (i + j) % len(soils) + 1
+    return mesh_lines(block_cells(9, 9) + double, scaled(65), soil_of, edge, soils, sides)
+
+
+def moved(mesh, shifts):
+    """The mesh with some nodes (numbered from 1) moved."""
+    first = 1 + mesh[0][2]
+    lines = [list(line) for line in mesh]
+    for node, (x, y) in shifts.items():
+        line = lines[first + node - 1]
+        line[0], line[1] = line[0] + x, line[1] + y
+    return lines
+
+
+def printed(text):
+    """Lines as the paper prints them."""
+    return [[int(number) for number in line.split()] for line in text.split("/")]
+
+
+WORKED_MESH = (
+    "4 1 1 3 12 / 0 1 1 10 0 0 0 0 / 0 0 / 1 0 / 1 1 / 0 1 / 1 2 3 4 1 / "
+    "3 4 3 {dead} 0 {live} 0 / 2 3 3 0 0 0 0 / 4 1 3 0 0 0 0"
+)
+ZEROS = " / " + " ".join(["0"] * 12)
+
+
+def worked_mesh(dead=0, live=-1):
+    return printed(WORKED_MESH.format(dead=dead, live=live))
+
+
+def worked_claim(n, l, sy, foot=-30):
+    field = f"1 1 {n} {l}" + f" / 0 {sy} 0" * 4
+    third = " / 1 0 0 0 0 0 0 0 0 0 0 1"
+    return printed(field + f" / 0 0 / 30 0 0 0 / 0 0 {foot} 0 / 0 0 0 0" + 2 * ZEROS + third + ZEROS)
+
+
+def paper_sheets():
+    """The sheets of document 01's own section."""
+    refused = lambda number, place: [str(number), str(place), "none", "none"]
+    sheet = lambda name, mesh, claim, *line: Sheet(name, mesh, claim=claim, line=list(line))
+    corner_mesh = printed(
+        "4 1 1 2 12 / 0 1 1 10000 0 0 0 0 / 0 0 / 169 0 / 288 120 / 0 120 / 1 2 3 4 1 / "
+        "1 2 3 -1 1 6000 6600 / 2 3 3 0 0 -6000 6500"
+    )
+    corner_claim = printed("0 1 0 0 / 0 0 / 0 0 -119 -120 / 119 -120 0 0" + 4 * ZEROS)
+    return [
+        sheet("worked", worked_mesh(), worked_claim(1, 20, -20), "0", "0", "20.000000", "20.000000"),
+        sheet("worked_below", worked_mesh(), worked_claim(1, 19, -19), "0", "2", "19.000000", "20.000000"),
+        sheet("worked_above", worked_mesh(), worked_claim(1, 21, -21), *refused(22, 1)),
+        sheet("worked_unbalanced", worked_mesh(), worked_claim(1, 20, -21), *refused(21, 3)),
+        sheet("worked_column", worked_mesh(), worked_claim(1, 20, -20, -29), *refused(32, 7)),
+        sheet("third", worked_mesh(0, -60), worked_claim(3, 1, -60), "0", "0", "0.333333", "0.333334"),
+        sheet("third_below_zero", worked_mesh(-40, -60), worked_claim(3, -1, -60), "0", "0", "-0.333334", "-0.333333"),
+        sheet("one_in_three_million", corner_mesh, corner_claim, "0", "none", "none", "0.000000"),
+    ]
+
+
+def known_sheets():
+    """Sheets whose load the literature knows (README.md of the sheets)."""
+    weight = (0, -1)
+    return [
+        Sheet("block_clay_12", block(1, 1, 1, [clay(10)], 12)),
+        Sheet("block_clay_20", block(2, 1, 25, [clay(7)], 20, 3)),
+        Sheet("block_clay_36", block(3, 3, 65, [clay(9)], 36)),
+        Sheet("block_sand_12", block(1, 1, 1, [sand(3, 4, 5, 10)], 12, 10)),
+        Sheet("block_sand_20", block(2, 2, 5, [sand(3, 4, 5, 0)], 20, 10)),
+        Sheet("block_sand_36", block(1, 1, 13, [sand(5, 12, 13, 6)], 36, 4)),
+        Sheet("block_largest", block(9, 9, 5, [clay(10)], 12)),
+        Sheet("footing_12", footing(4, 3, 10, 1, [clay(10)], 12)),
+        Sheet("footing_20", footing(6, 4, 50, 2, [clay(10)], 20)),
+        Sheet("footing_36", footing(6, 4, 65, 2, [clay(10)], 36)),
+        Sheet("footing_largest_12", footing(9, 9, 10, 3, [clay(10)], 12)),
+        Sheet("footing_largest_20", footing(9, 9, 50, 3, [clay(10)], 20)),
+        Sheet("footing_largest_36", footing(9, 9, 65, 3, [clay(10)], 36)),
+        Sheet("cut_12", cut(4, 4, 10, 2, 2, [clay(100, live=weight)], 12)),
+        Sheet("cut_20", cut(6, 6, 5, 3, 3, [clay(100, live=weight)], 20)),
+        Sheet("cut_36", cut(6, 6, 65, 3, 3, [clay(1000, live=weight)], 36)),
+        Sheet("cut_sand", cut(2, 2, 10, 1, 1, [sand(3, 4, 5, 100, live=weight)], 12)),
+        Sheet("cut_sand_wide", cut(3, 3, 10, 1, 1, [sand(5, 12, 13, 100, live=weight)], 12)),
+        Sheet("wall_passive_sand", wall(2, 2, 10, [sand(3, 4, 5, 10, dead=weight)], 12, -1)),
+        Sheet("wall_passive_clay", wall(3, 2, 10, [clay(40)], 12, -1)),
+        Sheet("wall_active_clay", wall(2, 2, 10, [clay(40)], 12, 1)),
+    ]
+
+
+def other_sheets():
+    """One and several soils, dead and live forces, fixed and unfixed parts, parts alone."""
+    weight, sideways = (0, -1), (1, 0)
+    layers = lambda i, j: 1 if j >= 2 else 2
+    columns = lambda i, j: 1 + i % 3
+    return [
+        Sheet("slope_clay", slope(3, 2, 10, 10, [clay(60, live=weight)], 12)),
+        Sheet("slope_clay_20", slope(4, 3, 50, 50, [clay(500, live=weight)], 20)),
+        Sheet("slope_clay_36", slope(4, 4, 65, 65, [clay(900, live=weight)], 36)),
+        Sheet("slope_sand", slope(2, 2, 10, 10, [sand(3, 4, 5, 60, live=weight)], 12)),
+        Sheet("slope_steep", slope(3, 3, 10, 5, [clay(70, live=weight)], 12), "field", 0.02),
+        Sheet("bank_shaken", slope(3, 2, 10, 10, [clay(90, dead=weight, live=sideways)], 12)),
+        Sheet("bank_face_normal", slope(3, 2, 10, 10, [clay(60, live=weight)], 12, 1)),
+        Sheet("layers_footing", footing(5, 4, 10, 1, [clay(10), clay(25)], 12, layers)),
+        Sheet("layers_footing_weight", footing(5, 4, 10, 1, [clay(30, dead=weight), clay(50, dead=weight)], 12, layers, 5)),
+        Sheet("layers_cut", cut(4, 4, 10, 2, 2, [clay(60, live=weight), clay(100, live=weight)], 20, layers), "field"),
+        Sheet("pieces_sixteen_soils", pieces([clay(30 + k * 7 % 16) for k in range(16)], 36, 15)),
+        Sheet("soils_block", block(3, 2, 5, [clay(10), clay(14), clay(12)], 12, 2, columns)),
+        Sheet("soils_sand_block", block(3, 2, 5, [sand(3, 4, 5, 1), sand(4, 3, 5, 2), clay(90)], 12, 3, columns), "field"),
+        Sheet("footing_field", footing(8, 6, 50, 2, [clay(12)], 20), "field", 0.05),
+        Sheet("footing_multipliers", footing(8, 6, 50, 2, [clay(12)], 20), "multipliers"),
+        Sheet("footing_sand_field", footing(9, 4, 10, 1, [sand(7, 24, 25, 10)], 12), "field", 0.01),
+        Sheet("cut_below", cut(4, 4, 10, 2, 2, [clay(100, live=weight)], 12), "both", 0.1),
+        Sheet("cut_surcharge", cut(4, 4, 10, 2, 2, [clay(100, live=weight)], 12, surcharge=20)),
+        Sheet("cut_deep", cut(10, 9, 50, 5, 4, [clay(1000, live=weight)], 20)),
+        Sheet("cut_multipliers", cut(4, 4, 65, 2, 2, [clay(100, live=weight)], 36), "multipliers"),
+        Sheet("cut_sand_above", cut(4, 4, 10, 2, 2, [sand(7, 24, 25, 100, live=weight)], 12)),
+    ]
+
+
+def load_sheets():
+    """Sheets with shear on level, upright and leaning edges, and with irregular elements."""
+    pure = [(0, -1), (0, 1), (0, -1), (0, 1)]
+    leaning = [(0, 0), (-1, 1), (0, 0), (-1, 1)]
+    mixed = [(-2, -1), (-3, 1), (-2, -1), (-3, 1)]
+    return [
+        Sheet("shear_block", sheared(1, 1, 1, 0, [clay(10)], 12, pure)),
+        Sheet("shear_block_20", sheared(2, 2, 25, 0, [clay(10)], 20, pure)),
+        Sheet("shear_block_sand", sheared(2, 1, 5, 0, [sand(3, 4, 5, 10)], 12, pure)),
+        Sheet("shear_leaning", sheared(2, 2, 10, 10, [clay(10)], 12, leaning)),
+        Sheet("shear_leaning_36", sheared(1, 1, 65, 65, [clay(10)], 36, leaning)),
+        Sheet("shear_leaning_sand", sheared(1, 2, 5, 5, [sand(3, 4, 5, 10)], 12, leaning)),
+        Sheet("shear_mixed", sheared(2, 2, 5, 0, [clay(10)], 12, mixed)),
+        Sheet("irregular_block", moved(block(2, 2, 20, [clay(10)], 12), {5: (-10, -5)})),
+        Sheet("irregular_cut", moved(cut(2, 2, 20, 1, 1, [clay(100, live=(0, -1))], 12), {4: (5, -10)})),
+        Sheet("irregular_footing", moved(footing(3, 2, 20, 1, [clay(10)], 12), {7: (-5, -5)})),
+        Sheet("irregular_footing_rounded", moved(footing(3, 2, 20, 1, [clay(10)], 12), {6: (-5, 5)})),
+        Sheet("largest", largest([clay(40 + 3 * k % 16) for k in range(16)], 36)),
+    ]
+
+
+def corner_sheets():
+    """Numbers at the limits, by hand: stresses, n and l, and the widest loads either way.
+
+    Level and upright edges both fix t at a corner they share, so equal multipliers on their
+    shear rows leave every column 0 and add up what the two edges ask."""
+    small = "4 1 1 3 12 / 0 1 1 10000 0 0 0 0 / 900 900 / 1000 900 / 1000 1000 / 900 1000 / 1 2 3 4 1 / "
+    small += "3 4 3 0 0 -10 0 / 2 3 3 0 0 0 0 / 4 1 3 0 0 0 0"
+    field = "1 1 50000 100000000" + " / 0 -1000000000 0" * 4 + " / 0 0 / 30 0 0 0 / 0 0 -30 0 / 0 0 0 0"
+    full = " / 10000 0 0 0 0 0 0 0 0 0 0 10000"
+    two = "8 2 1 6 36 / 0 1000 1000 10000 0 0 0 0 / 0 0 / 1000 0 / 1000 1000 / 0 1000 / "
+    two += "0 0 / 1 0 / 1 1 / 0 1 / 1 2 3 4 1 / 5 6 7 8 1 / "
+    two += "1 2 3 0 {d} 0 0 / 2 3 3 0 {d} 0 0 / 3 4 3 0 {d} 0 0 / 4 1 3 0 {d} 0 0 / 5 6 3 0 0 0 0 / 6 7 3 0 0 0 -1"
+    pair = "0 1 0 0 / 0 0 / 0 0" + " / 0 {y} 0 {y}" * 4 + " / 0 0 0 1 / 0 1 0 0"
+    lines = lambda y: (" / " + " ".join([str(y)] * 36)) * 8
+    sheet = lambda name, mesh, claim: Sheet(name, printed(mesh), claim=printed(claim))
+    return [
+        sheet("limits", small, field + 2 * ZEROS + full + ZEROS),
+        sheet("widest_limit", two.format(d=10000), pair.format(y=100000) + lines(10000)),
+        sheet("lowest_limit", two.format(d=-10000), pair.format(y=100000) + lines(0)),
+    ]
+
+
+SHEETS = paper_sheets() + known_sheets() + other_sheets() + load_sheets() + corner_sheets()
