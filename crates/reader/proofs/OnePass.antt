@@ -19,7 +19,7 @@ use Rattle.reader.specs.declared.column.Kept.{Kept}
 use Rattle.reader.specs.declared.column.Reading.{Reading}
 use Rattle.reader.specs.declared.column.Reading.the-variants.{Number, Malformed}
 use Rattle.reader.specs.Spelling.{unsigned, negated, signed, readColumn}
-use Rattle.reader.specs.OnePass.{Phase, bad, blank, sign, nought, up, down, turn, digitOf, phaseAfter, valueOver, meant, shift, Table, Stepped, Said, readingOf}
+use Rattle.reader.specs.OnePass.{Phase, bad, blank, sign, nought, up, down, turn, digitOf, phaseAfter, valueOver, meant, shift, Table, Stepped, Said, After, Partway, readingOf}
 
 -- ---- from each phase, the bytes that follow
 
@@ -189,10 +189,6 @@ value-below bs l = lt-of-lt-of-le (value-fits 0 0 bs (omega arith)) (pow-le-pow-
 
 -- ---- the program's state after some bytes
 
-pub record After (bs : List ℕ) (c : Kept) : Type 0 where
-  pub phase : c .phase ≡ shift (phaseAfter blank bs)
-  pub value : c .value ≡ valueOver 0 bs
-
 after-none : After [] (record { phase = 6; value = 0 })
 unfolding phaseAfter valueOver shift
 after-none = record { phase = refl; value = refl }
@@ -272,10 +268,6 @@ module _ (c : Kept) where
 
 -- ---- the state after i bytes of the column at a place
 
-pub record Partway (bs : List ℕ) (at i : ℕ) (c : Kept) : Type 0 where
-  pub most : i ≤ 12
-  pub state : After (take i (drop at bs)) c
-
 pub part-first : (bs : List ℕ) (at : ℕ) → Partway bs at 0 (record { phase = 6; value = 0 })
 part-first bs at = record { most = omega arith; state = after-none }
 
@@ -299,3 +291,16 @@ module _ {bs : List ℕ} {at i : ℕ} {c : Kept} (h : Partway bs at i c) where
   part-last {r} l s =
       let e : 12 ≡ i = omega (arith, h .most) in
       rw e (read-all (take i (drop at bs)) c r (h .state) s)
+
+-- a space after spaces
+pub blank-stepped : {b : ℕ} → b ≡ 32 → Stepped (record { phase = 6; value = 0 }) b (record { phase = 6; value = 0 })
+unfolding turn digitOf shift isDigit
+blank-stepped e = rw e (record { phase = by; value = refl })
+  where
+    by : (p : Phase) → 6 ≡ shift p → 6 ≡ shift (turn p 32)
+    by bad e = absurd (omega arith)
+    by blank e = refl
+    by sign e = absurd (omega arith)
+    by nought e = absurd (omega arith)
+    by up e = absurd (omega arith)
+    by down e = absurd (omega arith)

@@ -3,10 +3,10 @@ use mathlib.Core.Path.{_≡_}
 use mathlib.Core.Bool.{true, false, cond}
 use mathlib.Core.List.{List, [], _∷_}
 use mathlib.Core.Option.{Option, none, some}
-use Prim.Native.Nat.{ℕ, _+_, _*_, _-_, _/_, _%_, _^_, _<_}
+use Prim.Native.Nat.{ℕ, _+_, _*_, _-_, _/_, _%_, _^_, _≤_, _<_}
 use lib.Dec.{eqb}
 use lib.IntN.{ℤ, pos, negℤ}
-use lib.ListN.{getD}
+use lib.ListN.{getD, take, drop}
 use Rattle.integer.specs.Decimal.{isDigit}
 use Rattle.reader.specs.declared.column.Kept.{Kept}
 use Rattle.reader.specs.declared.column.Reading.{Reading}
@@ -84,3 +84,12 @@ readingOf (some z) = Number z
 -- the program's state c says r
 pub record Said (c : Kept) (r : Reading) : Type 0 where
   pub says : (p : Phase) → c .phase ≡ shift p → r ≡ readingOf (meant p (c .value))
+
+-- the program's state c is the one after the bytes bs, and after i bytes of the column that begins at a place
+pub record After (bs : List ℕ) (c : Kept) : Type 0 where
+  pub phase : c .phase ≡ shift (phaseAfter blank bs)
+  pub value : c .value ≡ valueOver 0 bs
+
+pub record Partway (bs : List ℕ) (at i : ℕ) (c : Kept) : Type 0 where
+  pub most : i ≤ 12
+  pub state : After (take i (drop at bs)) c

@@ -3,7 +3,7 @@ ghost use mathlib.Core.Path.{_≡_};
 ghost use Prim.Native.Nat.{_+_, _≤_, _<_};
 ghost use lib.ListN.{length, take, drop};
 ghost use Rattle.reader.specs.Spelling.{readColumn};
-ghost use Rattle.reader.specs.OnePass.{Table, Stepped, Said, readingOf};
+ghost use Rattle.reader.specs.OnePass.{Table, Stepped, Said, Partway, readingOf};
 
 // What is kept of the bytes so far: the phase, which says what they spell, and the value of their digits.
 struct Kept {
@@ -107,19 +107,37 @@ fn said(c: Kept) -> Reading
     Reading::Number(value)
 }
 
-// The column whose first byte has the place `at`.
+// What the rest of a column says, from its byte `from` on, after the state c.
+fn rest_of(table: &[u64; 256], bytes: &[u8], at: usize, from: usize, c: Kept) -> Reading
+    requires { ⌜ Table (now table) ⌝ ∗ ⌜ at + 12 ≤ length (now bytes) ⌝ ∗ ⌜ Partway (now bytes) at from c ⌝ }
+    ensures { λ r. ⌜ r ≡ readingOf (readColumn (take 12 (drop at (now (bytes .entry))))) ⌝ }
+{
+    let mut kept = c;
+    let mut i = from;
+    while i < 12 {
+        kept = step(table, kept, bytes[at + i]);
+        i += 1;
+    }
+    said(kept)
+}
+
+// The column whose first byte has the place `at`. Spaces leave the state as it is, so for speed they are passed over: most bytes of a large claim are spaces.
 pub fn column(table: &[u64; 256], bytes: &[u8], at: usize) -> Reading
     requires { ⌜ Table (now table) ⌝ ∗ ⌜ at + 12 ≤ length (now bytes) ⌝ }
     ensures { λ r. ⌜ r ≡ readingOf (readColumn (take 12 (drop at (now (bytes .entry))))) ⌝ }
 {
-    let mut c = Kept {
-        phase: BLANK,
-        value: 0,
-    };
     let mut i: usize = 0;
     while i < 12 {
-        c = step(table, c, bytes[at + i]);
+        let b = bytes[at + i];
+        if b != 32 {
+            let blank = Kept {
+                phase: BLANK,
+                value: 0,
+            };
+            let c = step(table, blank, b);
+            return rest_of(table, bytes, at, i + 1, c);
+        }
         i += 1;
     }
-    said(c)
+    Reading::Malformed
 }
