@@ -1,10 +1,8 @@
 -- The sheets give their lines: antt computes the definitions, from the bytes of the two files to the bytes of the line.
 use mathlib.Core.Path.{_≡_, refl}
 use mathlib.Core.List.{List, [], _∷_, map}
-use lib.ListN.{take, length}
 use Rattle.integer.specs.Decimal.{digitsWithin, digits, lastDigits, rightJustified, isDigit, allDigits, valueAfter, properDigits}
 use Rattle.scope.specs.Computed.{computed}
-use Rattle.scope.specs.Mesh.{meshLayout}
 use Rattle.reader.specs.Spelling.{spelling, column, unsigned, negated, signed, readColumn}
 use Rattle.reader.specs.File.{lineBytes, readColumns, readLine, widths, readLines, hasPassed, headerPasses, numbersOf, columns, writeLines, fileOf}
 use Rattle.report.specs.Text.{pointed, fixed, noneText}
@@ -12,7 +10,8 @@ use Rattle.report.specs.Report.{loadText, lowerText, upperText, openText, fourC
 use Rattle.judge.specs.Judge.{meshNumbers, claimNumbers, fileWidth, filesVerdict}
 use Rattle.pechuvo.specs.Check.{reportBytes, check}
 use Rattle.pechuvo.specs.Bytes.{bytes, withWord, numbersAfter, numbers}
-use Rattle.pechuvo.specs.Sheets.{Sheet, sheet, printed, starred, noticing, workedMesh, workedFirstLine}
+use Rattle.pechuvo.specs.Sheets.{Sheet, sheet, printed, starred, noticing, workedMesh}
+use Rattle.pechuvo.specs.Shipped.{asFiles, shipped}
 
 pub starred-sheets : map printed starred ≡ map (λ s. s .line) starred
 unfolding digitsWithin digits lastDigits rightJustified isDigit allDigits valueAfter properDigits computed spelling column unsigned negated signed readColumn lineBytes readColumns readLine widths readLines hasPassed headerPasses numbersOf columns writeLines fileOf pointed fixed noneText loadText lowerText upperText openText fourColumns reportLine decimals meshNumbers claimNumbers fileWidth filesVerdict reportBytes check bytes withWord numbersAfter numbers sheet printed starred workedMesh
@@ -22,7 +21,7 @@ pub noticing-sheets : map printed noticing ≡ map (λ s. s .line) noticing
 unfolding digitsWithin digits lastDigits rightJustified isDigit allDigits valueAfter properDigits computed spelling column unsigned negated signed readColumn lineBytes readColumns readLine widths readLines hasPassed headerPasses numbersOf columns writeLines fileOf pointed fixed noneText loadText lowerText upperText openText fourColumns reportLine decimals meshNumbers claimNumbers fileWidth filesVerdict reportBytes check bytes withWord numbersAfter numbers sheet printed noticing
 noticing-sheets = refl
 
--- the worked mesh's file begins with these bytes
-pub worked-first-line : take (length workedFirstLine) (fileOf fileWidth meshLayout (numbers workedMesh)) ≡ workedFirstLine
-unfolding digitsWithin digits lastDigits rightJustified isDigit allDigits valueAfter properDigits computed spelling column unsigned negated signed readColumn lineBytes readColumns readLine widths readLines hasPassed headerPasses numbersOf columns writeLines fileOf pointed fixed noneText loadText lowerText upperText openText fourColumns reportLine decimals meshNumbers claimNumbers fileWidth filesVerdict reportBytes check bytes withWord numbersAfter numbers sheet printed workedMesh workedFirstLine
-worked-first-line = refl
+-- the files that ship are the ones that the definition writes
+pub shipped-written : map (λ s. (s .mesh, s .claim)) asFiles ≡ shipped
+unfolding digitsWithin digits lastDigits rightJustified isDigit allDigits valueAfter properDigits computed spelling column unsigned negated signed readColumn lineBytes readColumns readLine widths readLines hasPassed headerPasses numbersOf columns writeLines fileOf pointed fixed noneText loadText lowerText upperText openText fourColumns reportLine decimals meshNumbers claimNumbers fileWidth filesVerdict reportBytes check bytes withWord numbersAfter numbers sheet printed starred workedMesh asFiles shipped
+shipped-written = refl

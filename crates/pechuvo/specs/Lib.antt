@@ -3,4 +3,5 @@ pub mod Check
 pub mod Answers
 pub mod Bytes
 pub mod Sheets
+pub mod Shipped
 pub mod Promises

@@ -35,10 +35,6 @@ printed s = check (s .mesh) (s .claim) (replicate reportBytes 0) .buffer
 unfoldable pub workedMesh : String
 workedMesh = "4 1 1 3 12 / 0 1 1 10 0 0 0 0 / 0 0 / 1 0 / 1 1 / 0 1 / 1 2 3 4 1 / 3 4 3 0 0 -1 0 / 2 3 3 0 0 0 0 / 4 1 3 0 0 0 0"
 
--- "the bytes of the worked mesh's first line"
-unfoldable pub workedFirstLine : List ℕ
-workedFirstLine = bytes "           4           1           1           3          12\n"
-
 unfoldable pub starred : List Sheet
 starred =
     -- the sheet; m = 30, W = 600

@@ -1,0 +1,27 @@
+-- The files of sheets/ that document 01 stars, byte for byte, so that they can be compared with what the definition of a written file gives. tests/sheets compares these bytes with the files.
+use mathlib.Core.List.{List, [], _∷_, _++_}
+use Prim.Native.Nat.{ℕ}
+use lib.ListN.{take, drop}
+use Rattle.pechuvo.specs.Bytes.{bytes}
+use Rattle.pechuvo.specs.Sheets.{Sheet, starred}
+
+-- the starred sheets that ship as files: the first five, and 1/3
+unfoldable pub asFiles : List Sheet
+asFiles = take 5 starred ++ take 1 (drop 7 starred)
+
+-- mesh and claim of each
+unfoldable pub shipped : List (List ℕ × List ℕ)
+shipped =
+    -- worked
+    (bytes "           4           1           1           3          12\n           0           1           1          10           0           0           0           0\n           0           0\n           1           0\n           1           1\n           0           1\n           1           2           3           4           1\n           3           4           3           0           0          -1           0\n           2           3           3           0           0           0           0\n           4           1           3           0           0           0           0\n", bytes "           1           1           1          20\n           0         -20           0\n           0         -20           0\n           0         -20           0\n           0         -20           0\n           0           0\n          30           0           0           0\n           0           0         -30           0\n           0           0           0           0\n           0           0           0           0           0           0           0           0           0           0           0           0\n           0           0           0           0           0           0           0           0           0           0           0           0\n           1           0           0           0           0           0           0           0           0           0           0           1\n           0           0           0           0           0           0           0           0           0           0           0           0\n")
+    -- worked_below
+    ∷ (bytes "           4           1           1           3          12\n           0           1           1          10           0           0           0           0\n           0           0\n           1           0\n           1           1\n           0           1\n           1           2           3           4           1\n           3           4           3           0           0          -1           0\n           2           3           3           0           0           0           0\n           4           1           3           0           0           0           0\n", bytes "           1           1           1          19\n           0         -19           0\n           0         -19           0\n           0         -19           0\n           0         -19           0\n           0           0\n          30           0           0           0\n           0           0         -30           0\n           0           0           0           0\n           0           0           0           0           0           0           0           0           0           0           0           0\n           0           0           0           0           0           0           0           0           0           0           0           0\n           1           0           0           0           0           0           0           0           0           0           0           1\n           0           0           0           0           0           0           0           0           0           0           0           0\n")
+    -- worked_above
+    ∷ (bytes "           4           1           1           3          12\n           0           1           1          10           0           0           0           0\n           0           0\n           1           0\n           1           1\n           0           1\n           1           2           3           4           1\n           3           4           3           0           0          -1           0\n           2           3           3           0           0           0           0\n           4           1           3           0           0           0           0\n", bytes "           1           1           1          21\n           0         -21           0\n           0         -21           0\n           0         -21           0\n           0         -21           0\n           0           0\n          30           0           0           0\n           0           0         -30           0\n           0           0           0           0\n           0           0           0           0           0           0           0           0           0           0           0           0\n           0           0           0           0           0           0           0           0           0           0           0           0\n           1           0           0           0           0           0           0           0           0           0           0           1\n           0           0           0           0           0           0           0           0           0           0           0           0\n")
+    -- worked_unbalanced
+    ∷ (bytes "           4           1           1           3          12\n           0           1           1          10           0           0           0           0\n           0           0\n           1           0\n           1           1\n           0           1\n           1           2           3           4           1\n           3           4           3           0           0          -1           0\n           2           3           3           0           0           0           0\n           4           1           3           0           0           0           0\n", bytes "           1           1           1          20\n           0         -21           0\n           0         -21           0\n           0         -21           0\n           0         -21           0\n           0           0\n          30           0           0           0\n           0           0         -30           0\n           0           0           0           0\n           0           0           0           0           0           0           0           0           0           0           0           0\n           0           0           0           0           0           0           0           0           0           0           0           0\n           1           0           0           0           0           0           0           0           0           0           0           1\n           0           0           0           0           0           0           0           0           0           0           0           0\n")
+    -- worked_column
+    ∷ (bytes "           4           1           1           3          12\n           0           1           1          10           0           0           0           0\n           0           0\n           1           0\n           1           1\n           0           1\n           1           2           3           4           1\n           3           4           3           0           0          -1           0\n           2           3           3           0           0           0           0\n           4           1           3           0           0           0           0\n", bytes "           1           1           1          20\n           0         -20           0\n           0         -20           0\n           0         -20           0\n           0         -20           0\n           0           0\n          30           0           0           0\n           0           0         -29           0\n           0           0           0           0\n           0           0           0           0           0           0           0           0           0           0           0           0\n           0           0           0           0           0           0           0           0           0           0           0           0\n           1           0           0           0           0           0           0           0           0           0           0           1\n           0           0           0           0           0           0           0           0           0           0           0           0\n")
+    -- third
+    ∷ (bytes "           4           1           1           3          12\n           0           1           1          10           0           0           0           0\n           0           0\n           1           0\n           1           1\n           0           1\n           1           2           3           4           1\n           3           4           3           0           0         -60           0\n           2           3           3           0           0           0           0\n           4           1           3           0           0           0           0\n", bytes "           1           1           3           1\n           0         -60           0\n           0         -60           0\n           0         -60           0\n           0         -60           0\n           0           0\n          30           0           0           0\n           0           0         -30           0\n           0           0           0           0\n           0           0           0           0           0           0           0           0           0           0           0           0\n           0           0           0           0           0           0           0           0           0           0           0           0\n           1           0           0           0           0           0           0           0           0           0           0           1\n           0           0           0           0           0           0           0           0           0           0           0           0\n")
+    ∷ []
