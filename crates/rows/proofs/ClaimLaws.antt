@@ -1,23 +1,21 @@
 -- A claim's numbers by their place: the field's stresses begin at 4, the multipliers after them, and each number is within its limit.
-use mathlib.Core.Path.{_≡_, refl, sym, _∙_, ap, subst, fun-ext}
+use mathlib.Core.Path.{_≡_, sym, _∙_, ap, subst, fun-ext}
 use mathlib.Core.Logic.{_⊎_, inl, inr, ⊎-elim}
-use mathlib.Core.Bool.{Bool, true, false, not}
 use mathlib.Core.List.{List}
 use Prim.Native.Nat.{ℕ, zero, suc, _+_, _*_, _-_, _≤_, _<_}
 use native.Mathlib.Nat.{zero-mul}
 use native.Mathlib.Decide.{decLt}
 use native.Mathlib.Omega.{arith}
-use lib.Dec.{T}
 use lib.IntN.{ℤ, pos, negℤ}
 use lib.ListN.{length, getD, take, drop, length-drop}
 use lib.Seq.{getD-drop, take-all}
 use Rattle.integer.specs.Linear.{linear, _&_}
 use Rattle.integer.specs.Bounds.{Within, Within-le, bounds, AllWithin, all-within, AllWithin-drop}
-use Rattle.integer.specs.Tests.{eqZ, yes-eqZ, eqZ-yes}
+use Rattle.integer.specs.Tests.{eqZ}
 use Rattle.scope.specs.Columns.{at, hasField, hasMultipliers, n, l}
-use Rattle.scope.specs.Layout.{Group, width, groups, numbersBefore}
+use Rattle.scope.specs.Layout.{groups, numbersBefore}
 use Rattle.scope.specs.Mesh.{nodes, elements, edges, sides}
-use Rattle.scope.specs.Claim.{claimHeader, claimLayout, ifThere, stressLines, elementMultipliers, stress, multiplier}
+use Rattle.scope.specs.Claim.{claimHeader, claimLayout, ifThere, stressLines, stress, multiplier}
 use Rattle.scope.specs.Facts.{Between, ClaimFacts}
 use Rattle.rows.specs.RowContracts.{multipliersFrom}
 

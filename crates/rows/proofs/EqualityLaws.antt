@@ -1,12 +1,11 @@
 -- The equality rows as numbers: each number of a balance row or of a side row is that of the definition, and within its bound.
-use mathlib.Core.Path.{_≡_, refl, sym, _∙_, ap, ap₂, subst}
+use mathlib.Core.Path.{_≡_, refl, sym, _∙_}
 use mathlib.Core.Bool.{Bool, true, false, not, _||_}
 use mathlib.Core.List.{List, [], _∷_}
-use Prim.Native.Nat.{ℕ, zero, suc, _+_, _*_, _≤_, _<_, zero-le}
+use Prim.Native.Nat.{ℕ, zero, suc, _+_, _*_, _<_, zero-le}
 use native.Mathlib.Nat.{add-zero, le-refl}
 use native.Mathlib.Omega.{arith}
 use lib.IntN.{ℤ, pos, _+ℤ_, _-ℤ_, _*ℤ_, negℤ}
-use lib.Signed.{_≤ℤ_}
 use lib.Dec.{T}
 use lib.ListN.{length, getD, replicate}
 use Rattle.integer.specs.Linear.{linear, _&_}

@@ -1,34 +1,33 @@
 -- The check of a field: what an equality row says by its numbers, and one law for each turn and way out of the loops over rows.
-use mathlib.Core.Path.{_≡_, refl, sym, _∙_, ap, ap₂, subst, subst₂}
+use mathlib.Core.Path.{_≡_, refl, sym, _∙_, ap, ap₂, subst₂}
 use mathlib.Core.Bool.{Bool, true, false}
-use mathlib.Core.List.{List, [], _∷_}
-use Prim.Native.Nat.{ℕ, zero, suc, _+_, _*_, _-_, _≤_, _<_}
+use mathlib.Core.List.{List}
+use Prim.Native.Nat.{ℕ, suc, _+_, _*_, _-_, _≤_, _<_}
 use native.Mathlib.Nat.{le-trans}
 use native.Mathlib.Numerals.{add-one}
 use native.Mathlib.Omega.{arith}
-use lib.IntN.{ℤ, pos, _+ℤ_, _*ℤ_}
+use lib.IntN.{ℤ, pos, _*ℤ_}
 use lib.ListN.{length, take, drop}
 use mir.Syntax.{w64}
 use mir.Val.{toZ, ofZ}
 use mir.Facts.{toZ-ofZ}
 use Rattle.integer.specs.Machine.{within-SFits, Is-read}
 use Rattle.integer.specs.Tests.{eqZ}
-use Rattle.scope.specs.declared.Outcome.{Outcome}
 use Rattle.scope.specs.declared.Outcome.the-variants.{Passed, Refused}
 use Rattle.scope.specs.declared.Place.the-variants as P
 use Rattle.rows.specs.declared.row_sums.EqualityRow.{EqualityRow}
 use Rattle.scope.specs.Columns.{at, l, n}
 use Rattle.scope.specs.Checks.{_then_}
 use Rattle.scope.specs.Claim.{stress}
-use Rattle.scope.specs.Mesh.{nodes, elements, edges}
-use Rattle.scope.specs.Rows.{Row, asked, unfixed, equalityRows}
+use Rattle.scope.specs.Mesh.{elements, edges}
+use Rattle.scope.specs.Rows.{Row, asked, equalityRows}
 use Rattle.scope.specs.Sums.{leftSide, rightSide, rowHolds}
 use Rattle.scope.specs.Verdict.{rowAt, fieldCheck}
 use Rattle.scope.specs.Facts.{ClaimFacts}
 use Rattle.rows.specs.RowContracts.{rowOf, RowFits, Filled, FieldFits, equalitiesCheck, strengthsCheck}
 use Rattle.rows.proofs.ClaimLaws.{claim-within, rest-within, stress-of, scale-within, load-within, field-long}
 use Rattle.rows.proofs.StrengthLaws.{being}
-use Rattle.rows.proofs.Loops.{Phase, phase-more, phase-fails, phase-done}
+use Rattle.rows.proofs.Loops.{Phase, phase-fails, phase-done}
 use Rattle.rows.proofs.RowLaws.{equality-count}
 
 -- ---- numbers that the machine read back

@@ -1,19 +1,17 @@
 -- The check of multipliers: what an unfixed row is by its place, one law for each turn and way out of the loops, and the sums over all rows as the definitions have them.
 use mathlib.Core.Path.{_≡_, refl, sym, _∙_, ap, ap₂, subst, fun-ext}
-use mathlib.Core.Bool.{Bool, true, false, cond, not, _||_}
+use mathlib.Core.Bool.{Bool, true, false, cond, _||_}
 use mathlib.Core.List.{List, [], _∷_}
 use Prim.Native.Nat.{ℕ, zero, suc, _+_, _*_, _-_, _/_, _%_, _≤_, _<_}
 use native.Mathlib.Numerals.{add-one}
 use native.Mathlib.Decide.{decLt}
 use native.Mathlib.Omega.{arith}
-use lib.Dec.{T}
 use lib.IntN.{ℤ, pos}
 use lib.Signed.{ltZ}
 use lib.ListN.{length, take, drop, length-drop}
 use lib.Seq.{getD-drop}
 use Rattle.integer.specs.Bounds.{Within, Within-le, all-within}
 use Rattle.integer.specs.Tests.{eqZ, no-eqZ}
-use Rattle.scope.specs.declared.Outcome.{Outcome}
 use Rattle.scope.specs.declared.Outcome.the-variants.{Passed, Refused}
 use Rattle.scope.specs.declared.Place.{Place}
 use Rattle.scope.specs.declared.Place.the-variants as P
@@ -21,12 +19,10 @@ use Rattle.scope.specs.declared.Load.the-variants.{Exact}
 use Rattle.scope.specs.Columns.{at, hasField, hasMultipliers}
 use Rattle.scope.specs.Claim.{ifThere, multiplier}
 use Rattle.scope.specs.Facts.{ClaimFacts}
-use Rattle.scope.specs.Checks.{demand, _then_, lowest}
 use Rattle.scope.specs.Mesh.{nodes, elements, edges, sides, edgeEntry, fromNode, toNode}
 use Rattle.scope.specs.Rows.{Kind, asked, unfixed, strength, Row, fixedIf, balanceX, balanceY, normalRow, shearRow, equalityRows, rowsOf}
 use Rattle.scope.specs.Sums.{coefficient, columnSum, liveSum, limitSum, zeroIfUnfixed}
 use Rattle.scope.specs.Verdict.{rowAt, multipliersCheck, ifPart, upperLoad}
-use Rattle.scope.proofs.Checks.{lowest-cong}
 use Rattle.rows.specs.declared.multiplier_sums.Sums.{Sums}
 use Rattle.rows.specs.declared.multiplier_checks.Limit.{Limit}
 use Rattle.rows.specs.declared.multiplier_checks.Limit.the-variants as L

@@ -26,7 +26,6 @@ use Rattle.scope.specs.Columns as C
 use Rattle.scope.specs.Columns.{Limit, between, free, within, isOneOf, allWithin, Rule, rightAngle, naming, parts, hasField, hasMultipliers, names, allNamed, ruleNumber, ruleTest, at}
 use Rattle.scope.specs.Layout.{Group, Layout, width, groups, lineOf, lineNumbers, rulesHold, lineCheck, lineAt}
 use Rattle.scope.specs.Mesh.{meshLayout, meshHeader, soilLines, edgeLines}
-use Rattle.scope.specs.Claim.{claimHeader, claimLayout}
 use Rattle.rows.specs.LineContracts.{runWithin, ranges, AsMany}
 use Rattle.scope.proofs.ClaimFacts.{is-true, is-false}
 use Rattle.scope.proofs.Checks.{demand-passed, then-passed}

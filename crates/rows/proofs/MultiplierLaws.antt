@@ -1,20 +1,18 @@
 -- Multipliers against the columns: what one row, one node and all rows add to the sums, and the checks of the sums.
-use mathlib.Core.Path.{_≡_, refl, sym, _∙_, ap, ap₂, subst}
+use mathlib.Core.Path.{_≡_, refl, sym, _∙_, ap, subst}
 use mathlib.Core.List.{List, [], _∷_}
-use Prim.Native.Nat.{ℕ, zero, suc, _+_, _*_, _-_, _≤_, _<_, zero-le}
-use native.Mathlib.Nat.{le-refl, suc-mul, mul-le-mul-right}
+use Prim.Native.Nat.{ℕ, zero, suc, _+_, _*_, _-_, _≤_, zero-le}
 use native.Mathlib.Numerals.{add-one}
 use native.Mathlib.Omega.{arith}
-use lib.IntN.{ℤ, pos, _+ℤ_, _-ℤ_, _*ℤ_, negℤ, zero-*ℤ}
+use lib.IntN.{ℤ, pos, _+ℤ_, _*ℤ_, zero-*ℤ}
 use lib.ListN.{length, getD, take}
 use Rattle.integer.specs.Ring.{ring, terms}
-use Rattle.integer.specs.Bounds.{Within, Within-le, Within-+ℤ, Within-*ℤ, AllWithin, AllWithin-le}
+use Rattle.integer.specs.Bounds.{Within, Within-le, Within-+ℤ, Within-*ℤ, AllWithin-le}
 use Rattle.integer.specs.Machine.{Is, Is-as, Is-Within}
 use Rattle.rows.specs.declared.row_sums.EqualityRow.{EqualityRow}
 use Rattle.rows.specs.declared.multiplier_sums.Sums.{Sums}
 use Rattle.scope.specs.Columns.{at}
-use Rattle.scope.specs.Mesh.{nodes, elements, edges, sides}
-use Rattle.scope.specs.Rows.{Row, equalityRows, strengthRows, rowsOf}
+use Rattle.scope.specs.Rows.{equalityRows, rowsOf}
 use Rattle.scope.specs.Sums.{weightedSum, unit, coefficient}
 use Rattle.scope.specs.Verdict.{rowAt}
 use Rattle.rows.specs.RowContracts.{pairs, rowOf, RowFits, Filled, SumsAre}

@@ -9,7 +9,7 @@ use native.Mathlib.Omega.{arith}
 use lib.IntN.{ℤ, pos, _+ℤ_, _-ℤ_, _*ℤ_, negℤ, +ℤ-idr}
 use lib.ListN.{length, getD, set, length-set, replicate, length-replicate}
 use Rattle.integer.specs.Ring.{ring, terms}
-use Rattle.integer.specs.Bounds.{Within, Within-le, Within-+ℤ, Within-*ℤ, AllWithin, AllWithin-le}
+use Rattle.integer.specs.Bounds.{Within, Within-le, Within-+ℤ, Within-*ℤ, AllWithin-le}
 use Rattle.integer.specs.Machine.{Is, Is-as, Is-Within}
 use Rattle.scope.specs.Columns.{at}
 use Rattle.scope.specs.Facts.{Counts}
@@ -22,7 +22,7 @@ use Rattle.rows.specs.declared.multiplier_sums.Sums.{Sums}
 use Rattle.rows.specs.declared.multiplier_sums.SideSums.{SideSums}
 use Rattle.rows.specs.declared.multiplier_sums.NodeSums.{NodeSums}
 use Rattle.rows.specs.RowContracts.{Listed, SumsAre, Steps, StepFits, StepsFit, SoilNumbers, sideAt, runOf, riseOf, crossOf}
-use Rattle.rows.specs.MultiplierContracts.{sumBelow, rowSum, partSum, Grown, Multipliers, NoSums, Summed, SideMultipliers, SideSumsFit, SideAdded, sideSum, SideSumsAre, NodeSumsAre, NodeSumsFit, nodeFirst, NodePart, threeAdded, WholeSumsFit}
+use Rattle.rows.specs.MultiplierContracts.{sumBelow, rowSum, partSum, Multipliers, NoSums, Summed, SideMultipliers, SideSumsFit, SideAdded, sideSum, SideSumsAre, NodeSumsAre, NodeSumsFit, nodeFirst, NodePart, threeAdded, WholeSumsFit}
 use Rattle.rows.proofs.SumLaws.{unit-within, sums-within, sums-add, sumBelow-next, sumBelow-cong, sumBelow-add}
 use Rattle.rows.proofs.RowLaws.{nodeRow, strength-at, strength-among}
 use Rattle.rows.proofs.MultiplierLaws.{grown-by, nothing-added, grown-is}

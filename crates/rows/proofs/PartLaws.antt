@@ -18,12 +18,10 @@ use Rattle.scope.specs.declared.Verdict.{Verdict}
 use Rattle.scope.specs.declared.Verdict.the-variants.{Accepted, Refused}
 use Rattle.scope.specs.Columns.{at, hasField, hasMultipliers, n, l}
 use Rattle.scope.specs.Claim.{stress, multiplier}
-use Rattle.scope.specs.Checks.{_then_}
 use Rattle.scope.specs.Mesh.{nodes}
 use Rattle.scope.specs.Rows.{equalityRows, strengthRows, rowsOf}
 use Rattle.scope.specs.Sums.{liveSum, limitSum, openRows}
 use Rattle.scope.specs.Verdict.{fieldCheck, multipliersCheck, ifPart, partsCheck, lowerLoad, upperLoad, openCount, answer}
-use Rattle.rows.specs.declared.multiplier_checks.Limit.{Limit}
 use Rattle.rows.specs.declared.multiplier_checks.Limit.the-variants as L
 use Rattle.rows.specs.LimitContracts.{limitOf}
 use Rattle.rows.proofs.StrengthLaws.{false-of}

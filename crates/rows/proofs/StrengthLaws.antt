@@ -1,8 +1,8 @@
 -- The strength rows of a node by its numbers: the identity of the printed inequality's sides with those of the row, and sums over the sides.
-use mathlib.Core.Path.{_≡_, refl, sym, _∙_, ap, ap₂, subst}
+use mathlib.Core.Path.{_≡_, refl, sym, _∙_, ap, subst}
 use mathlib.Core.Bool.{Bool, true, false, not, _&&_}
 use mathlib.Core.List.{List, [], _∷_}
-use Prim.Native.Nat.{ℕ, zero, suc, _+_, _*_, _-_, _≤_, _<_}
+use Prim.Native.Nat.{ℕ, suc, _+_, _*_, _-_, _≤_, _<_}
 use native.Mathlib.Nat.{le-refl, zero-mul, suc-mul, mul-le-mul, mul-le-mul-right}
 use native.Mathlib.Numerals.{add-one}
 use native.Mathlib.Omega.{arith}
@@ -32,7 +32,7 @@ use Rattle.scope.specs.Sums.{weightedSum, leftSide, rightSide, rowHolds, isOpen
 use Rattle.scope.specs.Verdict.{rowAt}
 use Rattle.scope.specs.Facts.{Between, SoilFacts}
 use Rattle.rows.specs.Contracts.{Sized}
-use Rattle.rows.specs.RowContracts.{Listed, SoilNumbers, SoilFits, NodeNumbers, NodeFits, NodeState, Steps, StepFits, StepsFit, sideAt, runOf, riseOf, crossOf, sideSlack, nodeCheck, strengthsCheck}
+use Rattle.rows.specs.RowContracts.{Listed, SoilNumbers, SoilFits, NodeNumbers, NodeFits, NodeState, Steps, StepsFit, sideAt, runOf, riseOf, crossOf, sideSlack, nodeCheck, strengthsCheck}
 
 pub being : {v z : ℤ} {B : ℕ} → v ≡ z → Within B z → Is v z B
 being e h = record { same = e; inside = h }

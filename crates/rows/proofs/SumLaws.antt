@@ -1,10 +1,10 @@
 -- Sums over rows and over the entries of a row, one more at a time, as a loop takes them: by induction on how many.
 use mathlib.Core.Path.{_≡_, refl, sym, _∙_, ap, ap₂, subst}
 use mathlib.Core.Bool.{Bool, true, false, not, cond}
-use mathlib.Core.List.{List, [], _∷_, _++_}
+use mathlib.Core.List.{List, [], _∷_}
 use Prim.Native.Nat.{ℕ, zero, suc, _+_, _*_, _≤_, _<_, zero-le}
 use native.Mathlib.Numerals.{add-one}
-use native.Mathlib.Nat.{le-refl, add-zero, add-suc, add-comm, add-assoc, suc-mul}
+use native.Mathlib.Nat.{le-refl, add-zero, add-suc, add-comm, add-assoc}
 use native.Mathlib.Omega.{arith}
 use lib.Dec.{T, T-not, eqb, eqb→eq, eqb-refl}
 use lib.IntN.{ℤ, pos, _+ℤ_, _*ℤ_, +ℤ-assoc, +ℤ-idl, +ℤ-idr}
@@ -129,11 +129,6 @@ sumBelow-add f a (suc b) =
     ap (sumBelow f) (add-suc a b)
     ∙ ap (λ z. z +ℤ f (a + b)) (sumBelow-add f a b)
     ∙ +ℤ-assoc (sumBelow f a) (sumBelow (λ k. f (a + k)) b) (f (a + b))
-
-pub sumBelow-within : (f : ℕ → ℤ) (n B : ℕ) → ((k : ℕ) → k < n → Within B (f k)) → Within (n * B) (sumBelow f n)
-unfolding sumBelow
-sumBelow-within f zero B h = record { within = zero-le }
-sumBelow-within f (suc n) B h = Within-le (Within-+ℤ (sumBelow-within f n B (λ k l. h k (omega arith))) (h n (omega arith))) (omega (arith, suc-mul n B))
 
 -- ---- the sums of the definitions
 

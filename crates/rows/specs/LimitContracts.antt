@@ -1,5 +1,4 @@
 -- What the check of multipliers answers: 31, 32 and 33 one by one, and the limit.
-use mathlib.Core.Path.{_≡_}
 use mathlib.Core.Bool.{Bool, true, false}
 use mathlib.Core.List.{List}
 use Prim.Native.Nat.{ℕ, suc, _*_}

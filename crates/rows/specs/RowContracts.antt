@@ -3,7 +3,7 @@ use mathlib.Core.Path.{_≡_}
 use mathlib.Core.Logic.{_⊎_}
 use mathlib.Core.Bool.{Bool, true, cond}
 use mathlib.Core.List.{List, [], _∷_}
-use Prim.Native.Nat.{ℕ, zero, suc, _+_, _*_, _≤_, _<_}
+use Prim.Native.Nat.{ℕ, suc, _+_, _*_, _≤_, _<_}
 use lib.Dec.{ltb}
 use lib.IntN.{ℤ, pos, _+ℤ_, _-ℤ_, _*ℤ_, negℤ}
 use lib.Signed.{leZ}
@@ -18,10 +18,10 @@ use Rattle.rows.specs.declared.row_sums.EqualityRow.{EqualityRow}
 use Rattle.rows.specs.declared.row_sums.Span.{Span}
 use Rattle.scope.specs.Columns.{at, hasField, n}
 use Rattle.scope.specs.Claim.{ifThere, stress}
-use Rattle.scope.specs.Mesh.{nodes, elements, edges, sides, corner, p, q, h, cohesion}
+use Rattle.scope.specs.Mesh.{nodes, sides, corner, p, q, h, cohesion}
 use Rattle.scope.specs.Polygon.{Point, point, Side, Polygon, polygonSides, polygonOf}
-use Rattle.scope.specs.Rows.{Kind, asked, unfixed, Row, sx, sy, t, nodeSoil, equalityRows, cross, riseAcross, runAcross}
-use Rattle.scope.specs.Sums.{rowHolds, coefficient}
+use Rattle.scope.specs.Rows.{asked, unfixed, Row, sx, sy, t, nodeSoil, cross, riseAcross, runAcross}
+use Rattle.scope.specs.Sums.{rowHolds}
 use Rattle.scope.specs.Verdict.{rowAt}
 use Rattle.scope.specs.Facts.{ClaimFacts}
 use Rattle.rows.specs.Contracts.{Sized, NodeSoils}

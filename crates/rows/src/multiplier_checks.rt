@@ -1,14 +1,13 @@
 // The check of a claim's multipliers against the columns: 31, 32 and 33, and the limit W/m.
 ghost use mathlib.Core.Path.{_≡_};
 ghost use Prim.Native.Nat.{_+_, _*_, _<_, _≤_};
-ghost use lib.IntN.{pos};
 ghost use lib.ListN.{length};
 ghost use Rattle.integer.specs.Bounds.{AllWithin};
 ghost use Rattle.scope.specs.Columns.{at, hasField, hasMultipliers};
 ghost use Rattle.scope.specs.Claim.{ifThere, multiplier};
-ghost use Rattle.scope.specs.Mesh.{nodes, elements, edges, sides};
+ghost use Rattle.scope.specs.Mesh.{nodes, elements, edges};
 ghost use Rattle.scope.specs.Rows.{equalityRows, rowsOf};
-ghost use Rattle.scope.specs.Sums.{zeroIfUnfixed, liveSum, limitSum};
+ghost use Rattle.scope.specs.Sums.{zeroIfUnfixed};
 ghost use Rattle.scope.specs.Verdict.{rowAt, multipliersCheck, ifPart, upperLoad};
 ghost use Rattle.rows.specs.Contracts.{Sized, NodeSoils};
 ghost use Rattle.rows.specs.RowContracts.{Judged};

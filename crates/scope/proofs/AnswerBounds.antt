@@ -2,23 +2,22 @@
 use mathlib.Core.Path.{_≡_, ap}
 use mathlib.Core.Logic.{_⊎_, inl, inr}
 use mathlib.Core.Bool.{Bool, true, false}
-use mathlib.Core.List.{List, [], _∷_}
+use mathlib.Core.List.{List}
 use Prim.Native.Nat.{ℕ, zero, suc, _+_, _*_, _<_, _≤_}
 use native.Mathlib.Decide.{decLt}
 use native.Mathlib.Omega.{arith}
-use lib.IntN.{ℤ, pos}
+use lib.IntN.{ℤ}
 use lib.ListN.{length}
 use Rattle.scope.specs.declared.Place.{Place}
-use Rattle.scope.specs.declared.Place.the-variants.{Line, Row, Column, Node, Element}
 use Rattle.scope.specs.Answer.{placeNumber}
-use Rattle.scope.specs.Columns.{Rule, rightAngle, naming, parts, ruleNumber, hasField, hasMultipliers}
+use Rattle.scope.specs.Columns.{hasField, hasMultipliers}
 use Rattle.scope.specs.Layout.{Layout, groups, lineCount, linesBefore}
 use Rattle.scope.specs.Mesh.{meshHeader, soilLines, nodeLines, elementLines, edgeLines, meshLayout, meshGroups, nodes, elements, soils, edges, sides, edgeLine}
 use Rattle.scope.specs.Claim.{claimHeader, ifThere, stressLines, elementMultipliers, edgeMultipliers, strengthMultipliers, claimLayout}
-use Rattle.scope.specs.Rows.{equalityRows, strengthRows, rowsOf}
-use Rattle.scope.specs.Sound.{LineSound, LinesSound, MeshSound}
-use Rattle.scope.specs.Refusals.{Below, FirstFailing, LineRefusal, missing, outside, broken, left-over, MeshRefusal, in-line, no-left-turn, side-again, in-none, no-edge, BeforeMultipliers, Refusal, of-mesh, of-claim, equality-fails, strength-fails, on-unfixed, not-zero, no-live-load}
-use Rattle.scope.specs.Facts.{Counts, MeshFacts}
+use Rattle.scope.specs.Rows.{strengthRows}
+use Rattle.scope.specs.Sound.{LineSound}
+use Rattle.scope.specs.Refusals.{LineRefusal, missing, outside, broken, left-over, MeshRefusal, in-line, no-left-turn, side-again, in-none, no-edge, Refusal, of-mesh, of-claim, equality-fails, strength-fails, on-unfixed, not-zero, no-live-load}
+use Rattle.scope.specs.Facts.{Counts}
 use Rattle.scope.proofs.Facts.{header-counts, mesh-facts}
 use Rattle.scope.proofs.Exactly.{mesh-number, claim-line-number}
 use Rattle.scope.proofs.RowCounts.{equality-count, strength-count}

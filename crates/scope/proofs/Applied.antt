@@ -1,17 +1,17 @@
 -- The theorems applied to document 01's sheet: antt computes that its mesh and parts pass, and the theorems say the rest.
 use mathlib.Core.Path.{_≡_, refl}
-use mathlib.Core.List.{List, [], _∷_}
+use mathlib.Core.List.{List}
 use Prim.Native.Nat.{ℕ, suc, _*_}
 use native.Mathlib.Omega.{arith}
 use mathlib.Core.Bool.{Bool}
 use lib.Dec.{lt→ltb}
-use lib.IntN.{ℤ, pos, negsuc, negℤ, _*ℤ_, _-ℤ_}
+use lib.IntN.{ℤ, pos, _*ℤ_, _-ℤ_}
 use lib.Signed.{ltZ-yes}
 use Rattle.integer.specs.Fraction.{_over_, _≈ᶠ_, _≤ᶠ_, Positive}
 use Rattle.scope.specs.declared.Place.the-variants.{Column}
 use Rattle.scope.specs.declared.Outcome.the-variants.{Passed}
 use Rattle.scope.specs.declared.Verdict.the-variants.{Refused}
-use Rattle.scope.specs.Columns.{at, n, l}
+use Rattle.scope.specs.Columns.{n, l}
 use Rattle.scope.specs.Layout.{linesCheck}
 use Rattle.scope.specs.Mesh.{nodes}
 use Rattle.scope.specs.Rows.{equalityRows, strengthRows, rowsOf}
@@ -19,11 +19,10 @@ use Rattle.scope.specs.Sums.{weightedSum, weighed, liveSum, limitSum, op
 use Rattle.scope.specs.Claim.{claimLayout, stress, multiplier}
 use Rattle.scope.specs.Verdict.{meshCheck, fieldCheck, multipliersCheck, verdict, rowAt}
 use Rattle.scope.specs.Computed.{computed}
-use Rattle.scope.specs.Sound.{MeshSound}
 use Rattle.scope.specs.Refusals.{HasField, HasMultipliers}
 use Rattle.scope.specs.Accepted.{FieldAccepted, MultipliersAccepted}
 use Rattle.scope.specs.Bracket.{toSpare}
-use Rattle.scope.specs.Parts.{carried, allowed, PartsBracket, OpenRowsCount}
+use Rattle.scope.specs.Parts.{carried, allowed, PartsBracket}
 use Rattle.scope.specs.Worked.{zeros, workedMesh, workedStresses, workedMultipliers, workedClaim, multipliersAlone, sheet, sheet19, sheet29, nineteenFractions, nineteenSixths}
 use Rattle.scope.specs.Fractions.{FractionField, WrittenOver}
 use Rattle.scope.specs.AcceptedFractions.{MeetsMesh}

@@ -2,7 +2,7 @@
 use mathlib.Core.Path.{_≡_, refl, sym, _∙_, ap, subst, subst₂, subst₃}
 use mathlib.Core.Logic.{_⊎_, inl, inr}
 use mathlib.Core.Bool.{Bool, true, false, not}
-use mathlib.Core.List.{List, [], _∷_}
+use mathlib.Core.List.{List}
 use Prim.Native.Nat.{ℕ, zero, suc, _+_, _*_, _-_, _/_, _%_, _≤_, _<_}
 use native.Mathlib.Nat.{div-add-mod', mod-lt, div-lt-iff-lt-mul}
 use native.Mathlib.Decide.{decLt}
@@ -13,11 +13,11 @@ use lib.Dec.{T}
 use lib.ListN.{length, getD, replicate, length-replicate, getD-replicate}
 use Rattle.integer.specs.Order.{≤ℤ-pos}
 use Rattle.integer.specs.Tests.{eqZ, yes-eqZ, no-eqZ}
-use Rattle.scope.specs.Columns.{Limit, between, free, upTo, parts, at, hasField, hasMultipliers, n, l}
+use Rattle.scope.specs.Columns.{Limit, between, free, upTo, at, hasField, hasMultipliers, n, l}
 use Rattle.scope.specs.Layout.{Group, Layout, width, groups, numberCount, numbersBefore, entry}
 use Rattle.scope.specs.Mesh.{nodes, elements, edges, sides}
 use Rattle.scope.specs.Claim.{claimHeader, ifThere, stressLines, elementMultipliers, edgeMultipliers, strengthMultipliers, claimLayout, stress, multiplier}
-use Rattle.scope.specs.Sound.{Within, AllSay, PartsFit, LinesSound}
+use Rattle.scope.specs.Sound.{Within, PartsFit, LinesSound}
 use Rattle.scope.specs.Facts.{Between, MeshFacts, ClaimFacts}
 use Rattle.scope.proofs.Lines.{group, lineIn, LineFacts, line-facts, at-lineIn}
 

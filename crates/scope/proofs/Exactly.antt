@@ -1,5 +1,5 @@
 -- The verdict on numbers: accepted exactly when the claim is, and refused with a number and a place exactly when the paper's table says. The parts' laws joined in the paper's order.
-use mathlib.Core.Path.{_≡_, refl, sym, _∙_, ap, subst, subst₂}
+use mathlib.Core.Path.{_≡_, refl, sym, _∙_, ap}
 use mathlib.Core.Logic.{_↔_, _⊎_, inl, inr}
 use mathlib.Core.Bool.{Bool, true, false}
 use mathlib.Core.List.{List, [], _∷_}
@@ -7,10 +7,9 @@ use Prim.Native.Nat.{ℕ, suc, _*_, _≤_, _<_}
 use native.Mathlib.Omega.{arith}
 use lib.IntN.{ℤ, pos}
 use lib.Signed.{_<ℤ_}
-use lib.Dec.{T}
 use lib.ListN.{length}
 use Rattle.scope.specs.declared.Place.{Place}
-use Rattle.scope.specs.declared.Place.the-variants.{Line, Row, Column}
+use Rattle.scope.specs.declared.Place.the-variants.{Row, Column}
 use Rattle.scope.specs.declared.Outcome.{Outcome}
 use Rattle.scope.specs.declared.Outcome.the-variants.{Passed, Refused as Fails}
 use Rattle.scope.specs.declared.Load.{Load}
@@ -18,20 +17,20 @@ use Rattle.scope.specs.declared.OpenRows.{OpenRows}
 use Rattle.scope.specs.declared.Verdict.{Verdict}
 use Rattle.scope.specs.declared.Verdict.the-variants.{Accepted, Refused}
 use Rattle.scope.specs.Answer.{numberOf}
-use Rattle.scope.specs.Checks.{demand, _then_, lowest}
+use Rattle.scope.specs.Checks.{_then_}
 use Rattle.scope.specs.Columns.{Rule, rightAngle, naming, parts, ruleNumber, at, hasField, hasMultipliers, n, l}
-use Rattle.scope.specs.Layout.{Layout, linesCheck}
+use Rattle.scope.specs.Layout.{Layout}
 use Rattle.scope.specs.Mesh.{meshLayout, nodes}
 use Rattle.scope.specs.Claim.{claimLayout, stress, multiplier}
 use Rattle.scope.specs.Rows.{equalityRows, strengthRows, rowsOf}
 use Rattle.scope.specs.Rows as R
-use Rattle.scope.specs.Sums.{rowHolds, zeroIfUnfixed, columnSum, liveSum}
+use Rattle.scope.specs.Sums.{columnSum, liveSum}
 use Rattle.scope.specs.Verdict.{claimCheck, rowAt, fieldCheck, multipliersCheck, ifPart, partsCheck, lowerLoad, upperLoad, openCount, answer, claimVerdict, verdict, meshCheck}
-use Rattle.scope.specs.Sound.{Says, numbersAt, groupAt, LinesSound, MeshSound}
+use Rattle.scope.specs.Sound.{numbersAt, groupAt, LinesSound, MeshSound}
 use Rattle.scope.specs.Refusals.{Below, FirstFailing, LineRefusal, missing, outside, broken, left-over, MeshRefusal, in-line, no-left-turn, side-again, in-none, no-edge, HasField, HasMultipliers, RowsMet, ColumnsMet, EqualityMet, StrengthMet, UnfixedFree, ColumnZero, BeforeMultipliers, Refusal, of-mesh, of-claim, equality-fails, strength-fails, on-unfixed, not-zero, no-live-load}
 use Rattle.scope.specs.Accepted.{FieldAccepted, MultipliersAccepted, ClaimAccepted}
 use Rattle.scope.proofs.Checks.{passed-is-not-refused}
-use Rattle.scope.proofs.Decides.{Decides, equalℤ, belowℤ, Passes, put-as, one-check, and-then, at-each, Refuses, told-as, one-refusal, then-refusal}
+use Rattle.scope.proofs.Decides.{Decides, equalℤ, belowℤ, Passes, one-check, and-then, at-each, Refuses, one-refusal, then-refusal}
 use Rattle.scope.proofs.Sound.{lines-passed, mesh-passed, row-meets, none-on-unfixed, field-passed, multipliers-passed}
 use Rattle.scope.proofs.Refusals.{AtPlace, at-place, lines-refusal, phase-refusal, mesh-refusal}
 

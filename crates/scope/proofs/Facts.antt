@@ -7,10 +7,10 @@ use native.Mathlib.Decide.{decLt}
 use native.Mathlib.Omega.{arith}
 use lib.IntN.{ℤ, pos, negsuc, _+ℤ_, _*ℤ_, negℤ}
 use lib.Signed.{_≤ℤ_}
-use lib.ListN.{length, getD, take, drop}
+use lib.ListN.{length, getD}
 use Rattle.integer.specs.Order.{≤ℤ-pos}
-use Rattle.scope.specs.Columns.{Limit, between, oneOf, free, upTo, rightAngle, naming, at}
-use Rattle.scope.specs.Layout.{Group, Layout, width, groups, lineCount, numberCount, linesBefore, numbersBefore, count, entry}
+use Rattle.scope.specs.Columns.{oneOf, free, upTo, rightAngle, at}
+use Rattle.scope.specs.Layout.{width, groups, lineCount, numberCount, linesBefore, numbersBefore, count, entry}
 use Rattle.scope.specs.Mesh.{meshHeader, soilLines, nodeLines, elementLines, edgeLines, meshLayout, meshGroups, nodes, elements, soils, edges, sides, p, q, h, cohesion, soilEntry, x, y, corner, elementSoil, edgeEntry, fromNode, toNode}
 use Rattle.scope.specs.Sound.{Within, LineSound, LinesSound}
 use Rattle.scope.specs.Facts.{Between, Counts, SoilFacts, NodeFacts, ElementFacts, EdgeFacts, MeshFacts}

@@ -1,18 +1,16 @@
 -- Laws of a file's layout: line i of group j stands where the groups before it end, by induction on the groups.
-use mathlib.Core.Path.{_≡_, refl, _∙_, ap, subst}
-use mathlib.Core.Bool.{Bool, true, false}
+use mathlib.Core.Path.{_≡_, _∙_, ap, subst}
 use mathlib.Core.List.{List, [], _∷_}
 use Prim.Native.Nat.{ℕ, zero, suc, _+_, _*_, _-_, _<_, _≤_}
 use native.Mathlib.Nat.{add-assoc, add-zero, zero-add}
 use native.Mathlib.Omega.{arith}
-use lib.IntN.{ℤ, pos}
-use lib.Dec.{ltb}
+use lib.IntN.{ℤ}
 use lib.ListN.{length, getD, take, drop, length-take, length-drop}
 use lib.Seq.{getD-take, getD-drop}
 use borrow.Author.Tests.{lt-ltb, le-ltb}
 use Rattle.scope.specs.Columns.{Limit, free, at}
-use Rattle.scope.specs.Layout.{Group, Layout, Placed, width, groups, lineCount, numberCount, linesBefore, numbersBefore, lineOf, lineNumbers, entry}
-use Rattle.scope.specs.Sound.{Within, AllWithin, AllSay, numbersAt, groupAt, Complete, LineSound, LinesSound}
+use Rattle.scope.specs.Layout.{Group, Layout, Placed, width, groups, lineCount, linesBefore, numbersBefore, lineOf, lineNumbers, entry}
+use Rattle.scope.specs.Sound.{Within, AllWithin, AllSay, numbersAt, groupAt, LineSound, LinesSound}
 
 -- no group at all
 abbrev pub noGroup : Group

@@ -1,25 +1,25 @@
 -- The bracket for accepted parts: an accepted field meets the rows and accepted multipliers meet the columns in the sense of the bracket, row by row.
 use mathlib.Core.Path.{_≡_, refl, sym, _∙_, ap, subst}
-use mathlib.Core.Logic.{_↔_, _⊎_, inl, inr}
+use mathlib.Core.Logic.{_⊎_, inl, inr}
 use mathlib.Core.Bool.{true}
-use mathlib.Core.List.{List, _++_}
-use Prim.Native.Nat.{ℕ, zero, suc, _+_, _*_, _-_, _<_, _≤_}
+use mathlib.Core.List.{List}
+use Prim.Native.Nat.{ℕ, _+_, _*_, _-_, _<_, _≤_}
 use native.Mathlib.Decide.{decLt}
 use native.Mathlib.Omega.{arith}
-use lib.IntN.{ℤ, pos, negsuc}
+use lib.IntN.{ℤ, pos}
 use lib.Signed.{_≤ℤ_, _<ℤ_}
-use lib.ListN.{length, getD, List·getD-append, length-append}
+use lib.ListN.{length, List·getD-append, length-append}
 use lib.Seq.{getD-append-add}
 use Rattle.integer.specs.Order.{≤ℤ-split}
 use Rattle.integer.specs.Tests.{eqZ, yes-eqZ}
 use Rattle.scope.specs.Columns.{at, hasField, hasMultipliers, n, l}
-use Rattle.scope.specs.Mesh.{nodes, elements, edges, sides}
+use Rattle.scope.specs.Mesh.{nodes}
 use Rattle.scope.specs.Rows.{Kind, asked, unfixed, strength, Row, equalityRows, strengthRows, rowsOf}
 use Rattle.scope.specs.Sums.{isOpen, openRows}
-use Rattle.scope.specs.Claim.{claimLayout, stress, multiplier}
+use Rattle.scope.specs.Claim.{stress, multiplier}
 use Rattle.scope.specs.Verdict.{rowAt, openCount}
-use Rattle.scope.specs.Sound.{NoneOnUnfixed, LinesSound, MeshSound}
-use Rattle.scope.specs.Meets.{RowMet, FieldMeets}
+use Rattle.scope.specs.Sound.{NoneOnUnfixed, MeshSound}
+use Rattle.scope.specs.Meets.{FieldMeets}
 use Rattle.scope.specs.Accepted.{FieldAccepted, MultipliersAccepted}
 use Rattle.scope.specs.Facts.{MeshFacts, ClaimFacts}
 use Rattle.scope.specs.Bracket.{NodesNamed, MultipliersMeet, Bracket}

@@ -1,23 +1,20 @@
 -- Each refusal with its place comes exactly when the paper's table says: composed from one law for a check, one for checks in order, and one for the lowest place.
-use mathlib.Core.Path.{_≡_, refl, sym, subst₂}
-use mathlib.Core.Logic.{_↔_, _⊎_, inl, inr}
+use mathlib.Core.Path.{_≡_, refl, subst₂}
+use mathlib.Core.Logic.{_⊎_, inl, inr}
 use mathlib.Core.Bool.{Bool}
 use mathlib.Core.List.{List, [], _∷_}
-use Prim.Native.Nat.{ℕ, suc, _*_, _<_, _≤_}
-use lib.IntN.{ℤ, pos}
-use lib.Signed.{_<ℤ_}
+use Prim.Native.Nat.{ℕ, suc, _<_, _≤_}
+use lib.IntN.{ℤ}
 use lib.Dec.{eqb}
 use lib.ListN.{length}
 use Rattle.scope.specs.declared.Place.{Place}
-use Rattle.scope.specs.declared.Place.the-variants.{Line, Row, Column, Node, Element}
-use Rattle.scope.specs.declared.Outcome.{Outcome}
-use Rattle.scope.specs.declared.Outcome.the-variants.{Passed, Refused}
-use Rattle.scope.specs.Checks.{demand, _then_, lowest}
+use Rattle.scope.specs.declared.Place.the-variants.{Line, Node, Element}
+use Rattle.scope.specs.Checks.{demand, lowest}
 use Rattle.scope.specs.Columns.{Rule, ruleNumber, allWithin}
 use Rattle.scope.specs.Layout.{Layout, width, groups, lineCount, numberCount, rulesHold, lineCheck, lineAt, linesCheck}
 use Rattle.scope.specs.Mesh.{meshLayout, nodes, elements, edges, edgeLine}
 use Rattle.scope.specs.Verdict.{turnsCheck, sidesCheck, nodesCheck, edgesCheck, shapeCheck, meshCheck}
-use Rattle.scope.specs.Sound.{Says, AllSay, numbersAt, groupAt, Complete, InLimits, LineSound, LinesSound, LeftTurns, OwnSides, InElement, OuterEdge}
+use Rattle.scope.specs.Sound.{Says, numbersAt, groupAt, Complete, InLimits, LineSound, LinesSound, LeftTurns, OwnSides, InElement, OuterEdge}
 use Rattle.scope.specs.Refusals.{Below, FirstFailing, LineRefusal, missing, outside, broken, left-over, MeshRefusal, in-line, no-left-turn, side-again, in-none, no-edge}
 use Rattle.scope.proofs.Checks.{passed-is-not-refused}
 use Rattle.scope.proofs.Decides.{Decides, equal, at-most, Passes, one-check, and-then, at-each, Refuses, told-as, one-refusal, then-refusal, lowest-refusal}

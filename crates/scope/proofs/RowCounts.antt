@@ -2,17 +2,17 @@
 use mathlib.Core.Path.{_≡_, refl, sym, _∙_, ap, ap₂, subst}
 use mathlib.Core.Logic.{_⊎_, inl, inr}
 use mathlib.Core.Bool.{Bool, true, false, cond, _||_}
-use mathlib.Core.List.{List, [], _∷_, _++_, map, List·Memᴰ·head, List·Memᴰ·tail}
-use Prim.Native.Nat.{ℕ, zero, suc, _+_, _*_, _<_, _≤_}
+use mathlib.Core.List.{List, [], _∷_, _++_, List·Memᴰ·head, List·Memᴰ·tail}
+use Prim.Native.Nat.{ℕ, suc, _+_, _*_}
 use native.Mathlib.Nat.{zero-mul}
 use native.Mathlib.Omega.{arith}
 use lib.IntN.{ℤ, pos}
 use lib.ListN.{length, length-append, length-map}
 use Rattle.integer.specs.Tests.{eqZ}
 use Rattle.scope.specs.Members.{_∈_}
-use Rattle.scope.specs.Mesh.{nodes, elements, edges, sides, fromNode, toNode, edgeEntry}
-use Rattle.scope.specs.Polygon.{Point, Side, sidesTo, polygonSides, polygonOf}
-use Rattle.scope.specs.Rows.{Kind, asked, unfixed, strength, Row, Pair, countFrom, joined, balanceX, balanceY, balanceRows, fixedIf, normalRow, shearRow, sideRows, strengthPairs, strengthRow, pairRows, strengthRows, equalityRows, rowsOf}
+use Rattle.scope.specs.Mesh.{nodes, elements, edges, sides, edgeEntry}
+use Rattle.scope.specs.Polygon.{Point, sidesTo, polygonSides, polygonOf}
+use Rattle.scope.specs.Rows.{Kind, asked, unfixed, strength, Row, countFrom, joined, balanceX, balanceY, balanceRows, fixedIf, normalRow, shearRow, sideRows, strengthPairs, strengthRow, pairRows, strengthRows, equalityRows}
 use Rattle.scope.proofs.Lists.{count-length, each-nil, each-cons, each-++, each-map, each-joined}
 use Rattle.scope.proofs.PolygonRule.{twelve-sides, twenty-sides, thirty-six-sides}
 

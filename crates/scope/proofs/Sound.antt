@@ -1,28 +1,24 @@
 -- Each test of the verdict decides its plain statement, and so a mesh and the parts of a claim pass exactly when document 01's statements hold.
-use mathlib.Core.Path.{_≡_, refl, sym, ap, subst}
-use mathlib.Core.Logic.{_↔_, Iff·trans, _⊎_, inl, inr}
-use mathlib.Core.Bool.{Bool, true, false, not, cond, _&&_, _||_}
+use mathlib.Core.Path.{_≡_, refl}
+use mathlib.Core.Logic.{_⊎_, inl, inr}
+use mathlib.Core.Bool.{Bool, true, false, cond}
 use mathlib.Core.List.{List, [], _∷_, _++_, Memᴰ·append-left, Memᴰ·append-right}
-use Prim.Native.Nat.{ℕ, zero, suc, _+_, _*_, _<_, _≤_}
+use Prim.Native.Nat.{ℕ, zero, suc, _+_, _*_, _<_}
 use native.Mathlib.Omega.{arith}
 use lib.IntN.{ℤ, pos, _+ℤ_, _*ℤ_}
-use lib.Signed.{leZ, _≤ℤ_}
-use lib.Dec.{T, eqb, leb}
 use lib.ListN.{length}
 use Rattle.integer.specs.Tests.{eqZ}
 use Rattle.scope.specs.declared.Place.{Place}
 use Rattle.scope.specs.declared.Place.the-variants.{Line, Row, Column, Node, Element}
-use Rattle.scope.specs.declared.Outcome.{Outcome}
-use Rattle.scope.specs.declared.Outcome.the-variants.{Passed, Refused}
-use Rattle.scope.specs.Checks.{demand, _then_, lowest, someBelow, allBelow}
+use Rattle.scope.specs.Checks.{someBelow}
 use Rattle.scope.specs.Columns.{Limit, between, oneOf, free, isOneOf, within, allWithin, Rule, rightAngle, naming, parts, names, allNamed, at, hasField, hasMultipliers, n, l, ruleTest, ruleNumber}
-use Rattle.scope.specs.Layout.{Group, Layout, Placed, width, groups, lineCount, numberCount, lineOf, lineNumbers, rulesHold, lineCheck, lineAt, linesCheck}
+use Rattle.scope.specs.Layout.{Layout, width, groups, lineCount, numberCount, rulesHold, lineCheck, lineAt, linesCheck}
 use Rattle.scope.specs.Mesh.{meshLayout, nodes, elements, edges, corner, fromNode, toNode, edgeLine}
 use Rattle.scope.specs.Rows as R
 use Rattle.scope.specs.Rows.{node, hasCorner}
-use Rattle.scope.specs.Sums.{leftSide, rightSide, rowHolds, zeroIfUnfixed, columnSum, liveSum}
+use Rattle.scope.specs.Sums.{rowHolds, zeroIfUnfixed, columnSum, liveSum}
 use Rattle.scope.specs.Verdict.{turn, leftTurnAt, leftTurns, hasSide, ownSides, inElement, outerEdge, turnsCheck, sidesCheck, nodesCheck, edgesCheck, shapeCheck, meshCheck, rowAt, fieldCheck, multipliersCheck}
-use Rattle.scope.specs.Sound.{OneOf, Within, AllWithin, AllNamed, PartsFit, Says, AllSay, numbersAt, groupAt, Complete, InLimits, RulesHold, LineSound, LinesSound, LeftTurns, SideAt, OwnSides, InElement, IsSide, OuterEdge, MeshSound, NoneOnUnfixed, MeetsColumns}
+use Rattle.scope.specs.Sound.{OneOf, Within, AllWithin, AllNamed, PartsFit, Says, AllSay, numbersAt, groupAt, LineSound, LinesSound, LeftTurns, SideAt, OwnSides, InElement, IsSide, OuterEdge, MeshSound, NoneOnUnfixed, MeetsColumns}
 use Rattle.scope.specs.Meets.{RowMet, FieldMeets}
 use Rattle.scope.proofs.Lists.{each-++, row-in, by-place}
 use Rattle.scope.proofs.Meets.{row-holds}

@@ -2,18 +2,17 @@
 use mathlib.Core.Path.{_≡_, refl, sym, _∙_, ap, subst, fun-ext}
 use mathlib.Core.Logic.{_⊎_, inl, inr}
 use mathlib.Core.List.{List, [], _∷_, _++_, List·Memᴰ·head, List·Memᴰ·tail}
-use Prim.Native.Nat.{ℕ, zero, suc, _+_, _*_, _%_, _^_, _<_, _≤_}
+use Prim.Native.Nat.{ℕ, suc, _+_, _*_, _%_, _^_, _<_, _≤_}
 use native.Mathlib.Nat.{mod-lt, zero-add, suc-add}
 use native.Mathlib.Omega.{arith}
-use lib.IntN.{ℤ, pos, negsuc, negℤ, _+ℤ_, _*ℤ_}
+use lib.IntN.{ℤ, pos, negℤ, _+ℤ_, _*ℤ_}
 use lib.Signed.{_≤ℤ_}
 use lib.ListN.{length}
-use Rattle.integer.specs.Order.{≤ℤ-trans, nonneg}
-use Rattle.integer.specs.Bounds.{Within, Within-le, Within-pos, Within-negℤ, Within-+ℤ, Within--ℤ, Within-*ℤ, ≤ℤ-Within, sumOf-Within}
-use Rattle.integer.specs.Linear.{linear, facts, nothing, _&_}
+use Rattle.integer.specs.Bounds.{Within, Within-le, Within-pos, Within-negℤ, Within-+ℤ, Within--ℤ, Within-*ℤ, ≤ℤ-Within}
+use Rattle.integer.specs.Linear.{linear, facts}
 use Rattle.integer.specs.Sum.{sumOf, sumOf-++}
 use Rattle.scope.specs.Members.{_∈_}
-use Rattle.scope.specs.Mesh.{nodes, elements, soils, edges, sides, deadX, deadY, soilEntry, x, y, corner, elementSoil, edgeEntry, fromNode, toNode}
+use Rattle.scope.specs.Mesh.{nodes, elements, soils, edges, sides, deadX, deadY, soilEntry, x, y, elementSoil, edgeEntry, fromNode, toNode}
 use Rattle.scope.specs.Polygon.{Side, polygonSides, polygonOf}
 use Rattle.scope.specs.Rows.{Row, Pair, countFrom, node, crossAt, twiceArea, balanceX, balanceY, balanceRows, stepX, stepY, stepSquare, normalRow, shearRow, sideRows, nodeSoil, strengthPairs, cross, strengthRow, pairRows, strengthRows, equalityRows, rowsOf}
 use Rattle.scope.specs.Sums.{weightedSum, weighed, limitSum}

@@ -1,6 +1,6 @@
 -- The lines of a file (document 01, 'The two files'): groups of lines, each line with its columns and their limits, and the checks of a line in their order.
 -- A file is the list of its numbers in order. Lines and numbers are counted from 0 here; a place counts from 1.
-use mathlib.Core.Bool.{Bool, true, false}
+use mathlib.Core.Bool.{true, false}
 use mathlib.Core.List.{List, [], _∷_}
 use Prim.Native.Nat.{ℕ, zero, suc, _+_, _*_, _-_}
 use lib.IntN.{ℤ, pos, negsuc}

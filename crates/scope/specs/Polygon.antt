@@ -1,8 +1,8 @@
 -- The polygons (document 01, 'Rows', Strength): "Polygon corners are all whole-number points on the circle of radius r = 5, 25 or 65 (12, 20 or 36 sides), counterclockwise from (r, 0)".
-use mathlib.Core.Bool.{Bool, true, false}
+use mathlib.Core.Bool.{true, false}
 use mathlib.Core.List.{List, [], _∷_, _++_, map}
 use Prim.Native.Nat.{ℕ}
-use lib.IntN.{ℤ, pos, negsuc, negℤ}
+use lib.IntN.{ℤ, pos, negℤ}
 use lib.Dec.{eqb}
 
 -- a point of the plane

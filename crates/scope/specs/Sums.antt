@@ -1,14 +1,14 @@
 -- A field against rows, and multipliers against columns (document 01, 'Rows', Columns): for any list of rows.
 -- A field is its stresses by column, with l and n. Multipliers are numbered as the rows are.
 use mathlib.Core.Bool.{Bool, true, false, cond, _&&_}
-use mathlib.Core.List.{List, [], _∷_, map}
-use Prim.Native.Nat.{ℕ, zero, suc, _+_}
-use lib.IntN.{ℤ, pos, negsuc, _+ℤ_, _*ℤ_}
+use mathlib.Core.List.{List, [], _∷_}
+use Prim.Native.Nat.{ℕ, suc, _+_}
+use lib.IntN.{ℤ, pos, _+ℤ_, _*ℤ_}
 use lib.Signed.{leZ, ltZ}
 use lib.Dec.{eqb}
 use Rattle.integer.specs.Sum.{sumOf}
 use Rattle.integer.specs.Tests.{eqZ}
-use Rattle.scope.specs.Rows.{Kind, asked, unfixed, strength, Row}
+use Rattle.scope.specs.Rows.{asked, unfixed, strength, Row}
 
 -- the sum of c·f(a) over the pairs (c, a)
 unfoldable pub weightedSum : {A : Type 0} → (A → ℤ) → List (ℤ × A) → ℤ

@@ -1,15 +1,13 @@
 -- The verdict on the numbers of a mesh and of a claim (document 01, 'Verdict and report'): refusals 1 to 33 in the paper's order, lowest place first.
-use mathlib.Core.Bool.{Bool, true, false, cond, not, _&&_, _||_}
-use mathlib.Core.List.{List, [], _∷_}
-use Prim.Native.Nat.{ℕ, zero, suc, _+_, _*_}
-use lib.IntN.{ℤ, pos, negsuc, _+ℤ_, _-ℤ_, _*ℤ_}
-use lib.Signed.{leZ, ltZ}
+use mathlib.Core.Bool.{Bool, true, false, cond, not, _&&_}
+use mathlib.Core.List.{List, []}
+use Prim.Native.Nat.{ℕ, suc, _+_, _*_}
+use lib.IntN.{ℤ, pos, _-ℤ_, _*ℤ_}
+use lib.Signed.{ltZ}
 use lib.Dec.{eqb}
 use lib.ListN.{length, getD}
 use Rattle.integer.specs.Tests.{eqZ}
-use Rattle.scope.specs.declared.Place.{Place}
 use Rattle.scope.specs.declared.Place.the-variants.{Line, Row, Column, Node, Element}
-use Rattle.scope.specs.declared.Outcome as O
 use Rattle.scope.specs.declared.Outcome.{Outcome}
 use Rattle.scope.specs.declared.Outcome.the-variants.{Passed, Refused as Fails}
 use Rattle.scope.specs.declared.Load.{Load}
@@ -20,7 +18,7 @@ use Rattle.scope.specs.declared.Verdict.{Verdict}
 use Rattle.scope.specs.declared.Verdict.the-variants.{Accepted, Refused}
 use Rattle.scope.specs.Checks.{demand, _then_, lowest, someBelow, allBelow}
 use Rattle.scope.specs.Layout.{linesCheck}
-use Rattle.scope.specs.Mesh.{meshLayout, nodes, elements, edges, x, y, corner, fromNode, toNode, edgeLine}
+use Rattle.scope.specs.Mesh.{meshLayout, nodes, elements, edges, x, y, fromNode, toNode, edgeLine}
 use Rattle.scope.specs.Rows as R
 use Rattle.scope.specs.Rows.{node, hasCorner, equalityRows, strengthRows, rowsOf}
 use Rattle.scope.specs.Sums.{rowHolds, zeroIfUnfixed, columnSum, liveSum, limitSum, openRows}

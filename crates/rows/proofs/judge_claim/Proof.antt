@@ -1,7 +1,5 @@
 -- `judge_claim` meets its contract: the parts are judged only where the lines have passed.
 use mathlib.Core.Path.{sym, _∙_}
-use Rattle.scope.specs.Mesh.{meshLayout}
-use Rattle.scope.specs.Claim.{claimLayout}
 use Rattle.rows.proofs.VerdictLaws.{mesh-known, judged, claim-refused, claim-goes-on}
 use borrow.Author.Needs.{needs}
 use Rattle.rows.proofs.judge_claim.Statement.{statement}

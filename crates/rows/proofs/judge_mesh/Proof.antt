@@ -9,11 +9,6 @@ use Rattle.rows.proofs.Loops.{then-refuses, then-goes-on}
 use borrow.Author.Needs.{needs}
 use Rattle.rows.proofs.judge_mesh.Statement.{statement}
 use Rattle.rows.proofs.judge_mesh.Tie as tie
-use Rattle.rows.proofs.judge_mesh.Reads as reads
-use Rattle.rows.proofs.judge_mesh.Lts as lts
-use Rattle.rows.proofs.line_checks.mesh_lines.Reads as mesh-lines-reads
-use Rattle.rows.proofs.mesh_checks.mesh_shape.Reads as mesh-shape-reads
-use Rattle.rows.proofs.sizes.sizes_of.Reads as sizes-of-reads
 
 mesh-lines-requires : tie.Need-mesh-lines-requires
 mesh-lines-requires c κs = search needs

@@ -14,8 +14,7 @@ use Rattle.scope.specs.Verdict.{outerEdge, edgesCheck}
 use Rattle.rows.specs.Contracts.{Marks, edgeBelow}
 use Rattle.rows.proofs.Loops.{Phase, phase-more, phase-fails, phase-done}
 use Rattle.rows.proofs.MeshLaws.{edge-line, edge-line-fits}
-use Rattle.rows.proofs.SideTables.{no-edge-yet}
-use Rattle.rows.proofs.SideTables.{edge-more}
+use Rattle.rows.proofs.SideTables.{no-edge-yet, edge-more}
 use Rattle.rows.proofs.mesh_checks.edges_check.Statement.{statement}
 use Rattle.rows.proofs.mesh_checks.edges_check.Tie as tie
 

@@ -2,8 +2,7 @@
 use Prim.Native.Nat.{_+_}
 use native.Mathlib.Omega.{arith}
 use borrow.Author.Needs.{needs}
-use Rattle.rows.proofs.MeshLaws.{node-there}
-use Rattle.rows.proofs.MeshLaws.{left-turn-from}
+use Rattle.rows.proofs.MeshLaws.{node-there, left-turn-from}
 use Rattle.rows.proofs.mesh_checks.left_turn_at.Statement.{statement}
 use Rattle.rows.proofs.mesh_checks.left_turn_at.Tie as tie
 

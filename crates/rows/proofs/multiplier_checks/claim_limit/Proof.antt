@@ -1,11 +1,7 @@
 -- `claim_limit` meets its contract: the multipliers are lent from their first on, where there are any.
-use mathlib.Core.Path.{_≡_, sym, _∙_, ap}
-use Prim.Native.Nat.{_+_, _*_}
 use native.Mathlib.Omega.{arith}
 use Rattle.integer.specs.Machine.{machine, told, apart}
 use Rattle.scope.specs.Columns.{at}
-use Rattle.scope.specs.Claim.{ifThere}
-use Rattle.rows.specs.RowContracts.{multipliersFrom}
 use Rattle.rows.proofs.ClaimLaws.{claim-within, with-multipliers, claim-long}
 use Rattle.rows.proofs.StrengthLaws.{being}
 use Rattle.rows.proofs.LimitLaws.{from-is, multipliers-lent, claim-limited, no-limit}

@@ -1,6 +1,5 @@
 -- `add_columns` meets its contract: three columns, one after the other.
 use mathlib.Core.Path.{refl}
-use native.Mathlib.Nat.{le-refl}
 use native.Mathlib.Omega.{arith}
 use Rattle.integer.specs.Bounds.{AllWithin-le}
 use Rattle.integer.specs.Machine.{Is-read, Is-Within, Is-within}

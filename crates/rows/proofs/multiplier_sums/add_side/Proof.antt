@@ -1,7 +1,6 @@
 -- `add_side` meets its contract: nothing to add where the multiplier is 0, and else three products.
 use native.Mathlib.Omega.{arith}
 use Rattle.integer.specs.Machine.{machine, fits, exact, told}
-use Rattle.scope.specs.Columns.{at}
 use Rattle.rows.proofs.StrengthLaws.{being}
 use Rattle.rows.proofs.NodeLaws.{zero-side, side-added}
 use borrow.Author.Needs.{needs}

@@ -1,7 +1,6 @@
 -- `node_part` meets its contract: the node's rows follow the equality rows and those of the nodes before it.
-use mathlib.Core.Path.{_≡_, sym, _∙_, ap, subst}
-use Prim.Native.Nat.{_<_, _≤_, _*_}
-use native.Mathlib.Nat.{mul-le-mul}
+use mathlib.Core.Path.{sym, _∙_, ap, subst}
+use Prim.Native.Nat.{_<_, _*_}
 use native.Mathlib.Omega.{arith}
 use Rattle.integer.specs.Machine.{Is-read, Is-Within}
 use Rattle.scope.specs.Mesh.{soils}

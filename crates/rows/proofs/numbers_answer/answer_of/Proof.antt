@@ -1,5 +1,5 @@
 -- `answer_of` meets its contract: by the case of the verdict, each field by its own function.
-use mathlib.Core.Path.{_∙_, sym}
+use mathlib.Core.Path.{_∙_}
 use native.Mathlib.Omega.{arith}
 use Rattle.integer.specs.Machine.{machine, unbounded, exact}
 use Rattle.rows.proofs.AnswerLaws.{accepted-is, refused-is}

@@ -1,5 +1,4 @@
 -- `numerator` meets its contract: by the case of the load.
-use mathlib.Core.Path.{refl}
 use native.Mathlib.Omega.{arith}
 use Rattle.integer.specs.Machine.{machine, unbounded, exact}
 use Rattle.rows.proofs.AnswerLaws.{no-numerator, numerator-is}

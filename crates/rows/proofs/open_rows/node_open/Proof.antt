@@ -1,5 +1,5 @@
 -- `node_open` meets its contract. The loop's invariant: the sides passed are counted.
-use mathlib.Core.Path.{_≡_, refl, sym, _∙_, ap}
+use mathlib.Core.Path.{_≡_, refl, _∙_, ap}
 use Prim.Native.Nat.{_-_, _≤_}
 use native.Mathlib.Omega.{arith}
 use Rattle.integer.specs.Machine.{Is-read, Is-Within}

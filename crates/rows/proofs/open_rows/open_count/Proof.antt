@@ -1,6 +1,6 @@
 -- `open_count` meets its contract. The loop's invariant: the rows of the nodes passed are counted.
-use mathlib.Core.Path.{_≡_, sym, _∙_, ap}
-use Prim.Native.Nat.{_+_, _*_, _-_, _≤_}
+use mathlib.Core.Path.{_≡_, sym, ap}
+use Prim.Native.Nat.{_*_, _-_, _≤_}
 use native.Mathlib.Omega.{arith}
 use Rattle.rows.specs.MultiplierContracts.{countBelow, nodeFirst}
 use Rattle.rows.proofs.StrengthLaws.{sides-listed, node-fits, steps-fit, steps-as, first-row}

@@ -1,5 +1,4 @@
 -- `open_rows` meets its contract: the multipliers are lent from their first on, where there is a field too.
-use mathlib.Core.Path.{_∙_}
 use native.Mathlib.Omega.{arith}
 use Rattle.integer.specs.Machine.{machine, told, apart}
 use Rattle.scope.specs.Columns.{at}

@@ -4,11 +4,10 @@ use Rattle.integer.specs.Tests.{eqZ}
 use Rattle.scope.specs.Columns.{at}
 use Rattle.scope.specs.Sums.{leftSide}
 use Rattle.rows.specs.RowContracts.{rowOf}
-use Rattle.rows.proofs.FieldLaws.{load-read}
+use Rattle.rows.proofs.FieldLaws.{load-read, fits-wider, row-asked, row-unfixed}
 use mathlib.Core.Path.{sym, _∙_, ap}
 use native.Mathlib.Omega.{arith}
 use Rattle.integer.specs.Machine.{machine, limits, fits, decides}
-use Rattle.rows.proofs.FieldLaws.{fits-wider, row-asked, row-unfixed}
 use borrow.Author.Needs.{needs}
 use Rattle.rows.proofs.part_checks.equality_holds.Statement.{statement}
 use Rattle.rows.proofs.part_checks.equality_holds.Tie as tie

@@ -1,5 +1,5 @@
 -- `strengths_check` meets its contract. The loop's invariant: the rows of the nodes passed hold.
-use Rattle.rows.proofs.StrengthLaws.{steps-as, check-as, first-row, no-nodes}
+use Rattle.rows.proofs.StrengthLaws.{steps-as, check-as, first-row, no-nodes, sides-listed, strengthDemand, node-fits, steps-fit, node-passes, node-refuses, all-nodes}
 use mathlib.Core.Path.{_≡_, sym, _∙_}
 use Prim.Native.Nat.{_*_, _-_, _≤_}
 use native.Mathlib.Omega.{arith}
@@ -7,7 +7,6 @@ use borrow.Author.Needs.{needs}
 use Rattle.scope.specs.declared.Outcome.the-variants.{Passed}
 use Rattle.scope.specs.Checks.{lowest}
 use Rattle.scope.specs.Mesh.{sides as sidesOf}
-use Rattle.rows.proofs.StrengthLaws.{sides-listed, strengthDemand, node-fits, steps-fit, node-passes, node-refuses, all-nodes}
 use Rattle.rows.proofs.part_checks.strengths_check.Statement.{statement}
 use Rattle.rows.proofs.part_checks.strengths_check.Tie as tie
 

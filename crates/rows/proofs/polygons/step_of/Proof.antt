@@ -3,7 +3,6 @@ use Rattle.integer.specs.Machine.{machine, fits, is}
 use Rattle.scope.specs.Columns.{at}
 use Rattle.rows.specs.RowContracts.{tableRun, tableRise, tableCross}
 use native.Mathlib.Omega.{arith}
-use Rattle.integer.specs.Machine.{machine, fits}
 use borrow.Author.Needs.{needs}
 use Rattle.rows.proofs.polygons.step_of.Statement.{statement}
 use Rattle.rows.proofs.polygons.step_of.Tie as tie

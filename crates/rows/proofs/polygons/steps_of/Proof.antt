@@ -1,8 +1,7 @@
 -- `steps_of` meets its contract: each table is the list of its polygon's coordinates, by computing.
-use Rattle.rows.proofs.SideLaws.{last-listed}
+use Rattle.rows.proofs.SideLaws.{last-listed, steps-of, shown, twelve-table, twenty-table, thirty-six-table}
 use native.Mathlib.Omega.{arith}
 use Rattle.scope.proofs.PolygonRule.{twelve-sides, twenty-sides, thirty-six-sides}
-use Rattle.rows.proofs.SideLaws.{steps-of, shown, twelve-table, twenty-table, thirty-six-table}
 use borrow.Author.Needs.{needs}
 use Rattle.rows.proofs.polygons.steps_of.Statement.{statement}
 use Rattle.rows.proofs.polygons.steps_of.Tie as tie

@@ -1,19 +1,16 @@
 -- `add_row` meets its contract. The loop's invariant: y times the entries passed is added.
 use lib.IntN.{ℤ, _+ℤ_, _*ℤ_}
-use Rattle.integer.specs.Machine.{unread}
+use Rattle.integer.specs.Machine.{unread, is, bounded, machine, fits}
 use Rattle.scope.specs.Columns.{at}
 use Rattle.scope.specs.Sums.{coefficient}
 use Rattle.rows.specs.RowContracts.{rowOf, SumsAre}
 use mathlib.Core.Path.{_≡_, refl, sym, subst}
-use Rattle.integer.specs.Machine.{is, bounded}
 use Rattle.integer.specs.Bounds.{AllWithin-le}
-use Rattle.rows.proofs.SumLaws.{sums-within}
+use Rattle.rows.proofs.SumLaws.{sums-within, Adding, none-added, entry-added, all-added}
 use native.Mathlib.Omega.{arith}
 use Prim.Native.Nat.{_≤_, _-_}
 use mir.Syntax.{w64}
 use mir.Val.{toZ, ofZ}
-use Rattle.integer.specs.Machine.{machine, fits}
-use Rattle.rows.proofs.SumLaws.{Adding, none-added, entry-added, all-added}
 use Rattle.rows.proofs.row_sums.add_row.Statement.{statement}
 use Rattle.rows.proofs.row_sums.add_row.Tie as tie
 

@@ -1,8 +1,7 @@
 -- `body_force` meets its contract: the element's soil is there, and a product of two bounded numbers fits.
-use mathlib.Core.Path.{subst}
+use mathlib.Core.Path.{subst, sym}
 use Prim.Native.Nat.{_<_}
 use Rattle.scope.specs.Mesh.{soils}
-use mathlib.Core.Path.{sym}
 use native.Mathlib.Omega.{arith}
 use Rattle.integer.specs.Machine.{machine, fits, is}
 use borrow.Author.Needs.{needs}

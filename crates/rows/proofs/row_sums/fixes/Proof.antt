@@ -1,7 +1,6 @@
 -- `fixes` meets its contract: the two tests in turn.
 use lib.IntN.{pos}
 use Rattle.integer.specs.Tests.{eqZ, yes-eqZ, no-eqZ}
-use Rattle.integer.specs.Tests.{yes-eqZ, no-eqZ}
 use Rattle.rows.proofs.EqualityLaws.{or-first, or-second}
 use native.Mathlib.Omega.{arith}
 use Rattle.integer.specs.Machine.{machine, told, apart, decides}

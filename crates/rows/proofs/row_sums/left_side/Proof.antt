@@ -1,9 +1,8 @@
 -- `left_side` meets its contract. The loop's invariant: `sum` is the sum over the entries passed.
-use mathlib.Core.Path.{_≡_, ap}
+use mathlib.Core.Path.{_≡_, ap, refl, sym}
 use lib.IntN.{_+ℤ_, _*ℤ_}
-use Rattle.scope.specs.Sums.{leftSide}
-use Rattle.rows.specs.RowContracts.{rowOf}
-use mathlib.Core.Path.{refl, sym}
+use Rattle.scope.specs.Sums.{leftSide, weightedSum}
+use Rattle.rows.specs.RowContracts.{rowOf, pairs}
 use native.Mathlib.Omega.{arith}
 use Prim.Native.Nat.{_≤_, _*_, _-_}
 use lib.ListN.{take}
@@ -11,8 +10,6 @@ use mir.Syntax.{w64}
 use mir.Val.{toZ}
 use Rattle.integer.specs.Machine.{Is, machine, fits, is}
 use Rattle.scope.specs.Columns.{at}
-use Rattle.scope.specs.Sums.{weightedSum}
-use Rattle.rows.specs.RowContracts.{pairs}
 use Rattle.rows.proofs.SumLaws.{one-entry-more}
 use Rattle.rows.proofs.row_sums.left_side.Statement.{statement}
 use Rattle.rows.proofs.row_sums.left_side.Tie as tie
