@@ -7,8 +7,11 @@ use native.Mathlib.Nat.{mul-le-mul}
 use native.Mathlib.Omega.{arith}
 use lib.IntN.{ℤ, pos, negsuc}
 use lib.Signed.{_≤ℤ_}
-use lib.ListN.{length, take, drop, getD, replicate, length-replicate, take-append-drop}
+use lib.ListN.{length, take, drop, getD, length-replicate, take-append-drop}
 use lib.Seq.{getD-take, length-take-le}
+use mir.Syntax.{w64}
+use mir.Val.{SFits, toZ, ofZ}
+use mir.Facts.{toZ-ofZ}
 use borrow.Table.Steps.{cases}
 use Rattle.integer.specs.Order.{≤ℤ-pos, pos-≤ℤ}
 use Rattle.integer.specs.Tests.{eqZ, eqZ-yes}
@@ -16,11 +19,14 @@ use Rattle.scope.specs.declared.Place.{Place}
 use Rattle.scope.specs.declared.Place.the-variants.{Line}
 use Rattle.scope.specs.declared.Outcome.{Outcome}
 use Rattle.scope.specs.declared.Outcome.the-variants.{Passed, Refused}
-use Rattle.scope.specs.Columns.{at, between, free, hasField, hasMultipliers}
-use Rattle.scope.specs.Layout.{count, groups, lineOf, lineNumbers, lineCheck, lineAt}
+use Rattle.scope.specs.Columns.{at, free, hasField, hasMultipliers}
+use Rattle.scope.specs.Layout.{width, count, groups, lineOf, lineNumbers, lineCheck, lineAt}
 use Rattle.scope.specs.Sound.{Within}
 use Rattle.scope.specs.Mesh.{meshLayout, meshHeader, soilLines, nodeLines, elementLines, edgeLines, nodes, elements, soils, edges, sides}
 use Rattle.scope.specs.Claim.{ifThere, claimLayout, claimHeader, stressLines, elementMultipliers, edgeMultipliers, strengthMultipliers}
+use Rattle.rows.specs.declared.line_checks.Lines.{Lines}
+use Rattle.rows.specs.declared.line_checks.Lines.the-variants.{Soils, Nodes, Elements, Edges, Stresses, ElementMultipliers, EdgeMultipliers, StrengthMultipliers}
+use Rattle.rows.specs.LineContracts.{linesGroup, claimBody, SmallCounts}
 use Rattle.reader.specs.declared.lines.Progress.{Progress}
 use Rattle.reader.specs.declared.lines.Group.{Group}
 use Rattle.scope.proofs.InOrder.{line-check-passed}
@@ -35,6 +41,10 @@ use Rattle.reader.proofs.Whole.{HeaderRead, headerSays, no-header, head
 abbrev alike : ℕ → ℕ → Group
 alike n k = record { lines = n; columns = k }
 
+-- lines of this group have k columns, whatever their counts
+abbrev Wide : Lines → ℕ → Type 0
+Wide g k = (count nodes soils : ℕ) → k ≡ width (linesGroup g count nodes soils)
+
 four : (a b c d : List ℕ) → a ++ b ++ c ++ d ≡ a ++ (b ++ (c ++ (d ++ [])))
 four a b c d = simp (append-assoc, append-nil)
 
@@ -45,18 +55,22 @@ unfolding count
 count-most (pos n) h = ≤ℤ-pos h
 count-most (negsuc n) h = omega arith
 
-module _ (m : List ℤ) {ns es ss gs : ℕ} (n : ns ≡ count (at m 0)) (e : es ≡ count (at m 1)) (s : ss ≡ count (at m 2)) (g : gs ≡ count (at m 3)) where
-  pub mesh-lines : linesOf (alike ss 8) ++ linesOf (alike ns 2) ++ linesOf (alike es 5) ++ linesOf (alike gs 7) ≡ widths (meshLayout .body m)
-  unfolding linesOf widths meshLayout soilLines nodeLines elementLines edgeLines soils nodes elements edges
-  mesh-lines = rw (n, e, s, g) (four (replicate (soils m) 8) (replicate (nodes m) 2) (replicate (elements m) 5) (replicate (edges m) 7))
+module _ (m : List ℤ) {ns es ss gs ks kn ke kg : ℕ} (n : ns ≡ count (at m 0)) (e : es ≡ count (at m 1)) (s : ss ≡ count (at m 2)) (g : gs ≡ count (at m 3)) (ws : Wide Soils ks) (wn : Wide Nodes kn) (we : Wide Elements ke) (wg : Wide Edges kg) where
+  pub mesh-lines : linesOf (alike ss ks) ++ linesOf (alike ns kn) ++ linesOf (alike es ke) ++ linesOf (alike gs kg) ≡ widths (meshLayout .body m)
+  unfolding linesOf widths meshLayout linesGroup soilLines nodeLines elementLines edgeLines soils nodes elements edges
+  mesh-lines =
+      four (linesOf (alike ss ks)) (linesOf (alike ns kn)) (linesOf (alike es ke)) (linesOf (alike gs kg))
+      ∙ rw (n, e, s, g, ws 0 0 0, wn 0 0 0, we 0 0 0, wg 0 0 0)
 
-  pub mesh-room : (p : Progress) (k : ℕ) → FewLines m → p .numbers ≡ 5 → 1254 ≤ k → Room p (alike ss 8) (alike ns 2) (alike es 5) (alike gs 7) k
+  pub mesh-room : (p : Progress) (k : ℕ) → FewLines m → p .numbers ≡ 5 → 1254 ≤ k → Room p (alike ss ks) (alike ns kn) (alike es ke) (alike gs kg) k
+  unfolding linesGroup soilLines nodeLines elementLines edgeLines
   mesh-room p k f q l =
       let a = count-most (at m 0) (f .nodes .most) in
       let b = count-most (at m 1) (f .elements .most) in
       let c = count-most (at m 2) (f .soils .most) in
       let d = count-most (at m 3) (f .edges .most) in
-      record { columnsA = omega arith; columnsB = omega arith; columnsC = omega arith; columnsD = omega arith; fits = omega arith }
+      rw (ws 0 0 0, wn 0 0 0, we 0 0 0, wg 0 0 0)
+      (record { columnsA = omega arith; columnsB = omega arith; columnsC = omega arith; columnsD = omega arith; fits = omega arith })
 
 -- ---- a claim
 
@@ -65,19 +79,27 @@ unfolding ifThere
 there-most true k = omega arith
 there-most false k = omega arith
 
-module _ (ns es gs ss : ℕ) (c : List ℤ) {fn me mg mn : ℕ} (a : fn ≡ ifThere (hasField c) ns) (b : me ≡ ifThere (hasMultipliers c) es) (d : mg ≡ ifThere (hasMultipliers c) gs) (e : mn ≡ ifThere (hasMultipliers c) ns) where
-  pub claim-lines : linesOf (alike fn 3) ++ linesOf (alike me 2) ++ linesOf (alike mg 4) ++ linesOf (alike mn ss) ≡ bodyOf ns es gs ss c
-  unfolding linesOf bodyOf
-  claim-lines = rw (a, b, d, e)
+module _ (ns es gs ss : ℕ) (c : List ℤ) {fn me mg mn kf ke kg kn : ℕ} (a : fn ≡ ifThere (hasField c) ns) (b : me ≡ ifThere (hasMultipliers c) es) (d : mg ≡ ifThere (hasMultipliers c) gs) (e : mn ≡ ifThere (hasMultipliers c) ns) (wf : Wide Stresses kf) (we : Wide ElementMultipliers ke) (wg : Wide EdgeMultipliers kg) (wn : Wide (StrengthMultipliers ss) kn) where
+  pub claim-lines : linesOf (alike fn kf) ++ linesOf (alike me ke) ++ linesOf (alike mg kg) ++ linesOf (alike mn kn) ≡ bodyOf ns es gs ss c
+  unfolding linesOf bodyOf widths claimBody linesGroup stressLines elementMultipliers edgeMultipliers strengthMultipliers
+  claim-lines =
+      four (linesOf (alike fn kf)) (linesOf (alike me ke)) (linesOf (alike mg kg)) (linesOf (alike mn kn))
+      ∙ rw (a, b, d, e, wf 0 0 0, we 0 0 0, wg 0 0 0, wn 0 0 0)
 
-  pub claim-room : (p : Progress) (k : ℕ) → (ns ≤ 100) × (es ≤ 100) × (gs ≤ 60) × (ss ≤ 36) → p .numbers ≡ 4 → 4345 ≤ k → Room p (alike fn 3) (alike me 2) (alike mg 4) (alike mn ss) k
+  pub claim-room : (p : Progress) (k : ℕ) → SmallCounts ns es gs ss → p .numbers ≡ 4 → 4345 ≤ k → Room p (alike fn kf) (alike me ke) (alike mg kg) (alike mn kn) k
+  unfolding linesGroup stressLines elementMultipliers edgeMultipliers strengthMultipliers
   claim-room p k m q l =
       let f = there-most (hasField c) ns in
       let g = there-most (hasMultipliers c) es in
       let h = there-most (hasMultipliers c) gs in
       let i = there-most (hasMultipliers c) ns in
-      let j : mn * ss ≤ 100 * 36 = mul-le-mul {n₂ = 100} {m₂ = 36} (omega arith) (omega arith) in
-      record { columnsA = omega arith; columnsB = omega arith; columnsC = omega arith; columnsD = omega arith; fits = omega arith }
+      let j : mn * ss ≤ 100 * 36 = mul-le-mul {n₂ = 100} {m₂ = 36} (omega arith) (m .fewSides) in
+      rw (wf 0 0 0, we 0 0 0, wg 0 0 0, wn 0 0 0 ∙ length-replicate ss _)
+      (record { columnsA = omega arith; columnsB = omega arith; columnsC = omega arith; columnsD = omega arith; fits = omega arith })
+
+-- the machine's reading of a flag is the flag
+pub flag-read : (k : ℕ) {z flag : ℤ} {r : ℕ} → SFits w64 z → z ≡ flag → r ≡ ifThere (eqZ (toZ w64 (ofZ w64 z)) (pos 1)) k → r ≡ ifThere (eqZ flag (pos 1)) k
+flag-read k f e h = rw (toZ-ofZ f ∙ e) at h
 
 pub part-there : (z : ℤ) (k : ℕ) → z ≡ pos 1 → k ≡ ifThere (eqZ z (pos 1)) k
 unfolding ifThere
@@ -193,10 +215,8 @@ module _ (bs : List ℕ) (out : List ℤ) {p : Progress} {after : List ℤ} wher
       claim-refused r = record { against = λ m n d g s. header-refused (claimLayout m) bs out (h m) (sym (claim-says m e) ∙ r) }
 
       same-lines : (m : List ℤ) → nodes m ≡ ns → elements m ≡ es → edges m ≡ gs → sides m ≡ ss → bodyOf ns es gs ss after ≡ widths (claimLayout m .body (take 4 after))
-      unfolding bodyOf widths claimLayout stressLines elementMultipliers edgeMultipliers strengthMultipliers
-      same-lines m n d g s =
-          rw (← n, ← d, ← g, ← s, same-field, same-multipliers, length-replicate (sides m) (between (pos 0) (pos 10000)))
-          (four (replicate (ifThere (hasField after) (nodes m)) 3) (replicate (ifThere (hasMultipliers after) (elements m)) 2) (replicate (ifThere (hasMultipliers after) (edges m)) 4) (replicate (ifThere (hasMultipliers after) (nodes m)) (sides m)))
+      unfolding bodyOf claimBody claimLayout
+      same-lines m n d g s = rw (← n, ← d, ← g, ← s, same-field, same-multipliers)
 
       pub claim-passed : {r : ℕ} {end : List ℤ} → o ≡ Passed → Listed (allNumbers bs (bodyOf ns es gs ss after) p after) after r end → ClaimListed bs ns es gs ss out r end
       unfolding claimLayout claimHeader

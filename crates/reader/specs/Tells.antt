@@ -1,11 +1,12 @@
 -- What a header tells of the lines after it, as the functions that read a mesh and a claim say it.
-use mathlib.Core.List.{List, _++_}
+use mathlib.Core.List.{List}
 use Prim.Native.Nat.{ℕ}
 use lib.IntN.{ℤ, pos}
-use lib.ListN.{replicate}
 use Rattle.scope.specs.Columns.{at, hasField, hasMultipliers}
 use Rattle.scope.specs.Facts.{Between}
 use Rattle.scope.specs.Claim.{ifThere}
+use Rattle.rows.specs.LineContracts.{claimBody}
+use Rattle.reader.specs.File.{widths}
 
 -- the counts of a mesh's header are within its limits
 pub record FewLines (m : List ℤ) : Type 0 where
@@ -17,7 +18,4 @@ pub record FewLines (m : List ℤ) : Type 0 where
 -- the columns of each line of a claim after its header c, on a mesh of these counts
 unfoldable pub bodyOf : ℕ → ℕ → ℕ → ℕ → List ℤ → List ℕ
 bodyOf ns es gs ss c =
-    replicate (ifThere (hasField c) ns) 3
-    ++ replicate (ifThere (hasMultipliers c) es) 2
-    ++ replicate (ifThere (hasMultipliers c) gs) 4
-    ++ replicate (ifThere (hasMultipliers c) ns) ss
+    widths (claimBody (ifThere (hasField c) ns) (ifThere (hasMultipliers c) es) (ifThere (hasMultipliers c) gs) (ifThere (hasMultipliers c) ns) ss)

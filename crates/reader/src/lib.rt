@@ -7,18 +7,19 @@ use crate::lines::Group;
 use crate::lines::Progress;
 use crate::lines::read_body;
 use crate::lines::read_header;
+use rows::line_checks::Lines;
 use rows::line_checks::claim_header;
+use rows::line_checks::columns;
+use rows::line_checks::if_there;
 use rows::line_checks::mesh_header;
 use rows::sizes::count_at;
+use rows::sizes::number_at;
 use scope::Outcome;
 ghost use mathlib.Core.Path.{_≡_};
-ghost use Prim.Native.Nat.{_≤_, _<_};
-ghost use lib.IntN.{pos};
+ghost use Prim.Native.Nat.{_≤_};
 ghost use lib.ListN.{length};
-ghost use Rattle.integer.specs.Tests.{eqZ};
-ghost use Rattle.scope.specs.Columns.{at};
 ghost use Rattle.scope.specs.Mesh.{meshLayout};
-ghost use Rattle.scope.specs.Claim.{ifThere};
+ghost use Rattle.rows.specs.LineContracts.{SmallCounts};
 ghost use Rattle.reader.specs.File.{numbersOf, widths};
 ghost use Rattle.reader.specs.OnePass.{Table};
 ghost use Rattle.reader.specs.HowFar.{allNumbers};
@@ -36,19 +37,19 @@ fn mesh_body(table: &[u64; 256], bytes: &[u8], p: Progress, out: &mut [i64]) -> 
     let edges = count_at(out, 3);
     let a = Group {
         lines: soils,
-        columns: 8,
+        columns: columns(Lines::Soils),
     };
     let b = Group {
         lines: nodes,
-        columns: 2,
+        columns: columns(Lines::Nodes),
     };
     let c = Group {
         lines: elements,
-        columns: 5,
+        columns: columns(Lines::Elements),
     };
     let d = Group {
         lines: edges,
-        columns: 7,
+        columns: columns(Lines::Edges),
     };
     read_body(table, bytes, p, a, b, c, d, out)
 }
@@ -70,17 +71,6 @@ pub fn read_mesh(bytes: &[u8], out: &mut [i64]) -> usize
     mesh_body(&entries, bytes, p, out)
 }
 
-// So many lines where number k of a header says that a part is there, else none.
-fn if_there(header: &[i64], k: usize, lines: usize) -> usize
-    requires { ⌜ k < length (now header) ⌝ }
-    ensures { λ r. ⌜ r ≡ ifThere (eqZ (at (now (header .entry)) k) (pos 1)) lines ⌝ }
-{
-    if header[k] == 1 {
-        return lines;
-    }
-    0
-}
-
 // The lines after a claim's header, which stands at the front of `out`.
 fn claim_body(
     table: &[u64; 256],
@@ -92,28 +82,30 @@ fn claim_body(
     sides: usize,
     out: &mut [i64],
 ) -> usize
-    requires { ⌜ Table (now table) ⌝ ∗ ⌜ p .at ≤ length (now bytes) ⌝ ∗ ⌜ p .numbers ≡ 4 ⌝ ∗ ⌜ (nodes ≤ 100) × (elements ≤ 100) × (edges ≤ 60) × (sides ≤ 36) ⌝ ∗ ⌜ 4345 ≤ length (now out) ⌝ }
+    requires { ⌜ Table (now table) ⌝ ∗ ⌜ p .at ≤ length (now bytes) ⌝ ∗ ⌜ p .numbers ≡ 4 ⌝ ∗ ⌜ SmallCounts nodes elements edges sides ⌝ ∗ ⌜ 4345 ≤ length (now out) ⌝ }
     ensures { λ r. ⌜ Listed (allNumbers (now (bytes .entry)) (bodyOf nodes elements edges sides (now (out .entry))) p (now (out .entry))) (now (out .entry)) r (now (out .exit)) ⌝ }
 {
-    let stresses = if_there(out, 0, nodes);
-    let by_element = if_there(out, 1, elements);
-    let by_edge = if_there(out, 1, edges);
-    let by_node = if_there(out, 1, nodes);
+    let field = number_at(out, 0);
+    let multipliers = number_at(out, 1);
+    let stresses = if_there(field, nodes);
+    let by_element = if_there(multipliers, elements);
+    let by_edge = if_there(multipliers, edges);
+    let by_node = if_there(multipliers, nodes);
     let a = Group {
         lines: stresses,
-        columns: 3,
+        columns: columns(Lines::Stresses),
     };
     let b = Group {
         lines: by_element,
-        columns: 2,
+        columns: columns(Lines::ElementMultipliers),
     };
     let c = Group {
         lines: by_edge,
-        columns: 4,
+        columns: columns(Lines::EdgeMultipliers),
     };
     let d = Group {
         lines: by_node,
-        columns: sides,
+        columns: columns(Lines::StrengthMultipliers(sides)),
     };
     read_body(table, bytes, p, a, b, c, d, out)
 }
@@ -127,7 +119,7 @@ pub fn read_claim(
     sides: usize,
     out: &mut [i64],
 ) -> usize
-    requires { ⌜ (nodes ≤ 100) × (elements ≤ 100) × (edges ≤ 60) × (sides ≤ 36) ⌝ ∗ ⌜ 4345 ≤ length (now out) ⌝ }
+    requires { ⌜ SmallCounts nodes elements edges sides ⌝ ∗ ⌜ 4345 ≤ length (now out) ⌝ }
     ensures { λ r. ⌜ ClaimListed (now (bytes .entry)) nodes elements edges sides (now (out .entry)) r (now (out .exit)) ⌝ }
 {
     let entries = table();

@@ -8,6 +8,8 @@ use lib.Dec.{leb}
 use lib.ListN.{length, take, drop, replicate}
 use Rattle.scope.specs.declared.Place.the-variants.{Line}
 use Rattle.scope.specs.declared.Outcome.{Outcome}
+use Rattle.rows.specs.declared.line_checks.Lines.{Lines}
+use Rattle.rows.specs.declared.line_checks.Lines.the-variants.{Soils, Nodes, Elements, Edges, Stresses, ElementMultipliers, EdgeMultipliers, StrengthMultipliers}
 use Rattle.rows.specs.declared.line_checks.LineKind.{LineKind}
 use Rattle.rows.specs.declared.line_checks.LineKind.the-variants.{Soil, Element, Edge}
 use Rattle.scope.specs.Checks.{demand, _then_, lowest}
@@ -46,6 +48,17 @@ groupsCheck f (g ∷ gs) s line = groupCheck f g s line then groupsCheck f gs (d
 -- lines whose columns all have one limit
 unfoldable pub evenLines : ℕ → ℕ → Limit → Group
 evenLines count columns a = record { lines = count; limits = replicate columns a; rules = [] }
+
+-- the groups after a header, each with `count` lines: an element names nodes and soils, an edge nodes
+unfoldable pub linesGroup : Lines → ℕ → ℕ → ℕ → Group
+linesGroup Soils count nodes soils = soilLines count
+linesGroup Nodes count nodes soils = nodeLines count
+linesGroup Elements count nodes soils = elementLines count nodes soils
+linesGroup Edges count nodes soils = edgeLines count nodes
+linesGroup Stresses count nodes soils = stressLines count
+linesGroup ElementMultipliers count nodes soils = elementMultipliers count
+linesGroup EdgeMultipliers count nodes soils = edgeMultipliers count
+linesGroup (StrengthMultipliers sides) count nodes soils = strengthMultipliers count sides
 
 -- the lines of a mesh that have rules of their own
 unfoldable pub groupOf : LineKind → ℕ → ℕ → ℕ → Group

@@ -4,16 +4,16 @@ use scope::Outcome;
 use scope::Place;
 ghost use mathlib.Core.Path.{_≡_};
 ghost use mathlib.Core.List.{List, [], _∷_};
-ghost use Prim.Native.Nat.{min, _/_, _<_, _≤_, _^_};
+ghost use Prim.Native.Nat.{ℕ, min, _/_, _<_, _≤_, _^_};
 ghost use lib.ListN.{length, take, drop};
 ghost use lib.IntN.{ℤ, pos, _+ℤ_, _*ℤ_};
 ghost use Rattle.integer.specs.Bounds.{Within};
 ghost use Rattle.integer.specs.Tests.{eqZ};
 ghost use Rattle.scope.specs.Columns.{between, within, isOneOf, allWithin, parts, ruleTest};
-ghost use Rattle.scope.specs.Layout.{Layout, lineCheck, lineAt, linesCheck};
+ghost use Rattle.scope.specs.Layout.{Layout, width, lineCheck, lineAt, linesCheck};
 ghost use Rattle.scope.specs.Mesh.{meshLayout, soilLines, elementLines, edgeLines};
 ghost use Rattle.scope.specs.Claim.{claimHeader, claimLayout, ifThere};
-ghost use Rattle.rows.specs.LineContracts.{runWithin, ranges, AsMany, groupCheck, groupsCheck, groupOf, columnsOf, evenLines, FewLines, FewColumns, NumberedFrom, meshBody, MeshCounts, claimBody, ClaimCounts, CountsAre, SmallCounts};
+ghost use Rattle.rows.specs.LineContracts.{runWithin, ranges, AsMany, groupCheck, groupsCheck, linesGroup, groupOf, columnsOf, evenLines, FewLines, FewColumns, NumberedFrom, meshBody, MeshCounts, claimBody, ClaimCounts, CountsAre, SmallCounts};
 
 // The limits of a mesh's header before its sides, and of a claim's header.
 const MESH_LEAST: [i64; 4] = [4, 1, 1, 0];
@@ -142,6 +142,34 @@ fn edge_line(s: &[i64], nodes: usize, line: usize) -> Outcome
     Outcome::Passed
 }
 
+// The groups of lines after a header: four of a mesh, then four of a claim. The lines of strength multipliers are as wide as the polygon has sides.
+pub enum Lines {
+    Soils,
+    Nodes,
+    Elements,
+    Edges,
+    Stresses,
+    ElementMultipliers,
+    EdgeMultipliers,
+    StrengthMultipliers(usize),
+}
+
+// How many columns each line of a group has.
+pub fn columns(group: Lines) -> usize
+    ensures { λ r. ⌜ ((count nodes soils : ℕ) → r ≡ width (linesGroup group count nodes soils)) ⌝ }
+{
+    match group {
+        Lines::Soils => 8,
+        Lines::Nodes => 2,
+        Lines::Elements => 5,
+        Lines::Edges => 7,
+        Lines::Stresses => 3,
+        Lines::ElementMultipliers => 2,
+        Lines::EdgeMultipliers => 4,
+        Lines::StrengthMultipliers(sides) => sides,
+    }
+}
+
 // The lines of a mesh that have rules of their own.
 enum LineKind {
     Soil,
@@ -154,9 +182,9 @@ fn columns_of(kind: LineKind) -> usize
     ensures { λ r. ⌜ r ≡ columnsOf kind ⌝ }
 {
     match kind {
-        LineKind::Soil => 8,
-        LineKind::Element => 5,
-        LineKind::Edge => 7,
+        LineKind::Soil => columns(Lines::Soils),
+        LineKind::Element => columns(Lines::Elements),
+        LineKind::Edge => columns(Lines::Edges),
     }
 }
 

@@ -14,9 +14,7 @@ slice-aggregate-read-claim : tie.Need-slice-aggregate-read-claim
 slice-aggregate-read-claim c = search needs
 
 read-claim-requires : tie.Need-read-claim-requires
-read-claim-requires c κs =
-    let k = sizes-small (c .before .sizes-of .ensures) in
-    ((k .fewNodes, k .fewElements, k .fewEdges, k .fewSides), search needs)
+read-claim-requires c κs = (sizes-small (c .before .sizes-of .ensures), search needs)
 
 array-share-prefix-numbers : tie.Need-array-share-prefix-numbers
 array-share-prefix-numbers c = fits (claim-listed (c .before .before .before .sizes-of .ensures) (c .before .read-claim .ensures))
