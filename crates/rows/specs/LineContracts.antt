@@ -60,6 +60,9 @@ linesGroup ElementMultipliers count nodes soils = elementMultipliers count
 linesGroup EdgeMultipliers count nodes soils = edgeMultipliers count
 linesGroup (StrengthMultipliers sides) count nodes soils = strengthMultipliers count sides
 
+abbrev pub columnsIn : Lines → ℕ
+columnsIn g = width (linesGroup g 0 0 0)
+
 -- the lines of a mesh that have rules of their own
 unfoldable pub groupOf : LineKind → ℕ → ℕ → ℕ → Group
 groupOf Soil count nodes soils = soilLines count

@@ -4,7 +4,7 @@ use scope::Outcome;
 use scope::Place;
 ghost use mathlib.Core.Path.{_≡_};
 ghost use mathlib.Core.List.{List, [], _∷_};
-ghost use Prim.Native.Nat.{ℕ, min, _/_, _<_, _≤_, _^_};
+ghost use Prim.Native.Nat.{ℕ, min, _*_, _/_, _<_, _≤_, _^_};
 ghost use lib.ListN.{length, take, drop};
 ghost use lib.IntN.{ℤ, pos, _+ℤ_, _*ℤ_};
 ghost use Rattle.integer.specs.Bounds.{Within};
@@ -13,7 +13,7 @@ ghost use Rattle.scope.specs.Columns.{between, within, isOneOf, allWithin, part
 ghost use Rattle.scope.specs.Layout.{Layout, width, lineCheck, lineAt, linesCheck};
 ghost use Rattle.scope.specs.Mesh.{meshLayout, soilLines, elementLines, edgeLines};
 ghost use Rattle.scope.specs.Claim.{claimHeader, claimLayout, ifThere};
-ghost use Rattle.rows.specs.LineContracts.{runWithin, ranges, AsMany, groupCheck, groupsCheck, linesGroup, groupOf, columnsOf, evenLines, FewLines, FewColumns, NumberedFrom, meshBody, MeshCounts, claimBody, ClaimCounts, CountsAre, SmallCounts};
+ghost use Rattle.rows.specs.LineContracts.{runWithin, ranges, AsMany, groupCheck, groupsCheck, linesGroup, columnsIn, groupOf, columnsOf, evenLines, FewLines, FewColumns, NumberedFrom, meshBody, MeshCounts, claimBody, ClaimCounts, CountsAre, SmallCounts};
 
 // The limits of a mesh's header before its sides, and of a claim's header.
 const MESH_LEAST: [i64; 4] = [4, 1, 1, 0];
@@ -263,12 +263,36 @@ fn even_check(
     Outcome::Passed
 }
 
+// The lines of a group that stand at the front of a list, where every column has the limits lo and hi.
+fn even_lines(
+    s: &[i64],
+    group: Lines,
+    count: usize,
+    lo: i64,
+    hi: i64,
+    form: u32,
+    line: usize,
+) -> Outcome
+    requires { ⌜ FewColumns count (columnsIn group) form line ⌝ }
+    ensures { λ r. ⌜ ((f : Layout) → NumberedFrom f form → r ≡ groupCheck f (evenLines count (columnsIn group) (between lo hi)) (now (s .entry)) line) ⌝ }
+{
+    even_check(s, count, columns(group), lo, hi, form, line)
+}
+
 // What stands after the first numbers of a list.
 fn rest(s: &[i64], from: usize) -> &[i64]
     requires { ⌜ from ≤ length (now s) ⌝ }
     ensures { λ r. ⌜ now r ≡ drop from (now (s .entry)) ⌝ }
 {
     &s[from..]
+}
+
+// What stands after the lines of a group at the front of a list.
+fn past(s: &[i64], group: Lines, count: usize) -> &[i64]
+    requires { ⌜ count * columnsIn group ≤ length (now s) ⌝ }
+    ensures { λ r. ⌜ now r ≡ drop (count * columnsIn group) (now (s .entry)) ⌝ }
+{
+    rest(s, count * columns(group))
 }
 
 // The number of sides is one of those that a polygon has.
@@ -341,24 +365,24 @@ fn mesh_groups(s: &[i64], nodes: usize, elements: usize, soils: usize, edges: us
     if let Outcome::Refused { .. } = of_soils {
         return of_soils;
     }
-    let t = rest(s, soils * 8);
-    let of_nodes = even_check(t, nodes, 2, 0, 1000, 1, 2 + soils);
+    let t = past(s, Lines::Soils, soils);
+    let of_nodes = even_lines(t, Lines::Nodes, nodes, 0, 1000, 1, 2 + soils);
     if let Outcome::Refused { .. } = of_nodes {
         return of_nodes;
     }
-    let u = rest(t, nodes * 2);
+    let u = past(t, Lines::Nodes, nodes);
     let elements_line = 2 + soils + nodes;
     let of_elements = group_check(LineKind::Element, u, elements, nodes, soils, elements_line);
     if let Outcome::Refused { .. } = of_elements {
         return of_elements;
     }
-    let v = rest(u, elements * 5);
+    let v = past(u, Lines::Elements, elements);
     let edges_line = elements_line + elements;
     let of_edges = group_check(LineKind::Edge, v, edges, nodes, soils, edges_line);
     if let Outcome::Refused { .. } = of_edges {
         return of_edges;
     }
-    if edges * 7 < v.len() {
+    if edges * columns(Lines::Edges) < v.len() {
         return refused(1, edges_line + edges);
     }
     Outcome::Passed
@@ -391,21 +415,37 @@ fn claim_groups(
     requires { ⌜ ClaimCounts field elements edges nodes sides ⌝ }
     ensures { λ r. ⌜ r ≡ groupsCheck (claimLayout []) (claimBody field elements edges nodes sides) (now (s .entry)) 2 ⌝ }
 {
-    let of_field = even_check(s, field, 3, -1000000000, 1000000000, 11, 2);
+    let of_field = even_lines(s, Lines::Stresses, field, -1000000000, 1000000000, 11, 2);
     if let Outcome::Refused { .. } = of_field {
         return of_field;
     }
-    let t = rest(s, field * 3);
-    let of_elements = even_check(t, elements, 2, -100000, 100000, 11, 2 + field);
+    let t = past(s, Lines::Stresses, field);
+    let of_elements = even_lines(
+        t,
+        Lines::ElementMultipliers,
+        elements,
+        -100000,
+        100000,
+        11,
+        2 + field,
+    );
     if let Outcome::Refused { .. } = of_elements {
         return of_elements;
     }
-    let u = rest(t, elements * 2);
-    let of_edges = even_check(u, edges, 4, -100000, 100000, 11, 2 + field + elements);
+    let u = past(t, Lines::ElementMultipliers, elements);
+    let of_edges = even_lines(
+        u,
+        Lines::EdgeMultipliers,
+        edges,
+        -100000,
+        100000,
+        11,
+        2 + field + elements,
+    );
     if let Outcome::Refused { .. } = of_edges {
         return of_edges;
     }
-    let v = rest(u, edges * 4);
+    let v = past(u, Lines::EdgeMultipliers, edges);
     let of_nodes = even_check(v, nodes, sides, 0, 10000, 11, 2 + field + elements + edges);
     if let Outcome::Refused { .. } = of_nodes {
         return of_nodes;
