@@ -2,7 +2,7 @@
 
      rt staticlib pechuvo
      cc -Iinclude examples/check.c target/staticlib/libpechuvo.a -o target/check
-     target/check crates/desk/data/worked.mesh crates/desk/data/worked.claim
+     target/check sheets/worked.mesh sheets/worked.claim
 
    The status is 0 where the claim is accepted, 1 where it is refused, 2 where a file is missing. */
 #include <stdio.h>

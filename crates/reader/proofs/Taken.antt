@@ -1,5 +1,5 @@
 -- What the functions that read lines say holds again after each turn of their loops, and at their ends.
-use mathlib.Core.Path.{_≡_, refl, sym, _∙_}
+use mathlib.Core.Path.{_≡_, refl, sym, _∙_, subst}
 use mathlib.Core.List.{List, [], _∷_, _++_, append-assoc}
 use mathlib.Core.Bool.{Bool, true, false, cond}
 use mathlib.Core.Option.{Option, none, some}
@@ -157,3 +157,7 @@ module _ {bs : List ℕ} {lines columns : ℕ} {p : Progress} {before : List ℤ
 
     pub group-ends : lines ≤ i → LinesTaken bs (replicate lines columns) p before q out
     group-ends l = let e : lines ≡ i = omega (arith, h .most) in rw e (h .taken)
+
+-- the number of columns as another function tells it
+pub line-as : {bs : List ℕ} {j k : ℕ} {p r : Progress} {before after : List ℤ} → j ≡ k → LineTaken bs j p before r after → LineTaken bs k p before r after
+line-as {bs} {p = p} {r} {before} {after} e h = subst (λ k. LineTaken bs k p before r after) e h

@@ -60,7 +60,7 @@ pub fn read_mesh(bytes: &[u8], out: &mut [i64]) -> usize
     ensures { λ r. ⌜ Listed (numbersOf 12 meshLayout (now (bytes .entry))) (now (out .entry)) r (now (out .exit)) ⌝ }
 {
     let entries = table();
-    let p = read_header(&entries, bytes, 5, out);
+    let p = read_header(&entries, bytes, Lines::MeshHeader, out);
     if !p.going {
         return 0;
     }
@@ -123,7 +123,7 @@ pub fn read_claim(
     ensures { λ r. ⌜ ClaimListed (now (bytes .entry)) nodes elements edges sides (now (out .entry)) r (now (out .exit)) ⌝ }
 {
     let entries = table();
-    let p = read_header(&entries, bytes, 4, out);
+    let p = read_header(&entries, bytes, Lines::ClaimHeader, out);
     if !p.going {
         return 0;
     }

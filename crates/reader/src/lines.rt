@@ -1,12 +1,15 @@
 // Lines of columns into numbers: a line's numbers are written where the whole line is well formed.
 use crate::column::Reading;
 use crate::column::column;
+use rows::line_checks::Lines;
+use rows::line_checks::columns;
 ghost use mathlib.Core.Path.{_≡_};
 ghost use mathlib.Core.Bool.{cond};
 ghost use mathlib.Core.List.{[], _++_};
 ghost use mathlib.Core.Option.{none, some};
 ghost use Prim.Native.Nat.{_+_, _*_, _≤_, _<_};
 ghost use lib.ListN.{length, take, drop};
+ghost use Rattle.rows.specs.LineContracts.{columnsIn};
 ghost use Rattle.reader.specs.OnePass.{Table};
 ghost use Rattle.reader.specs.File.{readLine};
 ghost use Rattle.reader.specs.HowFar.{start, LineTaken, linesOf, LinesTaken, allNumbers, Room};
@@ -126,17 +129,18 @@ fn finish(bytes: &[u8], p: Progress, out: &mut [i64]) -> usize
 }
 
 // The header, which is the first line.
-pub fn read_header(table: &[u64; 256], bytes: &[u8], columns: usize, out: &mut [i64]) -> Progress
-    requires { ⌜ Table (now table) ⌝ ∗ ⌜ columns ≤ 36 ⌝ ∗ ⌜ columns ≤ length (now out) ⌝ }
-    ensures { λ r. ⌜ LineTaken (now (bytes .entry)) columns start (now (out .entry)) r (now (out .exit)) ⌝ }
+pub fn read_header(table: &[u64; 256], bytes: &[u8], header: Lines, out: &mut [i64]) -> Progress
+    requires { ⌜ Table (now table) ⌝ ∗ ⌜ columnsIn header ≤ 36 ⌝ ∗ ⌜ columnsIn header ≤ length (now out) ⌝ }
+    ensures { λ r. ⌜ LineTaken (now (bytes .entry)) (columnsIn header) start (now (out .entry)) r (now (out .exit)) ⌝ }
 {
+    let width = columns(header);
     let start = Progress {
         going: true,
         at: 0,
         numbers: 0,
     };
     let mut line = [0; 36];
-    next_line(table, bytes, start, columns, &mut line, out)
+    next_line(table, bytes, start, width, &mut line, out)
 }
 
 // The four groups of lines after a header, and what is left over.

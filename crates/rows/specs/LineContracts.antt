@@ -9,14 +9,14 @@ use lib.ListN.{length, take, drop, replicate}
 use Rattle.scope.specs.declared.Place.the-variants.{Line}
 use Rattle.scope.specs.declared.Outcome.{Outcome}
 use Rattle.rows.specs.declared.line_checks.Lines.{Lines}
-use Rattle.rows.specs.declared.line_checks.Lines.the-variants.{Soils, Nodes, Elements, Edges, Stresses, ElementMultipliers, EdgeMultipliers, StrengthMultipliers}
+use Rattle.rows.specs.declared.line_checks.Lines.the-variants.{Soils, Nodes, Elements, Edges, Stresses, ElementMultipliers, EdgeMultipliers, StrengthMultipliers, MeshHeader, ClaimHeader}
 use Rattle.rows.specs.declared.line_checks.LineKind.{LineKind}
 use Rattle.rows.specs.declared.line_checks.LineKind.the-variants.{Soil, Element, Edge}
 use Rattle.scope.specs.Checks.{demand, _then_, lowest}
 use Rattle.scope.specs.Columns.{Limit, between, within}
 use Rattle.scope.specs.Layout.{Group, Layout, width, lineCheck}
-use Rattle.scope.specs.Mesh.{nodes, elements, edges, sides, soilLines, nodeLines, elementLines, edgeLines}
-use Rattle.scope.specs.Claim.{stressLines, elementMultipliers, edgeMultipliers, strengthMultipliers}
+use Rattle.scope.specs.Mesh.{nodes, elements, edges, sides, meshHeader, soilLines, nodeLines, elementLines, edgeLines}
+use Rattle.scope.specs.Claim.{claimHeader, stressLines, elementMultipliers, edgeMultipliers, strengthMultipliers}
 
 -- how many numbers at the front of a list are within a limit
 unfoldable pub runWithin : Limit → List ℤ → ℕ
@@ -49,7 +49,7 @@ groupsCheck f (g ∷ gs) s line = groupCheck f g s line then groupsCheck f gs (d
 unfoldable pub evenLines : ℕ → ℕ → Limit → Group
 evenLines count columns a = record { lines = count; limits = replicate columns a; rules = [] }
 
--- the groups after a header, each with `count` lines: an element names nodes and soils, an edge nodes
+-- the groups after a header, each with `count` lines: an element names nodes and soils, an edge nodes; and the two headers
 unfoldable pub linesGroup : Lines → ℕ → ℕ → ℕ → Group
 linesGroup Soils count nodes soils = soilLines count
 linesGroup Nodes count nodes soils = nodeLines count
@@ -59,6 +59,8 @@ linesGroup Stresses count nodes soils = stressLines count
 linesGroup ElementMultipliers count nodes soils = elementMultipliers count
 linesGroup EdgeMultipliers count nodes soils = edgeMultipliers count
 linesGroup (StrengthMultipliers sides) count nodes soils = strengthMultipliers count sides
+linesGroup MeshHeader count nodes soils = meshHeader
+linesGroup ClaimHeader count nodes soils = claimHeader
 
 abbrev pub columnsIn : Lines → ℕ
 columnsIn g = width (linesGroup g 0 0 0)

@@ -142,7 +142,7 @@ fn edge_line(s: &[i64], nodes: usize, line: usize) -> Outcome
     Outcome::Passed
 }
 
-// The groups of lines after a header: four of a mesh, then four of a claim. The lines of strength multipliers are as wide as the polygon has sides.
+// The groups of lines: four of a mesh, then four of a claim, then the two headers. The lines of strength multipliers are as wide as the polygon has sides.
 pub enum Lines {
     Soils,
     Nodes,
@@ -152,6 +152,8 @@ pub enum Lines {
     ElementMultipliers,
     EdgeMultipliers,
     StrengthMultipliers(usize),
+    MeshHeader,
+    ClaimHeader,
 }
 
 // How many columns each line of a group has.
@@ -167,6 +169,8 @@ pub fn columns(group: Lines) -> usize
         Lines::ElementMultipliers => 2,
         Lines::EdgeMultipliers => 4,
         Lines::StrengthMultipliers(sides) => sides,
+        Lines::MeshHeader => 5,
+        Lines::ClaimHeader => 4,
     }
 }
 

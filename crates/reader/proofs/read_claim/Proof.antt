@@ -4,9 +4,10 @@ use native.Mathlib.Omega.{arith}
 use borrow.Author.Tests.{not-true, not-false}
 use mathlib.Core.List.{List}
 use lib.IntN.{ℤ}
-use Rattle.scope.specs.Claim.{claimLayout}
+use Rattle.scope.specs.Claim.{claimHeader, claimLayout}
 use Rattle.reader.proofs.Whole.{HeaderRead}
 use Rattle.reader.proofs.Told.{claim-no-header, claim-header-read, claim-at, claim-numbers, claim-refused, claim-passed}
+use Rattle.rows.specs.LineContracts.{linesGroup}
 use borrow.Author.Needs.{needs}
 use Rattle.reader.proofs.read_claim.Statement.{statement}
 use Rattle.reader.proofs.read_claim.Tie as tie
@@ -15,16 +16,19 @@ table-requires : tie.Need-table-requires
 table-requires c κs = search needs
 
 read-header-requires : tie.Need-read-header-requires
+unfolding linesGroup claimHeader
 read-header-requires c κs = search needs
 
 same-length : tie.Need-same-length
 same-length c = search needs
 
 returns : tie.Need-returns
+unfolding linesGroup claimHeader
 returns c = claim-no-header _ _ _ _ _ _ (c .before .before .before .read-header .ensures) (not-true _ (c .if1 .taken))
 
 -- past the first test a header stands at the front
 header : (c : tie.Else1) → (m : List ℤ) → HeaderRead (claimLayout m) (c .before .before .before .before .before .before .before .before .args .bytes .now) (c .before .before .before .before .before .before .before .before .args .out .now) (c .before .before .before .read-header .result) (c .before .before .before .read-header .last .1 .1 .1 .0)
+unfolding linesGroup claimHeader
 header c =
     let r = c .before .before .before in
     claim-header-read _ _ (r .read-header .ensures) (omega (arith, r .before .before .before .before .before .pre)) (not-false _ (c .if1 .left))

@@ -2,9 +2,10 @@
 -- Assumes nothing.
 use native.Mathlib.Omega.{arith}
 use borrow.Author.Tests.{not-true, not-false}
-use Rattle.scope.specs.Mesh.{meshLayout}
+use Rattle.scope.specs.Mesh.{meshHeader, meshLayout}
 use Rattle.reader.proofs.Whole.{HeaderRead}
 use Rattle.reader.proofs.Told.{mesh-no-header, mesh-header-read, mesh-at, mesh-numbers, mesh-refused, few-lines, mesh-passed}
+use Rattle.rows.specs.LineContracts.{linesGroup}
 use borrow.Author.Needs.{needs}
 use Rattle.reader.proofs.read_mesh.Statement.{statement}
 use Rattle.reader.proofs.read_mesh.Tie as tie
@@ -13,16 +14,19 @@ table-requires : tie.Need-table-requires
 table-requires c κs = search needs
 
 read-header-requires : tie.Need-read-header-requires
+unfolding linesGroup meshHeader
 read-header-requires c κs = search needs
 
 same-length : tie.Need-same-length
 same-length c = search needs
 
 returns : tie.Need-returns
+unfolding linesGroup meshHeader
 returns c = mesh-no-header _ _ (c .before .before .before .read-header .ensures) (not-true _ (c .if1 .taken))
 
 -- past the first test a header stands at the front
 header : (c : tie.Else1) → HeaderRead (meshLayout) (c .before .before .before .before .before .before .before .before .args .bytes .now) (c .before .before .before .before .before .before .before .before .args .out .now) (c .before .before .before .read-header .result) (c .before .before .before .read-header .last .1 .1 .1 .0)
+unfolding linesGroup meshHeader
 header c =
     let r = c .before .before .before in
     mesh-header-read _ _ (r .read-header .ensures) (omega (arith, r .before .before .before .before .before .pre)) (not-false _ (c .if1 .left))

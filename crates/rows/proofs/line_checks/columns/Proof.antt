@@ -1,8 +1,8 @@
 -- `columns` meets its contract: each number is how many limits the layout lists for a line of the group.
 use mathlib.Core.Path.{sym}
 use lib.ListN.{length-replicate}
-use Rattle.scope.specs.Mesh.{soilLines, nodeLines, elementLines, edgeLines}
-use Rattle.scope.specs.Claim.{stressLines, elementMultipliers, edgeMultipliers, strengthMultipliers}
+use Rattle.scope.specs.Mesh.{meshHeader, soilLines, nodeLines, elementLines, edgeLines}
+use Rattle.scope.specs.Claim.{claimHeader, stressLines, elementMultipliers, edgeMultipliers, strengthMultipliers}
 use Rattle.rows.specs.LineContracts.{linesGroup}
 use borrow.Author.Needs.{needs}
 use Rattle.rows.proofs.line_checks.columns.Statement.{statement}
@@ -31,6 +31,12 @@ enum-told-7 c = search needs
 
 enum-known-group : tie.Need-enum-known-group
 enum-known-group c = search needs
+
+enum-told-8 : tie.Need-enum-told-8
+enum-told-8 c = search needs
+
+enum-told-9 : tie.Need-enum-told-9
+enum-told-9 c = search needs
 
 returns : tie.Need-returns
 unfolding linesGroup soilLines
@@ -64,6 +70,14 @@ returns-8 : tie.Need-returns-8
 unfolding linesGroup strengthMultipliers
 returns-8 c = λ count nodes soils. rw (c .before .group .given .1) (sym (length-replicate _ _))
 
+returns-9 : tie.Need-returns-9
+unfolding linesGroup meshHeader
+returns-9 c = λ count nodes soils. rw (c .enum-told8 .given .1)
+
+returns-10 : tie.Need-returns-10
+unfolding linesGroup claimHeader
+returns-10 c = λ count nodes soils. rw (c .enum-told9 .given .1)
+
 pub columns-spec : {M : Type 1} → statement M
 columns-spec =
     tie.close
@@ -76,6 +90,8 @@ columns-spec =
     enum-told-6
     enum-told-7
     enum-known-group
+    enum-told-8
+    enum-told-9
     returns
     returns-2
     returns-3
@@ -83,4 +99,6 @@ columns-spec =
     returns-5
     returns-6
     returns-7
-    returns-8)
+    returns-8
+    returns-9
+    returns-10)
