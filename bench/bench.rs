@@ -6,16 +6,10 @@ use independent::Answer;
 use std::hint::black_box;
 use std::time::{Duration, Instant};
 
-extern "C" {
-    fn pechuvo_check(
-        mesh: *const u8,
-        mesh_len: usize,
-        claim: *const u8,
-        claim_len: usize,
-        report: *mut u8,
-        report_len: usize,
-    ) -> Answer;
-}
+// The test of the archives has the entries; of the two only the one on files is timed.
+#[allow(dead_code)]
+#[path = "../tests/independent/programs/compare/archive.rs"]
+mod archive;
 
 type Check = extern "C" fn(&Sheet, &mut [u8; 113]) -> Answer;
 
@@ -28,18 +22,7 @@ struct Sheet {
 #[no_mangle]
 #[inline(never)]
 extern "C" fn archive_check(sheet: &Sheet, line: &mut [u8; 113]) -> Answer {
-    let (mesh, claim) = (&sheet.mesh, &sheet.claim);
-    // SAFETY: each pointer is lent with its own length for the time of the call.
-    unsafe {
-        pechuvo_check(
-            mesh.as_ptr(),
-            mesh.len(),
-            claim.as_ptr(),
-            claim.len(),
-            line.as_mut_ptr(),
-            113,
-        )
-    }
+    archive::check(&sheet.mesh, &sheet.claim, line)
 }
 
 #[no_mangle]
