@@ -13,4 +13,3 @@ pub mod Taken
 pub mod InLine
 pub mod Whole
 pub mod Told
-pub mod Most

@@ -3,7 +3,7 @@ use mathlib.Core.Path.{_≡_, sym, ap, _∙_}
 use mathlib.Core.Bool.{Bool, true, false}
 use mathlib.Core.List.{List, [], _++_, append-nil, append-assoc}
 use Prim.Native.Nat.{ℕ, _*_, _≤_, _<_}
-use native.Mathlib.Nat.{mul-le-mul}
+use native.Mathlib.Nat.{mul-le-mul-right}
 use native.Mathlib.Omega.{arith}
 use lib.IntN.{ℤ, pos, negsuc}
 use lib.Signed.{_≤ℤ_}
@@ -33,7 +33,7 @@ use Rattle.scope.proofs.InOrder.{line-check-passed}
 use Rattle.scope.proofs.Lines.{within-at}
 use Rattle.reader.specs.File.{widths, numbersOf}
 use Rattle.reader.specs.HowFar.{start, LineTaken, linesOf, allNumbers, Room}
-use Rattle.reader.specs.Listed.{Listed, ClaimListed}
+use Rattle.reader.specs.Listed.{Listed, claimRoom, ClaimListed}
 use Rattle.reader.specs.Tells.{FewLines, bodyOf}
 use Rattle.reader.proofs.Regular.{mesh-regular}
 use Rattle.reader.proofs.Whole.{HeaderRead, headerSays, no-header, header-read, header-refused, header-passed}
@@ -86,14 +86,14 @@ module _ (ns es gs ss : ℕ) (c : List ℤ) {fn me mg mn kf ke kg kn : ℕ} (a :
       four (linesOf (alike fn kf)) (linesOf (alike me ke)) (linesOf (alike mg kg)) (linesOf (alike mn kn))
       ∙ rw (a, b, d, e, wf 0 0 0, we 0 0 0, wg 0 0 0, wn 0 0 0)
 
-  pub claim-room : (p : Progress) (k : ℕ) → SmallCounts ns es gs ss → p .numbers ≡ 4 → 4345 ≤ k → Room p (alike fn kf) (alike me ke) (alike mg kg) (alike mn kn) k
+  pub claim-room : (p : Progress) (k : ℕ) → SmallCounts ns es gs ss → p .numbers ≡ 4 → claimRoom ns es gs ss ≤ k → Room p (alike fn kf) (alike me ke) (alike mg kg) (alike mn kn) k
   unfolding linesGroup stressLines elementMultipliers edgeMultipliers strengthMultipliers
   claim-room p k m q l =
       let f = there-most (hasField c) ns in
       let g = there-most (hasMultipliers c) es in
       let h = there-most (hasMultipliers c) gs in
       let i = there-most (hasMultipliers c) ns in
-      let j : mn * ss ≤ 100 * 36 = mul-le-mul {n₂ = 100} {m₂ = 36} (omega arith) (m .fewSides) in
+      let j : mn * ss ≤ ns * ss = mul-le-mul-right ss (omega arith) in
       rw (wf 0 0 0, we 0 0 0, wg 0 0 0, wn 0 0 0 ∙ length-replicate ss _)
       (record { columnsA = omega arith; columnsB = omega arith; columnsC = omega arith; columnsD = omega arith; fits = omega arith })
 
@@ -149,9 +149,9 @@ module _ (bs : List ℕ) (out : List ℤ) {p : Progress} {after : List ℤ} wher
     unfolding lineAt lineOf lineNumbers groups meshLayout meshHeader
     mesh-says e = e
 
-    pub mesh-refused : {o : Outcome} {k : ℕ} {q : Place} → o ≡ lineAt meshLayout after 0 → o ≡ Refused k q → Listed (numbersOf 12 meshLayout bs) out 5 after
+    pub mesh-refused : {o : Outcome} {k : ℕ} {q : Place} → o ≡ lineAt meshLayout after 0 → o ≡ Refused k q → Listed (numbersOf 12 meshLayout bs) out (p .numbers) after
     unfolding meshLayout meshHeader
-    mesh-refused e r = header-refused meshLayout bs out h (sym (mesh-says e) ∙ r)
+    mesh-refused e r = rw mesh-numbers (header-refused meshLayout bs out h (sym (mesh-says e) ∙ r))
 
     in-front : (k : ℕ) → k < 5 → at (take 5 after) k ≡ at after k
     unfolding at
@@ -210,9 +210,9 @@ module _ (bs : List ℕ) (out : List ℤ) {p : Progress} {after : List ℤ} wher
     same-multipliers = rw (getD-take 4 after 1 (pos 0) (omega arith))
 
     module _ (ns es gs ss : ℕ) {o : Outcome} (e : o ≡ lineCheck (claimLayout []) claimHeader (take 4 after) (Line 1)) where
-      pub claim-refused : {k : ℕ} {q : Place} → o ≡ Refused k q → ClaimListed bs ns es gs ss out 4 after
+      pub claim-refused : {k : ℕ} {q : Place} → o ≡ Refused k q → ClaimListed bs ns es gs ss out (p .numbers) after
       unfolding claimLayout claimHeader
-      claim-refused r = record { against = λ m n d g s. header-refused (claimLayout m) bs out (h m) (sym (claim-says m e) ∙ r) }
+      claim-refused r = record { against = λ m n d g s. rw claim-numbers (header-refused (claimLayout m) bs out (h m) (sym (claim-says m e) ∙ r)) }
 
       same-lines : (m : List ℤ) → nodes m ≡ ns → elements m ≡ es → edges m ≡ gs → sides m ≡ ss → bodyOf ns es gs ss after ≡ widths (claimLayout m .body (take 4 after))
       unfolding bodyOf claimBody claimLayout

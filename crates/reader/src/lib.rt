@@ -16,14 +16,14 @@ use rows::sizes::count_at;
 use rows::sizes::number_at;
 use scope::Outcome;
 ghost use mathlib.Core.Path.{_≡_};
-ghost use Prim.Native.Nat.{_≤_};
+ghost use Prim.Native.Nat.{_*_, _≤_};
 ghost use lib.ListN.{length};
 ghost use Rattle.scope.specs.Mesh.{meshLayout};
-ghost use Rattle.rows.specs.LineContracts.{SmallCounts};
+ghost use Rattle.rows.specs.LineContracts.{columnsIn, SmallCounts};
 ghost use Rattle.reader.specs.File.{numbersOf, widths};
 ghost use Rattle.reader.specs.OnePass.{Table};
 ghost use Rattle.reader.specs.HowFar.{allNumbers};
-ghost use Rattle.reader.specs.Listed.{Listed, ClaimListed};
+ghost use Rattle.reader.specs.Listed.{Listed, claimRoom, ClaimListed};
 ghost use Rattle.reader.specs.Tells.{FewLines, bodyOf};
 
 // The lines after a mesh's header, which stands at the front of `out`.
@@ -66,9 +66,30 @@ pub fn read_mesh(bytes: &[u8], out: &mut [i64]) -> usize
     }
     let header = mesh_header(out);
     let Outcome::Passed = header else {
-        return 5;
+        return p.numbers;
     };
     mesh_body(&entries, bytes, p, out)
+}
+
+// The numbers of so many lines of a group.
+fn numbers_in(lines: usize, group: Lines) -> usize
+    requires { ⌜ (lines ≤ 100) × (columnsIn group ≤ 36) ⌝ }
+    ensures { λ r. ⌜ r ≡ lines * columnsIn group ⌝ ∗ ⌜ r ≤ 3600 ⌝ }
+{
+    lines * columns(group)
+}
+
+// Room for the numbers of a claim on a mesh of these counts.
+pub fn claim_room(nodes: usize, elements: usize, edges: usize, sides: usize) -> usize
+    requires { ⌜ SmallCounts nodes elements edges sides ⌝ }
+    ensures { λ r. ⌜ r ≡ claimRoom nodes elements edges sides ⌝ }
+{
+    let header = numbers_in(1, Lines::ClaimHeader);
+    let stresses = numbers_in(nodes, Lines::Stresses);
+    let by_element = numbers_in(elements, Lines::ElementMultipliers);
+    let by_edge = numbers_in(edges, Lines::EdgeMultipliers);
+    let by_node = numbers_in(nodes, Lines::StrengthMultipliers(sides));
+    header + stresses + by_element + by_edge + by_node + 1
 }
 
 // The lines after a claim's header, which stands at the front of `out`.
@@ -82,7 +103,7 @@ fn claim_body(
     sides: usize,
     out: &mut [i64],
 ) -> usize
-    requires { ⌜ Table (now table) ⌝ ∗ ⌜ p .at ≤ length (now bytes) ⌝ ∗ ⌜ p .numbers ≡ 4 ⌝ ∗ ⌜ SmallCounts nodes elements edges sides ⌝ ∗ ⌜ 4345 ≤ length (now out) ⌝ }
+    requires { ⌜ Table (now table) ⌝ ∗ ⌜ p .at ≤ length (now bytes) ⌝ ∗ ⌜ p .numbers ≡ 4 ⌝ ∗ ⌜ SmallCounts nodes elements edges sides ⌝ ∗ ⌜ claimRoom nodes elements edges sides ≤ length (now out) ⌝ }
     ensures { λ r. ⌜ Listed (allNumbers (now (bytes .entry)) (bodyOf nodes elements edges sides (now (out .entry))) p (now (out .entry))) (now (out .entry)) r (now (out .exit)) ⌝ }
 {
     let field = number_at(out, 0);
@@ -119,7 +140,7 @@ pub fn read_claim(
     sides: usize,
     out: &mut [i64],
 ) -> usize
-    requires { ⌜ SmallCounts nodes elements edges sides ⌝ ∗ ⌜ 4345 ≤ length (now out) ⌝ }
+    requires { ⌜ SmallCounts nodes elements edges sides ⌝ ∗ ⌜ claimRoom nodes elements edges sides ≤ length (now out) ⌝ }
     ensures { λ r. ⌜ ClaimListed (now (bytes .entry)) nodes elements edges sides (now (out .entry)) r (now (out .exit)) ⌝ }
 {
     let entries = table();
@@ -129,7 +150,7 @@ pub fn read_claim(
     }
     let header = claim_header(out);
     let Outcome::Passed = header else {
-        return 4;
+        return p.numbers;
     };
     claim_body(&entries, bytes, p, nodes, elements, edges, sides, out)
 }
