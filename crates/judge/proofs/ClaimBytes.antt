@@ -1,5 +1,5 @@
 -- A claim file that passes 11 to 13 is as long as its header and its mesh say.
-use mathlib.Core.Path.{_≡_, ap}
+use mathlib.Core.Path.{_≡_, ap, ap₂}
 use mathlib.Core.List.{List}
 use Prim.Native.Nat.{ℕ, _+_, _*_, _≤_}
 use native.Mathlib.Nat.{mul-le-mul}
@@ -15,7 +15,9 @@ use Rattle.scope.specs.Claim.{claimLayout, claimHeader, ifThere, stressLines, e
 use Rattle.scope.specs.Verdict.{meshCheck, claimCheck}
 use Rattle.scope.proofs.Sound.{lines-passed, mesh-passed}
 use Rattle.rows.specs.declared.sizes.Sizes.{Sizes}
+use Rattle.rows.specs.declared.line_checks.Lines.the-variants.{Stresses, ElementMultipliers, EdgeMultipliers, StrengthMultipliers, ClaimHeader}
 use Rattle.rows.specs.Contracts.{Sized}
+use Rattle.rows.specs.LineContracts.{linesGroup, columnsIn}
 use Rattle.reader.specs.File.{lineBytes}
 use Rattle.reader.proofs.Regular.{claim-regular}
 use Rattle.reader.proofs.Told.{part-there, part-absent}
@@ -48,15 +50,15 @@ part-absent-bytes {z} {lines} {columns} n =
     let a = part-absent z lines n in
     record { bytes = omega (arith, ap (λ k. k * lineBytes fileWidth columns) a); most = omega arith }
 
-pub part-bytes-fit : {lines columns : ℕ} → (lines ≤ 100) × (columns ≤ 36) → lines * (columns * 12 + 1) ≤ 43300
-part-bytes-fit h = mul-le-mul {n₂ = 100} {m₂ = 433} (h .0) (omega arith)
+pub part-bytes-fit : {lines bytes : ℕ} → lines ≤ 100 → bytes ≤ 433 → lines * bytes ≤ 43300
+part-bytes-fit = mul-le-mul {n₂ = 100} {m₂ = 433}
 
-pub part-there-bytes : {z : ℤ} {lines columns : ℕ} → z ≡ pos 1 → (lines ≤ 100) × (columns ≤ 36) → PartBytes (eqZ z (pos 1)) lines columns (lines * (columns * 12 + 1))
-unfolding lineBytes fileWidth
-part-there-bytes {z} {lines} {columns} e h = record { bytes = ap (λ k. k * (columns * 12 + 1)) (part-there z lines e); most = part-bytes-fit h }
+pub part-there-bytes : {z : ℤ} {lines columns bytes : ℕ} → z ≡ pos 1 → lines ≤ 100 → bytes ≡ lineBytes fileWidth columns → bytes ≤ 433 → PartBytes (eqZ z (pos 1)) lines columns (lines * bytes)
+part-there-bytes {z} {lines} e l b k = record { bytes = ap₂ _*_ (part-there z lines e) b; most = part-bytes-fit l k }
 
 -- the bytes of the four parts, with the header's line
-pub parts-bytes : {m : List ℤ} (h : List ℤ) {s : Sizes} {a b d e : ℕ} → Sized m s → PartBytes (eqZ (at h 0) (pos 1)) (s .nodes) 3 a → PartBytes (eqZ (at h 1) (pos 1)) (s .elements) 2 b → PartBytes (eqZ (at h 1) (pos 1)) (s .edges) 4 d → PartBytes (eqZ (at h 1) (pos 1)) (s .nodes) (s .sides) e → 49 + a + b + d + e ≡ claimBytes m h
-unfolding lineBytes fileWidth hasField hasMultipliers
-parts-bytes {m} h z p q r t =
-    rw (p .bytes, q .bytes, r .bytes, t .bytes, z .nodesAre, z .elementsAre, z .edgesAre, z .sidesAre) (omega (arith, claim-bytes m h))
+pub parts-bytes : {m : List ℤ} (h : List ℤ) {s : Sizes} {f a b d e : ℕ} → Sized m s → f ≡ lineBytes fileWidth (columnsIn ClaimHeader) → PartBytes (eqZ (at h 0) (pos 1)) (s .nodes) (columnsIn Stresses) a → PartBytes (eqZ (at h 1) (pos 1)) (s .elements) (columnsIn ElementMultipliers) b → PartBytes (eqZ (at h 1) (pos 1)) (s .edges) (columnsIn EdgeMultipliers) d → PartBytes (eqZ (at h 1) (pos 1)) (s .nodes) (columnsIn (StrengthMultipliers (s .sides))) e → f + a + b + d + e ≡ claimBytes m h
+unfolding lineBytes fileWidth hasField hasMultipliers linesGroup claimHeader stressLines elementMultipliers edgeMultipliers strengthMultipliers
+parts-bytes {m} h {s} z o p q r t =
+    rw (o, p .bytes, q .bytes, r .bytes, t .bytes, z .nodesAre, z .elementsAre, z .edgesAre, z .sidesAre)
+    (simp (length-replicate) (omega (arith, claim-bytes m h)))

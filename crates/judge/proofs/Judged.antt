@@ -1,7 +1,8 @@
 -- What is read into a list that is lent, and judged there: the front of the list is the file's numbers.
 use mathlib.Core.Path.{_≡_, sym, ap, _∙_}
 use mathlib.Core.List.{List}
-use Prim.Native.Nat.{ℕ, _≤_}
+use Prim.Native.Nat.{ℕ, _*_, _≤_}
+use native.Mathlib.Nat.{mul-le-mul}
 use native.Mathlib.Omega.{arith}
 use lib.IntN.{ℤ}
 use lib.ListN.{length, take, drop, length-append}
@@ -21,10 +22,10 @@ use Rattle.rows.specs.Contracts.{Sized}
 use Rattle.rows.specs.LineContracts.{SmallCounts}
 use Rattle.rows.proofs.GroupLaws.{small-counts}
 use Rattle.reader.specs.File.{numbersOf}
-use Rattle.reader.specs.Listed.{Listed, ClaimListed}
+use Rattle.reader.specs.Listed.{Listed, ClaimListed, claimRoom}
 use Rattle.judge.specs.declared.JudgedMesh.{JudgedMesh}
 use Rattle.judge.specs.Judge.{meshNumbers, claimNumbers, fileWidth, filesVerdict}
-use Rattle.judge.specs.Judged.{MeshJudged}
+use Rattle.judge.specs.Judged.{MeshJudged, roomOn}
 
 -- ---- a list with numbers at its front
 
@@ -56,6 +57,16 @@ judged-facts m e = mesh-facts m (mesh-passed m .says e .lines)
 pub sizes-small : {m : List ℤ} {s : Sizes} → Sized m s → SmallCounts (s .nodes) (s .elements) (s .edges) (s .sides)
 sizes-small z =
     small-counts (z .facts .counts) (record { nodesAre = z .nodesAre; elementsAre = z .elementsAre; edgesAre = z .edgesAre; sidesAre = z .sidesAre })
+
+-- the room that the sizes of a mesh tell, and the most that it can be
+pub room-is : {m : List ℤ} {s : Sizes} → Sized m s → claimRoom (s .nodes) (s .elements) (s .edges) (s .sides) ≡ roomOn m
+room-is z = rw (z .nodesAre, z .elementsAre, z .edgesAre, z .sidesAre)
+
+pub room-most : {m : List ℤ} {s : Sizes} → Sized m s → roomOn m ≤ 4345
+room-most {s = s} z =
+    let k = sizes-small z in
+    let n : s .nodes * s .sides ≤ 100 * 36 = mul-le-mul {n₂ = 100} {m₂ = 36} (k .fewNodes) (k .fewSides) in
+    omega (arith, room-is z, k .fewNodes, k .fewElements, k .fewEdges)
 
 pub claim-listed : {m before after : List ℤ} {s : Sizes} {claim : List ℕ} {r : ℕ} → Sized m s → ClaimListed claim (s .nodes) (s .elements) (s .edges) (s .sides) before r after → Listed (claimNumbers fileWidth m claim) before r after
 unfolding claimNumbers fileWidth

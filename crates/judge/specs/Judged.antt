@@ -1,10 +1,12 @@
--- What judging a mesh file answers and leaves in the list that is lent.
+-- What judging a mesh file answers and leaves in the list that is lent, and the room that judging a claim file needs.
 use mathlib.Core.Path.{_≡_}
 use mathlib.Core.List.{List, _++_}
 use Prim.Native.Nat.{ℕ}
 use lib.IntN.{ℤ}
 use lib.ListN.{length, drop}
+use Rattle.scope.specs.Mesh.{nodes, elements, edges, sides}
 use Rattle.scope.specs.Verdict.{meshCheck}
+use Rattle.reader.specs.Listed.{claimRoom}
 use Rattle.judge.specs.declared.JudgedMesh.{JudgedMesh}
 use Rattle.judge.specs.Judge.{meshNumbers, fileWidth}
 
@@ -13,3 +15,7 @@ pub record MeshJudged (mesh : List ℕ) (before : List ℤ) (r : JudgedMesh) (af
   pub count : r .count ≡ length (meshNumbers fileWidth mesh)
   pub numbers : after ≡ meshNumbers fileWidth mesh ++ drop (r .count) before
   pub outcome : r .outcome ≡ meshCheck (meshNumbers fileWidth mesh)
+
+-- room for the numbers of a claim on the mesh with the numbers m
+abbrev pub roomOn : List ℤ → ℕ
+roomOn m = claimRoom (nodes m) (elements m) (edges m) (sides m)

@@ -1,9 +1,12 @@
 // Two byte strings into a verdict: the numbers of a mesh file and of a claim file are read, and judged by the check of numbers.
 
+use reader::claim_room;
 use reader::read_claim;
 use reader::read_mesh;
 use rows::judge_claim;
 use rows::judge_mesh;
+use rows::line_checks::Lines;
+use rows::line_checks::columns;
 use rows::sizes::sizes_of;
 use scope::Outcome;
 use scope::Verdict;
@@ -14,12 +17,11 @@ ghost use lib.ListN.{length};
 ghost use Rattle.integer.specs.Tests.{eqZ};
 ghost use Rattle.scope.specs.Columns.{at};
 ghost use Rattle.scope.specs.Verdict.{meshCheck, claimVerdict};
+ghost use Rattle.rows.specs.LineContracts.{columnsIn};
+ghost use Rattle.reader.specs.File.{lineBytes};
 ghost use Rattle.judge.specs.Judge.{claimNumbers, fileWidth, filesVerdict};
 ghost use Rattle.judge.specs.ClaimBytes.{claimBytes, PartBytes};
-ghost use Rattle.judge.specs.Judged.{MeshJudged};
-
-// A claim's header: four columns of 12 bytes, and byte 10.
-const HEADER_BYTES: usize = 49;
+ghost use Rattle.judge.specs.Judged.{MeshJudged, roomOn};
 
 // How many numbers a mesh file has, and what they are refused for, 1 to 8, or that they pass.
 pub struct JudgedMesh {
@@ -37,15 +39,33 @@ pub fn judge_mesh_file(mesh: &[u8], numbers: &mut [i64]) -> JudgedMesh
     JudgedMesh { count, outcome }
 }
 
-// The verdict on a claim file on a judged mesh with the numbers m.
+// The verdict on a claim file on a judged mesh with the numbers m, with room for the claim's numbers.
+fn judge_claim_in(m: &[i64], claim: &[u8], numbers: &mut [i64]) -> Verdict
+    requires { ⌜ meshCheck (now m) ≡ Outcome.Passed ⌝ ∗ ⌜ roomOn (now m) ≤ length (now numbers) ⌝ }
+    ensures { λ r. ⌜ r ≡ claimVerdict (now (m .entry)) (claimNumbers fileWidth (now (m .entry)) (now (claim .entry))) ⌝ }
+{
+    let s = sizes_of(m);
+    let count = read_claim(claim, s.nodes, s.elements, s.edges, s.sides, numbers);
+    judge_claim(m, &numbers[..count])
+}
+
+// The same. An array is filled with zeros before it is used, and for a small claim that would cost more than its check: so there are three sizes.
 pub fn judge_claim_file(m: &[i64], claim: &[u8]) -> Verdict
     requires { ⌜ meshCheck (now m) ≡ Outcome.Passed ⌝ }
     ensures { λ r. ⌜ r ≡ claimVerdict (now (m .entry)) (claimNumbers fileWidth (now (m .entry)) (now (claim .entry))) ⌝ }
 {
     let s = sizes_of(m);
-    let mut numbers = [0i64; 4345];
-    let count = read_claim(claim, s.nodes, s.elements, s.edges, s.sides, &mut numbers);
-    judge_claim(m, &numbers[..count])
+    let room = claim_room(s.nodes, s.elements, s.edges, s.sides);
+    if room <= 256 {
+        let mut small = [0i64; 256];
+        return judge_claim_in(m, claim, &mut small);
+    }
+    if room <= 1024 {
+        let mut middle = [0i64; 1024];
+        return judge_claim_in(m, claim, &mut middle);
+    }
+    let mut large = [0i64; 4345];
+    judge_claim_in(m, claim, &mut large)
 }
 
 // The verdict on a mesh file and a claim file.
@@ -62,16 +82,24 @@ pub fn judge_files(mesh: &[u8], claim: &[u8]) -> Verdict
     }
 }
 
-// The bytes of so many lines of so many columns, where number k of a claim's header says that their part is there.
-fn part_bytes(header: &[i64], k: usize, lines: usize, columns: usize) -> usize
-    requires { ⌜ (lines ≤ 100) × (columns ≤ 36) ⌝ }
-    ensures { λ r. ⌜ PartBytes (eqZ (at (now (header .entry)) k) (pos 1)) lines columns r ⌝ }
+// The bytes of a line of a group: columns of 12 bytes, and byte 10.
+fn line_bytes(group: Lines) -> usize
+    requires { ⌜ columnsIn group ≤ 36 ⌝ }
+    ensures { λ r. ⌜ r ≡ lineBytes fileWidth (columnsIn group) ⌝ ∗ ⌜ r ≤ 433 ⌝ }
+{
+    columns(group) * 12 + 1
+}
+
+// The bytes of so many lines of a group, where number k of a claim's header says that their part is there.
+fn part_bytes(header: &[i64], k: usize, lines: usize, group: Lines) -> usize
+    requires { ⌜ (lines ≤ 100) × (columnsIn group ≤ 36) ⌝ }
+    ensures { λ r. ⌜ PartBytes (eqZ (at (now (header .entry)) k) (pos 1)) lines (columnsIn group) r ⌝ }
 {
     if header.len() <= k {
         return 0;
     }
     if header[k] == 1 {
-        return lines * (columns * 12 + 1);
+        return lines * line_bytes(group);
     }
     0
 }
@@ -82,9 +110,10 @@ pub fn claim_bytes(m: &[i64], header: &[i64]) -> usize
     ensures { λ r. ⌜ r ≡ claimBytes (now (m .entry)) (now (header .entry)) ⌝ }
 {
     let s = sizes_of(m);
-    let field = part_bytes(header, 0, s.nodes, 3);
-    let by_element = part_bytes(header, 1, s.elements, 2);
-    let by_edge = part_bytes(header, 1, s.edges, 4);
-    let by_node = part_bytes(header, 1, s.nodes, s.sides);
-    HEADER_BYTES + field + by_element + by_edge + by_node
+    let first = line_bytes(Lines::ClaimHeader);
+    let field = part_bytes(header, 0, s.nodes, Lines::Stresses);
+    let by_element = part_bytes(header, 1, s.elements, Lines::ElementMultipliers);
+    let by_edge = part_bytes(header, 1, s.edges, Lines::EdgeMultipliers);
+    let by_node = part_bytes(header, 1, s.nodes, Lines::StrengthMultipliers(s.sides));
+    first + field + by_element + by_edge + by_node
 }

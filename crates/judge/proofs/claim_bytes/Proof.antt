@@ -1,6 +1,10 @@
 -- `claim_bytes` meets its contract: the header's line and the lines of each part.
+use native.Mathlib.Omega.{arith}
+use lib.ListN.{length-replicate}
 use denote.Ref.{now}
 use borrow.Author.Needs.{needs}
+use Rattle.scope.specs.Claim.{claimHeader, stressLines, elementMultipliers, edgeMultipliers, strengthMultipliers}
+use Rattle.rows.specs.LineContracts.{linesGroup}
 use Rattle.judge.proofs.Judged.{judged-facts, sizes-small}
 use Rattle.judge.proofs.ClaimBytes.{parts-bytes}
 use Rattle.judge.proofs.claim_bytes.Statement.{statement}
@@ -9,19 +13,27 @@ use Rattle.judge.proofs.claim_bytes.Tie as tie
 sizes-of-requires : tie.Need-sizes-of-requires
 sizes-of-requires c κs = judged-facts (now (c .args .m)) (c .pre)
 
+line-bytes-requires : tie.Need-line-bytes-requires
+unfolding linesGroup claimHeader
+line-bytes-requires c κs = omega arith
+
 part-bytes-requires : tie.Need-part-bytes-requires
-part-bytes-requires c κs = search needs
+unfolding linesGroup stressLines
+part-bytes-requires c κs = (sizes-small (c .before .sizes-of .ensures) .fewNodes, omega arith)
 
 part-bytes-requires-2 : tie.Need-part-bytes-requires-2
-part-bytes-requires-2 c κs = search needs
+unfolding linesGroup elementMultipliers
+part-bytes-requires-2 c κs = (sizes-small (c .before .before .sizes-of .ensures) .fewElements, omega arith)
 
 part-bytes-requires-3 : tie.Need-part-bytes-requires-3
-part-bytes-requires-3 c κs = search needs
+unfolding linesGroup edgeMultipliers
+part-bytes-requires-3 c κs = (omega (arith, sizes-small (c .before .before .before .sizes-of .ensures) .fewEdges), omega arith)
 
 part-bytes-requires-4 : tie.Need-part-bytes-requires-4
+unfolding linesGroup strengthMultipliers
 part-bytes-requires-4 c κs =
-    let k = sizes-small (c .before .before .before .sizes-of .ensures) in
-    (k .fewNodes, k .fewSides)
+    let k = sizes-small (c .before .before .before .before .sizes-of .ensures) in
+    (k .fewNodes, simp (length-replicate) (k .fewSides))
 
 add-result : tie.Need-add-result
 add-result c = search needs
@@ -37,8 +49,9 @@ add-result-4 c = search needs
 
 returns : tie.Need-returns
 returns c =
-    let h = now (c .before .before .before .before .before .args .header) in
-    parts-bytes h (c .before .before .before .before .sizes-of .ensures)
+    let h = now (c .before .before .before .before .before .before .args .header) in
+    parts-bytes h (c .before .before .before .before .before .sizes-of .ensures)
+    (c .before .before .before .before .line-bytes .ensures .0)
     (c .before .before .before .part-bytes .ensures)
     (c .before .before .part-bytes2 .ensures)
     (c .before .part-bytes3 .ensures)
@@ -49,6 +62,7 @@ claim-bytes-spec =
     tie.close
     (tie.spec
     sizes-of-requires
+    line-bytes-requires
     part-bytes-requires
     part-bytes-requires-2
     part-bytes-requires-3

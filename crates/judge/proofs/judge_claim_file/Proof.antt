@@ -1,45 +1,62 @@
--- `judge_claim_file` meets its contract: the numbers that are judged are those that were read against this mesh.
-use mathlib.Core.Path.{ap, _∙_}
+-- `judge_claim_file` meets its contract: each of the three rooms is taken where it is enough, and the largest always is.
+use native.Mathlib.Omega.{arith}
 use denote.Ref.{now}
 use borrow.Author.Needs.{needs}
-use Rattle.scope.specs.Verdict.{claimVerdict}
-use Rattle.judge.proofs.Judged.{front, fits, as-many, judged-facts, sizes-small, claim-listed}
+use Rattle.judge.proofs.Judged.{judged-facts, sizes-small, room-is, room-most}
 use Rattle.judge.proofs.judge_claim_file.Statement.{statement}
 use Rattle.judge.proofs.judge_claim_file.Tie as tie
 
 sizes-of-requires : tie.Need-sizes-of-requires
 sizes-of-requires c κs = judged-facts (now (c .before .args .m)) (c .before .pre)
 
-slice-aggregate-read-claim : tie.Need-slice-aggregate-read-claim
-slice-aggregate-read-claim c = search needs
+claim-room-requires : tie.Need-claim-room-requires
+claim-room-requires c κs = sizes-small (c .sizes-of .ensures)
 
-read-claim-requires : tie.Need-read-claim-requires
-read-claim-requires c κs = (sizes-small (c .before .sizes-of .ensures), search needs)
+slice-aggregate-judge-claim-in : tie.Need-slice-aggregate-judge-claim-in
+slice-aggregate-judge-claim-in c = search needs
 
-array-share-prefix-numbers : tie.Need-array-share-prefix-numbers
-array-share-prefix-numbers c = fits (claim-listed (c .before .before .before .sizes-of .ensures) (c .before .read-claim .ensures))
-
-slice-aggregate-judge-claim : tie.Need-slice-aggregate-judge-claim
-slice-aggregate-judge-claim c =
-    as-many (claim-listed (c .before .before .before .before .sizes-of .ensures) (c .before .before .read-claim .ensures))
-
-judge-claim-requires : tie.Need-judge-claim-requires
-judge-claim-requires c κs = search needs
+judge-claim-in-requires : tie.Need-judge-claim-in-requires
+judge-claim-in-requires c κs =
+    let r = c .before .before in
+    (r .before .before .before .pre, omega (arith, room-is (r .before .sizes-of .ensures), r .claim-room .ensures, c .before .if1 .taken))
 
 returns : tie.Need-returns
-returns c =
-    let z = c .before .before .before .before .before .sizes-of .ensures in
-    let m = now (c .before .before .before .before .before .before .before .args .m) in
-    c .judge-claim .ensures ∙ ap (claimVerdict m) (front (claim-listed z (c .before .before .before .read-claim .ensures)))
+returns c = c .before .judge-claim-in .ensures
+
+slice-aggregate-judge-claim-in-2 : tie.Need-slice-aggregate-judge-claim-in-2
+slice-aggregate-judge-claim-in-2 c = search needs
+
+judge-claim-in-requires-2 : tie.Need-judge-claim-in-requires-2
+judge-claim-in-requires-2 c κs =
+    let r = c .before .before .before in
+    (r .before .before .before .pre, omega (arith, room-is (r .before .sizes-of .ensures), r .claim-room .ensures, c .before .if2 .taken))
+
+returns-2 : tie.Need-returns-2
+returns-2 c = c .before .judge-claim-in2 .ensures
+
+slice-aggregate-judge-claim-in-3 : tie.Need-slice-aggregate-judge-claim-in-3
+slice-aggregate-judge-claim-in-3 c = search needs
+
+judge-claim-in-requires-3 : tie.Need-judge-claim-in-requires-3
+judge-claim-in-requires-3 c κs =
+    let r = c .before .before .before in
+    (r .before .before .before .pre, omega (arith, room-most (r .before .sizes-of .ensures)))
+
+returns-3 : tie.Need-returns-3
+returns-3 c = c .before .judge-claim-in3 .ensures
 
 pub judge-claim-file-spec : {M : Type 1} → statement M
 judge-claim-file-spec =
     tie.close
     (tie.spec
     sizes-of-requires
-    slice-aggregate-read-claim
-    read-claim-requires
-    array-share-prefix-numbers
-    slice-aggregate-judge-claim
-    judge-claim-requires
-    returns)
+    claim-room-requires
+    slice-aggregate-judge-claim-in
+    judge-claim-in-requires
+    returns
+    slice-aggregate-judge-claim-in-2
+    judge-claim-in-requires-2
+    returns-2
+    slice-aggregate-judge-claim-in-3
+    judge-claim-in-requires-3
+    returns-3)

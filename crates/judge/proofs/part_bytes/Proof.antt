@@ -23,18 +23,20 @@ mul-if2 c = search needs
 shared-slice-copy-out-if2 : tie.Need-shared-slice-copy-out-if2
 shared-slice-copy-out-if2 c = search needs
 
+line-bytes-requires : tie.Need-line-bytes-requires
+line-bytes-requires c κs = c .before .before .before .pre .1
+
 mul-result : tie.Need-mul-result
-mul-result c = search needs
-
-add-result : tie.Need-add-result
-add-result c = search needs
-
-mul-result-2 : tie.Need-mul-result-2
-mul-result-2 c = record { fits = omega (arith, part-bytes-fit (c .before .before .before .pre)) }
+mul-result c = record { fits = omega (arith, part-bytes-fit (c .before .before .before .before .pre .0) (c .line-bytes .ensures .1)) }
 
 returns-2 : tie.Need-returns-2
 unfolding at
-returns-2 c = part-there-bytes (told (c .if2 .taken) (search (machine, unbounded) depth 30) (omega arith)) (c .before .before .before .pre)
+returns-2 c =
+    part-there-bytes
+    (told (c .before .if2 .taken) (search (machine, unbounded) depth 30) (omega arith))
+    (c .before .before .before .before .pre .0)
+    (c .line-bytes .ensures .0)
+    (c .line-bytes .ensures .1)
 
 returns-3 : tie.Need-returns-3
 unfolding at
@@ -47,8 +49,7 @@ part-bytes-spec =
     returns
     mul-if2
     shared-slice-copy-out-if2
+    line-bytes-requires
     mul-result
-    add-result
-    mul-result-2
     returns-2
     returns-3)
