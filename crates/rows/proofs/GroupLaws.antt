@@ -31,7 +31,7 @@ use Rattle.scope.specs.Layout.{Group, Layout, Placed, width, groups, lineCount,
 use Rattle.scope.specs.Mesh.{meshHeader, meshLayout, soilLines, elementLines, edgeLines, nodes, elements, soils, edges, sides}
 use Rattle.scope.specs.Claim.{claimHeader, claimLayout, ifThere}
 use Rattle.scope.specs.Facts.{Counts}
-use Rattle.rows.specs.LineContracts.{groupCheck, groupsCheck, groupOf, columnsOf, meshBody, MeshCounts, claimBody, CountsAre, SmallCounts}
+use Rattle.rows.specs.LineContracts.{groupCheck, groupsCheck, groupOf, columnsOf, meshBody, MeshCounts, claimBody, CountsAre, SmallCounts, NumberedFrom}
 use Rattle.scope.proofs.Checks.{then-assoc, lowest-all, lowest-add, lowest-cong, first-refused}
 use Rattle.scope.proofs.Lines.{line-here, line-after}
 use Rattle.scope.proofs.ClaimFacts.{is-false}
@@ -230,6 +230,10 @@ mesh-header-group m = refl
 pub claim-starts : (m c : List ℤ) → Reached (linesCheck (claimLayout m) c) (claimLayout []) (claimHeader ∷ claimBody (ifThere (hasField c) (nodes m)) (ifThere (hasMultipliers c) (elements m)) (ifThere (hasMultipliers c) (edges m)) (ifThere (hasMultipliers c) (nodes m)) (sides m)) c 1
 unfolding groups groupsCheck groupCheck lineCheck claimLayout claimBody
 claim-starts m c = record { same = lines-by-groups (claimLayout m) c }
+
+pub claim-numbers : NumberedFrom (claimLayout []) 11
+unfolding claimLayout
+claim-numbers = record { formIs = refl; limitIs = refl }
 
 pub claim-header-group : (c : List ℤ) → lineCheck (claimLayout []) claimHeader (take 4 c) (Line 1) ≡ groupCheck (claimLayout []) claimHeader c 1
 unfolding groupCheck lowest claimHeader

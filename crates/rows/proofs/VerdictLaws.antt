@@ -16,7 +16,7 @@ use Rattle.scope.proofs.Sound.{lines-passed}
 use Rattle.scope.proofs.Facts.{mesh-facts}
 use Rattle.scope.proofs.ClaimFacts.{claim-facts}
 use Rattle.rows.specs.declared.sizes.Sizes.{Sizes}
-use Rattle.rows.specs.Contracts.{Sized, NodeSoils}
+use Rattle.rows.specs.Contracts.{Sized, SoundMesh}
 use Rattle.rows.specs.RowContracts.{Judged}
 
 -- what a mesh that passes is
@@ -30,9 +30,9 @@ mesh-known {m} e =
     let h = then-passed _ _ .0 e in
     record { facts = mesh-facts m (lines-passed meshLayout m .says (h .0)); shape = h .1 }
 
-pub judged : {m c : List ℤ} {s : Sizes} {soils : List ℕ} → meshCheck m ≡ Passed → claimCheck m c ≡ Passed → Sized m s → NodeSoils m soils → Judged m c s soils
+pub judged : {m c : List ℤ} {s : Sizes} {soils : List ℕ} → SoundMesh m soils → claimCheck m c ≡ Passed → Sized m s → Judged m c s soils
 unfolding claimCheck
-judged {m} {c} e f s n = record { sized = s; claim = claim-facts m c (lines-passed (claimLayout m) c .says f) (mesh-known e .facts); nodeSoils = n }
+judged {m} {c} h f s = record { sized = s; claim = claim-facts m c (lines-passed (claimLayout m) c .says f) (s .facts); nodeSoils = h .soilsAre }
 
 module _ (m c : List ℤ) where
   pub mesh-refused : {k : ℕ} {p : Place} → meshCheck m ≡ Fails k p → Refused k p ≡ verdict m c

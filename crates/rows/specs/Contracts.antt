@@ -12,7 +12,7 @@ use Rattle.rows.specs.declared.sizes.Sizes.{Sizes}
 use Rattle.scope.specs.Mesh.{nodes, elements, soils, edges, sides, elementSoil, fromNode, toNode}
 use Rattle.scope.specs.Checks.{someBelow}
 use Rattle.scope.specs.Rows.{firstWhere, hasCorner, nodeSoil}
-use Rattle.scope.specs.Verdict.{hasSide, sidesCheck}
+use Rattle.scope.specs.Verdict.{hasSide, sidesCheck, meshCheck}
 use Rattle.scope.specs.Facts.{MeshFacts}
 
 -- ---- sizes: the counts of a mesh whose lines have passed, and where its groups begin
@@ -75,3 +75,8 @@ pub record NodeSoils (m : List ℤ) (t : List ℕ) : Type 0 where
   pub size : length t ≡ 100
   pub says : (v : ℕ) → v < nodes m → getD t v 0 ≡ nodeSoil m v
   pub there : (v : ℕ) → v < nodes m → nodeSoil m v < soils m
+
+-- a mesh that passes, with the soils of its nodes
+pub record SoundMesh (m : List ℤ) (t : List ℕ) : Type 0 where
+  pub passes : meshCheck m ≡ Passed
+  pub soilsAre : NodeSoils m t

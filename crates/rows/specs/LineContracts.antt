@@ -107,13 +107,17 @@ pub record MeshCounts (nodes elements soils edges : ℕ) : Type 0 where
   pub fewSoils : soils ≤ 16
   pub fewEdges : edges ≤ 60
 
--- the lines of a field, and those of multipliers on elements, on edges and on nodes
+-- the lines of multipliers on elements, on edges and on nodes
+abbrev pub multiplierBody : ℕ → ℕ → ℕ → ℕ → List Group
+multiplierBody onElements onEdges onNodes sides =
+    elementMultipliers onElements ∷ edgeMultipliers onEdges ∷ strengthMultipliers onNodes sides ∷ []
+
+-- the lines of a field before them
 unfoldable pub claimBody : ℕ → ℕ → ℕ → ℕ → ℕ → List Group
 claimBody field onElements onEdges onNodes sides =
-    stressLines field ∷ elementMultipliers onElements ∷ edgeMultipliers onEdges ∷ strengthMultipliers onNodes sides ∷ []
+    stressLines field ∷ multiplierBody onElements onEdges onNodes sides
 
-pub record ClaimCounts (field onElements onEdges onNodes sides : ℕ) : Type 0 where
-  pub fewStresses : field ≤ 100
+pub record MultiplierCounts (onElements onEdges onNodes sides : ℕ) : Type 0 where
   pub fewOnElements : onElements ≤ 100
   pub fewOnEdges : onEdges ≤ 60
   pub fewOnNodes : onNodes ≤ 100

@@ -15,6 +15,7 @@ mod strength_rows;
 
 ghost use mathlib.Core.Path.{_≡_};
 ghost use Rattle.scope.specs.Verdict.{meshCheck, claimCheck, claimVerdict, verdict};
+ghost use Rattle.rows.specs.Contracts.{SoundMesh};
 ghost use Rattle.rows.specs.NumbersAnswer.{answerOf};
 use crate::claim_parts::parts_verdict;
 use crate::line_checks::claim_lines;
@@ -50,18 +51,24 @@ pub fn judge_claim_lines(m: &[i64], c: &[i64]) -> Outcome
     claim_lines(c, s.nodes, s.elements, s.edges, s.sides)
 }
 
-// The verdict on a claim's numbers on a judged mesh.
-pub fn judge_claim(m: &[i64], c: &[i64]) -> Verdict
+// The soil of each node of a judged mesh: looked up once a mesh, and lent to the judging of each claim on it.
+pub fn soils_of(m: &[i64]) -> [u8; 100]
     requires { ⌜ meshCheck (now m) ≡ Outcome.Passed ⌝ }
+    ensures { λ r. ⌜ SoundMesh (now (m .entry)) r ⌝ }
+{
+    node_soils(m, sizes_of(m))
+}
+
+// The verdict on a claim's numbers on a judged mesh, whose soils are lent.
+pub fn judge_claim(m: &[i64], soils: &[u8], c: &[i64]) -> Verdict
+    requires { ⌜ SoundMesh (now m) (now soils) ⌝ }
     ensures { λ r. ⌜ r ≡ claimVerdict (now (m .entry)) (now (c .entry)) ⌝ }
 {
     let lines = judge_claim_lines(m, c);
     if let Outcome::Refused { number, place } = lines {
         return Verdict::Refused { number, place };
     }
-    let s = sizes_of(m);
-    let soils = node_soils(m, s);
-    parts_verdict(m, c, s, &soils)
+    parts_verdict(m, c, sizes_of(m), soils)
 }
 
 // The verdict on a mesh and a claim handed over as numbers.
@@ -72,7 +79,8 @@ pub fn check_numbers(m: &[i64], c: &[i64]) -> Verdict
     if let Outcome::Refused { number, place } = mesh {
         return Verdict::Refused { number, place };
     }
-    judge_claim(m, c)
+    let soils = soils_of(m);
+    judge_claim(m, &soils, c)
 }
 
 // The same for a solver that calls from C.

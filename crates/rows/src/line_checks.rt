@@ -9,11 +9,11 @@ ghost use lib.ListN.{length, take, drop};
 ghost use lib.IntN.{ℤ, pos, _+ℤ_, _*ℤ_};
 ghost use Rattle.integer.specs.Bounds.{Within};
 ghost use Rattle.integer.specs.Tests.{eqZ};
-ghost use Rattle.scope.specs.Columns.{between, within, isOneOf, allWithin, parts, ruleTest};
+ghost use Rattle.scope.specs.Columns.{between, upTo, within, isOneOf, allWithin, parts, ruleTest};
 ghost use Rattle.scope.specs.Layout.{Layout, width, lineCheck, lineAt, linesCheck};
 ghost use Rattle.scope.specs.Mesh.{meshLayout, soilLines, elementLines, edgeLines};
 ghost use Rattle.scope.specs.Claim.{claimHeader, claimLayout, ifThere};
-ghost use Rattle.rows.specs.LineContracts.{runWithin, ranges, AsMany, groupCheck, groupsCheck, linesGroup, columnsIn, groupOf, columnsOf, evenLines, FewLines, FewColumns, NumberedFrom, meshBody, MeshCounts, claimBody, ClaimCounts, CountsAre, SmallCounts};
+ghost use Rattle.rows.specs.LineContracts.{runWithin, ranges, AsMany, groupCheck, groupsCheck, linesGroup, columnsIn, groupOf, columnsOf, evenLines, FewLines, FewColumns, NumberedFrom, meshBody, MeshCounts, multiplierBody, claimBody, MultiplierCounts, CountsAre, SmallCounts};
 
 // The limits of a mesh's header before its sides, and of a claim's header.
 const MESH_LEAST: [i64; 4] = [4, 1, 1, 0];
@@ -407,6 +407,48 @@ pub fn mesh_lines(m: &[i64]) -> Outcome
     mesh_groups(rest(m, 5), nodes, elements, soils, edges)
 }
 
+// The multipliers of equality rows, which are those on elements and on edges: they have one limit.
+fn equality_lines(s: &[i64], group: Lines, count: usize, line: usize) -> Outcome
+    requires { ⌜ FewColumns count (columnsIn group) 11 line ⌝ }
+    ensures { λ r. ⌜ r ≡ groupCheck (claimLayout []) (evenLines count (columnsIn group) (upTo 100000)) (now (s .entry)) line ⌝ }
+{
+    even_lines(s, group, count, -100000, 100000, 11, line)
+}
+
+// The multipliers of a claim, whose first line is line `line` of the file: on elements, on edges and on nodes.
+fn multiplier_groups(
+    s: &[i64],
+    elements: usize,
+    edges: usize,
+    nodes: usize,
+    sides: usize,
+    line: usize,
+) -> Outcome
+    requires { ⌜ MultiplierCounts elements edges nodes sides × (line ≤ 102) ⌝ }
+    ensures { λ r. ⌜ r ≡ groupsCheck (claimLayout []) (multiplierBody elements edges nodes sides) (now (s .entry)) line ⌝ }
+{
+    let of_elements = equality_lines(s, Lines::ElementMultipliers, elements, line);
+    if let Outcome::Refused { .. } = of_elements {
+        return of_elements;
+    }
+    let t = past(s, Lines::ElementMultipliers, elements);
+    let edges_line = line + elements;
+    let of_edges = equality_lines(t, Lines::EdgeMultipliers, edges, edges_line);
+    if let Outcome::Refused { .. } = of_edges {
+        return of_edges;
+    }
+    let u = past(t, Lines::EdgeMultipliers, edges);
+    let nodes_line = edges_line + edges;
+    let of_nodes = even_check(u, nodes, sides, 0, 10000, 11, nodes_line);
+    if let Outcome::Refused { .. } = of_nodes {
+        return of_nodes;
+    }
+    if nodes * sides < u.len() {
+        return refused(11, nodes_line + nodes);
+    }
+    Outcome::Passed
+}
+
 // The lines of a claim after its header.
 fn claim_groups(
     s: &[i64],
@@ -416,7 +458,7 @@ fn claim_groups(
     nodes: usize,
     sides: usize,
 ) -> Outcome
-    requires { ⌜ ClaimCounts field elements edges nodes sides ⌝ }
+    requires { ⌜ (field ≤ 100) × MultiplierCounts elements edges nodes sides ⌝ }
     ensures { λ r. ⌜ r ≡ groupsCheck (claimLayout []) (claimBody field elements edges nodes sides) (now (s .entry)) 2 ⌝ }
 {
     let of_field = even_lines(s, Lines::Stresses, field, -1000000000, 1000000000, 11, 2);
@@ -424,40 +466,7 @@ fn claim_groups(
         return of_field;
     }
     let t = past(s, Lines::Stresses, field);
-    let of_elements = even_lines(
-        t,
-        Lines::ElementMultipliers,
-        elements,
-        -100000,
-        100000,
-        11,
-        2 + field,
-    );
-    if let Outcome::Refused { .. } = of_elements {
-        return of_elements;
-    }
-    let u = past(t, Lines::ElementMultipliers, elements);
-    let of_edges = even_lines(
-        u,
-        Lines::EdgeMultipliers,
-        edges,
-        -100000,
-        100000,
-        11,
-        2 + field + elements,
-    );
-    if let Outcome::Refused { .. } = of_edges {
-        return of_edges;
-    }
-    let v = past(u, Lines::EdgeMultipliers, edges);
-    let of_nodes = even_check(v, nodes, sides, 0, 10000, 11, 2 + field + elements + edges);
-    if let Outcome::Refused { .. } = of_nodes {
-        return of_nodes;
-    }
-    if nodes * sides < v.len() {
-        return refused(11, 2 + field + elements + edges + nodes);
-    }
-    Outcome::Passed
+    multiplier_groups(t, elements, edges, nodes, sides, 2 + field)
 }
 
 // k where the part is there.

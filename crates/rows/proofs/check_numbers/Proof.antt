@@ -17,11 +17,17 @@ returns c = mesh-refused _ _ (sym (c .before .before .before .judge-mesh .ensure
 enum-told : tie.Need-enum-told
 enum-told c = search needs
 
+soils-of-requires : tie.Need-soils-of-requires
+soils-of-requires c κs = sym (c .before .before .judge-mesh .ensures) ∙ c .enum-told .given .1
+
+slice-aggregate-judge-claim : tie.Need-slice-aggregate-judge-claim
+slice-aggregate-judge-claim c = search needs
+
 judge-claim-requires : tie.Need-judge-claim-requires
-judge-claim-requires c κs = sym (c .before .before .judge-mesh .ensures) ∙ c .enum-told .given .1
+judge-claim-requires c κs = c .before .soils-of .ensures
 
 returns-2 : tie.Need-returns-2
-returns-2 c = mesh-goes-on _ _ (sym (c .before .before .before .judge-mesh .ensures) ∙ c .before .enum-told .given .1) (c .judge-claim .ensures)
+returns-2 c = mesh-goes-on _ _ (c .before .before .soils-of .ensures .passes) (c .judge-claim .ensures)
 
 pub check-numbers-spec : {M : Type 1} → statement M
 check-numbers-spec =
@@ -31,5 +37,7 @@ check-numbers-spec =
     enum-known-mesh
     returns
     enum-told
+    soils-of-requires
+    slice-aggregate-judge-claim
     judge-claim-requires
     returns-2)

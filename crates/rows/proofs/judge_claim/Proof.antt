@@ -6,7 +6,7 @@ use Rattle.rows.proofs.judge_claim.Statement.{statement}
 use Rattle.rows.proofs.judge_claim.Tie as tie
 
 judge-claim-lines-requires : tie.Need-judge-claim-lines-requires
-judge-claim-lines-requires c κs = search needs
+judge-claim-lines-requires c κs = c .before .pre .passes
 
 enum-known-lines : tie.Need-enum-known-lines
 enum-known-lines c = search needs
@@ -18,19 +18,13 @@ enum-told : tie.Need-enum-told
 enum-told c = search needs
 
 sizes-of-requires : tie.Need-sizes-of-requires
-sizes-of-requires c κs = mesh-known (c .before .before .before .pre) .facts
-
-node-soils-requires : tie.Need-node-soils-requires
-node-soils-requires c κs = (c .sizes-of .ensures, mesh-known (c .before .before .before .before .pre) .shape)
-
-slice-aggregate-parts-verdict : tie.Need-slice-aggregate-parts-verdict
-slice-aggregate-parts-verdict c = search needs
+sizes-of-requires c κs = mesh-known (c .before .before .before .before .pre .passes) .facts
 
 parts-verdict-requires : tie.Need-parts-verdict-requires
-parts-verdict-requires c κs = judged (c .before .before .before .before .before .before .pre) (sym (c .before .before .before .before .before .judge-claim-lines .ensures) ∙ c .before .before .before .enum-told .given .1) (c .before .before .sizes-of .ensures) (c .before .node-soils .ensures)
+parts-verdict-requires c κs = judged (c .before .before .before .before .before .pre) (sym (c .before .before .before .judge-claim-lines .ensures) ∙ c .before .enum-told .given .1) (c .sizes-of .ensures)
 
 returns-2 : tie.Need-returns-2
-returns-2 c = claim-goes-on _ _ (sym (c .before .before .before .before .before .before .judge-claim-lines .ensures) ∙ c .before .before .before .before .enum-told .given .1) (c .parts-verdict .ensures)
+returns-2 c = claim-goes-on _ _ (sym (c .before .before .before .before .judge-claim-lines .ensures) ∙ c .before .before .enum-told .given .1) (c .parts-verdict .ensures)
 
 pub judge-claim-spec : {M : Type 1} → statement M
 judge-claim-spec =
@@ -41,7 +35,5 @@ judge-claim-spec =
     returns
     enum-told
     sizes-of-requires
-    node-soils-requires
-    slice-aggregate-parts-verdict
     parts-verdict-requires
     returns-2)

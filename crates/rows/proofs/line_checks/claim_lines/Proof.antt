@@ -52,15 +52,16 @@ if-there-requires-4 c κs = search needs
 
 claim-groups-requires : tie.Need-claim-groups-requires
 claim-groups-requires c κs =
-    let p = c .before .before .before .before .before .before .before .before .before .before .pre in
-    record {
-      fewStresses = few-there _ (c .before .before .before .if-there .ensures) (p .fewNodes);
-      fewOnElements = few-there _ (c .before .before .if-there2 .ensures) (p .fewElements);
-      fewOnEdges = few-there _ (c .before .if-there3 .ensures) (p .fewEdges);
-      fewOnNodes = few-there _ (c .if-there4 .ensures) (p .fewNodes);
-      someSide = p .someSide;
-      fewSides = p .fewSides;
-    }
+    let p = c .before .before .before .before .before .before .before .before .before .before .pre in (
+      few-there _ (c .before .before .before .if-there .ensures) (p .fewNodes),
+      record {
+        fewOnElements = few-there _ (c .before .before .if-there2 .ensures) (p .fewElements);
+        fewOnEdges = few-there _ (c .before .if-there3 .ensures) (p .fewEdges);
+        fewOnNodes = few-there _ (c .if-there4 .ensures) (p .fewNodes);
+        someSide = p .someSide;
+        fewSides = p .fewSides;
+      },
+    )
 
 returns-2 : tie.Need-returns-2
 unfolding claimHeader at
