@@ -8,6 +8,7 @@ use rows::judge_mesh;
 use rows::line_checks::Lines;
 use rows::line_checks::columns;
 use rows::sizes::sizes_of;
+use rows::soils_of;
 use scope::Outcome;
 use scope::Verdict;
 ghost use mathlib.Core.Path.{_≡_};
@@ -17,6 +18,7 @@ ghost use lib.ListN.{length};
 ghost use Rattle.integer.specs.Tests.{eqZ};
 ghost use Rattle.scope.specs.Columns.{at};
 ghost use Rattle.scope.specs.Verdict.{meshCheck, claimVerdict};
+ghost use Rattle.rows.specs.Contracts.{SoundMesh};
 ghost use Rattle.rows.specs.LineContracts.{columnsIn};
 ghost use Rattle.reader.specs.File.{lineBytes};
 ghost use Rattle.judge.specs.Judge.{claimNumbers, fileWidth, filesVerdict};
@@ -40,32 +42,32 @@ pub fn judge_mesh_file(mesh: &[u8], numbers: &mut [i64]) -> JudgedMesh
 }
 
 // The verdict on a claim file on a judged mesh with the numbers m, with room for the claim's numbers.
-fn judge_claim_in(m: &[i64], claim: &[u8], numbers: &mut [i64]) -> Verdict
-    requires { ⌜ meshCheck (now m) ≡ Outcome.Passed ⌝ ∗ ⌜ roomOn (now m) ≤ length (now numbers) ⌝ }
+fn judge_claim_in(m: &[i64], soils: &[u8], claim: &[u8], numbers: &mut [i64]) -> Verdict
+    requires { ⌜ SoundMesh (now m) (now soils) ⌝ ∗ ⌜ roomOn (now m) ≤ length (now numbers) ⌝ }
     ensures { λ r. ⌜ r ≡ claimVerdict (now (m .entry)) (claimNumbers fileWidth (now (m .entry)) (now (claim .entry))) ⌝ }
 {
     let s = sizes_of(m);
     let count = read_claim(claim, s.nodes, s.elements, s.edges, s.sides, numbers);
-    judge_claim(m, &numbers[..count])
+    judge_claim(m, soils, &numbers[..count])
 }
 
 // The same. An array is filled with zeros before it is used, and for a small claim that would cost more than its check: so there are three sizes.
-pub fn judge_claim_file(m: &[i64], claim: &[u8]) -> Verdict
-    requires { ⌜ meshCheck (now m) ≡ Outcome.Passed ⌝ }
+pub fn judge_claim_file(m: &[i64], soils: &[u8], claim: &[u8]) -> Verdict
+    requires { ⌜ SoundMesh (now m) (now soils) ⌝ }
     ensures { λ r. ⌜ r ≡ claimVerdict (now (m .entry)) (claimNumbers fileWidth (now (m .entry)) (now (claim .entry))) ⌝ }
 {
     let s = sizes_of(m);
     let room = claim_room(s.nodes, s.elements, s.edges, s.sides);
     if room <= 256 {
         let mut small = [0i64; 256];
-        return judge_claim_in(m, claim, &mut small);
+        return judge_claim_in(m, soils, claim, &mut small);
     }
     if room <= 1024 {
         let mut middle = [0i64; 1024];
-        return judge_claim_in(m, claim, &mut middle);
+        return judge_claim_in(m, soils, claim, &mut middle);
     }
     let mut large = [0i64; 4345];
-    judge_claim_in(m, claim, &mut large)
+    judge_claim_in(m, soils, claim, &mut large)
 }
 
 // The verdict on a mesh file and a claim file.
@@ -78,7 +80,11 @@ pub fn judge_files(mesh: &[u8], claim: &[u8]) -> Verdict
     let outcome = judged.outcome;
     match outcome {
         Outcome::Refused { number, place } => Verdict::Refused { number, place },
-        Outcome::Passed => judge_claim_file(&numbers[..count], claim),
+        Outcome::Passed => {
+            let m = &numbers[..count];
+            let soils = soils_of(m);
+            judge_claim_file(m, &soils, claim)
+        }
     }
 }
 

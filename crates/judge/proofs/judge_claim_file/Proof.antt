@@ -7,7 +7,7 @@ use Rattle.judge.proofs.judge_claim_file.Statement.{statement}
 use Rattle.judge.proofs.judge_claim_file.Tie as tie
 
 sizes-of-requires : tie.Need-sizes-of-requires
-sizes-of-requires c κs = judged-facts (now (c .before .args .m)) (c .before .pre)
+sizes-of-requires c κs = judged-facts (now (c .before .before .args .m)) (c .before .before .pre .passes)
 
 claim-room-requires : tie.Need-claim-room-requires
 claim-room-requires c κs = sizes-small (c .sizes-of .ensures)
@@ -18,7 +18,7 @@ slice-aggregate-judge-claim-in c = search needs
 judge-claim-in-requires : tie.Need-judge-claim-in-requires
 judge-claim-in-requires c κs =
     let r = c .before .before in
-    (r .before .before .before .pre, omega (arith, room-is (r .before .sizes-of .ensures), r .claim-room .ensures, c .before .if1 .taken))
+    (r .before .before .before .before .pre, omega (arith, room-is (r .before .sizes-of .ensures), r .claim-room .ensures, c .before .if1 .taken))
 
 returns : tie.Need-returns
 returns c = c .before .judge-claim-in .ensures
@@ -29,7 +29,7 @@ slice-aggregate-judge-claim-in-2 c = search needs
 judge-claim-in-requires-2 : tie.Need-judge-claim-in-requires-2
 judge-claim-in-requires-2 c κs =
     let r = c .before .before .before in
-    (r .before .before .before .pre, omega (arith, room-is (r .before .sizes-of .ensures), r .claim-room .ensures, c .before .if2 .taken))
+    (r .before .before .before .before .pre, omega (arith, room-is (r .before .sizes-of .ensures), r .claim-room .ensures, c .before .if2 .taken))
 
 returns-2 : tie.Need-returns-2
 returns-2 c = c .before .judge-claim-in2 .ensures
@@ -40,7 +40,7 @@ slice-aggregate-judge-claim-in-3 c = search needs
 judge-claim-in-requires-3 : tie.Need-judge-claim-in-requires-3
 judge-claim-in-requires-3 c κs =
     let r = c .before .before .before in
-    (r .before .before .before .pre, omega (arith, room-most (r .before .sizes-of .ensures)))
+    (r .before .before .before .before .pre, omega (arith, room-most (r .before .sizes-of .ensures)))
 
 returns-3 : tie.Need-returns-3
 returns-3 c = c .before .judge-claim-in3 .ensures

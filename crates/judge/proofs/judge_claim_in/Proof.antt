@@ -9,12 +9,12 @@ use Rattle.judge.proofs.judge_claim_in.Statement.{statement}
 use Rattle.judge.proofs.judge_claim_in.Tie as tie
 
 sizes-of-requires : tie.Need-sizes-of-requires
-sizes-of-requires c κs = judged-facts (now (c .before .args .m)) (c .before .pre .0)
+sizes-of-requires c κs = judged-facts (now (c .before .before .args .m)) (c .before .before .pre .0 .passes)
 
 read-claim-requires : tie.Need-read-claim-requires
 read-claim-requires c κs =
     let z = c .before .sizes-of .ensures in
-    (sizes-small z, omega (arith, room-is z, c .before .before .before .pre .1))
+    (sizes-small z, omega (arith, room-is z, c .before .before .before .before .pre .1))
 
 slice-reshare-prefix-judge-claim : tie.Need-slice-reshare-prefix-judge-claim
 slice-reshare-prefix-judge-claim c = fits (claim-listed (c .before .before .before .sizes-of .ensures) (c .before .read-claim .ensures))
@@ -24,7 +24,7 @@ slice-aggregate-judge-claim c =
     as-many (claim-listed (c .before .before .before .before .sizes-of .ensures) (c .before .before .read-claim .ensures))
 
 judge-claim-requires : tie.Need-judge-claim-requires
-judge-claim-requires c κs = c .before .before .before .before .before .before .pre .0
+judge-claim-requires c κs = c .before .before .before .before .before .before .before .pre .0
 
 same-length : tie.Need-same-length
 same-length c = search needs
@@ -32,7 +32,7 @@ same-length c = search needs
 returns : tie.Need-returns
 returns c =
     let z = c .before .before .before .before .before .sizes-of .ensures in
-    let m = now (c .before .before .before .before .before .before .before .args .m) in
+    let m = now (c .before .before .before .before .before .before .before .before .args .m) in
     c .judge-claim .ensures ∙ ap (claimVerdict m) (front (claim-listed z (c .before .before .before .read-claim .ensures)))
 
 pub judge-claim-in-spec : {M : Type 1} → statement M

@@ -19,21 +19,26 @@ enum-told c = search needs
 array-share-prefix-numbers : tie.Need-array-share-prefix-numbers
 array-share-prefix-numbers c = fits (judged-listed (c .before .before .before .judge-mesh-file .ensures))
 
+slice-aggregate-m : tie.Need-slice-aggregate-m
+slice-aggregate-m c = as-many (judged-listed (c .before .before .before .before .judge-mesh-file .ensures))
+
+soils-of-requires : tie.Need-soils-of-requires
+soils-of-requires c κs = judged-passed (c .before .before .before .before .judge-mesh-file .ensures) (c .before .enum-told .given .1)
+
 slice-aggregate-judge-claim-file : tie.Need-slice-aggregate-judge-claim-file
-slice-aggregate-judge-claim-file c = as-many (judged-listed (c .before .before .before .before .judge-mesh-file .ensures))
+slice-aggregate-judge-claim-file c = search needs
 
 judge-claim-file-requires : tie.Need-judge-claim-file-requires
-judge-claim-file-requires c κs =
-    judged-passed (c .before .before .before .before .judge-mesh-file .ensures) (c .before .enum-told .given .1)
+judge-claim-file-requires c κs = c .before .soils-of .ensures
 
 returns : tie.Need-returns
 returns c = files-refused (c .before .before .before .before .judge-mesh-file .ensures) _ (c .before .outcome .given .1)
 
 returns-2 : tie.Need-returns-2
 returns-2 c =
-    files-judged (c .before .before .before .before .before .judge-mesh-file .ensures)
+    files-judged (c .before .before .before .before .before .before .before .judge-mesh-file .ensures)
     _
-    (c .before .before .enum-told .given .1)
+    (c .before .before .before .before .enum-told .given .1)
     (c .judge-claim-file .ensures)
 
 pub judge-files-spec : {M : Type 1} → statement M
@@ -45,6 +50,8 @@ judge-files-spec =
     enum-known-outcome
     enum-told
     array-share-prefix-numbers
+    slice-aggregate-m
+    soils-of-requires
     slice-aggregate-judge-claim-file
     judge-claim-file-requires
     returns
