@@ -28,18 +28,27 @@ pub record Sized (m : List ℤ) (s : Sizes) : Type 0 where
   pub elementsFrom : s .«elements_from» ≡ 5 + soils m * 8 + nodes m * 2
   pub edgesFrom : s .«edges_from» ≡ 5 + soils m * 8 + nodes m * 2 + elements m * 5
 
--- ---- tables of sides: 100 bytes for each node, and the byte at a·100 + b is not 0 where the side a to b is marked
+-- ---- tables of sides: 100 bytes for each node, and the byte of the side a to b stands at a·100 + b
+
+abbrev pub byteAt : List ℕ → ℕ → ℕ → ℕ
+byteAt t a b = getD t (a * 100 + b) 0
 
 abbrev pub marked : List ℕ → ℕ → ℕ → Bool
-marked t a b = ltb 0 (getD t (a * 100 + b) 0)
+marked t a b = ltb 0 (byteAt t a b)
 
-abbrev pub withMark : List ℕ → ℕ → ℕ → List ℕ
-withMark t a b = set t (a * 100 + b) 1
+abbrev pub withByte : List ℕ → ℕ → ℕ → ℕ → List ℕ
+withByte t a b byte = set t (a * 100 + b) byte
 
--- the sides that pass a test are marked, and no others
-pub record Marks (f : ℕ → ℕ → Bool) (t : List ℕ) : Type 0 where
+pub record SideBytes (f : ℕ → ℕ → ℕ) (t : List ℕ) : Type 0 where
   pub size : length t ≡ 10000
-  pub says : (a b : ℕ) → a < 100 → b < 100 → marked t a b ≡ f a b
+  pub says : (a b : ℕ) → a < 100 → b < 100 → byteAt t a b ≡ f a b
+
+-- 1 for the sides that pass a test, and 0 for the others
+abbrev pub markOf : Bool → ℕ
+markOf passes = cond passes 1 0
+
+abbrev pub Marks : (ℕ → ℕ → Bool) → List ℕ → Type 0
+Marks f t = SideBytes (λ a b. markOf (f a b)) t
 
 -- a to b is a side of an element below e
 unfoldable pub sideBelow : List ℤ → ℕ → ℕ → ℕ → Bool
@@ -48,6 +57,10 @@ sideBelow m e a b = someBelow (hasSide m a b) e
 -- an edge below g goes from a to b
 unfoldable pub edgeBelow : List ℤ → ℕ → ℕ → ℕ → Bool
 edgeBelow m g a b = someBelow (λ k. eqb (fromNode m k) a && eqb (toNode m k) b) g
+
+-- 0 where a to b is no side of an element, 2 where it is one that an edge below g has taken, and 1 for the other sides
+unfoldable pub takenByte : List ℤ → ℕ → ℕ → ℕ → ℕ
+takenByte m g a b = cond (sideBelow m (elements m) a b) (cond (edgeBelow m g a b) 2 1) 0
 
 -- what the check of sides answers, and marks where it passes
 pub record SidesChecked (m : List ℤ) (r : Outcome) (t : List ℕ) : Type 0 where

@@ -1,5 +1,6 @@
 // The shape of a mesh whose lines have passed: refusals 5 to 8, and the soil of each node.
-// Sides are looked up in a table, 100 bytes for each node: the byte at a * 100 + b says whether the side a to b is marked.
+// Sides are looked up in a table, 100 bytes for each node: the byte at a * 100 + b is 0 where a to b is no side, 1 where it is one, and 2 where an edge has taken it.
+// For speed one table serves 6 and 8: a second would be 10,000 more bytes to fill with 0.
 use crate::sizes::Sizes;
 use crate::sizes::corner_of;
 use crate::sizes::edge_from;
@@ -19,7 +20,7 @@ ghost use Rattle.scope.specs.Mesh.{nodes, elements, edges, x, y, fromNode, toNo
 ghost use Rattle.scope.specs.Rows.{node};
 ghost use Rattle.scope.specs.Checks.{_then_};
 ghost use Rattle.scope.specs.Verdict.{turn, leftTurnAt, leftTurns, ownSides, outerEdge, turnsCheck, sidesCheck, nodesCheck, edgesCheck, shapeCheck};
-ghost use Rattle.rows.specs.Contracts.{Sized, marked, withMark, Marks, sideBelow, edgeBelow, SidesChecked, keepFirst, soilBelow, Holds, NodeSoils};
+ghost use Rattle.rows.specs.Contracts.{Sized, byteAt, marked, withByte, SideBytes, Marks, sideBelow, takenByte, SidesChecked, keepFirst, soilBelow, Holds, NodeSoils};
 
 // ---- 5: a left turn at all four corners
 
@@ -110,18 +111,18 @@ fn turns_check(m: &[i64], s: Sizes) -> Outcome
 
 // ---- 6: no directed side that a lower element has
 
-fn is_marked(t: &[u8; 10000], a: usize, b: usize) -> bool
+fn side_byte(t: &[u8; 10000], a: usize, b: usize) -> u8
     requires { ⌜ (a < 100) × (b < 100) ⌝ }
-    ensures { λ r. ⌜ r ≡ marked (now (t .entry)) a b ⌝ }
+    ensures { λ r. ⌜ r ≡ byteAt (now (t .entry)) a b ⌝ }
 {
-    0 < t[a * 100 + b]
+    t[a * 100 + b]
 }
 
-fn mark(t: &mut [u8; 10000], a: usize, b: usize)
+fn set_byte(t: &mut [u8; 10000], a: usize, b: usize, byte: u8)
     requires { ⌜ (a < 100) × (b < 100) ⌝ }
-    ensures { λ _. ⌜ now (t .exit) ≡ withMark (now (t .entry)) a b ⌝ }
+    ensures { λ _. ⌜ now (t .exit) ≡ withByte (now (t .entry)) a b byte ⌝ }
 {
-    t[a * 100 + b] = 1;
+    t[a * 100 + b] = byte;
 }
 
 // Whether side i of element e is marked.
@@ -131,16 +132,16 @@ fn side_marked(m: &[i64], s: Sizes, e: usize, i: usize, t: &[u8; 10000]) -> bool
 {
     let a = node_of(m, s, e, i);
     let b = node_of(m, s, e, i + 1);
-    is_marked(t, a, b)
+    0 < side_byte(t, a, b)
 }
 
 fn mark_side(m: &[i64], s: Sizes, e: usize, i: usize, t: &mut [u8; 10000])
     requires { ⌜ Sized (now m) s × (e < elements (now m)) × (i < 4) ⌝ }
-    ensures { λ _. ⌜ now (t .exit) ≡ withMark (now (t .entry)) (node (now (m .entry)) e i) (node (now (m .entry)) e (i + 1)) ⌝ }
+    ensures { λ _. ⌜ now (t .exit) ≡ withByte (now (t .entry)) (node (now (m .entry)) e i) (node (now (m .entry)) e (i + 1)) 1 ⌝ }
 {
     let a = node_of(m, s, e, i);
     let b = node_of(m, s, e, i + 1);
-    mark(t, a, b)
+    set_byte(t, a, b, 1)
 }
 
 // Whether no side of element e is marked.
@@ -260,48 +261,27 @@ pub fn node_soils(m: &[i64], s: Sizes) -> [u8; 100]
 
 // ---- 8: each edge is an outer side, once
 
-// Whether edge g is marked, and whether its reverse is.
-fn edge_marked(m: &[i64], s: Sizes, g: usize, t: &[u8; 10000]) -> bool
-    requires { ⌜ Sized (now m) s × (g < edges (now m)) ⌝ }
-    ensures { λ r. ⌜ r ≡ marked (now (t .entry)) (fromNode (now (m .entry)) g) (toNode (now (m .entry)) g) ⌝ }
-{
-    let a = edge_from(m, s, g);
-    let b = edge_to(m, s, g);
-    is_marked(t, a, b)
-}
-
-fn reverse_marked(m: &[i64], s: Sizes, g: usize, t: &[u8; 10000]) -> bool
-    requires { ⌜ Sized (now m) s × (g < edges (now m)) ⌝ }
-    ensures { λ r. ⌜ r ≡ marked (now (t .entry)) (toNode (now (m .entry)) g) (fromNode (now (m .entry)) g) ⌝ }
-{
-    let a = edge_from(m, s, g);
-    let b = edge_to(m, s, g);
-    is_marked(t, b, a)
-}
-
-// Whether edge g is a side of an element, its reverse is none, and no earlier edge has it.
-fn outer_edge(m: &[i64], s: Sizes, g: usize, sides: &[u8; 10000], taken: &[u8; 10000]) -> bool
-    requires { ⌜ Sized (now m) s × (g < edges (now m)) ⌝ }
-    requires { ⌜ Marks (sideBelow (now m) (elements (now m))) (now sides) × Marks (edgeBelow (now m) g) (now taken) ⌝ }
+// Whether edge g is a side that no earlier edge has taken, and its reverse is none.
+fn outer_edge(m: &[i64], s: Sizes, g: usize, t: &[u8; 10000]) -> bool
+    requires { ⌜ Sized (now m) s × (g < edges (now m)) × SideBytes (takenByte (now m) g) (now t) ⌝ }
     ensures { λ r. ⌜ r ≡ outerEdge (now (m .entry)) g ⌝ }
 {
-    if !edge_marked(m, s, g, sides) {
+    let a = edge_from(m, s, g);
+    let b = edge_to(m, s, g);
+    if side_byte(t, a, b) != 1 {
         return false;
     }
-    if reverse_marked(m, s, g, sides) {
-        return false;
-    }
-    !edge_marked(m, s, g, taken)
+    side_byte(t, b, a) == 0
 }
 
-// Marks edge g.
-fn mark_edge(m: &[i64], s: Sizes, g: usize, t: &mut [u8; 10000])
+// Edge g takes its side.
+fn take_side(m: &[i64], s: Sizes, g: usize, t: &mut [u8; 10000])
     requires { ⌜ Sized (now m) s × (g < edges (now m)) ⌝ }
-    ensures { λ _. ⌜ now (t .exit) ≡ withMark (now (t .entry)) (fromNode (now (m .entry)) g) (toNode (now (m .entry)) g) ⌝ }
+    ensures { λ _. ⌜ now (t .exit) ≡ withByte (now (t .entry)) (fromNode (now (m .entry)) g) (toNode (now (m .entry)) g) 2 ⌝ }
 {
     let a = edge_from(m, s, g);
     let b = edge_to(m, s, g);
-    mark(t, a, b)
+    set_byte(t, a, b, 2)
 }
 
 // The line of edge g, counted from 1: the edges follow the header, the soils, the nodes and the elements.
@@ -312,21 +292,20 @@ fn edge_line(s: Sizes, g: usize) -> u32
     (s.soils + s.nodes + s.elements + g + 2) as u32
 }
 
-fn edges_check(m: &[i64], s: Sizes, sides: &[u8; 10000]) -> Outcome
-    requires { ⌜ Sized (now m) s × Marks (sideBelow (now m) (elements (now m))) (now sides) ⌝ }
+fn edges_check(m: &[i64], s: Sizes, t: &mut [u8; 10000]) -> Outcome
+    requires { ⌜ Sized (now m) s × Marks (sideBelow (now m) (elements (now m))) (now t) ⌝ }
     ensures { λ r. ⌜ r ≡ edgesCheck (now (m .entry)) ⌝ }
 {
-    let mut taken = [0u8; 10000];
     let count = s.edges;
     let mut g: usize = 0;
     while g < count {
-        if !outer_edge(m, s, g, sides, &taken) {
+        if !outer_edge(m, s, g, t) {
             return Outcome::Refused {
                 number: 8,
                 place: Place::Line(edge_line(s, g)),
             };
         }
-        mark_edge(m, s, g, &mut taken);
+        take_side(m, s, g, t);
         g += 1;
     }
     Outcome::Passed
@@ -334,7 +313,7 @@ fn edges_check(m: &[i64], s: Sizes, sides: &[u8; 10000]) -> Outcome
 
 // ---- all four
 
-// Refusals 6 to 8: one table of sides serves 6 and 8.
+// Refusals 6 to 8.
 fn sides_nodes_edges(m: &[i64], s: Sizes) -> Outcome
     requires { ⌜ Sized (now m) s ⌝ }
     ensures { λ r. ⌜ r ≡ sidesCheck (now (m .entry)) then nodesCheck (now (m .entry)) then edgesCheck (now (m .entry)) ⌝ }
@@ -347,7 +326,7 @@ fn sides_nodes_edges(m: &[i64], s: Sizes) -> Outcome
             let nodes = nodes_check(m, s);
             match nodes {
                 Outcome::Refused { number, place } => Outcome::Refused { number, place },
-                Outcome::Passed => edges_check(m, s, &table),
+                Outcome::Passed => edges_check(m, s, &mut table),
             }
         }
     }

@@ -1,41 +1,43 @@
--- `outer_edge` meets its contract: three looks into the tables, each with its answer.
+-- `outer_edge` meets its contract: two looks into the table, each with its answer.
 use borrow.Author.Needs.{needs}
-use borrow.Author.Tests.{not-true, not-false}
-use Rattle.rows.proofs.SideTables.{no-side, inner-side, outer-side}
+use Rattle.rows.proofs.MeshLaws.{from-below, to-below}
+use Rattle.rows.proofs.SideTables.{not-outer, outer-by-reverse}
 use Rattle.rows.proofs.mesh_checks.outer_edge.Statement.{statement}
 use Rattle.rows.proofs.mesh_checks.outer_edge.Tie as tie
 
-edge-marked-requires : tie.Need-edge-marked-requires
-edge-marked-requires c κs = search needs
+edge-from-requires : tie.Need-edge-from-requires
+edge-from-requires c κs = search needs
+
+edge-to-requires : tie.Need-edge-to-requires
+edge-to-requires c κs = search needs
+
+side-byte-requires : tie.Need-side-byte-requires
+side-byte-requires c κs =
+    let p = c .before .before .pre in
+    (from-below _ (p .0) (p .1) (c .before .edge-from .ensures), to-below _ (p .0) (p .1) (c .edge-to .ensures))
 
 returns : tie.Need-returns
 returns c =
-    let p = c .before .before .pre in
-    no-side _ (p .0 .0) (p .0 .1) (p .1 .0) (c .before .edge-marked .ensures) (not-true _ (c .if1 .taken))
+    let p = c .before .before .before .before .pre in
+    not-outer _ (p .0) (p .1) (p .2) (c .before .before .before .edge-from .ensures) (c .before .before .edge-to .ensures) (c .before .side-byte .ensures) (c .if1 .taken)
 
-reverse-marked-requires : tie.Need-reverse-marked-requires
-reverse-marked-requires c κs = search needs
+side-byte-requires-2 : tie.Need-side-byte-requires-2
+side-byte-requires-2 c κs =
+    let p = c .before .before .before .before .pre in
+    (to-below _ (p .0) (p .1) (c .before .before .edge-to .ensures), from-below _ (p .0) (p .1) (c .before .before .before .edge-from .ensures))
 
 returns-2 : tie.Need-returns-2
 returns-2 c =
-    let p = c .before .before .before .before .pre in
-    inner-side _ (p .0 .0) (p .0 .1) (p .1 .0) (c .before .before .before .edge-marked .ensures) (c .before .reverse-marked .ensures) (not-false _ (c .before .before .if1 .left)) (c .if2 .taken)
-
-edge-marked-requires-2 : tie.Need-edge-marked-requires-2
-edge-marked-requires-2 c κs = search needs
-
-returns-3 : tie.Need-returns-3
-returns-3 c =
     let p = c .before .before .before .before .before .pre in
-    outer-side _ (p .0 .0) (p .0 .1) (p .1 .0) (c .before .before .before .before .edge-marked .ensures) (c .before .before .reverse-marked .ensures) (p .1 .1) (c .edge-marked2 .ensures) (not-false _ (c .before .before .before .if1 .left)) (c .before .if2 .left)
+    outer-by-reverse _ (p .0) (p .1) (p .2) (c .before .before .before .before .edge-from .ensures) (c .before .before .before .edge-to .ensures) (c .before .before .side-byte .ensures) (c .before .if1 .left) (c .side-byte2 .ensures)
 
 pub outer-edge-spec : {M : Type 1} → statement M
 outer-edge-spec =
     tie.close
     (tie.spec
-    edge-marked-requires
+    edge-from-requires
+    edge-to-requires
+    side-byte-requires
     returns
-    reverse-marked-requires
-    returns-2
-    edge-marked-requires-2
-    returns-3)
+    side-byte-requires-2
+    returns-2)
