@@ -7,7 +7,6 @@ pub mod Regular
 pub mod Written
 pub mod Cut
 pub mod OnePass
-pub mod Spaces
 pub mod Entries
 pub mod Taken
 pub mod InLine

@@ -1,6 +1,6 @@
 -- A column read in one pass, each byte taken once, front to back: what is kept after some of its bytes, and how the program keeps it.
 use mathlib.Core.Path.{_≡_}
-use mathlib.Core.Bool.{Bool, true, false, cond, _&&_}
+use mathlib.Core.Bool.{true, false, cond}
 use mathlib.Core.List.{List, [], _∷_}
 use mathlib.Core.Option.{Option, none, some}
 use Prim.Native.Nat.{ℕ, _+_, _*_, _-_, _/_, _%_, _^_, _≤_, _<_}
@@ -93,14 +93,3 @@ pub record After (bs : List ℕ) (c : Kept) : Type 0 where
 pub record Partway (bs : List ℕ) (at i : ℕ) (c : Kept) : Type 0 where
   pub most : i ≤ 12
   pub state : After (take i (drop at bs)) c
-
--- the first i bytes of the column that begins at a place are spaces, so that nothing is kept of them
-abbrev pub OnlySpaces : List ℕ → ℕ → ℕ → Type 0
-OnlySpaces bs at i = Partway bs at i (record { phase = 6; value = 0 })
-
--- four bytes are spaces, and those from a place on are
-unfoldable pub allSpaces : ℕ → ℕ → ℕ → ℕ → Bool
-allSpaces a b c d = eqb a 32 && eqb b 32 && eqb c 32 && eqb d 32
-
-abbrev pub fourSpaces : List ℕ → ℕ → Bool
-fourSpaces bs at = allSpaces (getD bs at 0) (getD bs (at + 1) 0) (getD bs (at + 2) 0) (getD bs (at + 3) 0)

@@ -3,7 +3,7 @@ ghost use mathlib.Core.Path.{_≡_};
 ghost use Prim.Native.Nat.{_+_, _≤_, _<_};
 ghost use lib.ListN.{length, take, drop};
 ghost use Rattle.reader.specs.Spelling.{readColumn};
-ghost use Rattle.reader.specs.OnePass.{Table, Stepped, Said, Partway, OnlySpaces, allSpaces, fourSpaces, readingOf};
+ghost use Rattle.reader.specs.OnePass.{Table, Stepped, Said, Partway, readingOf};
 
 // What is kept of the bytes so far: the phase, which says what they spell, and the value of their digits.
 struct Kept {
@@ -59,9 +59,6 @@ const SEVEN: u64 = DIGIT + (7 << 60);
 const EIGHT: u64 = DIGIT + (8 << 60);
 
 const NINE: u64 = DIGIT + (9 << 60);
-
-// Four spaces as one number.
-const FOUR_SPACES: u64 = 538976288;
 
 // The entries of all bytes, made once for a file and lent.
 pub fn table() -> [u64; 256]
@@ -124,41 +121,12 @@ fn rest_of(table: &[u64; 256], bytes: &[u8], at: usize, from: usize, c: Kept) ->
     said(kept)
 }
 
-// Whether four bytes are spaces. For speed they are compared as one number.
-fn all_spaces(a: u8, b: u8, c: u8, d: u8) -> bool
-    ensures { λ r. ⌜ r ≡ allSpaces a b c d ⌝ }
-{
-    a as u64 + b as u64 * 256 + c as u64 * 65536 + d as u64 * 16777216 == FOUR_SPACES
-}
-
-// Whether the four bytes from a place on are spaces.
-fn four_spaces(bytes: &[u8], at: usize) -> bool
-    requires { ⌜ at + 4 ≤ length (now bytes) ⌝ }
-    ensures { λ r. ⌜ r ≡ fourSpaces (now (bytes .entry)) at ⌝ }
-{
-    all_spaces(bytes[at], bytes[at + 1], bytes[at + 2], bytes[at + 3])
-}
-
-// How many bytes of a column are passed over at once: its first eight where they are spaces, else none.
-fn passed_at_once(bytes: &[u8], at: usize) -> usize
-    requires { ⌜ at + 12 ≤ length (now bytes) ⌝ }
-    ensures { λ r. ⌜ OnlySpaces (now (bytes .entry)) at r ⌝ }
-{
-    if !four_spaces(bytes, at) {
-        return 0;
-    }
-    if !four_spaces(bytes, at + 4) {
-        return 0;
-    }
-    8
-}
-
 // The column whose first byte has the place `at`. Spaces leave the state as it is, so for speed they are passed over: most bytes of a large claim are spaces.
 pub fn column(table: &[u64; 256], bytes: &[u8], at: usize) -> Reading
     requires { ⌜ Table (now table) ⌝ ∗ ⌜ at + 12 ≤ length (now bytes) ⌝ }
     ensures { λ r. ⌜ r ≡ readingOf (readColumn (take 12 (drop at (now (bytes .entry))))) ⌝ }
 {
-    let mut i = passed_at_once(bytes, at);
+    let mut i: usize = 0;
     while i < 12 {
         let b = bytes[at + i];
         if b != 32 {

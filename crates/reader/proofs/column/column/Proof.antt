@@ -1,22 +1,19 @@
 -- `reader::column::column` meets its contract. The loop's invariant: the bytes passed are spaces, so the state is the first one.
 use Prim.Native.Nat.{_-_}
 use native.Mathlib.Omega.{arith}
-use Rattle.reader.specs.OnePass.{OnlySpaces}
-use Rattle.reader.proofs.OnePass.{part-phase, part-value, part-next, part-last, blank-stepped, said-malformed}
+use Rattle.reader.specs.OnePass.{Partway}
+use Rattle.reader.proofs.OnePass.{part-first, part-phase, part-value, part-next, part-last, blank-stepped, said-malformed}
 use Rattle.reader.proofs.column.column.Statement.{statement}
 use Rattle.reader.proofs.column.column.Tie as tie
 
 abbrev Inv-loop : tie.InvT-loop
-Inv-loop table bytes at i₀ i = OnlySpaces bytes at i
+Inv-loop table bytes at i₀ i = Partway bytes at i (record { phase = 6; value = 0 })
 
 abbrev μ-loop : tie.MeasureT-loop
 μ-loop table bytes at i₀ i = 12 - i
 
-passed-at-once-requires : tie.Need-passed-at-once-requires Inv-loop μ-loop
-passed-at-once-requires c κs = c .before .pre .1
-
 loop-holds : tie.Need-loop-holds Inv-loop μ-loop
-loop-holds c = c .passed-at-once .ensures
+loop-holds c = part-first _ _
 
 add-b : tie.Need-add-b Inv-loop μ-loop
 add-b c = omega arith
@@ -25,13 +22,13 @@ shared-slice-read-b : tie.Need-shared-slice-read-b Inv-loop μ-loop
 shared-slice-read-b c = omega arith
 
 step-requires : tie.Need-step-requires Inv-loop μ-loop
-step-requires c κs = (c .before .before .before .before .before .before .pre .0, (part-phase (c .before .before .before .loop .inv), part-value (c .before .before .before .loop .inv)))
+step-requires c κs = (c .before .before .before .before .before .pre .0, (part-phase (c .before .before .before .loop .inv), part-value (c .before .before .before .loop .inv)))
 
 add-rest-of : tie.Need-add-rest-of Inv-loop μ-loop
 add-rest-of c = omega arith
 
 rest-of-requires : tie.Need-rest-of-requires Inv-loop μ-loop
-rest-of-requires c κs = (c .before .before .before .before .before .before .before .pre .0, (c .before .before .before .before .before .before .before .pre .1, part-next (c .before .before .before .before .loop .inv) (omega arith) (omega arith) (c .step .ensures)))
+rest-of-requires c κs = (c .before .before .before .before .before .before .pre .0, (c .before .before .before .before .before .before .pre .1, part-next (c .before .before .before .before .loop .inv) (omega arith) (omega arith) (c .step .ensures)))
 
 returns : tie.Need-returns Inv-loop μ-loop
 returns c = c .rest-of .ensures
@@ -54,7 +51,6 @@ column-spec =
     (tie.spec
     Inv-loop
     μ-loop
-    passed-at-once-requires
     loop-holds
     add-b
     shared-slice-read-b
