@@ -5,6 +5,7 @@
 #include <stdlib.h>
 #include <string.h>
 
+#include "memory.h"
 #include "pechuvo.h"
 
 enum { LINE = 113, ROOM = 120, COLUMN = 12, MOST = 8192 };
@@ -22,12 +23,29 @@ static void must(int good, const char *what) {
   }
 }
 
+/* The archive has no counters and no sanitizer of its own, so what is lent to it ends, or begins, at
+   a closed page: a byte read or written outside is a crash. */
+static struct pechuvo_answer check_closed(const uint8_t *mesh, size_t mesh_len, const uint8_t *claim,
+                                          size_t claim_len, uint8_t *report, size_t room) {
+  enum lending how = (mesh_len + claim_len) % 4 == 0 ? AT_START : AT_END;
+  struct block m = lend(mesh, mesh_len, how), c = lend(claim, claim_len, how);
+  struct block r = lend(report, room, how);
+  close_for_writing(m);
+  close_for_writing(c);
+  struct pechuvo_answer a = pechuvo_check(m.bytes, mesh_len, c.bytes, claim_len, r.bytes, room);
+  memcpy(report, r.bytes, room);
+  give_back(m);
+  give_back(c);
+  give_back(r);
+  return a;
+}
+
 static void compare_files(const uint8_t *mesh, size_t mesh_len, const uint8_t *claim,
                           size_t claim_len, size_t room) {
   uint8_t proved[ROOM], independent[ROOM];
   memset(proved, 0xA5, sizeof proved);
   memset(independent, 0xA5, sizeof independent);
-  struct pechuvo_answer a = pechuvo_check(mesh, mesh_len, claim, claim_len, proved, room);
+  struct pechuvo_answer a = check_closed(mesh, mesh_len, claim, claim_len, proved, room);
   struct pechuvo_answer b = independent_check(mesh, mesh_len, claim, claim_len, independent, room);
   must(a.number == b.number && a.place == b.place, "the answer");
   must(memcmp(proved, independent, ROOM) == 0, "the buffer");
@@ -50,7 +68,12 @@ static void compare_numbers(const uint8_t *mesh, size_t mesh_len, const uint8_t 
                             size_t claim_len) {
   static int64_t m[MOST], c[MOST];
   size_t m_len = numbers_of(mesh, mesh_len, m), c_len = numbers_of(claim, claim_len, c);
-  struct pechuvo_numbers a = pechuvo_check_numbers(m, m_len, c, c_len);
+  struct block mesh_end = lend(m, m_len * sizeof m[0], AT_END);
+  struct block claim_end = lend(c, c_len * sizeof c[0], AT_END);
+  struct pechuvo_numbers a = pechuvo_check_numbers((const int64_t *)(void *)mesh_end.bytes, m_len,
+                                                   (const int64_t *)(void *)claim_end.bytes, c_len);
+  give_back(mesh_end);
+  give_back(claim_end);
   struct pechuvo_numbers b = independent_check_numbers(m, m_len, c, c_len);
   must(a.number == b.number && a.place == b.place, "the answer on numbers");
   must(a.field == b.field && a.multipliers == b.multipliers, "the parts");
