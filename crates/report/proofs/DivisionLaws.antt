@@ -2,7 +2,7 @@
 use mathlib.Core.Path.{_≡_, refl, sym, ap, ap₂, subst, _∙_}
 use mathlib.Core.Bool.{Bool, true, false, not}
 use Prim.Native.Nat.{ℕ, zero, suc, _+_, _*_, _-_, _/_, _%_, _^_, _≤_, _<_}
-use native.Mathlib.Nat.{pow-suc, one-le-pow, pow-le-pow-right, div-add-mod', mod-lt, lt-of-mul-lt-mul-right, div-le-self, div-le-of-le-mul}
+use native.Mathlib.Nat.{pow-suc, one-le-pow, pow-le-pow-right, div-add-mod', mod-lt, mul-lt-mul-of-pos-right, lt-of-mul-lt-mul-right, div-lt-iff-lt-mul, div-le-self, div-le-of-le-mul}
 use native.Mathlib.Numerals.{add-one}
 use native.Mathlib.Omega.{arith}
 use lib.Dec.{T}
@@ -160,6 +160,13 @@ pub divides-all : {m den d i part rest : ℕ} → d ≤ i → Divides m den d i 
 divides-all {m} {den} {d} {i} {part} {rest} h p =
     let e : i ≡ d = omega arith in
     divided-once m den d part rest (p .below) (rw e at (p .short)) (rw e at (p .value))
+
+-- all decimals at once
+pub divided-at-once : (m den d : ℕ) {power : ℕ} → 0 < den → power ≡ 10 ^ d → quotient-of (m / den) (m % den * power / den) (m % den * power % den) ≡ divide d m den
+divided-at-once m den d {power} h e =
+    let n = m % den * power in
+    let l : n < 10 ^ d * den = rw e (omega (arith, mul-lt-mul-of-pos-right (mod-lt m h) (one-le-pow d 10 (omega arith)))) in
+    divided-once m den d (n / den) (n % den) (mod-lt n h) (div-lt-iff-lt-mul h .1 l) (div-add-mod' n den ∙ ap (λ x. m % den * x) e)
 
 -- ---- one unit more
 

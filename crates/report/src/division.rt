@@ -1,6 +1,6 @@
 // A quotient with d decimals by long division. In units of its last decimal it does not fit 64 bits, so its whole part and its decimals are apart.
 ghost use mathlib.Core.Path.{_≡_};
-ghost use Prim.Native.Nat.{_+_, _*_, _^_, _≤_, _<_};
+ghost use Prim.Native.Nat.{_+_, _*_, _%_, _^_, _≤_, _<_};
 ghost use lib.IntN.{natAbs};
 ghost use Rattle.report.specs.Quotient.{partsOf, unitsOf, nextDigit, divide, roundedTo};
 
@@ -64,8 +64,8 @@ fn next_digit(rest: u64, den: u64) -> Digit
     Digit { digit, rest: sum }
 }
 
-// m / den, down to d decimals, and what is left.
-fn divided(m: u64, den: u64, d: usize) -> Quotient
+// m / den, down to d decimals, and what is left: one decimal after another.
+fn by_digits(m: u64, den: u64, d: usize) -> Quotient
     requires { ⌜ 0 < den ⌝ ∗ ⌜ den < 2 ^ 63 ⌝ ∗ ⌜ d ≤ 7 ⌝ }
     ensures { λ r. ⌜ r ≡ divide d m den ⌝ }
 {
@@ -80,6 +80,30 @@ fn divided(m: u64, den: u64, d: usize) -> Quotient
         i += 1;
     }
     Quotient { whole, part, rest }
+}
+
+// The same, where what the whole part leaves has room for d decimals in 64 bits.
+fn at_once(m: u64, den: u64, d: usize) -> Quotient
+    requires { ⌜ 0 < den ⌝ ∗ ⌜ m % den < 1000000000000 ⌝ ∗ ⌜ d ≤ 7 ⌝ }
+    ensures { λ r. ⌜ r ≡ divide d m den ⌝ }
+{
+    let units = m % den * ten_to(d);
+    Quotient {
+        whole: m / den,
+        part: units / den,
+        rest: units % den,
+    }
+}
+
+// The same. For speed it is done at once where it can be: for all denominators up to 10^12.
+fn divided(m: u64, den: u64, d: usize) -> Quotient
+    requires { ⌜ 0 < den ⌝ ∗ ⌜ den < 2 ^ 63 ⌝ ∗ ⌜ d ≤ 7 ⌝ }
+    ensures { λ r. ⌜ r ≡ divide d m den ⌝ }
+{
+    if m % den < 1000000000000 {
+        return at_once(m, den, d);
+    }
+    by_digits(m, den, d)
 }
 
 // One unit more, which may carry into the whole part.

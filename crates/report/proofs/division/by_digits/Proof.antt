@@ -2,8 +2,8 @@
 use Prim.Native.Nat.{_-_}
 use native.Mathlib.Omega.{arith}
 use Rattle.report.proofs.DivisionLaws.{power-small, digit-small, Divides, divides-none, divides-more, divides-all}
-use Rattle.report.proofs.division.divided.Statement.{statement}
-use Rattle.report.proofs.division.divided.Tie as tie
+use Rattle.report.proofs.division.by_digits.Statement.{statement}
+use Rattle.report.proofs.division.by_digits.Tie as tie
 
 abbrev Inv-loop : tie.InvT-loop
 Inv-loop m den d whole rest₀ part₀ i₀ rest part i = Divides m den d i part rest
@@ -44,8 +44,8 @@ loop-again c = search divides-more
 returns : tie.Need-returns Inv-loop μ-loop
 returns c = search divides-all
 
-pub divided-spec : {M : Type 1} → statement M
-divided-spec =
+pub by-digits-spec : {M : Type 1} → statement M
+by-digits-spec =
     tie.close
     (tie.spec
     Inv-loop
