@@ -121,7 +121,7 @@ module _ (bs : List ℕ) (k : ℕ) (p : Progress) (out : List ℤ) (l : p .at �
 pub record InGroup (bs : List ℕ) (lines columns : ℕ) (p : Progress) (before line : List ℤ) (out : List ℤ) (q : Progress) (i : ℕ) : Type 0 where
   pub most : i ≤ lines
   pub size : length out ≡ length before
-  pub room : length line ≡ 36
+  pub room : 36 ≤ length line
   pub taken : LinesTaken bs (replicate i columns) p before q out
 
 pub total-replicate : (i k : ℕ) → total (replicate i k) ≡ i * k
@@ -135,7 +135,7 @@ unfolding linesOf
 group-most g h = omega (arith, h .most, total-replicate (g .lines) (g .columns))
 
 module _ {bs : List ℕ} {lines columns : ℕ} {p : Progress} {before : List ℤ} where
-  pub group-first : (line : List ℤ) → length line ≡ 36 → p .at ≤ length bs → InGroup bs lines columns p before line before p 0
+  pub group-first : (line : List ℤ) → 36 ≤ length line → p .at ≤ length bs → InGroup bs lines columns p before line before p 0
   group-first line e l = record { most = omega arith; size = refl; room = e; taken = no-lines bs p before l }
 
   module _ {line out : List ℤ} {q : Progress} {i : ℕ} (h : InGroup bs lines columns p before line out q i) where
@@ -146,7 +146,7 @@ module _ {bs : List ℕ} {lines columns : ℕ} {p : Progress} {before : List ℤ
     group-next l n g w s t = record {
       most = omega arith;
       size = s ∙ h .size;
-      room = w ∙ h .room;
+      room = omega (arith, w, h .room);
       taken = rw (one-more i columns) (lines-then (h .taken) (line-as-lines bs columns q out (h .taken .within) (group-room l n) g t));
     }
 

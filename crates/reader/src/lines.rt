@@ -91,21 +91,27 @@ fn next_line(
     }
 }
 
-// Lines of a group.
-fn read_group(table: &[u64; 256], bytes: &[u8], p: Progress, g: Group, out: &mut [i64]) -> Progress
-    requires { ⌜ Table (now table) ⌝ ∗ ⌜ p .at ≤ length (now bytes) ⌝ ∗ ⌜ g .columns ≤ 36 ⌝ ∗ ⌜ p .numbers + g .lines * g .columns ≤ length (now out) ⌝ }
+// Lines of a group. The array `line` is lent, so that it is made once for a file.
+fn read_group(
+    table: &[u64; 256],
+    bytes: &[u8],
+    p: Progress,
+    g: Group,
+    line: &mut [i64],
+    out: &mut [i64],
+) -> Progress
+    requires { ⌜ Table (now table) ⌝ ∗ ⌜ p .at ≤ length (now bytes) ⌝ ∗ ⌜ g .columns ≤ 36 ⌝ ∗ ⌜ 36 ≤ length (now line) ⌝ ∗ ⌜ p .numbers + g .lines * g .columns ≤ length (now out) ⌝ }
     ensures { λ r. ⌜ LinesTaken (now (bytes .entry)) (linesOf g) p (now (out .entry)) r (now (out .exit)) ⌝ }
 {
     let lines = g.lines;
     let columns = g.columns;
-    let mut line = [0; 36];
     let mut q = p;
     let mut i: usize = 0;
     while i < lines {
         if !q.going {
             return q;
         }
-        q = next_line(table, bytes, q, columns, &mut line, out);
+        q = next_line(table, bytes, q, columns, line, out);
         i += 1;
     }
     q
@@ -157,9 +163,10 @@ pub fn read_body(
     requires { ⌜ Table (now table) ⌝ ∗ ⌜ p .at ≤ length (now bytes) ⌝ ∗ ⌜ Room p a b c d (length (now out)) ⌝ }
     ensures { λ r. ⌜ Listed (allNumbers (now (bytes .entry)) (linesOf a ++ linesOf b ++ linesOf c ++ linesOf d) p (now (out .entry))) (now (out .entry)) r (now (out .exit)) ⌝ }
 {
-    let after_a = read_group(table, bytes, p, a, out);
-    let after_b = read_group(table, bytes, after_a, b, out);
-    let after_c = read_group(table, bytes, after_b, c, out);
-    let after_d = read_group(table, bytes, after_c, d, out);
+    let mut line = [0; 36];
+    let after_a = read_group(table, bytes, p, a, &mut line, out);
+    let after_b = read_group(table, bytes, after_a, b, &mut line, out);
+    let after_c = read_group(table, bytes, after_b, c, &mut line, out);
+    let after_d = read_group(table, bytes, after_c, d, &mut line, out);
     finish(bytes, after_d, out)
 }
