@@ -77,17 +77,17 @@ fn unfixed_check(m: &[i64], s: Sizes, y: &[i64]) -> Outcome
     Outcome::Passed
 }
 
-// 32: the lowest column whose sum is not 0.
+// 32: the lowest column whose sum is not 0. Columns are counted from 1, as places are.
 fn columns_check(columns: &[i64], n: usize) -> Outcome
     requires { ⌜ n ≤ length (now columns) ⌝ ∗ ⌜ n ≤ 300 ⌝ ∗ ⌜ AllWithin 1000000000000000000 (now columns) ⌝ }
     ensures { λ r. ⌜ r ≡ columnsCheck (at (now (columns .entry))) n ⌝ }
 {
-    let mut j: usize = 0;
-    while j < n {
-        if number_at(columns, j) != 0 {
+    let mut j: usize = 1;
+    while j <= n {
+        if number_at(columns, j - 1) != 0 {
             return Outcome::Refused {
                 number: 32,
-                place: Place::Column((j + 1) as u32),
+                place: Place::Column(j as u32),
             };
         }
         j += 1;

@@ -26,10 +26,10 @@ fn side_open(steps: &[i64], k: usize, d: &[i64], w: i64) -> u64
     if w <= 0 {
         return 0;
     }
-    if side_slack(steps, k, d) <= 0 {
-        return 0;
+    if 0 < side_slack(steps, k, d) {
+        return 1;
     }
-    1
+    0
 }
 
 // How many sides of a node are open, whose first multiplier stands at `first`.

@@ -3,6 +3,7 @@ ghost use mathlib.Core.Path.{_≡_};
 ghost use Prim.Native.Nat.{_+_, _*_, _<_};
 ghost use lib.ListN.{length};
 ghost use lib.IntN.{pos, _-ℤ_, _*ℤ_};
+ghost use lib.Signed.{leZ};
 ghost use Rattle.integer.specs.Machine.{Is};
 ghost use Rattle.integer.specs.Bounds.{Within, AllWithin};
 ghost use Rattle.scope.specs.Columns.{at};
@@ -66,6 +67,14 @@ pub fn side_slack(steps: &[i64], k: usize, d: &[i64]) -> i64
     slack(run, rise, cross, lever, spread, twist, reserve)
 }
 
+// The strength row of side k holds: its right side is not below its left.
+fn side_holds(steps: &[i64], k: usize, d: &[i64]) -> bool
+    requires { ⌜ StepFits (now steps) k ⌝ ∗ ⌜ NodeFits (now d) ⌝ }
+    ensures { λ r. ⌜ r ≡ leZ (pos 0) (sideSlack (now (d .entry)) (now (steps .entry)) k) ⌝ }
+{
+    0 <= side_slack(steps, k, d)
+}
+
 // The numbers of node v at a claim's field.
 pub fn node_state(m: &[i64], c: &[i64], s: Sizes, soils: &[u8], v: usize) -> [i64; 4]
     requires { ⌜ Judged (now m) (now c) s (now soils) × (at (now c) 0 ≡ pos 1) ⌝ ∗ ⌜ v < nodes (now m) ⌝ }
@@ -85,7 +94,7 @@ pub fn node_check(steps: &[i64], sides: usize, d: &[i64], first: usize) -> Outco
 {
     let mut k: usize = 0;
     while k < sides {
-        if side_slack(steps, k, d) < 0 {
+        if !side_holds(steps, k, d) {
             return Outcome::Refused {
                 number: 22,
                 place: Place::Row((first + k + 1) as u32),

@@ -1,7 +1,7 @@
 -- `side_open` meets its contract: two tests in turn.
 use native.Mathlib.Omega.{arith}
 use Rattle.integer.specs.Machine.{machine, told}
-use Rattle.rows.proofs.OpenLaws.{no-multiplier, no-slack, both-above}
+use Rattle.rows.proofs.OpenLaws.{no-multiplier, both-above, no-slack}
 use borrow.Author.Needs.{needs}
 use Rattle.rows.proofs.open_rows.side_open.Statement.{statement}
 use Rattle.rows.proofs.open_rows.side_open.Tie as tie
@@ -15,12 +15,12 @@ side-slack-requires c κs = search needs
 returns-2 : tie.Need-returns-2
 returns-2 c =
     let slack = c .before .side-slack .ensures in
-    no-slack _ (told (c .if2 .taken) (search machine depth 30) (omega arith))
+    both-above (told (c .before .before .if1 .left) (search machine depth 30) (omega arith)) (told (c .if2 .taken) (search machine depth 30) (omega arith))
 
 returns-3 : tie.Need-returns-3
 returns-3 c =
     let slack = c .before .side-slack .ensures in
-    both-above (told (c .before .before .if1 .left) (search machine depth 30) (omega arith)) (told (c .if2 .left) (search machine depth 30) (omega arith))
+    no-slack _ (told (c .if2 .left) (search machine depth 30) (omega arith))
 
 pub side-open-spec : {M : Type 1} → statement M
 side-open-spec =

@@ -1,18 +1,16 @@
 -- `node_check` meets its contract. The loop's invariant: the sides passed hold.
-use mathlib.Core.Path.{_≡_, refl, ap}
+use mathlib.Core.Path.{_≡_, refl, sym, _∙_, ap}
 use Prim.Native.Nat.{suc, _+_, _-_, _≤_}
 use native.Mathlib.Numerals.{add-one}
 use native.Mathlib.Omega.{arith}
 use lib.IntN.{pos}
 use lib.Signed.{leZ}
-use Rattle.integer.specs.Machine.{machine, told}
-use Rattle.integer.specs.Tests.{yes-leZ, no-leZ}
+use borrow.Author.Tests.{not-true, not-false}
 use Rattle.scope.specs.declared.Outcome.the-variants.{Passed}
 use Rattle.scope.specs.declared.Place.the-variants as P
 use Rattle.scope.specs.Checks.{lowest}
 use Rattle.rows.specs.RowContracts.{sideSlack, nodeCheck}
 use Rattle.rows.proofs.Loops.{Phase, phase-more, phase-fails, phase-done}
-use Rattle.rows.proofs.StrengthLaws.{true-of, false-of}
 use Rattle.rows.proofs.strength_rows.node_check.Statement.{statement}
 use Rattle.rows.proofs.strength_rows.node_check.Tie as tie
 
@@ -26,8 +24,8 @@ loop-holds : tie.Need-loop-holds Inv-loop μ-loop
 unfolding lowest
 loop-holds c = (omega arith, refl)
 
-side-slack-requires : tie.Need-side-slack-requires Inv-loop μ-loop
-side-slack-requires c κs =
+side-holds-requires : tie.Need-side-holds-requires Inv-loop μ-loop
+side-holds-requires c κs =
     let pre = c .before .before .pre in
     (pre .0 .each (c .before .loop .k) (c .loop-test .taken), pre .1 .0)
 
@@ -44,10 +42,9 @@ returns : tie.Need-returns Inv-loop μ-loop
 unfolding nodeCheck
 returns c =
     let a = c .before .before .before .before .args in
-    let slack = c .before .side-slack .ensures in
     phase-fails (λ i. leZ (pos 0) (sideSlack (a .d .now) (a .steps .now) i)) 22 (λ i. P.Row (suc (a .first + i))) (a .sides)
     (c .before .before .before .loop .inv .1) (c .before .before .loop-test .taken)
-    (false-of (no-leZ (told (c .if1 .taken) (search machine depth 30) (omega arith))))
+    (sym (c .before .side-holds .ensures) ∙ not-true _ (c .if1 .taken))
     (ap P.Row (add-one _))
 
 add-k : tie.Need-add-k Inv-loop μ-loop
@@ -58,12 +55,11 @@ loop-less c = omega arith
 
 loop-again : tie.Need-loop-again Inv-loop μ-loop
 loop-again c =
-    let a = c .before .before .before .before .args in
-    let slack = c .before .side-slack .ensures in (
+    let a = c .before .before .before .before .args in (
       omega arith,
       phase-more (λ i. leZ (pos 0) (sideSlack (a .d .now) (a .steps .now) i)) 22 (λ i. P.Row (suc (a .first + i)))
           (c .before .before .before .loop .inv .1)
-          (true-of (yes-leZ (told (c .if1 .left) (search machine depth 30) (omega arith)))),
+          (sym (c .before .side-holds .ensures) ∙ not-false _ (c .if1 .left)),
     )
 
 returns-2 : tie.Need-returns-2 Inv-loop μ-loop
@@ -80,7 +76,7 @@ node-check-spec =
     Inv-loop
     μ-loop
     loop-holds
-    side-slack-requires
+    side-holds-requires
     add-t8
     add-t9
     cast-t10
