@@ -1,4 +1,4 @@
--- Document 01 as definitions on the numbers of a mesh and of a claim, in the paper's order: what is answered, the layout, rows, sums, the verdict; then what the theorems say of them.
+-- Document 01 as definitions on the numbers of a mesh and of a claim, in the order of its sections: what is answered, the layout, rows, sums, the verdict; then what the theorems say of them.
 pub mod Answer
 pub mod Checks
 pub mod Columns
@@ -24,5 +24,5 @@ pub mod AcceptedField
 pub mod Bracket
 pub mod Fractions
 pub mod Parts
-pub mod Worked
 pub mod AcceptedFractions
+pub mod Worked
