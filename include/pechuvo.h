@@ -37,8 +37,10 @@
      33      column 0  m is 0 or less
      41      0         report buffer under 113 bytes; pechuvo_check only
 
-   The first that applies is returned: 41, the mesh from 1 to 8, the claim from 11 to 33, and of
-   one number the lowest place. Lines, elements, nodes, rows and columns are counted from 1. */
+   The first that applies is returned, in this order: 41; the mesh's lines front to back, in each
+   line 1, 2, 3, 4; then 5, 6, 7 and 8, each over the whole mesh; the claim's lines front to back,
+   in each line 11, 12, and 13 straight after line 1; then 21, 22, 31, 32 and 33. Of one number the
+   lowest place comes first. Lines, elements, nodes, rows and columns are counted from 1. */
 #ifndef PECHUVO_H
 #define PECHUVO_H
 

@@ -157,7 +157,7 @@ def sheared(columns, rows, size, run, soils, sides, tractions):
 
 def largest(soils, sides):
     """As much as a mesh may have: 100 nodes, 100 elements, 60 edges. Nineteen elements lie over
-    four others each, which the paper allows, and give a second edge to sides of the block."""
+    four others each, which document 01 allows, and give a second edge to sides of the block."""
     double = [(i, 0, 2) for i in range(8)] + [(i, 7, 2) for i in range(8)] + [(0, j, 2) for j in (2, 4, 5)]
     inner = ((9, 2), (7, 2))
 
@@ -185,7 +185,7 @@ def moved(mesh, shifts):
 
 
 def printed(text):
-    """Lines as the paper prints them."""
+    """Lines as document 01 prints them."""
     return [[int(number) for number in line.split()] for line in text.split("/")]
 
 

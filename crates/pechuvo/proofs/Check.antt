@@ -1,22 +1,19 @@
 -- "a longer file is too long for any mesh or claim and is refused as its first 65,536 bytes are": by its header's limits no mesh and no claim has so many bytes, and a file's numbers depend on no byte after the first beyond its lines.
 use mathlib.Core.Path.{_≡_, refl, sym, ap, _∙_}
 use mathlib.Core.Logic.{_⊎_, inl, inr, _≢_}
-use mathlib.Core.Bool.{Bool, true, false}
 use mathlib.Core.List.{List, []}
 use Prim.Native.Nat.{ℕ, _+_, _*_, _≤_, _<_}
 use native.Mathlib.Nat.{mul-le-mul}
 use native.Mathlib.Omega.{arith}
 use lib.Dec.{ltb}
-use lib.IntN.{ℤ, pos, negsuc}
-use lib.Signed.{_≤ℤ_}
+use lib.IntN.{ℤ}
 use lib.ListN.{length, take, getD}
 use borrow.Table.Steps.{cases}
-use Rattle.integer.specs.Order.{≤ℤ-pos}
 use Rattle.scope.specs.declared.Place.the-variants.{Line}
 use Rattle.scope.specs.declared.Outcome.{Outcome}
 use Rattle.scope.specs.declared.Outcome.the-variants.{Passed, Refused as Fails}
 use Rattle.scope.specs.Columns.{free, at, hasField, hasMultipliers}
-use Rattle.scope.specs.Layout.{count, width, lineCheck, linesCheck}
+use Rattle.scope.specs.Layout.{width, lineCheck, linesCheck}
 use Rattle.scope.specs.Mesh.{meshLayout, meshHeader, soilLines, nodeLines, elementLines, edgeLines, nodes, elements, soils, edges, sides}
 use Rattle.scope.specs.Claim.{claimLayout, ifThere}
 use Rattle.scope.specs.Sound.{Within}
@@ -28,20 +25,17 @@ use Rattle.scope.proofs.Exactly.{returns-zero}
 use Rattle.scope.proofs.Facts.{counts}
 use Rattle.scope.proofs.Lines.{within-at}
 use Rattle.scope.proofs.InOrder.{line-check-passed}
+use Rattle.scope.proofs.AnswerBounds.{there-most}
 use Rattle.reader.specs.File.{lineBytes, widths, numbersOf}
 use Rattle.reader.specs.WellFormed.{bytesOf}
 use Rattle.reader.proofs.Regular.{mesh-regular, claim-regular}
+use Rattle.reader.proofs.Told.{count-most}
 use Rattle.reader.proofs.Cut.{numbers-cut, passed-length, group-bytes, no-bytes}
 use Rattle.judge.specs.Judge.{fileWidth, meshNumbers, claimNumbers, filesVerdict}
 use Rattle.judge.specs.ClaimBytes.{claimBytes}
 use Rattle.judge.proofs.Numbers.{mesh-lines-refused, some-side}
 use Rattle.judge.proofs.ClaimBytes.{claim-bytes}
 use Rattle.pechuvo.specs.Check.{reportBytes, check}
-
-count-most : (z : ℤ) {k : ℕ} → z ≤ℤ pos k → count z ≤ k
-unfolding count
-count-most (pos n) h = ≤ℤ-pos h
-count-most (negsuc n) h = omega arith
 
 -- ---- how long a mesh and a claim can be
 
@@ -69,11 +63,6 @@ mesh-header-short h e =
 mesh-header-line : lineBytes 12 (width (meshLayout .header)) ≤ 65536
 unfolding meshLayout meshHeader lineBytes
 mesh-header-line = omega arith
-
-there-most : (b : Bool) (k : ℕ) → ifThere b k ≤ k
-unfolding ifThere
-there-most true k = omega arith
-there-most false k = omega arith
 
 claim-short : (m c : List ℤ) → Counts m → lineBytes 12 (width (claimLayout m .header)) + bytesOf 12 (widths (claimLayout m .body c)) < 65536
 unfolding claimBytes fileWidth

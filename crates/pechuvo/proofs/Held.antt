@@ -1,27 +1,25 @@
 -- Every verdict is one that the line can hold: a refusal's number and place are small, l is within its limit, W fits 64 bits, and no more rows are open than there are.
-use mathlib.Core.Path.{_≡_, sym, _∙_, subst}
+use mathlib.Core.Path.{_≡_, sym, subst}
 use mathlib.Core.Logic.{_⊎_, inl, inr}
 use mathlib.Core.Bool.{Bool, true, false, cond, _&&_}
 use mathlib.Core.List.{List, [], _∷_}
-use Prim.Native.Nat.{ℕ, zero, suc, _+_, _*_, _^_, _≤_, _<_}
+use Prim.Native.Nat.{ℕ, suc, _+_, _^_, _≤_, _<_}
 use native.Mathlib.Omega.{arith}
 use lib.Dec.{T}
-use lib.IntN.{ℤ, pos, natAbs}
+use lib.IntN.{ℤ, natAbs}
 use lib.ListN.{length, length-append}
-use Rattle.integer.specs.Tests.{eqZ, eqZ-yes}
-use Rattle.integer.specs.Bounds.{Within}
+use Rattle.integer.specs.Tests.{eqZ-yes}
 use Rattle.scope.specs.declared.Place.{Place}
 use Rattle.scope.specs.declared.Load.the-variants.{Absent, Exact}
 use Rattle.scope.specs.declared.OpenRows.the-variants.{Absent as NoCount, Count}
-use Rattle.scope.specs.declared.Verdict.{Verdict}
 use Rattle.scope.specs.declared.Verdict.the-variants.{Accepted, Refused}
-use Rattle.scope.specs.Columns.{at, hasField, hasMultipliers, n, l}
+use Rattle.scope.specs.Columns.{hasField, hasMultipliers, n, l}
 use Rattle.scope.specs.Rows.{Row, equalityRows, strengthRows, rowsOf}
 use Rattle.scope.specs.Sums.{weighed, limitSum, liveSum, howMany, isOpen, openRows}
 use Rattle.scope.specs.Claim.{stress, multiplier}
 use Rattle.scope.specs.Verdict.{verdict, lowerLoad, upperLoad, openCount}
 use Rattle.scope.specs.Accepted.{ClaimAccepted}
-use Rattle.scope.specs.Facts.{Counts, MeshFacts, ClaimFacts}
+use Rattle.scope.specs.Facts.{MeshFacts, ClaimFacts}
 use Rattle.scope.proofs.Exactly.{verdict-cases, accepted-exactly, refused-exactly}
 use Rattle.scope.proofs.Facts.{mesh-facts}
 use Rattle.scope.proofs.ClaimFacts.{claim-facts}

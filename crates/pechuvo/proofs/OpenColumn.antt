@@ -1,5 +1,5 @@
 -- The second column of any line of an accepted claim with both parts reads as the number of its open rows: the line says what the verdict says, and the verdict carries the count.
-use mathlib.Core.Path.{_≡_, refl, sym, _∙_, ap, subst}
+use mathlib.Core.Path.{_≡_, refl, _∙_, ap, subst}
 use mathlib.Core.List.{List}
 use mathlib.Core.Option.{some}
 use Prim.Native.Nat.{ℕ, _≤_}
@@ -13,14 +13,14 @@ use Rattle.scope.specs.Columns.{n, l}
 use Rattle.scope.specs.Rows.{rowsOf}
 use Rattle.scope.specs.Sums.{openRows}
 use Rattle.scope.specs.Claim.{stress, multiplier}
-use Rattle.scope.specs.Verdict.{verdict, lowerLoad, upperLoad, openCount}
+use Rattle.scope.specs.Verdict.{verdict, lowerLoad, upperLoad}
 use Rattle.scope.specs.Refusals.{HasField, HasMultipliers}
 use Rattle.scope.specs.Accepted.{ClaimAccepted}
 use Rattle.scope.proofs.Exactly.{accepted-exactly, claim-by-parts}
 use Rattle.scope.proofs.Parts.{open-rows-count}
 use Rattle.report.specs.Text.{Said, number, said}
 use Rattle.report.specs.Report.{reportLine}
-use Rattle.report.specs.Says.{columnOf, RowsSay, rows, Says, says-accepted, LineSays}
+use Rattle.report.specs.Says.{columnOf, RowsSay, rows, Says, says-accepted}
 use Rattle.report.proofs.Line.{line-says}
 use Rattle.pechuvo.proofs.Held.{held}
 

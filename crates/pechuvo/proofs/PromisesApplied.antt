@@ -1,13 +1,12 @@
 -- Each promise of the check of two files applied to document 01's sheets as bytes: antt computes what is returned and written, and the promise says the rest.
-use mathlib.Core.Path.{_≡_, refl, sym, _∙_, ap}
+use mathlib.Core.Path.{_≡_, refl, sym, _∙_, ap, subst}
 use mathlib.Core.Logic.{inl, inr, _≢_}
-use mathlib.Core.List.{List, [], _∷_, List·Memᴰ·head}
+use mathlib.Core.List.{List, [], _∷_, _++_, List·Memᴰ·head}
 use mathlib.Core.Option.{some}
 use Prim.Native.Nat.{ℕ, _*_, _<_, _≤_}
 use native.Mathlib.Omega.{arith}
 use lib.IntN.{ℤ, pos}
 use lib.ListN.{length, take, drop, replicate, getD, length-replicate}
-use Rattle.integer.specs.Decimal.{digitsWithin, digits, lastDigits, rightJustified, isDigit, allDigits, valueAfter, properDigits}
 use Rattle.integer.specs.Fraction.{_over_, _≈ᶠ_, _≤ᶠ_}
 use Rattle.scope.specs.declared.Place.the-variants.{Column}
 use Rattle.scope.specs.Computed.{computed}
@@ -15,32 +14,31 @@ use Rattle.scope.specs.Members.{_∈_}
 use Rattle.scope.specs.Mesh.{meshLayout, nodes}
 use Rattle.scope.specs.Rows.{nodeSoil, equalityRows, rowsOf}
 use Rattle.scope.specs.Claim.{claimLayout, multiplier}
+use Rattle.scope.specs.Sound.{MeshSound}
 use Rattle.scope.specs.Refusals.{HasField, HasMultipliers, Refusal}
 use Rattle.scope.specs.Accepted.{FieldAccepted, MultipliersAccepted, ClaimAccepted}
 use Rattle.scope.specs.AcceptedField.{MeetsCriterion}
 use Rattle.scope.specs.Parts.{carried, allowed}
 use Rattle.scope.specs.Worked as Numbers
 use Rattle.scope.proofs.Sound.{mesh-passed, lines-passed, multipliers-passed}
-use Rattle.rows.specs.Promises.{placeFor, TellsField}
+use Rattle.rows.specs.Promises.{Returned, placeFor, TellsField}
 use Rattle.rows.proofs.PromisesApplied.{secondSoil, answer19, aloneAnswer, nineteen-answered, alone-answered, sheet-accepted, same-rows, fraction, fractions, fractions-meet}
-use Rattle.reader.specs.Spelling.{spelling, column, unsigned, negated, signed, readColumn}
-use Rattle.reader.specs.File.{lineBytes, readColumns, readLine, widths, readLines, hasPassed, headerPasses, numbersOf, columns, writeLines, fileOf}
 use Rattle.reader.specs.WellFormed.{FormFails}
-use Rattle.report.specs.Text.{pointed, fixed, noneText, word, number as shows, beforePoint, afterPoint, decimal, saidNumber, signedDecimal, isNone, said}
-use Rattle.report.specs.Report.{loadText, lowerText, upperText, openText, fourColumns, reportLine, decimals}
-use Rattle.report.specs.Says.{columnOf}
-use Rattle.judge.specs.Judge.{meshNumbers, claimNumbers, fileWidth, filesVerdict}
+use Rattle.report.specs.Text.{word, number as shows, beforePoint, afterPoint, decimal, saidNumber, signedDecimal, isNone, said}
+use Rattle.report.specs.Report.{reportLine, decimals}
+use Rattle.report.specs.Says.{columnOf, LineSays}
+use Rattle.judge.specs.Judge.{fileWidth, filesVerdict}
 use Rattle.judge.specs.Handed.{files, numbers, meshOf, claimOf, HasAcceptedMultipliers, HandedBracket}
-use Rattle.pechuvo.specs.Check.{reportBytes, check}
-use Rattle.pechuvo.specs.Bytes as Bytes
-use Rattle.pechuvo.specs.Sheets.{Sheet, sheet, printed, starred, workedMesh}
+use Rattle.pechuvo.specs.Check.{check}
+use Rattle.pechuvo.specs.Sheets.{Sheet, sheet, starred}
 use Rattle.pechuvo.specs.Answers.{Answers}
 use Rattle.pechuvo.specs.Promises.{meshIn, claimIn, LowerPrinted, UpperPrinted, OpenRowsPrinted, Call, on-files, on-numbers, AsAFile}
+use Rattle.pechuvo.proofs.Sheets.{computedLine}
 use Rattle.pechuvo.proofs.Promises.{any-call, long-files, on-numbers-read, form-exactly, prints-columns, prints-open-rows, calls-bracket, accepted-parts, fractions-bracket, as-a-file, starred-written}
 
--- every definition between the bytes of two files and the bytes of the line
+-- for proofs by computation: besides the definitions that make a line, those that read its columns and those that say what was handed over
 unfoldable opened : Unit {0}
-unfolding digitsWithin digits lastDigits rightJustified isDigit allDigits valueAfter properDigits computed spelling column unsigned negated signed readColumn lineBytes readColumns readLine widths readLines hasPassed headerPasses numbersOf columns writeLines fileOf pointed fixed noneText beforePoint afterPoint decimal saidNumber signedDecimal isNone said columnOf loadText lowerText upperText openText fourColumns reportLine decimals meshNumbers claimNumbers fileWidth filesVerdict meshOf claimOf reportBytes check Bytes.bytes Bytes.withWord Bytes.numbersAfter Bytes.numbers sheet printed starred workedMesh
+unfolding computedLine beforePoint afterPoint decimal saidNumber signedDecimal isNone said columnOf meshOf claimOf
 opened = tt
 
 -- sheet k of the starred ones, counted from 0, and a buffer of 113 bytes
@@ -50,7 +48,9 @@ at k = getD starred k (sheet "" "" "")
 abbrev pub room : List ℕ
 room = replicate 113 0
 
--- ---- what is answered: the sheet; l 19; the -30 as -29; the empty mesh; 1/3
+-- ---- what is answered
+
+-- the sheet; l 19; the -30 as -29; the empty mesh; 1/3
 
 pub sheet-answered : Answers (at 0 .mesh) (at 0 .claim) room 0 0 (at 0 .line)
 unfolding opened
@@ -71,6 +71,15 @@ empty-answered = record { numberIs = refl; placeIs = refl; bufferIs = refl }
 pub third-answered : Answers (at 7 .mesh) (at 7 .claim) room 0 0 (at 7 .line)
 unfolding opened
 third-answered = record { numberIs = refl; placeIs = refl; bufferIs = refl }
+
+-- multipliers alone; the sheet's mesh with an empty claim
+pub alone-file : Answers (at 9 .mesh) (at 9 .claim) room 0 0 (at 9 .line)
+unfolding opened
+alone-file = record { numberIs = refl; placeIs = refl; bufferIs = refl }
+
+pub empty-claim : Answers (at 0 .mesh) [] room 11 1 (check (at 0 .mesh) [] room .buffer)
+unfolding opened
+empty-claim = record { numberIs = refl; placeIs = refl; bufferIs = refl }
 
 -- the buffer of 113 bytes has room, and the parts are there
 fits : 113 ≤ length room
@@ -94,9 +103,38 @@ third-parts = (refl, refl)
 pub short-buffer : (number place : ℕ) (after : List ℕ) → Answers (at 0 .mesh) (at 0 .claim) (replicate 112 0) number place after → (number ≡ 41) × (place ≡ 0) × (after ≡ replicate 112 0)
 short-buffer number place after h = any-call (at 0 .mesh) (at 0 .claim) (replicate 112 0) number place after h .too-short (omega (arith, length-replicate {A = ℕ} 112 0))
 
--- a byte beyond 113 stays
+-- with room 41 never comes, and the number, the place and the line are the verdict's
+pub never-41 : (number place : ℕ) (after : List ℕ) → Answers (at 0 .mesh) (at 0 .claim) room number place after → number ≢ 41
+never-41 number place after h e = let short = any-call (at 0 .mesh) (at 0 .claim) room number place after h .only-then e in omega (arith, fits)
+
+pub sheet-returned : Returned (meshIn (at 0 .mesh)) (claimIn (at 0 .mesh) (at 0 .claim)) 0 0
+sheet-returned = any-call (at 0 .mesh) (at 0 .claim) room 0 0 (at 0 .line) sheet-answered .returns fits
+
+pub sheet-line : take 113 (at 0 .line) ≡ reportLine decimals (filesVerdict fileWidth (at 0 .mesh) (at 0 .claim))
+sheet-line = any-call (at 0 .mesh) (at 0 .claim) room 0 0 (at 0 .line) sheet-answered .line fits
+
+pub sheet-says : LineSays decimals (filesVerdict fileWidth (at 0 .mesh) (at 0 .claim)) (take 113 (at 0 .line))
+sheet-says = any-call (at 0 .mesh) (at 0 .claim) room 0 0 (at 0 .line) sheet-answered .says fits
+
+-- a byte beyond 113 stays, and the buffer is as long as before
 pub byte-114 : (number place : ℕ) (after : List ℕ) → Answers (at 0 .mesh) (at 0 .claim) (replicate 114 7) number place after → drop 113 after ≡ 7 ∷ []
 byte-114 number place after h = any-call (at 0 .mesh) (at 0 .claim) (replicate 114 7) number place after h .rest
+
+pub as-long : (number place : ℕ) (after : List ℕ) → Answers (at 0 .mesh) (at 0 .claim) (replicate 114 7) number place after → length after ≡ 114
+as-long number place after h = any-call (at 0 .mesh) (at 0 .claim) (replicate 114 7) number place after h .size ∙ length-replicate {A = ℕ} 114 7
+
+-- the sheet's mesh with 65,536 spaces after it gets the answer of its first 65,536 bytes
+abbrev long-mesh : List ℕ
+long-mesh = at 0 .mesh ++ replicate 65536 32
+
+short-claim : take 65536 (at 0 .claim) ≡ at 0 .claim
+unfolding opened
+short-claim = refl
+
+pub sheet-cut : (number place : ℕ) (after : List ℕ) → Answers long-mesh (at 0 .claim) room number place after → Answers (take 65536 long-mesh) (at 0 .claim) room number place after
+sheet-cut number place after h =
+    subst (λ (claim : List ℕ). Answers (take 65536 long-mesh) claim room number place after) short-claim
+    (long-files long-mesh (at 0 .claim) room number place after h .cut)
 
 -- a file of 65,537 spaces
 pub too-long : (number place : ℕ) (after : List ℕ) → Answers (replicate 65537 32) [] room number place after → number ≢ 0
@@ -133,6 +171,10 @@ sheet-multipliers = on-numbers-read (at 0 .mesh) (at 0 .claim) room 0 0 (at 0 .l
 pub empty-form : FormFails fileWidth meshLayout [] 0
 empty-form = form-exactly [] [] room 1 1 (at 5 .line) empty-answered fits .mesh-form 0 .0 (refl, refl)
 
+-- the empty claim fails in its form at line 1, on a mesh that passes
+pub empty-claim-form : MeshSound (meshIn (at 0 .mesh)) × FormFails fileWidth (claimLayout (meshIn (at 0 .mesh))) [] 0
+empty-claim-form = form-exactly (at 0 .mesh) [] room 11 1 (check (at 0 .mesh) [] room .buffer) empty-claim fits .claim-form 0 .0 (refl, refl)
+
 -- 1/3 as lower 0.333333, as upper 0.333334
 pub third-lower : LowerPrinted (claimIn (at 7 .mesh) (at 7 .claim)) (take 113 (at 7 .line))
 third-lower = prints-columns (at 7 .mesh) (at 7 .claim) room 0 0 (at 7 .line) third-answered fits .lower refl (third-parts .0)
@@ -151,10 +193,18 @@ third-millionths = (
 )
 
 -- "Refused: number, place, none, none"
-pub refused-columns : (said (columnOf 1 (take 113 (at 4 .line))) ≡ some (shows (pos 7) 0)) × (said (columnOf 2 (take 113 (at 4 .line))) ≡ some word)
+pub refused-columns : (said (columnOf 0 (take 113 (at 4 .line))) ≡ some (shows (pos 32) 0)) × (said (columnOf 1 (take 113 (at 4 .line))) ≡ some (shows (pos 7) 0)) × (said (columnOf 2 (take 113 (at 4 .line))) ≡ some word) × (said (columnOf 3 (take 113 (at 4 .line))) ≡ some word)
 refused-columns =
     let prints = prints-columns (at 4 .mesh) (at 4 .claim) room 32 7 (at 4 .line) refused-answered fits in
-    (prints .refused (λ e. omega arith), prints .lower-none .1 (inl (λ e. omega arith)))
+    (prints .first, prints .refused (λ e. omega arith), prints .lower-none .1 (inl (λ e. omega arith)), prints .upper-none .1 (inl (λ e. omega arith)))
+
+-- "open rows need both parts"
+no-field : ¬ HasField (claimIn (at 9 .mesh) (at 9 .claim))
+unfolding opened
+no-field e = let z : _≡_ {A = ℕ} 0 1 = cc in omega arith
+
+pub alone-no-rows : said (columnOf 1 (take 113 (at 9 .line))) ≡ some word
+alone-no-rows = prints-columns (at 9 .mesh) (at 9 .claim) room 0 0 (at 9 .line) alone-file fits .rows-none refl .1 (inl no-field)
 
 -- ---- demand 3
 

@@ -1,6 +1,6 @@
 -- The sheets give their lines: antt computes the definitions, from the bytes of the two files to the bytes of the line.
 use mathlib.Core.Path.{_≡_, refl}
-use mathlib.Core.List.{List, [], _∷_, map}
+use mathlib.Core.List.{map}
 use Rattle.integer.specs.Decimal.{digitsWithin, digits, lastDigits, rightJustified, isDigit, allDigits, valueAfter, properDigits}
 use Rattle.scope.specs.Computed.{computed}
 use Rattle.reader.specs.Spelling.{spelling, column, unsigned, negated, signed, readColumn}
@@ -10,18 +10,23 @@ use Rattle.report.specs.Report.{loadText, lowerText, upperText, openText, fourC
 use Rattle.judge.specs.Judge.{meshNumbers, claimNumbers, fileWidth, filesVerdict}
 use Rattle.pechuvo.specs.Check.{reportBytes, check}
 use Rattle.pechuvo.specs.Bytes.{bytes, withWord, numbersAfter, numbers}
-use Rattle.pechuvo.specs.Sheets.{Sheet, sheet, printed, starred, noticing, workedMesh}
+use Rattle.pechuvo.specs.Sheets.{sheet, printed, starred, noticing, workedMesh}
 use Rattle.pechuvo.specs.Shipped.{asFiles, shipped}
 
-pub starred-sheets : map printed starred ≡ map (λ s. s .line) starred
+-- for proofs by computation: every definition between the bytes of two files and the bytes of the line is open
+unfoldable pub computedLine : Unit {0}
 unfolding digitsWithin digits lastDigits rightJustified isDigit allDigits valueAfter properDigits computed spelling column unsigned negated signed readColumn lineBytes readColumns readLine widths readLines hasPassed headerPasses numbersOf columns writeLines fileOf pointed fixed noneText loadText lowerText upperText openText fourColumns reportLine decimals meshNumbers claimNumbers fileWidth filesVerdict reportBytes check bytes withWord numbersAfter numbers sheet printed starred workedMesh
+computedLine = tt
+
+pub starred-sheets : map printed starred ≡ map (λ s. s .line) starred
+unfolding computedLine
 starred-sheets = refl
 
 pub noticing-sheets : map printed noticing ≡ map (λ s. s .line) noticing
-unfolding digitsWithin digits lastDigits rightJustified isDigit allDigits valueAfter properDigits computed spelling column unsigned negated signed readColumn lineBytes readColumns readLine widths readLines hasPassed headerPasses numbersOf columns writeLines fileOf pointed fixed noneText loadText lowerText upperText openText fourColumns reportLine decimals meshNumbers claimNumbers fileWidth filesVerdict reportBytes check bytes withWord numbersAfter numbers sheet printed noticing
+unfolding computedLine noticing
 noticing-sheets = refl
 
 -- the files that ship are the ones that the definition writes
 pub shipped-written : map (λ s. (s .mesh, s .claim)) asFiles ≡ shipped
-unfolding digitsWithin digits lastDigits rightJustified isDigit allDigits valueAfter properDigits computed spelling column unsigned negated signed readColumn lineBytes readColumns readLine widths readLines hasPassed headerPasses numbersOf columns writeLines fileOf pointed fixed noneText loadText lowerText upperText openText fourColumns reportLine decimals meshNumbers claimNumbers fileWidth filesVerdict reportBytes check bytes withWord numbersAfter numbers sheet printed starred workedMesh asFiles shipped
+unfolding computedLine asFiles shipped
 shipped-written = refl

@@ -1,7 +1,7 @@
 -- Texts as bytes, and as the numbers that they show, so that a table of sheets can be read as document 01 prints them.
 use mathlib.Core.Bool.{true, false}
 use mathlib.Core.List.{List, [], _∷_, _++_}
-use mathlib.Core.Option.{Option, none, some}
+use mathlib.Core.Option.{none, some}
 use Prim.Native.Nat.{ℕ}
 use Prim.Native.Char.{code}
 use Prim.Native.String as S

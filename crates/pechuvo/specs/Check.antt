@@ -1,5 +1,5 @@
 -- The whole check (document 01, 'What the product does' and 'Verdict and report'): from two byte strings and a buffer to what is returned and what the buffer then holds.
-use mathlib.Core.Bool.{Bool, true, false}
+use mathlib.Core.Bool.{true, false}
 use mathlib.Core.List.{List, _++_}
 use Prim.Native.Nat.{ℕ}
 use lib.Dec.{ltb}

@@ -1,9 +1,8 @@
 -- Document 01's sheets, 'A whole sheet, and its neighbours', each with the line that is printed; and small sheets of our own that notice what those do not.
 -- Lines are shown with one space between numbers and a stroke between lines; the files are written from them with columns of 12 characters.
-use mathlib.Core.List.{List, [], _∷_, _++_}
+use mathlib.Core.List.{List, [], _∷_}
 use Prim.Native.Nat.{ℕ}
 use Prim.Native.String.{String}
-use lib.IntN.{ℤ}
 use lib.ListN.{replicate}
 use Rattle.scope.specs.Mesh.{meshLayout}
 use Rattle.scope.specs.Claim.{claimLayout}

@@ -7,12 +7,11 @@ use Prim.Native.Nat.{ℕ, zero, suc, _+_, _*_, _^_, _≤_, _<_}
 use native.Mathlib.Nat.{div-le-self, mul-le-mul-left}
 use native.Mathlib.Omega.{arith}
 use lib.IntN.{ℤ, pos, negsuc, natAbs, negℤ, _*ℤ_, _+ℤ_, _-ℤ_}
-use lib.Signed.{_≤ℤ_, _<ℤ_, leZ-yes}
+use lib.Signed.{leZ-yes}
 use lib.ListN.{length, take, drop, length-append}
 use lib.Seq.{take-at, drop-append-add}
 use Rattle.integer.specs.Laws.{natAbs-negℤ, natAbs-*ℤ}
 use Rattle.integer.specs.Order.{≤ℤ-pos}
-use Rattle.integer.specs.Linear.{linear, facts}
 use Rattle.integer.specs.Fraction.{_over_, _≤ᶠ_, _<ᶠ_}
 use Rattle.integer.specs.Decimal.{digits, rightJustified}
 use Rattle.integer.specs.DecimalLaws.{rightJustified-length}
@@ -208,16 +207,3 @@ lower-within d den num v f = (record { cross-≤ = f .at-most }, record { cross-
 -- the ceiling is at least the load, by less than 10^-d: 0 ≤ printed - load < 10^-d
 pub upper-within : (d den : ℕ) (num v : ℤ) → Ceil (num *ℤ pos (10 ^ d)) den v → (num over pos den ≤ᶠ v over pos (10 ^ d)) × ((v -ℤ pos 1) over pos (10 ^ d) <ᶠ num over pos den)
 upper-within d den num v c = (record { cross-≤ = c .at-least }, record { cross-< = c .last-below })
-
--- the same between integers, times den · 10^d
-pub lower-difference : (d den : ℕ) (num v : ℤ) → Floor (num *ℤ pos (10 ^ d)) den v → (pos 0 ≤ℤ (num *ℤ pos (10 ^ d) -ℤ v *ℤ pos den)) × ((num *ℤ pos (10 ^ d) -ℤ v *ℤ pos den) <ℤ pos den)
-lower-difference d den num v f =
-    let lo = f .at-most in
-    let hi = f .next-above in
-    (linear lo (search facts depth 40) (omega arith), linear hi (search facts depth 40) (omega arith))
-
-pub upper-difference : (d den : ℕ) (num v : ℤ) → Ceil (num *ℤ pos (10 ^ d)) den v → (pos 0 ≤ℤ (v *ℤ pos den -ℤ num *ℤ pos (10 ^ d))) × ((v *ℤ pos den -ℤ num *ℤ pos (10 ^ d)) <ℤ pos den)
-upper-difference d den num v c =
-    let lo = c .last-below in
-    let hi = c .at-least in
-    (linear hi (search facts depth 40) (omega arith), linear lo (search facts depth 40) (omega arith))

@@ -27,10 +27,11 @@ mesh-lines : (m : List ℤ) → Counts m → lineCount (groups meshLayout m) ≤
 unfolding meshLayout groups meshHeader soilLines nodeLines elementLines edgeLines lineCount
 mesh-lines m c = omega (arith, c)
 
-at-most-there : (b : Bool) (k : ℕ) → ifThere b k ≤ k
+-- a part that may be absent has at most its lines
+pub there-most : (b : Bool) (k : ℕ) → ifThere b k ≤ k
 unfolding ifThere
-at-most-there true k = omega arith
-at-most-there false k = omega arith
+there-most true k = omega arith
+there-most false k = omega arith
 
 claim-lines : (m c : List ℤ) → Counts m → lineCount (groups (claimLayout m) c) ≤ 361
 unfolding claimLayout groups claimHeader stressLines elementMultipliers edgeMultipliers strengthMultipliers lineCount
@@ -38,10 +39,10 @@ claim-lines m c k =
     omega (
       arith,
       k,
-      at-most-there (hasField c) (nodes m),
-      at-most-there (hasMultipliers c) (nodes m),
-      at-most-there (hasMultipliers c) (elements m),
-      at-most-there (hasMultipliers c) (edges m),
+      there-most (hasField c) (nodes m),
+      there-most (hasMultipliers c) (nodes m),
+      there-most (hasMultipliers c) (elements m),
+      there-most (hasMultipliers c) (edges m),
     )
 
 -- a place among lines whose number is bounded once the first line is sound

@@ -6,6 +6,7 @@ use mathlib.Core.List.{List, [], _∷_, List·Memᴰ·head, List·Memᴰ·tail}
 use Prim.Native.Nat.{ℕ, zero, suc, _+_, _≤_, _<_, zero-le}
 use native.Mathlib.Nat.{eq-or-lt-of-le}
 use native.Mathlib.Omega.{arith}
+use borrow.Author.Tests.{eq-eqb, ne-eqb}
 use lib.Dec.{T}
 use lib.Ieee.Bits.{is-true, is-false}
 use mir.Facts.{not-T}
@@ -19,7 +20,6 @@ use Rattle.integer.specs.Linear.{linear, _&_, facts}
 use Rattle.integer.specs.Sum.{sumOf, sumOf-same, sumOf-mono, sumOf-zero}
 use Rattle.scope.proofs.Lists.{of-count}
 use Rattle.scope.proofs.Decides.{Decides, decides, said-as, both, belowℤ}
-use Rattle.scope.proofs.Truth.{itself, another}
 use Rattle.scope.proofs.Weighted.{weighted-linear, weighted-difference, weighted-same, by-columns}
 use Rattle.scope.specs.Members.{_∈_}
 use Rattle.scope.specs.Rows.{Kind, asked, unfixed, strength, Row, countFrom}
@@ -32,11 +32,11 @@ use Rattle.scope.specs.Bracket.{Columns, MultipliersMeet, spare, toSpare
 
 unit-same : (k : ℕ) → unit k k ≡ pos 1
 unfolding unit
-unit-same k = rw itself
+unit-same k = rw (eq-eqb k k refl)
 
 unit-other : {j k : ℕ} → j ≢ k → unit j k ≡ pos 0
 unfolding unit
-unit-other h = rw (another h)
+unit-other {j} {k} h = rw (ne-eqb j k h)
 
 module _ (s : ℕ → ℤ) (k : ℕ) where
   others : (i n : ℕ) → k < i → sumOf (λ j. s j *ℤ unit j k) (countFrom i n) ≡ pos 0

@@ -1,4 +1,4 @@
--- The verdict on numbers: accepted exactly when the claim is, and refused with a number and a place exactly when the paper's table says. The parts' laws joined in the paper's order.
+-- The verdict on numbers: accepted exactly when the claim is, and refused with a number and a place exactly when document 01's table says. The parts' laws joined in its order.
 use mathlib.Core.Path.{_≡_, refl, sym, _∙_, ap}
 use mathlib.Core.Logic.{_↔_, _⊎_, inl, inr}
 use mathlib.Core.Bool.{Bool, true, false}
@@ -162,7 +162,7 @@ module _ (m c : List ℤ) where
       then-refusal claim-lines (lines-refusal (claimLayout m) c)
       (then-refusal field-part (refused-there field-there field-refusal) (refused-there multipliers-there multipliers-refusal))
 
-  -- a mesh and a claim are refused with a number and a place exactly when the paper's table says so
+  -- a mesh and a claim are refused with a number and a place exactly when document 01's table says so
   pub refused-exactly : (k : ℕ) (p : Place) → (verdict m c ≡ Refused k p) ↔ Refusal m c k p
   unfolding verdict claimVerdict
   refused-exactly k p = (λ e. to (answer-refused (meshCheck m) (claimVerdict m c) k p .0 e), λ r. answer-refused (meshCheck m) (claimVerdict m c) k p .1 (from k p r))

@@ -6,6 +6,7 @@ use mathlib.Core.List.{List, [], _∷_}
 use Prim.Native.Nat.{ℕ, zero, suc, _≤_, _<_}
 use native.Mathlib.Nat.{eq-or-lt-of-le}
 use native.Mathlib.Omega.{arith}
+use borrow.Author.Tests.{eq-eqb, ne-eqb}
 use lib.Dec.{eqb}
 use lib.IntN.{ℤ, pos, _+ℤ_, _*ℤ_}
 use lib.Signed.{_≤ℤ_, _<ℤ_}
@@ -13,7 +14,6 @@ use Rattle.integer.specs.Laws.{*ℤ-assoc}
 use Rattle.integer.specs.Ring.{ring, ring-from, terms}
 use Rattle.integer.specs.Order.{<ℤ→≤ℤ, *ℤ-pos, *ℤ-mono, *ℤ-cancel, *ℤ-cancel-≤}
 use Rattle.integer.specs.Fraction.{_over_, _≈ᶠ_, _≤ᶠ_, ≈ᶠ-sym, ≈ᶠ-trans}
-use Rattle.scope.proofs.Truth.{itself, another}
 use Rattle.scope.proofs.Weighted.{weighted-multiple, weighted-same}
 use Rattle.scope.proofs.Bracket.{bracket}
 use Rattle.scope.specs.Members.{_∈_}
@@ -55,7 +55,7 @@ module _ (f : FractionField) where
   beyond : (j n : ℕ) → n ≤ j → allBut j n ≡ all n
   unfolding all allBut
   beyond j zero h = refl
-  beyond j (suc n) h = rw (another {j = j} {k = n} (omega arith), beyond j n (omega arith))
+  beyond j (suc n) h = rw (ne-eqb j n (omega arith), beyond j n (omega arith))
 
   with-one : (j n : ℕ) → j < n → allBut j n *ℤ den j ≡ all n
   unfolding all allBut
@@ -63,8 +63,8 @@ module _ (f : FractionField) where
   with-one j (suc n) h =
       let small : j ≤ n = omega arith in
       ⊎-elim
-      (λ e. rw (e, itself, beyond n n (omega arith)) (ring (all n ∷ den n ∷ []) (search terms depth 100) refl))
-      (λ l. rw (another {j = j} {k = n} (omega arith)) (ring-from (den n) (with-one j n l) (ring (allBut j n ∷ all n ∷ den n ∷ den j ∷ []) (search terms depth 100) refl)))
+      (λ e. rw (e, eq-eqb n n refl, beyond n n (omega arith)) (ring (all n ∷ den n ∷ []) (search terms depth 100) refl))
+      (λ l. rw (ne-eqb j n (omega arith)) (ring-from (den n) (with-one j n l) (ring (allBut j n ∷ all n ∷ den n ∷ den j ∷ []) (search terms depth 100) refl)))
       (eq-or-lt-of-le small)
 
   one-denominator : (n : ℕ) → (d : ℤ) × (s : ℕ → ℤ) × (l : ℤ) × WrittenOver n f d s l

@@ -9,7 +9,6 @@ pub mod Facts
 pub mod ClaimFacts
 pub mod PolygonRule
 pub mod Lists
-pub mod Truth
 pub mod Printed
 pub mod Meets
 pub mod Meaning

@@ -17,7 +17,7 @@ use Rattle.scope.specs.Mesh.{elements, x, y, corner, fromNode, toNode}
 use Rattle.scope.specs.Polygon.{Side}
 use Rattle.scope.specs.Rows.{node, crossAt, twiceArea, stepX, stepY, firstWhere, hasCorner, nodeSoil, cross}
 use Rattle.scope.specs.Verdict.{turn}
-use Rattle.scope.specs.Printed.{deviator, circle}
+use Rattle.scope.specs.Printed.{deviator, scaledRadius}
 use Rattle.scope.specs.Meaning.{doubledArea, Divergence, Area, Balanced, Tractions, Inward, OutwardNormal, SideMeaning, HasCorner, LowestElement}
 
 -- ---- balance
@@ -100,7 +100,7 @@ at-corner r h sx sy t R a b s e f = split (s .to .px -ℤ s .from .px) (s .to .p
 pub side-meaning : (r : ℤ) (s : Side) (p q h C n sx sy t : ℤ) → SideMeaning r s p q h C n sx sy t
 unfolding cross
 side-meaning r s p q h C n sx sy t =
-    let R : ℤ = circle p q C n sx sy in
+    let R : ℤ = scaledRadius p q C n sx sy in
     record {
       at-from = λ k. at-corner r h sx sy t R (s .from .px) (s .from .py) s (k .along) (k .across) ∙ from-corner R;
       at-to = λ k. at-corner r h sx sy t R (s .to .px) (s .to .py) s (k .along) (k .across) ∙ to-corner R;

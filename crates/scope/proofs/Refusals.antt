@@ -1,4 +1,4 @@
--- Each refusal with its place comes exactly when the paper's table says: composed from one law for a check, one for checks in order, and one for the lowest place.
+-- Each refusal with its place comes exactly when document 01's table says: composed from one law for a check, one for checks in order, and one for the lowest place.
 use mathlib.Core.Path.{_≡_, refl, subst₂}
 use mathlib.Core.Logic.{_⊎_, inl, inr}
 use mathlib.Core.Bool.{Bool}

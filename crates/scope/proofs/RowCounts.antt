@@ -73,7 +73,8 @@ unfolding sidesTo
 sides-to end v [] = refl
 sides-to end v (w ∷ vs) = ap suc (sides-to end w vs)
 
-side-of-each : (vs : List Point) → length (polygonSides vs) ≡ length vs
+-- a polygon has a side for each corner
+pub side-of-each : (vs : List Point) → length (polygonSides vs) ≡ length vs
 unfolding polygonSides
 side-of-each [] = refl
 side-of-each (v ∷ vs) = sides-to v v vs

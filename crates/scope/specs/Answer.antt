@@ -1,4 +1,4 @@
--- What is answered (document 01, 'Verdict and report'): the paper's number and place for each case of each enum.
+-- What is answered (document 01, 'Verdict and report'): the number and the place of each case of each enum. (Loads and open rows have theirs where they are printed, `report/specs/Report.antt`.)
 use Prim.Native.Nat.{ℕ}
 use Rattle.scope.specs.declared.Place.{Place}
 use Rattle.scope.specs.declared.Place.the-variants.{Line, Row, Column, Node, Element}
@@ -24,7 +24,7 @@ abbrev pub placeOf : Verdict → ℕ
 placeOf (Accepted o l u) = 0
 placeOf (Refused n p) = placeNumber p
 
--- the same for a mesh: one that passes has no number and no place
+-- the same of a mesh: what passes has no number and no place
 abbrev pub meshNumberOf : Outcome → ℕ
 meshNumberOf Passed = 0
 meshNumberOf (Fails n p) = n

@@ -17,7 +17,7 @@ pub record Between (lo hi z : ℤ) : Type 0 where
   pub least : lo ≤ℤ z
   pub most : z ≤ℤ hi
 
--- "nodes 4 to 100, elements 1 to 100, soils 1 to 16, edges 0 to 60, sides 12, 20 or 36", and all numbers are there
+-- "nodes 4 to 100, elements 1 to 100, soils 1 to 16, edges 0 to 60, sides 12, 20 or 36"; a count of edges below 0 would be read as 0, so the number itself is bounded
 pub record Counts (m : List ℤ) : Type 0 where
   pub nodesLeast : 4 ≤ nodes m
   pub nodesMost : nodes m ≤ 100
@@ -57,6 +57,7 @@ pub record EdgeFacts (m : List ℤ) (g : ℕ) : Type 0 where
   pub fixedRange : Between (pos 1) (pos 3) (edgeEntry m g 2)
   pub loadRange : (c : ℕ) → c < 4 → Between (negℤ (pos 10000)) (pos 10000) (edgeEntry m g (3 + c))
 
+-- a mesh whose lines are sound: all its numbers are there, and none is left over
 pub record MeshFacts (m : List ℤ) : Type 0 where
   pub counts : Counts m
   pub size : length m ≡ 5 + soils m * 8 + nodes m * 2 + elements m * 5 + edges m * 7

@@ -1,4 +1,5 @@
--- Document 01 as definitions on the numbers of a mesh and of a claim, in the paper's order: what is answered, the layout, rows, sums, the verdict; then what the theorems say of them.
+-- Document 01 as definitions on the numbers of a mesh and of a claim, each file after those that it uses: what is answered, the layout, rows, sums, the verdict; then what the theorems say of them.
+-- 001 and 003, where a comment names them, are sources that document 01 cites by these numbers.
 pub mod Answer
 pub mod Checks
 pub mod Columns
@@ -24,5 +25,5 @@ pub mod AcceptedField
 pub mod Bracket
 pub mod Fractions
 pub mod Parts
-pub mod Worked
 pub mod AcceptedFractions
+pub mod Worked

@@ -10,7 +10,7 @@ use Rattle.scope.specs.Polygon.{Point, Side}
 use Rattle.scope.specs.Rows.{node, twiceArea, stepX, stepY, nodeSoil, cross}
 use Rattle.scope.specs.Verdict.{turn}
 use Rattle.scope.specs.Sound.{LeftTurns}
-use Rattle.scope.specs.Printed.{next, cornerSum, forceX, forceY, BalanceX, BalanceY, normalForce, shearForce, deviator, circle, resistance}
+use Rattle.scope.specs.Printed.{next, cornerSum, forceX, forceY, BalanceX, BalanceY, normalForce, shearForce, deviator, scaledRadius, resistance}
 
 -- ---- balance
 
@@ -68,14 +68,14 @@ OutwardNormal m g e =
 
 -- (h·(sx-sy), h·2t) is the corner v scaled from r to R = 2qCn - p(sx+sy)
 pub record AtCorner (r : ℤ) (v : Point) (p q h C n sx sy t : ℤ) : Type 0 where
-  pub along : r *ℤ (h *ℤ (sx -ℤ sy)) ≡ circle p q C n sx sy *ℤ v .px
-  pub across : r *ℤ (h *ℤ (pos 2 *ℤ t)) ≡ circle p q C n sx sy *ℤ v .py
+  pub along : r *ℤ (h *ℤ (sx -ℤ sy)) ≡ scaledRadius p q C n sx sy *ℤ v .px
+  pub across : r *ℤ (h *ℤ (pos 2 *ℤ t)) ≡ scaledRadius p q C n sx sy *ℤ v .py
 
 -- the row of a side holds with equality at its two corners, and with strength to spare at the centre
 pub record SideMeaning (r : ℤ) (s : Side) (p q h C n sx sy t : ℤ) : Type 0 where
   pub at-from : AtCorner r (s .from) p q h C n sx sy t → deviator r s h sx sy t ≡ resistance s p q C n sx sy
   pub at-to : AtCorner r (s .to) p q h C n sx sy t → deviator r s h sx sy t ≡ resistance s p q C n sx sy
-  pub at-centre : sx ≡ sy → t ≡ pos 0 → pos 0 <ℤ cross (s .from) (s .to) → pos 0 <ℤ circle p q C n sx sy → deviator r s h sx sy t <ℤ resistance s p q C n sx sy
+  pub at-centre : sx ≡ sy → t ≡ pos 0 → pos 0 <ℤ cross (s .from) (s .to) → pos 0 <ℤ scaledRadius p q C n sx sy → deviator r s h sx sy t <ℤ resistance s p q C n sx sy
 
 -- ---- a node's soil
 

@@ -1,4 +1,4 @@
--- The rows as document 01 prints them ('Rows'), over whole numbers, with l and n on the paper's side; and what a field that meets the rows of a mesh meets.
+-- The rows as document 01 prints them ('Rows'), over whole numbers, with l and n on the side where it has them; and what a field that meets the rows of a mesh meets.
 use mathlib.Core.Path.{_≡_}
 use mathlib.Core.Logic.{_⊎_}
 use mathlib.Core.List.{List}
@@ -16,8 +16,8 @@ use Rattle.scope.specs.Rows.{sx, sy, t, twiceArea, stepX, stepY, Pair, s
 abbrev pub next : ℕ → ℕ
 next i = (i + 1) % 4
 
-abbrev pub last : ℕ → ℕ
-last i = (i + 3) % 4
+abbrev pub previous : ℕ → ℕ
+previous i = (i + 3) % 4
 
 -- the sum over the corners
 abbrev pub cornerSum : (ℕ → ℤ) → ℤ
@@ -25,14 +25,14 @@ cornerSum f = f 0 +ℤ f 1 +ℤ f 2 +ℤ f 3
 
 -- "sum of (y[i+1]-y[i-1])·sx[i] + (x[i-1]-x[i+1])·t[i] = -D·(n·Fx + l·fx)": its left side, then the equation
 abbrev pub forceX : (x y sx t : ℕ → ℤ) → ℤ
-forceX x y sx t = cornerSum (λ i. (y (next i) -ℤ y (last i)) *ℤ sx i +ℤ (x (last i) -ℤ x (next i)) *ℤ t i)
+forceX x y sx t = cornerSum (λ i. (y (next i) -ℤ y (previous i)) *ℤ sx i +ℤ (x (previous i) -ℤ x (next i)) *ℤ t i)
 
 abbrev pub BalanceX : (x y sx t : ℕ → ℤ) (D Fx fx n l : ℤ) → Type 0
 BalanceX x y sx t D Fx fx n l = forceX x y sx t ≡ negℤ D *ℤ (n *ℤ Fx +ℤ l *ℤ fx)
 
 -- "sum of (x[i-1]-x[i+1])·sy[i] + (y[i+1]-y[i-1])·t[i] = -D·(n·Fy + l·fy)"
 abbrev pub forceY : (x y sy t : ℕ → ℤ) → ℤ
-forceY x y sy t = cornerSum (λ i. (x (last i) -ℤ x (next i)) *ℤ sy i +ℤ (y (next i) -ℤ y (last i)) *ℤ t i)
+forceY x y sy t = cornerSum (λ i. (x (previous i) -ℤ x (next i)) *ℤ sy i +ℤ (y (next i) -ℤ y (previous i)) *ℤ t i)
 
 abbrev pub BalanceY : (x y sy t : ℕ → ℤ) (D Fy fy n l : ℤ) → Type 0
 BalanceY x y sy t D Fy fy n l = forceY x y sy t ≡ negℤ D *ℤ (n *ℤ Fy +ℤ l *ℤ fy)
@@ -71,8 +71,8 @@ deviator r s h sx sy t =
     let d : ℤ = s .to .py in
     r *ℤ h *ℤ ((d -ℤ b) *ℤ (sx -ℤ sy) -ℤ pos 2 *ℤ (c -ℤ a) *ℤ t)
 
-abbrev pub circle : (p q C n sx sy : ℤ) → ℤ
-circle p q C n sx sy = pos 2 *ℤ q *ℤ C *ℤ n -ℤ p *ℤ (sx +ℤ sy)
+abbrev pub scaledRadius : (p q C n sx sy : ℤ) → ℤ
+scaledRadius p q C n sx sy = pos 2 *ℤ q *ℤ C *ℤ n -ℤ p *ℤ (sx +ℤ sy)
 
 abbrev pub resistance : Side → (p q C n sx sy : ℤ) → ℤ
 resistance s p q C n sx sy =
@@ -80,7 +80,7 @@ resistance s p q C n sx sy =
     let b : ℤ = s .from .py in
     let c : ℤ = s .to .px in
     let d : ℤ = s .to .py in
-    (a *ℤ d -ℤ b *ℤ c) *ℤ circle p q C n sx sy
+    (a *ℤ d -ℤ b *ℤ c) *ℤ scaledRadius p q C n sx sy
 
 abbrev pub Strength : (r : ℤ) → Side → (p q h C n sx sy t : ℤ) → Type 0
 Strength r s p q h C n sx sy t = deviator r s h sx sy t ≤ℤ resistance s p q C n sx sy

@@ -1,4 +1,4 @@
--- When each refusal comes (document 01, 'Verdict and report'): the paper's table with its order, in plain statements. A refusal with its place comes when everything before it in the order holds and this place is the lowest that fails.
+-- When each refusal comes (document 01, 'Verdict and report'): its table of refusals with its order, in plain statements. A refusal with its place comes when everything before it in the order holds and this place is the lowest that fails.
 use mathlib.Core.Path.{_≡_}
 use mathlib.Core.Logic.{_⊎_}
 use mathlib.Core.List.{List, [], _∷_}

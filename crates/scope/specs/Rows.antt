@@ -46,7 +46,7 @@ joined f (a ∷ rest) = f a ++ joined f rest
 
 -- ---- balance (003, eq. 9, doubled; the body force's sign by 001, eq. 1)
 
--- corner i of element e, and its coordinates; corner 4 is corner 0 again
+-- the node at corner i of element e; corner 4 is corner 0 again
 unfoldable pub node : List ℤ → ℕ → ℕ → ℕ
 node m e i = corner m e (i % 4)
 
@@ -158,11 +158,12 @@ hasCorner m v e = eqb (corner m e 0) v || eqb (corner m e 1) v || eqb (corner m 
 unfoldable pub nodeSoil : List ℤ → ℕ → ℕ
 nodeSoil m v = elementSoil m (firstWhere (hasCorner m v) (elements m))
 
--- the nodes with the soils whose strength they have: one pair for each node
+-- a node, and a soil whose strength it has
 pub record Pair : Type 0 where
   pub at : ℕ
   pub soil : ℕ
 
+-- one pair for each node
 unfoldable pub strengthPairs : List ℤ → List Pair
 strengthPairs m = map (λ v. record { at = v; soil = nodeSoil m v }) (countFrom 0 (nodes m))
 

@@ -1,4 +1,4 @@
--- The verdict on the numbers of a mesh and of a claim (document 01, 'Verdict and report'): refusals 1 to 33 in the paper's order, lowest place first.
+-- The verdict on the numbers of a mesh and of a claim (document 01, 'Verdict and report'): refusals 1 to 33 in the order that it gives, lowest place first.
 use mathlib.Core.Bool.{Bool, true, false, cond, not, _&&_}
 use mathlib.Core.List.{List, []}
 use Prim.Native.Nat.{ℕ, suc, _+_, _*_}

@@ -1,5 +1,5 @@
 //! Prints what the independent implementation answers to the sheets of document 01's section
-//! "A whole sheet, and its neighbours"; the answers that the paper gives are in worked.expected.
+//! "A whole sheet, and its neighbours"; the answers that it gives are in worked.expected.
 
 use independent::sheet::{file, printed, Sheet};
 

@@ -1,4 +1,4 @@
-//! A second implementation of the check, written from the paper alone (document 01).
+//! A second implementation of the check, written from document 01 alone.
 //! It shares no line with the proved program: the comparison and the fuzzer hold the two against
 //! each other, and the bench takes it as the speed of ordinary Rust.
 
@@ -12,7 +12,7 @@ pub mod report;
 pub mod sheet;
 
 use claim::Claim;
-use lines::{FileLines, Lines, NumberLines};
+use lines::Lines;
 use mesh::Mesh;
 
 /// A refusal: its number in the table and its place.
@@ -46,9 +46,9 @@ pub struct Accepted {
 
 pub type Verdict = Result<Accepted, Refusal>;
 
-fn judge(mesh: &mut impl Lines, claim: &mut impl Lines) -> Verdict {
-    let mesh = Mesh::read(mesh)?;
-    let claim = Claim::read(claim, &mesh)?;
+fn judge(mut mesh: impl Lines, mut claim: impl Lines) -> Verdict {
+    let mesh = Mesh::read(&mut mesh)?;
+    let claim = Claim::read(&mut claim, &mesh)?;
     if let Some(part) = &claim.field {
         field::check(&mesh, part)?;
     }
@@ -73,7 +73,7 @@ fn judge(mesh: &mut impl Lines, claim: &mut impl Lines) -> Verdict {
 
 /// The verdict on two files.
 pub fn judge_files(mesh: &[u8], claim: &[u8]) -> Verdict {
-    judge(&mut FileLines::new(mesh), &mut FileLines::new(claim))
+    judge(mesh, claim)
 }
 
 /// What a call returns: 0 and place 0, or a refusal.
@@ -120,7 +120,7 @@ pub struct Numbers {
 
 /// The check of the numbers of a mesh and of a claim.
 pub fn check_numbers(mesh: &[i64], claim: &[i64]) -> Numbers {
-    match judge(&mut NumberLines::new(mesh), &mut NumberLines::new(claim)) {
+    match judge(mesh, claim) {
         Err(Refusal { number, place }) => Numbers {
             number,
             place,

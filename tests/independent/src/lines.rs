@@ -11,61 +11,42 @@ pub trait Lines {
     fn at_end(&self) -> bool;
 }
 
-pub struct FileLines<'a> {
-    rest: &'a [u8],
-}
-
-impl<'a> FileLines<'a> {
-    pub fn new(bytes: &'a [u8]) -> Self {
-        FileLines { rest: bytes }
-    }
-}
-
-impl Lines for FileLines<'_> {
+/// The bytes of a file that are left.
+impl Lines for &[u8] {
     fn next(&mut self, out: &mut [i64]) -> bool {
         let length = WIDTH * out.len();
-        if self.rest.len() <= length || self.rest[length] != b'\n' {
+        if self.len() <= length || self[length] != b'\n' {
             return false;
         }
-        let (columns, _) = self.rest[..length].as_chunks::<WIDTH>();
+        let (columns, _) = self[..length].as_chunks::<WIDTH>();
         for (number, column) in out.iter_mut().zip(columns) {
             match spelled(column) {
                 Some(value) => *number = value,
                 None => return false,
             }
         }
-        self.rest = &self.rest[length + 1..];
+        *self = &self[length + 1..];
         true
     }
 
     fn at_end(&self) -> bool {
-        self.rest.is_empty()
+        self.is_empty()
     }
 }
 
-pub struct NumberLines<'a> {
-    rest: &'a [i64],
-}
-
-impl<'a> NumberLines<'a> {
-    pub fn new(numbers: &'a [i64]) -> Self {
-        NumberLines { rest: numbers }
-    }
-}
-
-impl Lines for NumberLines<'_> {
+/// The numbers of a list that are left.
+impl Lines for &[i64] {
     fn next(&mut self, out: &mut [i64]) -> bool {
-        if self.rest.len() < out.len() {
+        let Some((line, rest)) = self.split_at_checked(out.len()) else {
             return false;
-        }
-        let (line, rest) = self.rest.split_at(out.len());
+        };
         out.copy_from_slice(line);
-        self.rest = rest;
+        *self = rest;
         true
     }
 
     fn at_end(&self) -> bool {
-        self.rest.is_empty()
+        self.is_empty()
     }
 }
 

@@ -5,7 +5,7 @@ use crate::field::{balance, step};
 use crate::mesh::Mesh;
 use crate::{refuse, Load, Refusal};
 
-/// The sums over all rows; W and m are kept wide, their sizes are nobody's worry here.
+/// The sums over all rows; W and m are kept wide, so that no limit is needed to add them up.
 struct Sums {
     /// sx, sy and t of each node.
     columns: Vec<[i64; 3]>,

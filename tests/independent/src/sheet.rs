@@ -11,7 +11,7 @@ pub struct Sheet {
     pub claim: Lines,
 }
 
-/// The lines of a file as the paper prints them: numbers apart by a space, lines by " / ".
+/// The lines of a file as document 01 prints them: numbers apart by a space, lines by " / ".
 pub fn printed(text: &str) -> Lines {
     let line = |line: &str| {
         line.split_whitespace()

@@ -1,9 +1,10 @@
-//! Every refusal with each of its causes, one by one, with the place that the paper gives it.
+//! Every refusal with each of its causes, one by one, with its place.
 //! The answers were worked out by hand from document 01.
 
 use independent::sheet::{printed, Sheet};
 
 /// A change to a sheet; lines and columns count from 1.
+#[derive(Clone, Copy)]
 pub enum Change {
     Mesh(usize, usize, i64),
     Claim(usize, usize, i64),
@@ -16,7 +17,13 @@ pub enum Change {
 
 use Change::{Claim, FieldColumn, LoneNode, Mesh, NoMultipliers};
 
-pub type Cause = (&'static [Change], u32, u32);
+/// Changes, and the number and the place that they are answered with.
+pub type Cause = (Vec<Change>, u32, u32);
+
+type Listed = (&'static [Change], u32, u32);
+
+/// A line, a column, and numbers beyond its limits: each is refused at the line.
+type Beyond = (usize, usize, &'static [i64]);
 
 /// Two squares side by side, two soils, three of the six outer sides with an edge.
 pub fn pair() -> Sheet {
@@ -33,43 +40,41 @@ pub fn pair() -> Sheet {
     }
 }
 
-/// Causes in `pair`, refusals 2 to 8.
-pub const MESH: &[Cause] = &[
+/// Beyond the limits of `pair`: its header, soils, nodes and edges.
+const MESH_LIMITS: &[Beyond] = &[
+    (1, 1, &[3, 101]),
+    (1, 2, &[0, 101]),
+    (1, 3, &[0, 17]),
+    (1, 4, &[-1, 61]),
+    (1, 5, &[11, 13, 24, 108]),
+    (2, 1, &[-1, 1001]),
+    (2, 2, &[0, 1001]),
+    (2, 3, &[0, 1001]),
+    (2, 4, &[-1, 10001]),
+    (2, 5, &[-1001]),
+    (2, 6, &[1001]),
+    (2, 7, &[-1001]),
+    (2, 8, &[1001]),
+    (4, 1, &[-1]),
+    (4, 2, &[-1]),
+    (6, 1, &[1001]),
+    (9, 2, &[1001]),
+    (12, 3, &[0, 4]),
+    (12, 4, &[10001]),
+    (13, 5, &[-10001]),
+    (13, 6, &[10001]),
+    (14, 7, &[-10001]),
+    (14, 5, &[10001]),
+];
+
+/// The other causes in `pair`, refusals 3 to 8.
+const MESH: &[Listed] = &[
     (&[], 33, 0),
-    (&[Mesh(1, 1, 3)], 2, 1),
-    (&[Mesh(1, 1, 101)], 2, 1),
-    (&[Mesh(1, 2, 0)], 2, 1),
-    (&[Mesh(1, 2, 101)], 2, 1),
-    (&[Mesh(1, 3, 0)], 2, 1),
-    (&[Mesh(1, 3, 17)], 2, 1),
-    (&[Mesh(1, 4, -1)], 2, 1),
-    (&[Mesh(1, 4, 61)], 2, 1),
-    (&[Mesh(1, 5, 11)], 2, 1),
-    (&[Mesh(1, 5, 13)], 2, 1),
-    (&[Mesh(1, 5, 24)], 2, 1),
-    (&[Mesh(1, 5, 108)], 2, 1),
-    // Soils: limits, then the angle; limits come first in a line.
-    (&[Mesh(2, 1, -1)], 2, 2),
-    (&[Mesh(2, 1, 1001)], 2, 2),
-    (&[Mesh(2, 2, 0)], 2, 2),
-    (&[Mesh(2, 2, 1001)], 2, 2),
-    (&[Mesh(2, 3, 0)], 2, 2),
-    (&[Mesh(2, 3, 1001)], 2, 2),
-    (&[Mesh(2, 4, -1)], 2, 2),
-    (&[Mesh(2, 4, 10001)], 2, 2),
-    (&[Mesh(2, 5, -1001)], 2, 2),
-    (&[Mesh(2, 6, 1001)], 2, 2),
-    (&[Mesh(2, 7, -1001)], 2, 2),
-    (&[Mesh(2, 8, 1001)], 2, 2),
+    // The angle of a soil; limits come first in a line.
     (&[Mesh(2, 2, 2)], 3, 2),
     (&[Mesh(3, 3, 6)], 3, 3),
     (&[Mesh(3, 3, 6), Mesh(3, 4, -1)], 2, 3),
     (&[Mesh(3, 3, 6), Mesh(4, 1, -1)], 3, 3),
-    // Nodes.
-    (&[Mesh(4, 1, -1)], 2, 4),
-    (&[Mesh(4, 2, -1)], 2, 4),
-    (&[Mesh(6, 1, 1001)], 2, 6),
-    (&[Mesh(9, 2, 1001)], 2, 9),
     // Elements: a node or a soil that isn't there.
     (&[Mesh(10, 1, 0)], 4, 10),
     (&[Mesh(10, 2, 7)], 4, 10),
@@ -79,13 +84,6 @@ pub const MESH: &[Cause] = &[
     (&[Mesh(11, 5, 3)], 4, 11),
     (&[Mesh(11, 5, -99_999_999_999)], 4, 11),
     // Edges: limits come before names.
-    (&[Mesh(12, 3, 0)], 2, 12),
-    (&[Mesh(12, 3, 4)], 2, 12),
-    (&[Mesh(12, 4, 10001)], 2, 12),
-    (&[Mesh(13, 5, -10001)], 2, 13),
-    (&[Mesh(13, 6, 10001)], 2, 13),
-    (&[Mesh(14, 7, -10001)], 2, 14),
-    (&[Mesh(14, 5, 10001)], 2, 14),
     (&[Mesh(12, 1, 0)], 4, 12),
     (&[Mesh(12, 2, 7)], 4, 12),
     (&[Mesh(12, 2, 7), Mesh(12, 3, 0)], 2, 12),
@@ -153,23 +151,24 @@ pub const MESH: &[Cause] = &[
     (&[Mesh(12, 1, 3), Mesh(12, 2, 3)], 8, 12),
 ];
 
-/// Causes in the worked sheet, refusals 12 to 33.
-pub const CLAIM: &[Cause] = &[
+/// Beyond the limits of the worked sheet's claim: its header, field and multipliers.
+const CLAIM_LIMITS: &[Beyond] = &[
+    (1, 1, &[2, -1]),
+    (1, 2, &[2]),
+    (1, 3, &[-1, 100_001]),
+    (1, 4, &[100_000_001, -100_000_001]),
+    (2, 1, &[1_000_000_001]),
+    (5, 3, &[-1_000_000_001]),
+    (6, 2, &[100_001]),
+    (7, 1, &[-100_001]),
+    (9, 4, &[100_001]),
+    (10, 1, &[-1]),
+    (13, 12, &[10_001]),
+];
+
+/// The other causes in the worked sheet, refusals 11 to 33.
+const CLAIM: &[Listed] = &[
     (&[], 0, 0),
-    (&[Claim(1, 1, 2)], 12, 1),
-    (&[Claim(1, 1, -1)], 12, 1),
-    (&[Claim(1, 2, 2)], 12, 1),
-    (&[Claim(1, 3, -1)], 12, 1),
-    (&[Claim(1, 3, 100_001)], 12, 1),
-    (&[Claim(1, 4, 100_000_001)], 12, 1),
-    (&[Claim(1, 4, -100_000_001)], 12, 1),
-    (&[Claim(2, 1, 1_000_000_001)], 12, 2),
-    (&[Claim(5, 3, -1_000_000_001)], 12, 5),
-    (&[Claim(6, 2, 100_001)], 12, 6),
-    (&[Claim(7, 1, -100_001)], 12, 7),
-    (&[Claim(9, 4, 100_001)], 12, 9),
-    (&[Claim(10, 1, -1)], 12, 10),
-    (&[Claim(13, 12, 10_001)], 12, 13),
     // Limits of the header come before 13, and 13 before line 2.
     (
         &[
@@ -234,6 +233,30 @@ pub const CLAIM: &[Cause] = &[
     // A field that fails comes before multipliers that fail.
     (&[Claim(2, 1, 1), Claim(8, 3, -29)], 21, 1),
 ];
+
+fn all(
+    change: fn(usize, usize, i64) -> Change,
+    number: u32,
+    limits: &[Beyond],
+    others: &[Listed],
+) -> Vec<Cause> {
+    let beyond = limits.iter().flat_map(|&(line, column, numbers)| {
+        let at = move |&n| (vec![change(line, column, n)], number, line as u32);
+        numbers.iter().map(at)
+    });
+    let listed = |&(changes, number, place): &Listed| (changes.to_vec(), number, place);
+    beyond.chain(others.iter().map(listed)).collect()
+}
+
+/// The causes in `pair`.
+pub fn of_mesh() -> Vec<Cause> {
+    all(Mesh, 2, MESH_LIMITS, MESH)
+}
+
+/// The causes in the worked sheet.
+pub fn of_claim() -> Vec<Cause> {
+    all(Claim, 12, CLAIM_LIMITS, CLAIM)
+}
 
 /// The sheet with the changes of a cause.
 pub fn changed(sheet: &Sheet, changes: &[Change]) -> Sheet {

@@ -55,7 +55,7 @@ impl Tally {
         self.file(mesh, claim, 113, b'#');
         let ours = independent::check(mesh, claim, &mut [0; 113]);
         if (ours.number, ours.place) != (number, place) {
-            let what = format!("{ours:?}, the paper says {number}, {place}: cause {k}");
+            let what = format!("{ours:?}, by hand {number}, {place}: cause {k}");
             self.disagree(&what, mesh, claim);
         }
     }
@@ -137,20 +137,20 @@ fn every_byte(tally: &mut Tally, random: &mut Random, sheet: &Sheet) {
     }
 }
 
-/// Each cause gets the answer that the paper gives it, from both.
+/// Each cause gets the answer that was worked out for it, from both.
 fn every_cause(tally: &mut Tally, random: &mut Random) {
     let sheets = [
-        (causes::pair(), causes::MESH),
-        (Sheet::worked(), causes::CLAIM),
+        (causes::pair(), causes::of_mesh()),
+        (Sheet::worked(), causes::of_claim()),
     ];
     for (sheet, table) in &sheets {
-        for (k, &(changes, number, place)) in table.iter().enumerate() {
+        for (k, (changes, number, place)) in table.iter().enumerate() {
             let damaged = causes::changed(sheet, changes);
             tally.expect(
                 &damaged.mesh_file(),
                 &damaged.claim_file(),
-                number,
-                place,
+                *number,
+                *place,
                 k,
             );
             tally.sheet(random, &damaged);
