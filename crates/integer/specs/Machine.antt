@@ -42,7 +42,7 @@ use lib.Signed.{mag, ltZ, leZ, quotZ, remZ, nonNeg, _≤ℤ_, _<ℤ_, natAbs-le,
 use mir.Syntax.{Width, w64}
 use mir.Val.{SFits, Fits, toZ, ofZ, hbits}
 use mir.Facts.{toZ-ofZ, ofZ-toZ, toZ-pos, sfits-toZ, yes-eqb}
-use Rattle.integer.specs.Tests.{eqZ, eqZ-yes, eqZ-no, yes-eqZ, leZ-no}
+use Rattle.integer.specs.Tests.{eqZ, same-test, eqZ-yes, eqZ-no, yes-eqZ, leZ-no}
 use Rattle.integer.specs.Bounds.{Within, Within-le, Within-pos, Within-negsuc, Within-negℤ, Within-+ℤ, Within-*ℤ, Within-quotZ, Within-remZ, AllWithin}
 
 -- ---- what 64 bits hold
@@ -227,13 +227,7 @@ module _ {m n : ℕ} {p q : ℤ} (h : HasBits m p) (k : HasBits n q) where
   eq-bits e = h .bits ∙ ap (ofZ w64) e ∙ sym (k .bits)
 
   pub eqb-bits : eqb m n ≡ eqZ p q
-  eqb-bits = alike (eqb m n) (eqZ p q) (λ t. yes-eqZ (bits-eq (eqb→eq m n t))) (λ t. yes-eqb (eq-bits (eqZ-yes t)))
-    where
-      alike : (a b : Bool) → (T a → T b) → (T b → T a) → a ≡ b
-      alike true true f g = refl
-      alike true false f g = absurd (f tt)
-      alike false true f g = absurd (g tt)
-      alike false false f g = refl
+  eqb-bits = same-test (λ t. yes-eqZ (bits-eq (eqb→eq m n t))) (λ t. yes-eqb (eq-bits (eqZ-yes t)))
 
 pub bits-nonzero : {n : ℕ} {p : ℤ} → HasBits n p → ¬ (p ≡ pos 0) → 0 < n
 bits-nonzero {n = zero} h f = absurd (f (sym (toZ-ofZ (h .holds)) ∙ ap (toZ w64) (sym (h .bits))))

@@ -18,6 +18,13 @@ eqZ (negsuc a) (negsuc b) = eqb a b
 example-computed : (leZ (negsuc 4) (pos 3) && eqZ (pos 3) (pos 3)) ≡ true
 example-computed = refl
 
+-- two tests that pass in the same cases are the same
+pub same-test : {x y : Bool} → (T x → T y) → (T y → T x) → x ≡ y
+same-test {x = true} {y = true} f g = refl
+same-test {x = true} {y = false} f g = absurd (f tt)
+same-test {x = false} {y = true} f g = absurd (g tt)
+same-test {x = false} {y = false} f g = refl
+
 -- ---- equality
 
 pub eqZ-yes : {a b : ℤ} → T (eqZ a b) → a ≡ b

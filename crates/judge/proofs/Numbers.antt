@@ -1,6 +1,5 @@
 -- "Numbers handed to it get the refusals that a file of them, with columns as wide as needed, would get": a file is checked as its numbers are, and where no check of its lines fails its numbers are read back.
 use mathlib.Core.Path.{_≡_, refl, sym, ap, _∙_}
-use mathlib.Core.Logic.{_⊎_, inl, inr}
 use mathlib.Core.List.{List}
 use Prim.Native.Nat.{ℕ, _+_, _<_}
 use native.Mathlib.Omega.{arith}
@@ -14,7 +13,7 @@ use Rattle.scope.specs.Mesh.{meshLayout, sides}
 use Rattle.scope.specs.Claim.{claimLayout}
 use Rattle.scope.specs.Verdict.{meshCheck, claimCheck, claimVerdict, answer, verdict}
 use Rattle.scope.proofs.Sound.{lines-passed}
-use Rattle.scope.proofs.Facts.{counts}
+use Rattle.scope.proofs.Facts.{some-sides, counts}
 use Rattle.reader.specs.File.{numbersOf, fileOf}
 use Rattle.reader.specs.WellFormed.{Fit}
 use Rattle.reader.proofs.Regular.{mesh-regular, claim-regular}
@@ -30,12 +29,7 @@ unfolding verdict claimVerdict claimCheck answer
 claim-lines-refused m c k p e = rw e
 
 pub some-side : (m : List ℤ) → linesCheck meshLayout m ≡ Passed → 0 < sides m
-some-side m e = by (counts m (lines-passed meshLayout m .says e) .sidesListed)
-  where
-    by : (sides m ≡ 12) ⊎ ((sides m ≡ 20) ⊎ (sides m ≡ 36)) → 0 < sides m
-    by (inl h) = omega arith
-    by (inr (inl h)) = omega arith
-    by (inr (inr h)) = omega arith
+some-side m e = some-sides (counts m (lines-passed meshLayout m .says e))
 
 -- the claim's numbers, where the mesh's lines pass
 claim-numbers : (w : ℕ) (m c : List ℤ) → Fit w c → 0 < sides m → verdict m (numbersOf w (claimLayout m) (fileOf w (claimLayout m) c)) ≡ verdict m c

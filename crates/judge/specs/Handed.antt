@@ -2,8 +2,6 @@
 use mathlib.Core.List.{List}
 use Prim.Native.Nat.{ℕ}
 use lib.IntN.{ℤ}
-use Rattle.scope.specs.declared.Verdict.{Verdict}
-use Rattle.scope.specs.Verdict.{verdict}
 use Rattle.scope.specs.Accepted.{FieldAccepted, MultipliersAccepted}
 use Rattle.scope.specs.Parts.{SameRows, PartsBracket}
 use Rattle.judge.specs.Judge.{meshNumbers, claimNumbers, fileWidth}
@@ -20,9 +18,6 @@ meshOf (numbers m c) = m
 unfoldable pub claimOf : Handed → List ℤ
 claimOf (files mesh claim) = claimNumbers fileWidth (meshNumbers fileWidth mesh) claim
 claimOf (numbers m c) = c
-
-unfoldable pub handedVerdict : Handed → Verdict
-handedVerdict a = verdict (meshOf a) (claimOf a)
 
 abbrev pub HasAcceptedField : Handed → Type 0
 HasAcceptedField a = FieldAccepted (meshOf a) (claimOf a)

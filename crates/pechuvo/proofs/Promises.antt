@@ -9,6 +9,7 @@ use native.Mathlib.Omega.{arith}
 use lib.Dec.{ltb}
 use lib.IntN.{ℤ, pos, _+ℤ_, _-ℤ_}
 use lib.Signed.{_<ℤ_, <ℤ-irrefl, <ℤ-≤ℤ-trans}
+use lib.Ieee.Bits.{is-true}
 use lib.ListN.{length, take, drop, replicate, length-append, length-drop}
 use lib.Seq.{take-at, drop-at}
 use borrow.Author.Tests.{ltb-true, ltb-false}
@@ -35,7 +36,6 @@ use Rattle.scope.specs.Sound.{MeshSound}
 use Rattle.scope.specs.Accepted.{FieldAccepted, MultipliersAccepted, ClaimAccepted}
 use Rattle.scope.specs.Parts.{carried, allowed, SameRows}
 use Rattle.scope.proofs.Exactly.{accepted-exactly, refused-exactly, verdict-cases, returns-zero, claim-by-parts}
-use Rattle.scope.proofs.ClaimFacts.{is-true}
 use Rattle.scope.proofs.AnswerBounds.{refusal-bounds}
 use Rattle.scope.proofs.Parts.{field-n, open-rows-count}
 use Rattle.rows.specs.declared.numbers_answer.NumbersAnswer.{NumbersAnswer}

@@ -92,11 +92,3 @@ column-read (b ∷ bs) z e =
 -- a column means z exactly when it is z's spelling right-justified in spaces
 pub column-means : (bs : List ℕ) (z : ℤ) → readColumn bs ≡ some z ↔ ((bs ≡ column (length bs) z) × (length (spelling z) ≤ length bs))
 column-means bs z = (column-read bs z, λ h. ap readColumn (h .0) ∙ read-column (length bs) z)
-
--- one spelling for each number
-pub spelling-injective : (a b : ℤ) → spelling a ≡ spelling b → a ≡ b
-spelling-injective a b e = cc (read-spelling a, read-spelling b)
-
--- one number for each well-formed column
-pub column-injective : (w : ℕ) (a b : ℤ) → column w a ≡ column w b → a ≡ b
-column-injective w a b e = cc (read-column w a, read-column w b)

@@ -1,6 +1,6 @@
 -- What a header tells of the lines after it: their columns are those of the layout, and their numbers fit the list that is lent.
 use mathlib.Core.Path.{_≡_, sym, ap, _∙_}
-use mathlib.Core.Bool.{Bool, true, false}
+use mathlib.Core.Bool.{true, false}
 use mathlib.Core.List.{List, [], _++_, append-nil, append-assoc}
 use Prim.Native.Nat.{ℕ, _*_, _≤_, _<_}
 use native.Mathlib.Nat.{mul-le-mul-right}
@@ -12,9 +12,8 @@ use lib.Seq.{getD-take, length-take-le}
 use mir.Syntax.{w64}
 use mir.Val.{SFits, toZ, ofZ}
 use mir.Facts.{toZ-ofZ}
-use borrow.Table.Steps.{cases}
 use Rattle.integer.specs.Order.{≤ℤ-pos, pos-≤ℤ}
-use Rattle.integer.specs.Tests.{eqZ, eqZ-yes}
+use Rattle.integer.specs.Tests.{eqZ}
 use Rattle.scope.specs.declared.Place.{Place}
 use Rattle.scope.specs.declared.Place.the-variants.{Line}
 use Rattle.scope.specs.declared.Outcome.{Outcome}
@@ -30,6 +29,7 @@ use Rattle.rows.specs.LineContracts.{linesGroup, claimBody, SmallCounts}
 use Rattle.reader.specs.declared.lines.Progress.{Progress}
 use Rattle.reader.specs.declared.lines.Group.{Group}
 use Rattle.scope.proofs.InOrder.{line-check-passed}
+use Rattle.scope.proofs.AnswerBounds.{there-most}
 use Rattle.scope.proofs.Lines.{within-at}
 use Rattle.reader.specs.File.{widths, numbersOf}
 use Rattle.reader.specs.HowFar.{start, LineTaken, linesOf, allNumbers, Room}
@@ -74,11 +74,6 @@ module _ (m : List ℤ) {ns es ss gs ks kn ke kg : ℕ} (n : ns ≡ count (at m 
 
 -- ---- a claim
 
-pub there-most : (b : Bool) (k : ℕ) → ifThere b k ≤ k
-unfolding ifThere
-there-most true k = omega arith
-there-most false k = omega arith
-
 module _ (ns es gs ss : ℕ) (c : List ℤ) {fn me mg mn kf ke kg kn : ℕ} (a : fn ≡ ifThere (hasField c) ns) (b : me ≡ ifThere (hasMultipliers c) es) (d : mg ≡ ifThere (hasMultipliers c) gs) (e : mn ≡ ifThere (hasMultipliers c) ns) (wf : Wide Stresses kf) (we : Wide ElementMultipliers ke) (wg : Wide EdgeMultipliers kg) (wn : Wide (StrengthMultipliers ss) kn) where
   pub claim-lines : linesOf (alike fn kf) ++ linesOf (alike me ke) ++ linesOf (alike mg kg) ++ linesOf (alike mn kn) ≡ bodyOf ns es gs ss c
   unfolding linesOf bodyOf widths claimBody linesGroup stressLines elementMultipliers edgeMultipliers strengthMultipliers
@@ -100,14 +95,6 @@ module _ (ns es gs ss : ℕ) (c : List ℤ) {fn me mg mn kf ke kg kn : ℕ} (a :
 -- the machine's reading of a flag is the flag
 pub flag-read : (k : ℕ) {z flag : ℤ} {r : ℕ} → SFits w64 z → z ≡ flag → r ≡ ifThere (eqZ (toZ w64 (ofZ w64 z)) (pos 1)) k → r ≡ ifThere (eqZ flag (pos 1)) k
 flag-read k f e h = rw (toZ-ofZ f ∙ e) at h
-
-pub part-there : (z : ℤ) (k : ℕ) → z ≡ pos 1 → k ≡ ifThere (eqZ z (pos 1)) k
-unfolding ifThere
-part-there z k e = rw e
-
-pub part-absent : (z : ℤ) (k : ℕ) → ¬ (z ≡ pos 1) → 0 ≡ ifThere (eqZ z (pos 1)) k
-unfolding ifThere
-part-absent z k n = cases (eqZ z (pos 1)) (λ t. absurd (n (eqZ-yes (rw t tt)))) (λ t. rw t)
 
 -- ---- the header of a mesh file
 

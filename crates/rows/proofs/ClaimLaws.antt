@@ -6,17 +6,17 @@ use Prim.Native.Nat.{ℕ, zero, suc, _+_, _*_, _-_, _≤_, _<_}
 use native.Mathlib.Nat.{zero-mul}
 use native.Mathlib.Decide.{decLt}
 use native.Mathlib.Omega.{arith}
-use lib.IntN.{ℤ, pos, negℤ}
+use lib.IntN.{ℤ, pos}
 use lib.ListN.{length, getD, take, drop, length-drop}
 use lib.Seq.{getD-drop, take-all}
-use Rattle.integer.specs.Linear.{linear, _&_}
-use Rattle.integer.specs.Bounds.{Within, Within-le, bounds, AllWithin, all-within, AllWithin-drop}
+use Rattle.integer.specs.Bounds.{Within, Within-le, AllWithin, all-within, AllWithin-drop}
 use Rattle.integer.specs.Tests.{eqZ}
 use Rattle.scope.specs.Columns.{at, hasField, hasMultipliers, n, l}
 use Rattle.scope.specs.Layout.{groups, numbersBefore}
 use Rattle.scope.specs.Mesh.{nodes, elements, edges, sides}
 use Rattle.scope.specs.Claim.{claimHeader, claimLayout, ifThere, stressLines, stress, multiplier}
-use Rattle.scope.specs.Facts.{Between, ClaimFacts}
+use Rattle.scope.specs.Facts.{ClaimFacts}
+use Rattle.scope.proofs.SumBounds.{between, from-0}
 use Rattle.rows.specs.RowContracts.{multipliersFrom}
 
 -- ---- places
@@ -30,12 +30,6 @@ unfolding multiplier at groups claimLayout claimHeader stressLines numbersBefore
 multiplier-is m c = fun-ext (λ j. ap (λ n. getD c (n + j) (pos 0)) (omega arith) ∙ sym (getD-drop (multipliersFrom m c) c j (pos 0)))
 
 -- ---- limits
-
-both-ways : {B : ℕ} {z : ℤ} → Between (negℤ (pos B)) (pos B) z → Within B z
-both-ways h = linear (h .least & h .most) (search bounds depth 40) (omega arith)
-
-upwards : {B : ℕ} {z : ℤ} → Between (pos 0) (pos B) z → Within B z
-upwards h = linear (h .least & h .most) (search bounds depth 40) (omega arith)
 
 flag : {z : ℤ} → (z ≡ pos 0) ⊎ (z ≡ pos 1) → Within 1 z
 flag (inl e) = rw e (record { within = omega arith })
@@ -67,23 +61,23 @@ module _ {m c : List ℤ} (f : ClaimFacts m c) where
   unfolding n l
   header-within zero h = Within-le (flag (f .fieldFlag)) (omega arith)
   header-within (suc zero) h = Within-le (flag (f .multipliersFlag)) (omega arith)
-  header-within (suc (suc zero)) h = Within-le (upwards (f .nRange)) (omega arith)
-  header-within (suc (suc (suc zero))) h = Within-le (both-ways (f .lRange)) (omega arith)
+  header-within (suc (suc zero)) h = Within-le (from-0 (f .nRange)) (omega arith)
+  header-within (suc (suc (suc zero))) h = Within-le (between (f .lRange)) (omega arith)
   header-within (suc (suc (suc (suc i)))) h = absurd (omega arith)
 
   pub stress-within : at c 0 ≡ pos 1 → (j : ℕ) → j < nodes m * 3 → Within 1000000000 (at c (4 + j))
   unfolding stress groups claimLayout claimHeader numbersBefore
-  stress-within e j h = both-ways (f .stressRange e j h)
+  stress-within e j h = between (f .stressRange e j h)
 
   multiplier-at : (k : ℕ) → multiplier m c k ≡ at c (multipliersFrom m c + k)
   unfolding multiplier groups claimLayout claimHeader stressLines numbersBefore multipliersFrom
   multiplier-at k = ap (λ n. at c (n + k)) (omega arith)
 
   pub equality-within : at c 1 ≡ pos 1 → (k : ℕ) → k < elements m * 2 + edges m * 4 → Within 100000 (at c (multipliersFrom m c + k))
-  equality-within e k h = subst (Within 100000) (multiplier-at k) (both-ways (f .equalityRange e k h))
+  equality-within e k h = subst (Within 100000) (multiplier-at k) (between (f .equalityRange e k h))
 
   pub strength-within : at c 1 ≡ pos 1 → (k : ℕ) → k < nodes m * sides m → Within 10000 (at c (multipliersFrom m c + (elements m * 2 + edges m * 4 + k)))
-  strength-within e k h = subst (Within 10000) (multiplier-at _) (upwards (f .strengthRange e k h))
+  strength-within e k h = subst (Within 10000) (multiplier-at _) (from-0 (f .strengthRange e k h))
 
   -- where the multipliers begin and where the claim ends
   pub with-multipliers : at c 1 ≡ pos 1 → length c ≡ multipliersFrom m c + (elements m * 2 + edges m * 4) + nodes m * sides m
@@ -143,10 +137,10 @@ stress-of m c = stress-is m c ∙ ap at (sym (rest-is 4 c))
 
 module _ {m c : List ℤ} (f : ClaimFacts m c) where
   pub scale-within : Within 100000 (n c)
-  scale-within = upwards (f .nRange)
+  scale-within = from-0 (f .nRange)
 
   pub load-within : Within 100000000 (l c)
-  load-within = both-ways (f .lRange)
+  load-within = between (f .lRange)
 
   -- the stresses are there
   pub field-long : at c 0 ≡ pos 1 → nodes m * 3 ≤ length (take (length c - 4) (drop 4 c))

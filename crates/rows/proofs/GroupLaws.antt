@@ -11,6 +11,7 @@ use native.Mathlib.Omega.{arith}
 use lib.IntN.{ℤ, pos, negsuc}
 use lib.Signed.{_≤ℤ_}
 use lib.Dec.{T, leb}
+use lib.Ieee.Bits.{is-false}
 use lib.ListN.{length, take, drop, length-take, length-drop}
 use lib.Seq.{take-all, drop-drop}
 use mir.Syntax.{w64}
@@ -34,7 +35,6 @@ use Rattle.scope.specs.Facts.{Counts}
 use Rattle.rows.specs.LineContracts.{groupCheck, groupsCheck, groupOf, columnsOf, meshBody, MeshCounts, claimBody, CountsAre, SmallCounts, NumberedFrom}
 use Rattle.scope.proofs.Checks.{then-assoc, lowest-all, lowest-add, lowest-cong, first-refused}
 use Rattle.scope.proofs.Lines.{line-here, line-after}
-use Rattle.scope.proofs.ClaimFacts.{is-false}
 use Rattle.rows.proofs.LineLaws.{both-true, small, read, passed-whole, passed-within, mesh-header-line}
 
 -- ---- the lines of a group, one after another

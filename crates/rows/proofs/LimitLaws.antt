@@ -6,6 +6,7 @@ use Prim.Native.Nat.{ℕ, zero, suc, _+_, _*_, _-_, _/_, _%_, _≤_, _<_}
 use native.Mathlib.Numerals.{add-one}
 use native.Mathlib.Decide.{decLt}
 use native.Mathlib.Omega.{arith}
+use lib.Ieee.Bits.{is-false}
 use lib.IntN.{ℤ, pos}
 use lib.Signed.{ltZ}
 use lib.ListN.{length, take, drop, length-drop}
@@ -33,7 +34,6 @@ use Rattle.rows.proofs.ClaimLaws.{multiplier-is, rest-is, equality-with
 use Rattle.rows.proofs.EqualityLaws.{balance-row-is, side-row-is}
 use Rattle.rows.proofs.Loops.{Phase, phase-fails, phase-done}
 use Rattle.rows.proofs.RowLaws.{equality-count, row-count}
-use Rattle.rows.proofs.StrengthLaws.{false-of}
 use Rattle.rows.proofs.SumLaws.{weighed-sum}
 
 -- ---- which rows ask something
@@ -107,7 +107,7 @@ asked-passes {w} r n e = e ∙ by (r .kind)
   where
     by : (k : Kind) → _≡_ {A = Bool} (elim k [ asked ↦ true | unfixed ↦ false | strength ↦ true ]) (elim k [ asked ↦ true | unfixed ↦ eqZ w (pos 0) | strength ↦ true ])
     by asked = refl
-    by unfixed = sym (false-of (no-eqZ n))
+    by unfixed = sym (is-false _ (no-eqZ n))
     by strength = refl
 
 -- ---- the loops
@@ -224,4 +224,4 @@ module _ {m c : List ℤ} (f : ClaimFacts m c) (e : at c 1 ≡ pos 1) where
 
 pub no-limit : (m c : List ℤ) → ¬ (at c 1 ≡ pos 1) → L.Absent ≡ limitOf (ifPart (hasMultipliers c) (multipliersCheck (equalityRows m) (rowsOf m) (3 * nodes m) (multiplier m c))) (upperLoad m c)
 unfolding upperLoad ifPart hasMultipliers
-no-limit m c h = let e : eqZ (at c 1) (pos 1) ≡ false = false-of (no-eqZ h) in sym (rw e)
+no-limit m c h = let e : eqZ (at c 1) (pos 1) ≡ false = is-false _ (no-eqZ h) in sym (rw e)

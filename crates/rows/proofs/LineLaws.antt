@@ -8,6 +8,7 @@ use native.Mathlib.Numerals.{add-one}
 use lib.IntN.{ℤ, pos, negsuc, _+ℤ_, _*ℤ_}
 use lib.Signed.{_≤ℤ_, _<ℤ_, leZ, leZ-yes}
 use lib.Dec.{T, eqb, eqb→eq}
+use lib.Ieee.Bits.{is-true, is-false}
 use lib.ListN.{length, getD, take, drop, replicate, length-take, drop-of-length-le}
 use lib.Seq.{drop-cons, length-take-le}
 use borrow.Author.Tests.{eq-eqb, ne-eqb, not-true, not-false}
@@ -27,7 +28,6 @@ use Rattle.scope.specs.Columns.{Limit, between, free, within, isOneOf, allWithi
 use Rattle.scope.specs.Layout.{Group, Layout, width, groups, lineOf, lineNumbers, rulesHold, lineCheck, lineAt}
 use Rattle.scope.specs.Mesh.{meshLayout, meshHeader, soilLines, edgeLines}
 use Rattle.rows.specs.LineContracts.{runWithin, ranges, AsMany}
-use Rattle.scope.proofs.ClaimFacts.{is-true, is-false}
 use Rattle.scope.proofs.Checks.{demand-passed, then-passed}
 
 -- ---- a number and a limit

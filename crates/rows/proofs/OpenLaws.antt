@@ -5,6 +5,7 @@ use mathlib.Core.List.{List}
 use Prim.Native.Nat.{ℕ, _+_, _*_, _-_, _≤_, _<_}
 use native.Mathlib.Nat.{zero-mul, mul-le-mul}
 use native.Mathlib.Omega.{arith}
+use lib.Ieee.Bits.{is-true, is-false}
 use lib.IntN.{ℤ, pos}
 use lib.Signed.{ltZ, _≤ℤ_, _<ℤ_}
 use lib.ListN.{length, take, drop}
@@ -26,24 +27,24 @@ use Rattle.rows.specs.OpenContracts.{oneIfOpen, sideOpen}
 use Rattle.rows.proofs.RowLaws.{equality-count, equality-among, row-count}
 use Rattle.rows.proofs.LimitLaws.{multiplier-lent}
 use Rattle.rows.proofs.NodeLaws.{sides-between, next-first, node-row-at}
-use Rattle.rows.proofs.StrengthLaws.{true-of, false-of, open-test}
+use Rattle.rows.proofs.StrengthLaws.{open-test}
 use Rattle.rows.proofs.SumLaws.{weighed-count, countBelow-next, countBelow-cong, countBelow-add, countBelow-none, countBelow-most}
 
 -- ---- one side
 
 pub no-multiplier : {w : ℤ} (z : ℤ) → w ≤ℤ pos 0 → 0 ≡ oneIfOpen w z
 unfolding oneIfOpen
-no-multiplier {w} z h = let e : ltZ (pos 0) w ≡ false = false-of (no-ltZ h) in sym (rw e)
+no-multiplier {w} z h = let e : ltZ (pos 0) w ≡ false = is-false _ (no-ltZ h) in sym (rw e)
 
 pub no-slack : (w : ℤ) {z : ℤ} → z ≤ℤ pos 0 → 0 ≡ oneIfOpen w z
 unfolding oneIfOpen
-no-slack w {z} h = let e : ltZ (pos 0) z ≡ false = false-of (no-ltZ h) in sym (rw (e, and-false (ltZ (pos 0) w)))
+no-slack w {z} h = let e : ltZ (pos 0) z ≡ false = is-false _ (no-ltZ h) in sym (rw (e, and-false (ltZ (pos 0) w)))
 
 pub both-above : {w z : ℤ} → pos 0 <ℤ w → pos 0 <ℤ z → 1 ≡ oneIfOpen w z
 unfolding oneIfOpen
 both-above {w} {z} h k =
-    let e : ltZ (pos 0) w ≡ true = true-of (yes-ltZ h) in
-    let f : ltZ (pos 0) z ≡ true = true-of (yes-ltZ k) in
+    let e : ltZ (pos 0) w ≡ true = is-true _ (yes-ltZ h) in
+    let f : ltZ (pos 0) z ≡ true = is-true _ (yes-ltZ k) in
     sym (rw (e, f))
 
 pub one-at-most : (w z : ℤ) {r : ℕ} → r ≡ oneIfOpen w z → r ≤ 1
@@ -127,4 +128,4 @@ counted {m} {c} f e g d s = ap Count (s ∙ ap (λ w. openRows (stress m c) (l c
 
 pub not-counted : (m c : List ℤ) → ¬ (at c 0 ≡ pos 1) → NoCount ≡ openCount m c
 unfolding openCount hasField
-not-counted m c h = let e : eqZ (at c 0) (pos 1) ≡ false = false-of (no-eqZ h) in sym (rw e)
+not-counted m c h = let e : eqZ (at c 0) (pos 1) ≡ false = is-false _ (no-eqZ h) in sym (rw e)

@@ -4,6 +4,7 @@ use mathlib.Core.Bool.{Bool, true, false, cond, _&&_, and-false}
 use mathlib.Core.List.{List}
 use Prim.Native.Nat.{ℕ, _*_}
 use native.Mathlib.Omega.{arith}
+use lib.Ieee.Bits.{is-false}
 use lib.Dec.{T}
 use lib.IntN.{ℤ, pos}
 use Rattle.integer.specs.Tests.{eqZ, eqZ-yes, no-eqZ}
@@ -24,7 +25,6 @@ use Rattle.scope.specs.Sums.{liveSum, limitSum, openRows}
 use Rattle.scope.specs.Verdict.{fieldCheck, multipliersCheck, ifPart, partsCheck, lowerLoad, upperLoad, openCount, answer}
 use Rattle.rows.specs.declared.multiplier_checks.Limit.the-variants as L
 use Rattle.rows.specs.LimitContracts.{limitOf}
-use Rattle.rows.proofs.StrengthLaws.{false-of}
 
 -- ---- the field
 
@@ -34,7 +34,7 @@ load-there c e f g = ap₂ Exact f g ∙ sym (rw e)
 
 pub no-load : (c : List ℤ) → ¬ (at c 0 ≡ pos 1) → Absent ≡ lowerLoad c
 unfolding lowerLoad hasField
-no-load c h = let e : eqZ (at c 0) (pos 1) ≡ false = false-of (no-eqZ h) in sym (rw e)
+no-load c h = let e : eqZ (at c 0) (pos 1) ≡ false = is-false _ (no-eqZ h) in sym (rw e)
 
 pub part-there : (c : List ℤ) (o : Outcome) → at c 0 ≡ pos 1 → o ≡ ifPart (hasField c) o
 unfolding ifPart hasField
@@ -42,7 +42,7 @@ part-there c o e = sym (rw e)
 
 pub no-part : (c : List ℤ) (o : Outcome) → ¬ (at c 0 ≡ pos 1) → Passed ≡ ifPart (hasField c) o
 unfolding ifPart hasField
-no-part c o h = let e : eqZ (at c 0) (pos 1) ≡ false = false-of (no-eqZ h) in sym (rw e)
+no-part c o h = let e : eqZ (at c 0) (pos 1) ≡ false = is-false _ (no-eqZ h) in sym (rw e)
 
 -- ---- what the limit says of the check of multipliers
 

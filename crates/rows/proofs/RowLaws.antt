@@ -13,9 +13,9 @@ use Rattle.scope.specs.Polygon.{Side, polygonSides, polygonOf}
 use Rattle.scope.specs.Rows.{Row, Pair, countFrom, joined, balanceX, balanceY, balanceRows, normalRow, shearRow, sideRows, nodeSoil, strengthPairs, strengthRow, pairRows, strengthRows, equalityRows, rowsOf}
 use Rattle.scope.specs.Verdict.{rowAt}
 use Rattle.rows.specs.RowContracts.{Listed, sideAt}
+use Rattle.scope.proofs.RowCounts.{side-of-each}
 use Rattle.scope.proofs.Lists.{count-length}
 use Rattle.scope.proofs.PolygonRule.{twelve-sides, twenty-sides, thirty-six-sides}
-use Rattle.rows.proofs.SideLaws.{length-sides}
 
 -- ---- pieces
 
@@ -99,7 +99,7 @@ at-map f (c ∷ l) zero a b h = refl
 at-map f (c ∷ l) (suc k) a b h = at-map f l k a b (omega arith)
 
 side-number : {n : ℕ} → Listed n → length (polygonSides (polygonOf n .corners)) ≡ n
-side-number {n} l = length-sides (polygonOf n .corners) ∙ ⊎-elim (λ e. rw e (twelve-sides .count)) (λ r. ⊎-elim (λ e. rw e (twenty-sides .count)) (λ e. rw e (thirty-six-sides .count)) r) (l .listed)
+side-number {n} l = side-of-each (polygonOf n .corners) ∙ ⊎-elim (λ e. rw e (twelve-sides .count)) (λ r. ⊎-elim (λ e. rw e (twenty-sides .count)) (λ e. rw e (thirty-six-sides .count)) r) (l .listed)
 
 -- the strength row of a node and a side
 unfoldable pub nodeRow : List ℤ → ℕ → Side → Row

@@ -20,6 +20,7 @@ use Rattle.scope.specs.Polygon.{Point, point, Side, Polygon, sidesTo, polygonSi
 use Rattle.scope.specs.PolygonRule.{PolygonRule}
 use Rattle.scope.specs.Rows.{cross}
 use Rattle.rows.specs.RowContracts.{Listed, next, coordinates, Table, Steps, tableRun, tableRise, tableCross, StepsUpTo, sideAt, runOf, riseOf, crossOf}
+use Rattle.scope.proofs.RowCounts.{side-of-each}
 use Rattle.scope.proofs.Checks.{below-suc}
 
 -- ---- the corner after a corner
@@ -159,21 +160,10 @@ getD-in [] k d h = absurd (omega arith)
 getD-in (a ∷ l) zero d h = List·Memᴰ·head refl
 getD-in (a ∷ l) (suc k) d h = List·Memᴰ·tail (getD-in l k d (omega arith))
 
-length-sidesTo : (end : Point) (cs : List Point) → length (sidesTo end cs) ≡ length cs
-unfolding sidesTo
-length-sidesTo end [] = refl
-length-sidesTo end (v ∷ []) = refl
-length-sidesTo end (v ∷ w ∷ rest) = ap suc (length-sidesTo end (w ∷ rest))
-
-pub length-sides : (cs : List Point) → length (polygonSides cs) ≡ length cs
-unfolding polygonSides
-length-sides [] = refl
-length-sides (v ∷ rest) = length-sidesTo v (v ∷ rest)
-
 module _ (g : Polygon) {n step turn : ℕ} (rule : PolygonRule g n step turn) where
   side-in : (k : ℕ) → k < n → sideAt g k ∈ polygonSides (g .corners)
   unfolding sideAt
-  side-in k l = getD-in (polygonSides (g .corners)) k _ (omega (arith, length-sides (g .corners), rule .count))
+  side-in k l = getD-in (polygonSides (g .corners)) k _ (omega (arith, side-of-each (g .corners), rule .count))
 
   -- a polygon's numbers, within its largest step and its largest cross product
   drawn : (r : List ℤ) → step ≤ 16 → turn ≤ 1183 → n ≤ 36 → StepsUpTo n r (coordinates (g .corners)) n → Steps g n r

@@ -1,18 +1,18 @@
 -- The strength rows of a node by its numbers: the identity of the printed inequality's sides with those of the row, and sums over the sides.
 use mathlib.Core.Path.{_≡_, refl, sym, _∙_, ap, subst}
-use mathlib.Core.Bool.{Bool, true, false, not, _&&_}
+use mathlib.Core.Bool.{_&&_}
 use mathlib.Core.List.{List, [], _∷_}
 use Prim.Native.Nat.{ℕ, suc, _+_, _*_, _-_, _≤_, _<_}
 use native.Mathlib.Nat.{le-refl, zero-mul, suc-mul, mul-le-mul, mul-le-mul-right}
 use native.Mathlib.Numerals.{add-one}
 use native.Mathlib.Omega.{arith}
-use lib.Dec.{T}
 use lib.ListN.{length}
 use lib.Signed.{leZ, ltZ, _≤ℤ_, _<ℤ_, leZ-yes, ltZ-yes}
 use lib.IntN.{ℤ, pos, _+ℤ_, _-ℤ_, _*ℤ_, negℤ}
 use Rattle.integer.specs.Linear.{linear, facts, _&_}
 use Rattle.integer.specs.Ring.{ring, terms}
-use Rattle.integer.specs.Tests.{yes-leZ, yes-ltZ}
+use Rattle.integer.specs.Tests.{same-test, yes-leZ, yes-ltZ}
+use Rattle.scope.proofs.SumBounds.{from-0}
 use Rattle.scope.proofs.Checks.{lowest-add, lowest-cong}
 use Rattle.rows.proofs.RowLaws.{nodeRow, strength-at, strength-count}
 use Rattle.integer.specs.Bounds.{Within, bounds}
@@ -39,15 +39,12 @@ being e h = record { same = e; inside = h }
 
 -- ---- the numbers of a soil
 
-from-zero : {B : ℕ} {z : ℤ} → Between (pos 0) (pos B) z → Within B z
-from-zero h = linear (h .least & h .most) (search bounds depth 40) (omega arith)
-
 from-one : {B : ℕ} {z : ℤ} → Between (pos 1) (pos B) z → Within B z
 from-one h = linear (h .least & h .most) (search bounds depth 40) (omega arith)
 
 module _ {m : List ℤ} {s : ℕ} (f : SoilFacts m s) where
   pub p-within : Within 1000 (p m s)
-  p-within = from-zero (f .pRange)
+  p-within = from-0 (f .pRange)
 
   pub q-within : Within 1000 (q m s)
   q-within = from-one (f .qRange)
@@ -56,7 +53,7 @@ module _ {m : List ℤ} {s : ℕ} (f : SoilFacts m s) where
   h-within = from-one (f .hRange)
 
   pub cohesion-within : Within 10000 (cohesion m s)
-  cohesion-within = from-zero (f .cohesionRange)
+  cohesion-within = from-0 (f .cohesionRange)
 
 pub soil-fits : {k m : List ℤ} {s : ℕ} {r : ℤ} → SoilNumbers k m s r → SoilFits k
 soil-fits h = record { size = h .size; lever = Is-Within (h .lever) (le-refl _); friction = Is-Within (h .friction) (le-refl _); right = Is-Within (h .right) (le-refl _) }
@@ -86,23 +83,7 @@ node-fits h = record {
 pub sides-listed : {m : List ℤ} {s : Sizes} → Sized m s → Listed (s .sides)
 sides-listed h = record { listed = rw (h .sidesAre) (h .facts .counts .sidesListed) }
 
--- ---- the sides of a node
-
-pub true-of : {b : Bool} → T b → b ≡ true
-true-of {b = true} h = refl
-true-of {b = false} h = absurd h
-
-pub false-of : {b : Bool} → T (not b) → b ≡ false
-false-of {b = true} h = absurd h
-false-of {b = false} h = refl
-
 -- ---- a strength row by its slack
-
-same-test : {x y : Bool} → (T x → T y) → (T y → T x) → x ≡ y
-same-test {x = true} {y = true} f g = refl
-same-test {x = true} {y = false} f g = absurd (f tt)
-same-test {x = false} {y = true} f g = absurd (g tt)
-same-test {x = false} {y = false} f g = refl
 
 leZ-slack : (a b : ℤ) {z : ℤ} → z ≡ b -ℤ a → leZ a b ≡ leZ (pos 0) z
 leZ-slack a b {z} e = same-test (λ t. yes-leZ (up (leZ-yes t))) (λ t. yes-leZ (down (leZ-yes t)))

@@ -1,7 +1,6 @@
 -- Sound lines say what each number of a claim is: a number of a group whose columns have one limit is within it, by its line and its column.
 use mathlib.Core.Path.{_≡_, refl, sym, _∙_, ap, subst, subst₂, subst₃}
 use mathlib.Core.Logic.{_⊎_, inl, inr}
-use mathlib.Core.Bool.{Bool, true, false, not}
 use mathlib.Core.List.{List}
 use Prim.Native.Nat.{ℕ, zero, suc, _+_, _*_, _-_, _/_, _%_, _≤_, _<_}
 use native.Mathlib.Nat.{div-add-mod', mod-lt, div-lt-iff-lt-mul}
@@ -9,7 +8,7 @@ use native.Mathlib.Decide.{decLt}
 use native.Mathlib.Omega.{arith}
 use lib.IntN.{ℤ, pos, negsuc, negℤ}
 use lib.Signed.{_≤ℤ_}
-use lib.Dec.{T}
+use lib.Ieee.Bits.{is-true, is-false}
 use lib.ListN.{length, getD, replicate, length-replicate, getD-replicate}
 use Rattle.integer.specs.Order.{≤ℤ-pos}
 use Rattle.integer.specs.Tests.{eqZ, yes-eqZ, no-eqZ}
@@ -19,6 +18,7 @@ use Rattle.scope.specs.Mesh.{nodes, elements, edges, sides}
 use Rattle.scope.specs.Claim.{claimHeader, ifThere, stressLines, elementMultipliers, edgeMultipliers, strengthMultipliers, claimLayout, stress, multiplier}
 use Rattle.scope.specs.Sound.{Within, PartsFit, LinesSound}
 use Rattle.scope.specs.Facts.{Between, MeshFacts, ClaimFacts}
+use Rattle.scope.proofs.Facts.{some-sides}
 use Rattle.scope.proofs.Lines.{group, lineIn, LineFacts, line-facts, at-lineIn}
 
 -- number k of group j, counted from the group's first number
@@ -43,14 +43,6 @@ group-there f ns s j h w =
     (omega (arith, line-facts f ns s j k (omega arith) w .there))
 
 -- ---- a claim
-
-pub is-true : (b : Bool) → T b → b ≡ true
-is-true true t = refl
-is-true false t = absurd t
-
-pub is-false : (b : Bool) → T (not b) → b ≡ false
-is-false true t = absurd t
-is-false false t = refl
 
 flag : (z : ℤ) → pos 0 ≤ℤ z → z ≤ℤ pos 1 → (z ≡ pos 0) ⊎ (z ≡ pos 1)
 flag (pos zero) l h = inl refl
@@ -89,14 +81,6 @@ module _ (m c : List ℤ) (s : LinesSound (claimLayout m) c) where
       let e : numbersBefore (groups (claimLayout m) c) 4 + k ≡ numbersBefore (groups (claimLayout m) c) 2 + (ifThere (hasMultipliers c) (elements m) * 2 + ifThere (hasMultipliers c) (edges m) * 4 + k) = omega arith in
       subst (λ (i : ℕ). Between (pos 0) (pos 10000) (at c i)) e (record { least = w .0; most = w .1 })
 
-  sides-there : MeshFacts m → 0 < sides m
-  sides-there f = by (f .counts .sidesListed)
-    where
-      by : (sides m ≡ 12) ⊎ ((sides m ≡ 20) ⊎ (sides m ≡ 36)) → 0 < sides m
-      by (inl e) = omega arith
-      by (inr (inl e)) = omega arith
-      by (inr (inr e)) = omega arith
-
   field-is : at c 0 ≡ pos 1 → ifThere (hasField c) (nodes m) ≡ nodes m
   unfolding ifThere hasField
   field-is e = rw (is-true (eqZ (at c 0) (pos 1)) (yes-eqZ e))
@@ -129,7 +113,7 @@ module _ (m c : List ℤ) (s : LinesSound (claimLayout m) c) where
   unfolding claimLayout groups claimHeader stressLines elementMultipliers edgeMultipliers strengthMultipliers numbersBefore numberCount
   size-with f e =
       let k : numbersBefore (groups (claimLayout m) c) 4 + ifThere (hasMultipliers c) (nodes m) * width (group (groups (claimLayout m) c) 4) ≤ length c =
-      group-there (claimLayout m) c s 4 (omega (arith, part-is e (nodes m), f .counts .nodesLeast)) (omega (arith, length-replicate (sides m) (between (pos 0) (pos 10000)), sides-there f)) in
+      group-there (claimLayout m) c s 4 (omega (arith, part-is e (nodes m), f .counts .nodesLeast)) (omega (arith, length-replicate (sides m) (between (pos 0) (pos 10000)), some-sides (f .counts))) in
       omega (arith, simp length-replicate at k, simp length-replicate at (s .noneLeft))
 
   size-without : MeshFacts m → ¬ (at c 1 ≡ pos 1) → Size
@@ -182,4 +166,4 @@ module _ (m c : List ℤ) (s : LinesSound (claimLayout m) c) where
       strength : at c 1 ≡ pos 1 → (k : ℕ) → k < nodes m * sides m → Between (pos 0) (pos 10000) (multiplier m c (elements m * 2 + edges m * 4 + k))
       strength e k h =
           subst (λ (i : ℕ). Between (pos 0) (pos 10000) (multiplier m c i)) (omega (arith, part-is e (elements m), part-is e (edges m)))
-          (strengthPart (sides-there f) k (subst (λ (i : ℕ). k < i * sides m) (sym (part-is e (nodes m))) h))
+          (strengthPart (some-sides (f .counts)) k (subst (λ (i : ℕ). k < i * sides m) (sym (part-is e (nodes m))) h))

@@ -54,6 +54,15 @@ header-counts m s =
     listed z (inr (inr (inl e))) = inr (inr (ap count e))
     listed z (inr (inr (inr e))) = absurd e
 
+-- a polygon has sides
+pub some-sides : {m : List ℤ} → Counts m → 0 < sides m
+some-sides {m} c = by (c .sidesListed)
+  where
+    by : (sides m ≡ 12) ⊎ ((sides m ≡ 20) ⊎ (sides m ≡ 36)) → 0 < sides m
+    by (inl e) = omega arith
+    by (inr (inl e)) = omega arith
+    by (inr (inr e)) = omega arith
+
 module _ (m : List ℤ) (s : LinesSound meshLayout m) where
   pub counts : Counts m
   unfolding meshLayout groups meshHeader lineCount

@@ -8,6 +8,7 @@ use native.Mathlib.Decide.{decLt}
 use native.Mathlib.Omega.{arith}
 use lib.IntN.{ℤ, pos}
 use lib.Signed.{_≤ℤ_, _<ℤ_}
+use lib.Ieee.Bits.{is-true}
 use lib.ListN.{length, List·getD-append, length-append}
 use lib.Seq.{getD-append-add}
 use Rattle.integer.specs.Order.{≤ℤ-split}
@@ -26,7 +27,7 @@ use Rattle.scope.specs.Bracket.{NodesNamed, MultipliersMeet, Bracket}
 use Rattle.scope.specs.Parts.{carried, allowed, SameRows, PartsBracket, OpenRowsCount}
 use Rattle.scope.proofs.Lists.{row-in}
 use Rattle.scope.proofs.Facts.{mesh-facts}
-use Rattle.scope.proofs.ClaimFacts.{is-true, claim-facts}
+use Rattle.scope.proofs.ClaimFacts.{claim-facts}
 use Rattle.scope.proofs.OpenPlaces.{number-of}
 use Rattle.scope.proofs.RowCounts.{equality-count, equality-kind, strength-count, strength-kind}
 use Rattle.scope.proofs.Columns.{mesh-columns}

@@ -4,6 +4,7 @@ use mathlib.Core.Bool.{Bool}
 use mathlib.Core.List.{List}
 use Prim.Native.Nat.{ℕ, suc, _+_, _-_, _≤_}
 use native.Mathlib.Omega.{arith}
+use lib.Ieee.Bits.{is-true, is-false}
 use lib.IntN.{ℤ, pos}
 use Rattle.integer.specs.Machine.{machine, told, apart}
 use Rattle.integer.specs.Tests.{eqZ, yes-eqZ, no-eqZ}
@@ -13,7 +14,7 @@ use Rattle.scope.specs.declared.Place.the-variants as P
 use Rattle.scope.specs.Checks.{lowest}
 use Rattle.scope.specs.Columns.{at}
 use Rattle.rows.specs.LimitContracts.{columnsCheck}
-use Rattle.rows.proofs.StrengthLaws.{being, true-of, false-of}
+use Rattle.rows.proofs.StrengthLaws.{being}
 use Rattle.rows.proofs.Loops.{Phase, phase-more, phase-fails, phase-done}
 use borrow.Author.Needs.{needs}
 use Rattle.rows.proofs.multiplier_checks.columns_check.Statement.{statement}
@@ -50,7 +51,7 @@ returns c =
     let j = c .before .before .before .loop .j in
     let a = c .before .before .before .before .args in
     let x = being (c .before .number-at .ensures) (c .before .before .before .before .pre .1 .1 .each (j - 1)) in
-    phase-fails (zero (a .columns .now)) 32 column (a .n) (c .before .before .before .loop .inv .2) (omega arith) (false-of (no-eqZ (apart (c .if1 .taken) (search machine depth 30) (omega arith)))) (ap P.Column (omega arith))
+    phase-fails (zero (a .columns .now)) 32 column (a .n) (c .before .before .before .loop .inv .2) (omega arith) (is-false _ (no-eqZ (apart (c .if1 .taken) (search machine depth 30) (omega arith)))) (ap P.Column (omega arith))
 
 add-j : tie.Need-add-j Inv-loop μ-loop
 add-j c = omega arith
@@ -64,7 +65,7 @@ loop-again c =
     let j = c .before .before .before .loop .j in
     let a = c .before .before .before .before .args in
     let x = being (c .before .number-at .ensures) (c .before .before .before .before .pre .1 .1 .each (j - 1)) in
-    let more = phase-more (zero (a .columns .now)) 32 column (c .before .before .before .loop .inv .2) (true-of (yes-eqZ (told (c .if1 .left) (search machine depth 30) (omega arith)))) in
+    let more = phase-more (zero (a .columns .now)) 32 column (c .before .before .before .loop .inv .2) (is-true _ (yes-eqZ (told (c .if1 .left) (search machine depth 30) (omega arith)))) in
     (omega arith, omega arith, subst (λ (k : ℕ). Phase (zero (a .columns .now)) 32 column k ≡ Passed) (omega arith) more)
 
 returns-2 : tie.Need-returns-2 Inv-loop μ-loop
