@@ -21,7 +21,7 @@ use Rattle.scope.specs.Verdict.{rowAt}
 use Rattle.rows.specs.declared.multiplier_sums.Sums.{Sums}
 use Rattle.rows.specs.declared.multiplier_sums.SideSums.{SideSums}
 use Rattle.rows.specs.declared.multiplier_sums.NodeSums.{NodeSums}
-use Rattle.rows.specs.RowContracts.{Listed, SumsAre, Steps, StepFits, StepsFit, SoilNumbers, sideAt, runOf, riseOf, crossOf}
+use Rattle.rows.specs.RowContracts.{Listed, SumsAre, MeshSteps, StepFits, StepsFit, SoilNumbers, sideAt, runOf, riseOf, crossOf}
 use Rattle.rows.specs.MultiplierContracts.{sumBelow, rowSum, partSum, Multipliers, NoSums, Summed, SideMultipliers, SideSumsFit, SideAdded, sideSum, SideSumsAre, NodeSumsAre, NodeSumsFit, nodeFirst, NodePart, threeAdded, WholeSumsFit}
 use Rattle.rows.proofs.SumLaws.{unit-within, sums-within, sums-add, sumBelow-next, sumBelow-cong, sumBelow-add}
 use Rattle.rows.proofs.RowLaws.{nodeRow, strength-at, strength-among}
@@ -158,7 +158,7 @@ module _ (m y : List ℤ) (v : ℕ) (there : v < nodes m) (listed : Listed (side
   unfolding sideSum
   over-sides F ef en e = rw (ef, en) (sumBelow-cong _ _ (sides m) (λ i l. ap (λ z. weight i *ℤ z) (e i l)))
 
-  pub node-part-of : {r : NodeSums} {a : SideSums} {k tab : List ℤ} {first n soil : ℕ} {radius : ℤ} → first ≡ nodeFirst m v → n ≡ sides m → SideSumsAre a tab y first n → Steps (polygonOf (sides m)) (sides m) tab
+  pub node-part-of : {r : NodeSums} {a : SideSums} {k tab : List ℤ} {first n soil : ℕ} {radius : ℤ} → first ≡ nodeFirst m v → n ≡ sides m → SideSumsAre a tab y first n → MeshSteps m tab
       → SoilNumbers k m soil radius → soil ≡ nodeSoil m v → radius ≡ polygonOf (sides m) .radius → NodeSumsAre r a k → NodePart r m y v
   unfolding nodeRow at
   node-part-of {r} {a} {k} {tab} {soil = soil} {radius = radius} ef en s steps g es er d = record {

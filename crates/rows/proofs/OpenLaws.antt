@@ -15,13 +15,12 @@ use Rattle.scope.specs.Columns.{at, hasField, hasMultipliers, n, l}
 use Rattle.scope.specs.Claim.{stress}
 use Rattle.scope.specs.Facts.{Counts, ClaimFacts}
 use Rattle.scope.specs.Mesh.{nodes, elements, edges, sides}
-use Rattle.scope.specs.Polygon.{polygonOf}
 use Rattle.scope.specs.Rows.{Kind, asked, unfixed, strength, Row, equalityRows, rowsOf}
 use Rattle.scope.specs.Sums.{leftSide, rightSide, isOpen, openRows}
 use Rattle.scope.specs.Verdict.{rowAt, openCount}
 use Rattle.scope.proofs.RowCounts.{equality-kind}
 use Rattle.scope.proofs.Lists.{row-in}
-use Rattle.rows.specs.RowContracts.{Listed, NodeState, Steps, sideSlack, multipliersFrom}
+use Rattle.rows.specs.RowContracts.{Listed, NodeState, MeshSteps, sideSlack, multipliersFrom}
 use Rattle.rows.specs.MultiplierContracts.{countBelow, nodeFirst}
 use Rattle.rows.specs.OpenContracts.{oneIfOpen, sideOpen}
 use Rattle.rows.proofs.RowLaws.{equality-count, equality-among, row-count}
@@ -88,7 +87,7 @@ module _ (m c y : List ℤ) where
           ap (λ (r : Row). isOpen (stress m c) (l c) (n c) (at y k, r)) (equality-among m k h)
           ∙ never-open (stress m c) (l c) (n c) (at y k) (rowAt (equalityRows m) k) (equality-kind m (rowAt (equalityRows m) k) (row-in (equalityRows m) k (omega (arith, equality-count m))))
 
-  one-node-open : (v : ℕ) {d tab : List ℤ} {count r : ℕ} → v < nodes m → Listed (sides m) → NodeState d m c v → Steps (polygonOf (sides m)) (sides m) tab
+  one-node-open : (v : ℕ) {d tab : List ℤ} {count r : ℕ} → v < nodes m → Listed (sides m) → NodeState d m c v → MeshSteps m tab
       → count ≡ countBelow openTest (nodeFirst m v) → r ≡ countBelow (sideOpen d tab y (nodeFirst m v)) (sides m) → count + r ≡ countBelow openTest (nodeFirst m (v + 1))
   unfolding sideOpen
   one-node-open v {d} {tab} h listed state steps e f =
@@ -102,7 +101,7 @@ module _ (m c y : List ℤ) where
           ∙ open-test m c v i state steps g (l c) (at y (nodeFirst m v + i))
 
   -- the number of sides and the place of the first as the code has them
-  pub one-more-node : (v : ℕ) {d tab : List ℤ} {count r s first : ℕ} → v < nodes m → Listed (sides m) → NodeState d m c v → Steps (polygonOf (sides m)) (sides m) tab
+  pub one-more-node : (v : ℕ) {d tab : List ℤ} {count r s first : ℕ} → v < nodes m → Listed (sides m) → NodeState d m c v → MeshSteps m tab
       → count ≡ countBelow openTest (nodeFirst m v) → s ≡ sides m → first ≡ nodeFirst m v → r ≡ countBelow (sideOpen d tab y first) s → count + r ≡ countBelow openTest (nodeFirst m (v + 1))
   one-more-node v {d} {tab} h listed state steps e es ef f = one-node-open v h listed state steps e (f ∙ ap₂ (λ a b. countBelow (sideOpen d tab y a) b) ef es)
 

@@ -32,7 +32,7 @@ use Rattle.scope.specs.Sums.{weightedSum, leftSide, rightSide, rowHolds, isOpen
 use Rattle.scope.specs.Verdict.{rowAt}
 use Rattle.scope.specs.Facts.{Between, SoilFacts}
 use Rattle.rows.specs.Contracts.{Sized}
-use Rattle.rows.specs.RowContracts.{Listed, SoilNumbers, SoilFits, NodeNumbers, NodeFits, NodeState, Steps, StepsFit, sideAt, runOf, riseOf, crossOf, sideSlack, nodeCheck, strengthsCheck}
+use Rattle.rows.specs.RowContracts.{Listed, SoilNumbers, SoilFits, NodeNumbers, NodeFits, NodeState, Steps, MeshSteps, StepsFit, sideAt, runOf, riseOf, crossOf, sideSlack, nodeCheck, strengthsCheck}
 
 pub being : {v z : ℤ} {B : ℕ} → v ≡ z → Within B z → Is v z B
 being e h = record { same = e; inside = h }
@@ -116,7 +116,7 @@ slack-is : (r p q h C : ℤ) (v : ℕ) (s : Side) (f : ℕ → ℤ) (l n : ℤ)
 unfolding rightSide leftSide weightedSum strengthRow crossOf riseOf runOf
 slack-is r p q h C v s f l n = regrouped r p q h C (f (sx v)) (f (sy v)) (f (t v)) (runOf s) (riseOf s) (crossOf s) l n
 
-module _ (m c : List ℤ) (v k : ℕ) {d tab : List ℤ} (state : NodeState d m c v) (steps : Steps (polygonOf (sides m)) (sides m) tab) (j : k < sides m) (l : ℤ) where
+module _ (m c : List ℤ) (v k : ℕ) {d tab : List ℤ} (state : NodeState d m c v) (steps : MeshSteps m tab) (j : k < sides m) (l : ℤ) where
   row-slack : sideSlack d tab k ≡ rightSide (n c) (nodeRow m v (sideAt (polygonOf (sides m)) k)) -ℤ leftSide (stress m c) l (nodeRow m v (sideAt (polygonOf (sides m)) k))
   unfolding sideSlack at nodeRow
   row-slack =
@@ -150,7 +150,7 @@ steps-fit h = record {
 abbrev pub strengthDemand : List ℤ → List ℤ → ℕ → Outcome
 strengthDemand m c i = demand (rowHolds (stress m c) (l c) (n c) (rowAt (strengthRows m) i)) 22 (P.Row (suc i))
 
-module _ (m c : List ℤ) (listed : Listed (sides m)) {tab : List ℤ} (steps : Steps (polygonOf (sides m)) (sides m) tab) where
+module _ (m c : List ℤ) (listed : Listed (sides m)) {tab : List ℤ} (steps : MeshSteps m tab) where
   node-rows : (v : ℕ) {d : List ℤ} → v < nodes m → NodeState d m c v → lowest (λ k. strengthDemand m c (v * sides m + k)) (sides m) ≡ nodeCheck d tab (v * sides m) (sides m)
   unfolding nodeCheck
   node-rows v h state =

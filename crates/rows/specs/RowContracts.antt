@@ -94,6 +94,10 @@ pub record Steps (g : Polygon) (n : ℕ) (t : List ℤ) : Type 0 where
   pub rise : (k : ℕ) → k < n → Is (getD t (3 * k + 1) (pos 0)) (riseOf (sideAt g k)) 16
   pub cross : (k : ℕ) → k < n → Is (getD t (3 * k + 2) (pos 0)) (crossOf (sideAt g k)) 1183
 
+-- the sides of a mesh's polygon
+abbrev pub MeshSteps : List ℤ → List ℤ → Type 0
+MeshSteps m t = Steps (polygonOf (sides m)) (sides m) t
+
 -- ---- rows as numbers
 
 -- coefficients with their columns, as far as both lists go

@@ -7,11 +7,12 @@ ghost use Rattle.scope.specs.Columns.{hasField, n, l};
 ghost use Rattle.scope.specs.Claim.{stress};
 ghost use Rattle.scope.specs.Rows.{equalityRows, strengthRows};
 ghost use Rattle.scope.specs.Verdict.{fieldCheck, ifPart, partsCheck, openCount, lowerLoad, upperLoad, answer};
-ghost use Rattle.rows.specs.RowContracts.{Judged};
+ghost use Rattle.rows.specs.RowContracts.{Judged, MeshSteps};
 use crate::multiplier_checks::Limit;
 use crate::multiplier_checks::claim_limit;
 use crate::open_rows::open_rows;
 use crate::part_checks::field_check;
+use crate::polygons::steps_of;
 use crate::sizes::Sizes;
 use crate::sizes::number_at;
 use scope::Load;
@@ -34,26 +35,27 @@ fn lower_load(c: &[i64]) -> Load
 }
 
 // 21 and 22, where the claim has a field.
-fn claim_field(m: &[i64], c: &[i64], s: Sizes, soils: &[u8]) -> Outcome
-    requires { ⌜ Judged (now m) (now c) s (now soils) ⌝ }
+fn claim_field(m: &[i64], c: &[i64], s: Sizes, soils: &[u8], steps: &[i64]) -> Outcome
+    requires { ⌜ Judged (now m) (now c) s (now soils) ⌝ ∗ ⌜ MeshSteps (now m) (now steps) ⌝ }
     ensures { λ r. ⌜ r ≡ ifPart (hasField (now (c .entry))) (fieldCheck (equalityRows (now (m .entry))) (strengthRows (now (m .entry))) (stress (now (m .entry)) (now (c .entry))) (l (now (c .entry))) (n (now (c .entry)))) ⌝ }
 {
     if number_at(c, 0) == 1 {
-        return field_check(m, c, s, soils);
+        return field_check(m, c, s, soils, steps);
     }
     Outcome::Passed
 }
 
-// The verdict by the parts.
+// The verdict by the parts. For speed the polygon's sides are made once and lent to each part.
 pub fn parts_verdict(m: &[i64], c: &[i64], s: Sizes, soils: &[u8]) -> Verdict
     requires { ⌜ Judged (now m) (now c) s (now soils) ⌝ }
     ensures { λ r. ⌜ r ≡ answer (partsCheck (now (m .entry)) (now (c .entry))) (Verdict.Accepted (openCount (now (m .entry)) (now (c .entry))) (lowerLoad (now (c .entry))) (upperLoad (now (m .entry)) (now (c .entry)))) ⌝ }
 {
-    let field = claim_field(m, c, s, soils);
+    let steps = steps_of(s.sides);
+    let field = claim_field(m, c, s, soils, &steps);
     if let Outcome::Refused { number, place } = field {
         return Verdict::Refused { number, place };
     }
-    let limit = claim_limit(m, c, s, soils);
+    let limit = claim_limit(m, c, s, soils, &steps);
     match limit {
         Limit::Refused { number, place } => Verdict::Refused { number, place },
         Limit::Absent => Verdict::Accepted {
@@ -62,7 +64,7 @@ pub fn parts_verdict(m: &[i64], c: &[i64], s: Sizes, soils: &[u8]) -> Verdict
             upper: Load::Absent,
         },
         Limit::Exact { w, m: den } => Verdict::Accepted {
-            open_rows: open_rows(m, c, s, soils),
+            open_rows: open_rows(m, c, s, soils, &steps),
             lower: lower_load(c),
             upper: Load::Exact { num: w, den },
         },

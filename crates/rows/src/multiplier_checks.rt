@@ -10,7 +10,7 @@ ghost use Rattle.scope.specs.Rows.{equalityRows, rowsOf};
 ghost use Rattle.scope.specs.Sums.{zeroIfUnfixed};
 ghost use Rattle.scope.specs.Verdict.{rowAt, multipliersCheck, ifPart, upperLoad};
 ghost use Rattle.rows.specs.Contracts.{Sized, NodeSoils};
-ghost use Rattle.rows.specs.RowContracts.{Judged};
+ghost use Rattle.rows.specs.RowContracts.{Judged, MeshSteps};
 ghost use Rattle.rows.specs.MultiplierContracts.{Multipliers, WholeSumsFit};
 ghost use Rattle.rows.specs.LimitContracts.{isAsked, unfixedCheck, columnsCheck, limitOf, sumsLimit, multipliersLimit};
 use crate::line_checks::if_there;
@@ -117,8 +117,8 @@ fn sums_limit(columns: &[i64], n: usize, sums: Sums) -> Limit
 }
 
 // 31, 32 and 33 of the multipliers y.
-fn multipliers_limit(m: &[i64], s: Sizes, soils: &[u8], y: &[i64]) -> Limit
-    requires { ⌜ Sized (now m) s ⌝ ∗ ⌜ NodeSoils (now m) (now soils) ⌝ ∗ ⌜ Multipliers (now m) (now y) ⌝ }
+fn multipliers_limit(m: &[i64], s: Sizes, soils: &[u8], steps: &[i64], y: &[i64]) -> Limit
+    requires { ⌜ Sized (now m) s ⌝ ∗ ⌜ NodeSoils (now m) (now soils) ⌝ ∗ ⌜ MeshSteps (now m) (now steps) ⌝ ∗ ⌜ Multipliers (now m) (now y) ⌝ }
     ensures { λ r. ⌜ r ≡ multipliersLimit (now (m .entry)) (at (now (y .entry))) ⌝ }
 {
     let unfixed = unfixed_check(m, s, y);
@@ -126,7 +126,7 @@ fn multipliers_limit(m: &[i64], s: Sizes, soils: &[u8], y: &[i64]) -> Limit
         return Limit::Refused { number, place };
     }
     let mut columns: [i64; 300] = [0; 300];
-    let sums = row_sums(m, s, soils, y, &mut columns);
+    let sums = row_sums(m, s, soils, steps, y, &mut columns);
     sums_limit(&columns, 3 * s.nodes, sums)
 }
 
@@ -139,13 +139,13 @@ pub fn multipliers_from(c: &[i64], nodes: usize) -> usize
 }
 
 // The limit of a claim whose lines have passed.
-pub fn claim_limit(m: &[i64], c: &[i64], s: Sizes, soils: &[u8]) -> Limit
-    requires { ⌜ Judged (now m) (now c) s (now soils) ⌝ }
+pub fn claim_limit(m: &[i64], c: &[i64], s: Sizes, soils: &[u8], steps: &[i64]) -> Limit
+    requires { ⌜ Judged (now m) (now c) s (now soils) ⌝ ∗ ⌜ MeshSteps (now m) (now steps) ⌝ }
     ensures { λ r. ⌜ r ≡ limitOf (ifPart (hasMultipliers (now (c .entry))) (multipliersCheck (equalityRows (now (m .entry))) (rowsOf (now (m .entry))) (3 * nodes (now (m .entry))) (multiplier (now (m .entry)) (now (c .entry))))) (upperLoad (now (m .entry)) (now (c .entry))) ⌝ }
 {
     if number_at(c, 1) == 1 {
         let from = multipliers_from(c, s.nodes);
-        return multipliers_limit(m, s, soils, &c[from..]);
+        return multipliers_limit(m, s, soils, steps, &c[from..]);
     }
     Limit::Absent
 }

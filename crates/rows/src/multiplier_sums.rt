@@ -3,12 +3,10 @@ ghost use Prim.Native.Nat.{_+_, _*_, _<_, _≤_};
 ghost use lib.ListN.{length};
 ghost use Rattle.integer.specs.Bounds.{Within, AllWithin};
 ghost use Rattle.scope.specs.Mesh.{nodes, elements, edges, sides};
-ghost use Rattle.scope.specs.Polygon.{polygonOf};
 ghost use Rattle.rows.specs.Contracts.{Sized, NodeSoils};
-ghost use Rattle.rows.specs.RowContracts.{SumsAre, SoilFits, Steps, StepsFit, StepFits};
+ghost use Rattle.rows.specs.RowContracts.{SumsAre, SoilFits, MeshSteps, StepsFit, StepFits};
 ghost use Rattle.rows.specs.MultiplierContracts.{Multipliers, SumsFit, RowSummed, NoSums, Summed, SideMultipliers, SideSumsFit, SideAdded, SideSumsAre, NodeSumsAre, NodeSumsFit, nodeFirst, NodePart, threeAdded};
 use crate::polygons::radius_of;
-use crate::polygons::steps_of;
 use crate::row_sums::add_at;
 use crate::row_sums::add_row;
 use crate::row_sums::equality_row;
@@ -132,7 +130,7 @@ fn node_sums(a: SideSums, k: &[i64]) -> NodeSums
 
 // The same, for node v.
 fn node_part(m: &[i64], s: Sizes, soils: &[u8], steps: &[i64], y: &[i64], v: usize) -> NodeSums
-    requires { ⌜ Sized (now m) s × (v < nodes (now m)) ⌝ ∗ ⌜ NodeSoils (now m) (now soils) ⌝ ∗ ⌜ Steps (polygonOf (sides (now m))) (sides (now m)) (now steps) ⌝ ∗ ⌜ Multipliers (now m) (now y) ⌝ }
+    requires { ⌜ Sized (now m) s × (v < nodes (now m)) ⌝ ∗ ⌜ NodeSoils (now m) (now soils) ⌝ ∗ ⌜ MeshSteps (now m) (now steps) ⌝ ∗ ⌜ Multipliers (now m) (now y) ⌝ }
     ensures { λ r. ⌜ NodePart r (now (m .entry)) (now (y .entry)) v ⌝ }
 {
     let sides = s.sides;
@@ -165,7 +163,7 @@ fn add_node(
     columns: &mut [i64],
     sums: Sums,
 ) -> Sums
-    requires { ⌜ Sized (now m) s × (v < nodes (now m)) ⌝ ∗ ⌜ NodeSoils (now m) (now soils) ⌝ ∗ ⌜ Steps (polygonOf (sides (now m))) (sides (now m)) (now steps) ⌝ ∗ ⌜ Multipliers (now m) (now y) ⌝ ∗ ⌜ Summed (now m) (now y) (nodeFirst (now m) v) (now columns) sums ⌝ }
+    requires { ⌜ Sized (now m) s × (v < nodes (now m)) ⌝ ∗ ⌜ NodeSoils (now m) (now soils) ⌝ ∗ ⌜ MeshSteps (now m) (now steps) ⌝ ∗ ⌜ Multipliers (now m) (now y) ⌝ ∗ ⌜ Summed (now m) (now y) (nodeFirst (now m) v) (now columns) sums ⌝ }
     ensures { λ r. ⌜ Summed (now (m .entry)) (now (y .entry)) (nodeFirst (now (m .entry)) (v + 1)) (now (columns .exit)) r ⌝ }
 {
     let a = node_part(m, s, soils, steps, y, v);
@@ -182,29 +180,36 @@ fn strength_sums(
     m: &[i64],
     s: Sizes,
     soils: &[u8],
+    steps: &[i64],
     y: &[i64],
     columns: &mut [i64],
     equalities: Sums,
 ) -> Sums
-    requires { ⌜ Sized (now m) s ⌝ ∗ ⌜ NodeSoils (now m) (now soils) ⌝ ∗ ⌜ Multipliers (now m) (now y) ⌝ ∗ ⌜ Summed (now m) (now y) (elements (now m) * 2 + edges (now m) * 4) (now columns) equalities ⌝ }
+    requires { ⌜ Sized (now m) s ⌝ ∗ ⌜ NodeSoils (now m) (now soils) ⌝ ∗ ⌜ MeshSteps (now m) (now steps) ⌝ ∗ ⌜ Multipliers (now m) (now y) ⌝ ∗ ⌜ Summed (now m) (now y) (elements (now m) * 2 + edges (now m) * 4) (now columns) equalities ⌝ }
     ensures { λ r. ⌜ Summed (now (m .entry)) (now (y .entry)) (elements (now (m .entry)) * 2 + edges (now (m .entry)) * 4 + nodes (now (m .entry)) * sides (now (m .entry))) (now (columns .exit)) r ⌝ }
 {
     let nodes = s.nodes;
-    let steps = steps_of(s.sides);
     let mut sums = equalities;
     let mut v: usize = 0;
     while v < nodes {
-        sums = add_node(m, s, soils, &steps, y, v, columns, sums);
+        sums = add_node(m, s, soils, steps, y, v, columns, sums);
         v += 1;
     }
     sums
 }
 
 // All rows, each times its multiplier: to column sums that are 0 yet.
-pub fn row_sums(m: &[i64], s: Sizes, soils: &[u8], y: &[i64], columns: &mut [i64]) -> Sums
-    requires { ⌜ Sized (now m) s ⌝ ∗ ⌜ NodeSoils (now m) (now soils) ⌝ ∗ ⌜ Multipliers (now m) (now y) ⌝ ∗ ⌜ NoSums (now columns) ⌝ }
+pub fn row_sums(
+    m: &[i64],
+    s: Sizes,
+    soils: &[u8],
+    steps: &[i64],
+    y: &[i64],
+    columns: &mut [i64],
+) -> Sums
+    requires { ⌜ Sized (now m) s ⌝ ∗ ⌜ NodeSoils (now m) (now soils) ⌝ ∗ ⌜ MeshSteps (now m) (now steps) ⌝ ∗ ⌜ Multipliers (now m) (now y) ⌝ ∗ ⌜ NoSums (now columns) ⌝ }
     ensures { λ r. ⌜ Summed (now (m .entry)) (now (y .entry)) (elements (now (m .entry)) * 2 + edges (now (m .entry)) * 4 + nodes (now (m .entry)) * sides (now (m .entry))) (now (columns .exit)) r ⌝ }
 {
     let equalities = equality_sums(m, s, y, columns);
-    strength_sums(m, s, soils, y, columns, equalities)
+    strength_sums(m, s, soils, steps, y, columns, equalities)
 }

@@ -7,11 +7,10 @@ ghost use Rattle.scope.specs.Claim.{stress};
 ghost use Rattle.scope.specs.Rows.{rowsOf};
 ghost use Rattle.scope.specs.Sums.{openRows};
 ghost use Rattle.scope.specs.Verdict.{openCount};
-ghost use Rattle.rows.specs.RowContracts.{Judged, NodeFits, StepFits, StepsFit, sideSlack};
+ghost use Rattle.rows.specs.RowContracts.{Judged, MeshSteps, NodeFits, StepFits, StepsFit, sideSlack};
 ghost use Rattle.rows.specs.MultiplierContracts.{Multipliers, SideMultipliers, countBelow};
 ghost use Rattle.rows.specs.OpenContracts.{oneIfOpen, sideOpen};
 use crate::multiplier_checks::multipliers_from;
-use crate::polygons::steps_of;
 use crate::sizes::Sizes;
 use crate::sizes::number_at;
 use crate::strength_rows::node_state;
@@ -48,32 +47,31 @@ fn node_open(steps: &[i64], sides: usize, d: &[i64], y: &[i64], first: usize) ->
 }
 
 // The open rows of a claim's field with the multipliers y.
-fn open_count(m: &[i64], c: &[i64], s: Sizes, soils: &[u8], y: &[i64]) -> u64
-    requires { ⌜ Judged (now m) (now c) s (now soils) × (at (now c) 0 ≡ pos 1) ⌝ ∗ ⌜ Multipliers (now m) (now y) ⌝ }
+fn open_count(m: &[i64], c: &[i64], s: Sizes, soils: &[u8], steps: &[i64], y: &[i64]) -> u64
+    requires { ⌜ Judged (now m) (now c) s (now soils) × (at (now c) 0 ≡ pos 1) ⌝ ∗ ⌜ MeshSteps (now m) (now steps) ⌝ ∗ ⌜ Multipliers (now m) (now y) ⌝ }
     ensures { λ r. ⌜ r ≡ openRows (stress (now (m .entry)) (now (c .entry))) (l (now (c .entry))) (n (now (c .entry))) (at (now (y .entry))) (rowsOf (now (m .entry))) ⌝ }
 {
     let nodes = s.nodes;
     let sides = s.sides;
     let first = s.elements * 2 + s.edges * 4;
-    let steps = steps_of(sides);
     let mut count: u64 = 0;
     let mut v: usize = 0;
     while v < nodes {
         let d = node_state(m, c, s, soils, v);
-        count += node_open(&steps, sides, &d, y, first + v * sides);
+        count += node_open(steps, sides, &d, y, first + v * sides);
         v += 1;
     }
     count
 }
 
 // The open rows of a claim that has multipliers, or none where it has no field: "open rows need both parts".
-pub fn open_rows(m: &[i64], c: &[i64], s: Sizes, soils: &[u8]) -> OpenRows
-    requires { ⌜ Judged (now m) (now c) s (now soils) × (at (now c) 1 ≡ pos 1) ⌝ }
+pub fn open_rows(m: &[i64], c: &[i64], s: Sizes, soils: &[u8], steps: &[i64]) -> OpenRows
+    requires { ⌜ Judged (now m) (now c) s (now soils) × (at (now c) 1 ≡ pos 1) ⌝ ∗ ⌜ MeshSteps (now m) (now steps) ⌝ }
     ensures { λ r. ⌜ r ≡ openCount (now (m .entry)) (now (c .entry)) ⌝ }
 {
     if number_at(c, 0) == 1 {
         let from = multipliers_from(c, s.nodes);
-        return OpenRows::Count(open_count(m, c, s, soils, &c[from..]));
+        return OpenRows::Count(open_count(m, c, s, soils, steps, &c[from..]));
     }
     OpenRows::Absent
 }

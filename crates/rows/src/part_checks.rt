@@ -9,8 +9,7 @@ ghost use Rattle.scope.specs.Rows.{equalityRows, strengthRows};
 ghost use Rattle.scope.specs.Sums.{rowHolds};
 ghost use Rattle.scope.specs.Verdict.{rowAt, fieldCheck};
 ghost use Rattle.rows.specs.Contracts.{Sized};
-ghost use Rattle.rows.specs.RowContracts.{FieldFits, Judged, equalitiesCheck, strengthsCheck};
-use crate::polygons::steps_of;
+ghost use Rattle.rows.specs.RowContracts.{FieldFits, Judged, MeshSteps, equalitiesCheck, strengthsCheck};
 use crate::row_sums::equality_row;
 use crate::row_sums::left_side;
 use crate::sizes::Sizes;
@@ -53,17 +52,16 @@ fn equalities_check(m: &[i64], s: Sizes, x: &[i64], l: i64, n: i64) -> Outcome
 }
 
 // 22: the lowest strength row that fails.
-fn strengths_check(m: &[i64], c: &[i64], s: Sizes, soils: &[u8]) -> Outcome
-    requires { ⌜ Judged (now m) (now c) s (now soils) × (at (now c) 0 ≡ pos 1) ⌝ }
+fn strengths_check(m: &[i64], c: &[i64], s: Sizes, soils: &[u8], steps: &[i64]) -> Outcome
+    requires { ⌜ Judged (now m) (now c) s (now soils) × (at (now c) 0 ≡ pos 1) ⌝ ∗ ⌜ MeshSteps (now m) (now steps) ⌝ }
     ensures { λ r. ⌜ r ≡ strengthsCheck (strengthRows (now (m .entry))) (stress (now (m .entry)) (now (c .entry))) (l (now (c .entry))) (n (now (c .entry))) ⌝ }
 {
     let nodes = s.nodes;
     let sides = s.sides;
-    let steps = steps_of(sides);
     let mut v: usize = 0;
     while v < nodes {
         let d = node_state(m, c, s, soils, v);
-        let answer = node_check(&steps, sides, &d, v * sides);
+        let answer = node_check(steps, sides, &d, v * sides);
         if let Outcome::Refused { number, place } = answer {
             return Outcome::Refused { number, place };
         }
@@ -73,8 +71,8 @@ fn strengths_check(m: &[i64], c: &[i64], s: Sizes, soils: &[u8]) -> Outcome
 }
 
 // 21, then 22: a field that is there, against the rows.
-pub fn field_check(m: &[i64], c: &[i64], s: Sizes, soils: &[u8]) -> Outcome
-    requires { ⌜ Judged (now m) (now c) s (now soils) × (at (now c) 0 ≡ pos 1) ⌝ }
+pub fn field_check(m: &[i64], c: &[i64], s: Sizes, soils: &[u8], steps: &[i64]) -> Outcome
+    requires { ⌜ Judged (now m) (now c) s (now soils) × (at (now c) 0 ≡ pos 1) ⌝ ∗ ⌜ MeshSteps (now m) (now steps) ⌝ }
     ensures { λ r. ⌜ r ≡ fieldCheck (equalityRows (now (m .entry))) (strengthRows (now (m .entry))) (stress (now (m .entry)) (now (c .entry))) (l (now (c .entry))) (n (now (c .entry))) ⌝ }
 {
     let n = number_at(c, 2);
@@ -83,5 +81,5 @@ pub fn field_check(m: &[i64], c: &[i64], s: Sizes, soils: &[u8]) -> Outcome
     if let Outcome::Refused { number, place } = equalities {
         return Outcome::Refused { number, place };
     }
-    strengths_check(m, c, s, soils)
+    strengths_check(m, c, s, soils, steps)
 }

@@ -10,17 +10,17 @@ use Rattle.rows.proofs.multiplier_checks.claim_limit.Statement.{stateme
 use Rattle.rows.proofs.multiplier_checks.claim_limit.Tie as tie
 
 number-at-requires : tie.Need-number-at-requires
-number-at-requires c κs = omega (arith, claim-long (c .before .pre .claim))
+number-at-requires c κs = omega (arith, claim-long (c .before .pre .0 .claim))
 
 multipliers-from-requires : tie.Need-multipliers-from-requires
 multipliers-from-requires c κs =
-    let judged = c .before .before .before .pre in
+    let judged = c .before .before .before .pre .0 in
     (claim-long (judged .claim), (claim-within (judged .claim), omega (arith, judged .sized .nodesAre, judged .sized .facts .counts .nodesMost)))
 
 mul-multipliers-limit : tie.Need-mul-multipliers-limit
 unfolding at
 mul-multipliers-limit c =
-    let judged = c .before .before .before .before .pre in
+    let judged = c .before .before .before .before .pre .0 in
     let flag = being (c .before .before .number-at .ensures) (claim-within (judged .claim) .each 1) in
     let there = told (c .before .if1 .taken) (search machine depth 30) (omega arith) in
     omega (arith, from-is (c .before .before .before .before .args .m .now) (c .before .before .before .before .args .c .now) (c .before .before .before .before .args .s .nodes) (judged .sized .nodesAre) (c .multipliers-from .ensures), with-multipliers (judged .claim) there)
@@ -28,7 +28,7 @@ mul-multipliers-limit c =
 sub-multipliers-limit : tie.Need-sub-multipliers-limit
 unfolding at
 sub-multipliers-limit c =
-    let judged = c .before .before .before .before .pre in
+    let judged = c .before .before .before .before .pre .0 in
     let flag = being (c .before .before .number-at .ensures) (claim-within (judged .claim) .each 1) in
     let there = told (c .before .if1 .taken) (search machine depth 30) (omega arith) in
     omega (arith, from-is (c .before .before .before .before .args .m .now) (c .before .before .before .before .args .c .now) (c .before .before .before .before .args .s .nodes) (judged .sized .nodesAre) (c .multipliers-from .ensures), with-multipliers (judged .claim) there)
@@ -36,7 +36,7 @@ sub-multipliers-limit c =
 part-multipliers-limit-start : tie.Need-part-multipliers-limit-start
 unfolding at
 part-multipliers-limit-start c =
-    let judged = c .before .before .before .before .pre in
+    let judged = c .before .before .before .before .pre .0 in
     let flag = being (c .before .before .number-at .ensures) (claim-within (judged .claim) .each 1) in
     let there = told (c .before .if1 .taken) (search machine depth 30) (omega arith) in
     omega (arith, from-is (c .before .before .before .before .args .m .now) (c .before .before .before .before .args .c .now) (c .before .before .before .before .args .s .nodes) (judged .sized .nodesAre) (c .multipliers-from .ensures), with-multipliers (judged .claim) there)
@@ -47,15 +47,15 @@ part-multipliers-limit-end c = search needs
 multipliers-limit-requires : tie.Need-multipliers-limit-requires
 unfolding at
 multipliers-limit-requires c κs =
-    let judged = c .before .before .before .before .before .pre in
+    let judged = c .before .before .before .before .before .pre .0 in
     let flag = being (c .before .before .before .number-at .ensures) (claim-within (judged .claim) .each 1) in
     let there = told (c .before .before .if1 .taken) (search machine depth 30) (omega arith) in
-    (judged .sized, (judged .nodeSoils, multipliers-lent (judged .claim) there (from-is (c .before .before .before .before .before .args .m .now) (c .before .before .before .before .before .args .c .now) (c .before .before .before .before .before .args .s .nodes) (judged .sized .nodesAre) (c .before .multipliers-from .ensures))))
+    (judged .sized, (judged .nodeSoils, (c .before .before .before .before .before .pre .1, multipliers-lent (judged .claim) there (from-is (c .before .before .before .before .before .args .m .now) (c .before .before .before .before .before .args .c .now) (c .before .before .before .before .before .args .s .nodes) (judged .sized .nodesAre) (c .before .multipliers-from .ensures)))))
 
 returns : tie.Need-returns
 unfolding at
 returns c =
-    let judged = c .before .before .before .before .before .before .pre in
+    let judged = c .before .before .before .before .before .before .pre .0 in
     let flag = being (c .before .before .before .before .number-at .ensures) (claim-within (judged .claim) .each 1) in
     let there = told (c .before .before .before .if1 .taken) (search machine depth 30) (omega arith) in
     claim-limited (judged .claim) there (from-is (c .before .before .before .before .before .before .args .m .now) (c .before .before .before .before .before .before .args .c .now) (c .before .before .before .before .before .before .args .s .nodes) (judged .sized .nodesAre) (c .before .before .multipliers-from .ensures)) (c .multipliers-limit .ensures)
@@ -63,7 +63,7 @@ returns c =
 returns-2 : tie.Need-returns-2
 unfolding at
 returns-2 c =
-    let flag = being (c .before .number-at .ensures) (claim-within (c .before .before .before .pre .claim) .each 1) in
+    let flag = being (c .before .number-at .ensures) (claim-within (c .before .before .before .pre .0 .claim) .each 1) in
     no-limit _ _ (apart (c .if1 .left) (search machine depth 30) (omega arith))
 
 pub claim-limit-spec : {M : Type 1} → statement M

@@ -23,7 +23,9 @@ slice-aggregate-row-sums : tie.Need-slice-aggregate-row-sums
 slice-aggregate-row-sums c = search needs
 
 row-sums-requires : tie.Need-row-sums-requires
-row-sums-requires c κs = (c .before .before .before .before .before .pre .0, (c .before .before .before .before .before .pre .1 .0, (c .before .before .before .before .before .pre .1 .1, no-sums refl)))
+row-sums-requires c κs =
+    let pre = c .before .before .before .before .before .pre in
+    (pre .0, (pre .1 .0, (pre .1 .1 .0, (pre .1 .1 .1, no-sums refl))))
 
 slice-aggregate-sums-limit : tie.Need-slice-aggregate-sums-limit
 slice-aggregate-sums-limit c = search needs

@@ -3,7 +3,7 @@ use mathlib.Core.Path.{_≡_, sym, ap}
 use Prim.Native.Nat.{_*_, _-_, _≤_}
 use native.Mathlib.Omega.{arith}
 use Rattle.rows.specs.MultiplierContracts.{countBelow, nodeFirst}
-use Rattle.rows.proofs.StrengthLaws.{sides-listed, node-fits, steps-fit, steps-as, first-row}
+use Rattle.rows.proofs.StrengthLaws.{node-fits, steps-fit, steps-as, first-row}
 use Rattle.rows.proofs.NodeLaws.{node-multipliers}
 use Rattle.rows.proofs.OpenLaws.{openTest, no-node-open, one-more-node, count-small, sides-counted, all-nodes-open}
 use borrow.Author.Needs.{needs}
@@ -11,10 +11,10 @@ use Rattle.rows.proofs.open_rows.open_count.Statement.{statement}
 use Rattle.rows.proofs.open_rows.open_count.Tie as tie
 
 abbrev Inv-loop : tie.InvT-loop
-Inv-loop m c s soils y nodes sides first steps count₀ v₀ count v = (v ≤ nodes) × (count ≡ countBelow (openTest m c y) (nodeFirst m v))
+Inv-loop m c s soils steps y nodes sides first count₀ v₀ count v = (v ≤ nodes) × (count ≡ countBelow (openTest m c y) (nodeFirst m v))
 
 abbrev μ-loop : tie.MeasureT-loop
-μ-loop m c s soils y nodes sides first steps count₀ v₀ count v = nodes - v
+μ-loop m c s soils steps y nodes sides first count₀ v₀ count v = nodes - v
 
 mul-first : tie.Need-mul-first Inv-loop μ-loop
 mul-first c = let counts = c .before .before .pre .0 .0 .sized .facts .counts in omega (arith, c .before .before .pre .0 .0 .sized .elementsAre)
@@ -28,43 +28,45 @@ add-first c =
     let counts = sized .facts .counts in
     omega (arith, sized .elementsAre, sized .edgesAre)
 
-steps-of-requires : tie.Need-steps-of-requires Inv-loop μ-loop
-steps-of-requires c κs = sides-listed (c .before .before .before .pre .0 .0 .sized)
-
 loop-holds : tie.Need-loop-holds Inv-loop μ-loop
 loop-holds c = (omega arith, sym (no-node-open _ _ _))
 
 node-state-requires : tie.Need-node-state-requires Inv-loop μ-loop
-node-state-requires c κs = (c .before .before .before .before .before .before .pre .0, omega (arith, c .before .before .before .before .before .before .pre .0 .0 .sized .nodesAre, c .loop-test .taken))
+node-state-requires c κs = (c .before .before .before .before .before .pre .0, omega (arith, c .before .before .before .before .before .pre .0 .0 .sized .nodesAre, c .loop-test .taken))
 
 slice-aggregate-node-open : tie.Need-slice-aggregate-node-open Inv-loop μ-loop
 slice-aggregate-node-open c = search needs
 
-slice-aggregate-node-open-2 : tie.Need-slice-aggregate-node-open-2 Inv-loop μ-loop
-slice-aggregate-node-open-2 c = search needs
-
 mul-node-open : tie.Need-mul-node-open Inv-loop μ-loop
 mul-node-open c =
-    let sized = c .before .before .before .before .before .before .before .before .before .pre .0 .0 .sized in
-    let first = first-row {v = c .before .before .before .before .loop .v} (c .before .before .before .loop-test .taken) (omega (arith, sized .nodesAre, sized .facts .counts .nodesMost)) (c .before .before .before .before .before .steps-of .ensures .most) in
+    let pre = c .before .before .before .before .before .before .before .pre in
+    let sized = pre .0 .0 .sized in
+    let steps = steps-as (sym (sized .sidesAre)) (pre .1 .0) in
+    let first = first-row {v = c .before .before .before .loop .v} (c .before .before .loop-test .taken) (omega (arith, sized .nodesAre, sized .facts .counts .nodesMost)) (steps .most) in
     omega arith
 
 add-node-open : tie.Need-add-node-open Inv-loop μ-loop
 add-node-open c =
-    let sized = c .before .before .before .before .before .before .before .before .before .pre .0 .0 .sized in
+    let pre = c .before .before .before .before .before .before .before .pre in
+    let sized = pre .0 .0 .sized in
+    let steps = steps-as (sym (sized .sidesAre)) (pre .1 .0) in
     let counts = sized .facts .counts in
-    let first = first-row {v = c .before .before .before .before .loop .v} (c .before .before .before .loop-test .taken) (omega (arith, sized .nodesAre, counts .nodesMost)) (c .before .before .before .before .before .steps-of .ensures .most) in
+    let first = first-row {v = c .before .before .before .loop .v} (c .before .before .loop-test .taken) (omega (arith, sized .nodesAre, counts .nodesMost)) (steps .most) in
     omega (arith, sized .elementsAre, sized .edgesAre)
 
 node-open-requires : tie.Need-node-open-requires Inv-loop μ-loop
 node-open-requires c κs =
-    let sized = c .before .before .before .before .before .before .before .before .before .pre .0 .0 .sized in
-    (steps-fit (c .before .before .before .before .before .steps-of .ensures), (node-fits (c .before .before .node-state .ensures), node-multipliers (c .before .before .before .before .before .before .before .before .before .args .m .now) (c .before .before .before .before .before .before .before .before .before .args .y .now) (c .before .before .before .before .loop .v) (omega (arith, sized .nodesAre, c .before .before .before .loop-test .taken)) (c .before .before .before .before .before .before .before .before .before .pre .1) (omega (arith, ap (λ k. c .before .before .before .before .loop .v * k) (sized .sidesAre), sized .elementsAre, sized .edgesAre)) (sized .sidesAre)))
+    let pre = c .before .before .before .before .before .before .before .pre in
+    let sized = pre .0 .0 .sized in
+    let steps = steps-as (sym (sized .sidesAre)) (pre .1 .0) in
+    (steps-fit steps, (node-fits (c .before .node-state .ensures), node-multipliers (c .before .before .before .before .before .before .before .args .m .now) (c .before .before .before .before .before .before .before .args .y .now) (c .before .before .before .loop .v) (omega (arith, sized .nodesAre, c .before .before .loop-test .taken)) (pre .1 .1) (omega (arith, ap (λ k. c .before .before .before .loop .v * k) (sized .sidesAre), sized .elementsAre, sized .edgesAre)) (sized .sidesAre)))
 
 add-count : tie.Need-add-count Inv-loop μ-loop
 add-count c =
-    let sized = c .before .before .before .before .before .before .before .before .before .before .pre .0 .0 .sized in
-    omega (arith, count-small _ _ _ (sized .facts .counts) (c .before .before .before .before .before .loop .v) (omega (arith, sized .nodesAre)) (c .before .before .before .before .before .loop .inv .1), sides-counted _ _ (c .node-open .ensures) (c .before .before .before .before .before .before .steps-of .ensures .most))
+    let pre = c .before .before .before .before .before .before .before .before .pre in
+    let sized = pre .0 .0 .sized in
+    let steps = steps-as (sym (sized .sidesAre)) (pre .1 .0) in
+    omega (arith, count-small _ _ _ (sized .facts .counts) (c .before .before .before .before .loop .v) (omega (arith, sized .nodesAre)) (c .before .before .before .before .loop .inv .1), sides-counted _ _ (c .node-open .ensures) (steps .most))
 
 add-v : tie.Need-add-v Inv-loop μ-loop
 add-v c = omega arith
@@ -75,12 +77,13 @@ loop-less c = omega arith
 loop-again : tie.Need-loop-again Inv-loop μ-loop
 unfolding nodeFirst
 loop-again c =
-    let sized = c .before .before .before .before .before .before .before .before .before .before .pre .0 .0 .sized in
-    (omega arith, one-more-node _ _ _ (c .before .before .before .before .before .loop .v) (omega (arith, sized .nodesAre, c .before .before .before .before .loop-test .taken)) (record { listed = sized .facts .counts .sidesListed }) (c .before .before .before .node-state .ensures) (steps-as (sized .sidesAre) (c .before .before .before .before .before .before .steps-of .ensures)) (c .before .before .before .before .before .loop .inv .1) (sized .sidesAre) (omega (arith, ap (λ k. c .before .before .before .before .before .loop .v * k) (sized .sidesAre), sized .elementsAre, sized .edgesAre)) (c .node-open .ensures))
+    let pre = c .before .before .before .before .before .before .before .before .pre in
+    let sized = pre .0 .0 .sized in
+    (omega arith, one-more-node _ _ _ (c .before .before .before .before .loop .v) (omega (arith, sized .nodesAre, c .before .before .before .loop-test .taken)) (record { listed = sized .facts .counts .sidesListed }) (c .before .before .node-state .ensures) (pre .1 .0) (c .before .before .before .before .loop .inv .1) (sized .sidesAre) (omega (arith, ap (λ k. c .before .before .before .before .loop .v * k) (sized .sidesAre), sized .elementsAre, sized .edgesAre)) (c .node-open .ensures))
 
 returns : tie.Need-returns Inv-loop μ-loop
 returns c =
-    let sized = c .before .before .before .before .before .before .pre .0 .0 .sized in
+    let sized = c .before .before .before .before .before .pre .0 .0 .sized in
     all-nodes-open _ _ _ (record { listed = sized .facts .counts .sidesListed }) (c .before .loop .v) (omega (arith, sized .nodesAre)) (c .before .loop .inv .1)
 
 pub open-count-spec : {M : Type 1} → statement M
@@ -92,11 +95,9 @@ open-count-spec =
     mul-first
     mul-first-2
     add-first
-    steps-of-requires
     loop-holds
     node-state-requires
     slice-aggregate-node-open
-    slice-aggregate-node-open-2
     mul-node-open
     add-node-open
     node-open-requires

@@ -23,7 +23,7 @@ part-equalities-check-end c = search needs
 
 equalities-check-requires : tie.Need-equalities-check-requires
 equalities-check-requires c κs =
-    let pre = c .before .before .before .before .pre in
+    let pre = c .before .before .before .before .pre .0 in
     (pre .0 .sized, field-fits (pre .0 .claim) (pre .1) (load-of (pre .0 .claim) (c .before .number-at2 .ensures)) (scale-of (pre .0 .claim) (c .before .before .number-at .ensures)))
 
 enum-known-equalities : tie.Need-enum-known-equalities
@@ -32,7 +32,7 @@ enum-known-equalities c = search needs
 returns : tie.Need-returns
 returns c =
     let start = c .before .before .before .before .before .before .before .before in
-    let claim = start .pre .0 .claim in
+    let claim = start .pre .0 .0 .claim in
     let m = start .args .m .now in
     let d = start .args .c .now in
     let same = c .before .before .before .equalities-check .ensures ∙ equalities-of m d (load-of claim (c .before .before .before .before .before .number-at2 .ensures)) (scale-of claim (c .before .before .before .before .before .before .number-at .ensures)) in
@@ -47,7 +47,7 @@ strengths-check-requires c κs = search needs
 returns-2 : tie.Need-returns-2
 returns-2 c =
     let start = c .before .before .before .before .before .before .before .before in
-    let claim = start .pre .0 .claim in
+    let claim = start .pre .0 .0 .claim in
     let m = start .args .m .now in
     let d = start .args .c .now in
     let same = c .before .before .before .equalities-check .ensures ∙ equalities-of m d (load-of claim (c .before .before .before .before .before .number-at2 .ensures)) (scale-of claim (c .before .before .before .before .before .before .number-at .ensures)) in
