@@ -47,14 +47,14 @@ claim-length m claim s e =
 
 pub part-absent-bytes : {z : ℤ} {lines columns : ℕ} → ¬ (z ≡ pos 1) → PartBytes (eqZ z (pos 1)) lines columns 0
 part-absent-bytes {z} {lines} {columns} n =
-    let a = not-there {z} lines n in
+    let a = not-there {z = z} lines n in
     record { bytes = omega (arith, ap (λ k. k * lineBytes fileWidth columns) a); most = omega arith }
 
 pub part-bytes-fit : {lines bytes : ℕ} → lines ≤ 100 → bytes ≤ 433 → lines * bytes ≤ 43300
 part-bytes-fit = mul-le-mul {n₂ = 100} {m₂ = 433}
 
 pub part-there-bytes : {z : ℤ} {lines columns bytes : ℕ} → z ≡ pos 1 → lines ≤ 100 → bytes ≡ lineBytes fileWidth columns → bytes ≤ 433 → PartBytes (eqZ z (pos 1)) lines columns (lines * bytes)
-part-there-bytes {z} {lines} e l b k = record { bytes = ap₂ _*_ (there {z} {lines} e) b; most = part-bytes-fit l k }
+part-there-bytes {z} {lines} e l b k = record { bytes = ap₂ _*_ (there {z = z} {k = lines} e) b; most = part-bytes-fit l k }
 
 -- the bytes of the four parts, with the header's line
 pub parts-bytes : {m : List ℤ} (h : List ℤ) {s : Sizes} {f a b d e : ℕ} → Sized m s → f ≡ lineBytes fileWidth (columnsIn ClaimHeader) → PartBytes (eqZ (at h 0) (pos 1)) (s .nodes) (columnsIn Stresses) a → PartBytes (eqZ (at h 1) (pos 1)) (s .elements) (columnsIn ElementMultipliers) b → PartBytes (eqZ (at h 1) (pos 1)) (s .edges) (columnsIn EdgeMultipliers) d → PartBytes (eqZ (at h 1) (pos 1)) (s .nodes) (columnsIn (StrengthMultipliers (s .sides))) e → f + a + b + d + e ≡ claimBytes m h

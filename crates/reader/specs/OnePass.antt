@@ -74,6 +74,7 @@ pub record Table (t : List ℕ) : Type 0 where
 -- the program's state c becomes r by the byte b
 pub record Stepped (c : Kept) (b : ℕ) (r : Kept) : Type 0 where
   pub phase : (p : Phase) → c .phase ≡ shift p → r .phase ≡ shift (turn p b)
+  pub below : r .phase < 64
   pub value : r .value ≡ c .value * 10 + digitOf b
 
 -- what a column says
@@ -93,3 +94,31 @@ pub record After (bs : List ℕ) (c : Kept) : Type 0 where
 pub record Partway (bs : List ℕ) (at i : ℕ) (c : Kept) : Type 0 where
   pub most : i ≤ 12
   pub state : After (take i (drop at bs)) c
+
+-- the first i bytes of the column that begins at a place are spaces, so that nothing is kept of them
+abbrev pub OnlySpaces : List ℕ → ℕ → ℕ → Type 0
+OnlySpaces bs at i = Partway bs at i (record { phase = 6; value = 0 })
+
+-- ---- four bytes at once
+
+-- the number n is the bytes a, b, c, d, the first the lowest
+pub record Joined (a b c d n : ℕ) : Type 0 where
+  pub below : n < 4294967296
+  pub first : n % 256 ≡ a
+  pub second : n / 256 % 256 ≡ b
+  pub third : n / 65536 % 256 ≡ c
+  pub fourth : n / 16777216 ≡ d
+
+-- it is the four bytes from a place on
+abbrev pub FourBytes : List ℕ → ℕ → ℕ → Type 0
+FourBytes bs at n = Joined (getD bs at 0) (getD bs (at + 1) 0) (getD bs (at + 2) 0) (getD bs (at + 3) 0) n
+
+-- the program's state c becomes r by the four bytes of the number n, one after another
+pub record FourStepped (c : Kept) (n : ℕ) (r : Kept) : Type 0 where
+  pub one : Kept
+  pub two : Kept
+  pub three : Kept
+  pub first : Stepped c (n % 256) one
+  pub second : Stepped one (n / 256 % 256) two
+  pub third : Stepped two (n / 65536 % 256) three
+  pub fourth : Stepped three (n / 16777216) r
