@@ -1,6 +1,6 @@
 -- The open rows: an equality row is never open, and the sides of a node are counted one by one, by their slack.
 use mathlib.Core.Path.{_≡_, refl, sym, _∙_, ap, ap₂}
-use mathlib.Core.Bool.{Bool, true, false, cond, _&&_, and-false}
+use mathlib.Core.Bool.{Bool, true, false, _&&_, and-false}
 use mathlib.Core.List.{List}
 use Prim.Native.Nat.{ℕ, _+_, _*_, _-_, _≤_, _<_}
 use native.Mathlib.Nat.{zero-mul, mul-le-mul}
@@ -27,7 +27,7 @@ use Rattle.rows.proofs.RowLaws.{equality-count, equality-among, row-cou
 use Rattle.rows.proofs.LimitLaws.{multiplier-lent}
 use Rattle.rows.proofs.NodeLaws.{sides-between, next-first, node-row-at}
 use Rattle.rows.proofs.StrengthLaws.{open-test}
-use Rattle.rows.proofs.SumLaws.{weighed-count, countBelow-next, countBelow-cong, countBelow-add, countBelow-none, countBelow-most}
+use Rattle.rows.proofs.SumLaws.{one-most, weighed-count, countBelow-next, countBelow-cong, countBelow-add, countBelow-none, countBelow-most}
 
 -- ---- one side
 
@@ -48,11 +48,7 @@ both-above {w} {z} h k =
 
 pub one-at-most : (w z : ℤ) {r : ℕ} → r ≡ oneIfOpen w z → r ≤ 1
 unfolding oneIfOpen
-one-at-most w z e = rw e (by (ltZ (pos 0) w && ltZ (pos 0) z))
-  where
-    by : (b : Bool) → cond b 1 0 ≤ 1
-    by true = omega arith
-    by false = omega arith
+one-at-most w z e = rw e (one-most (ltZ (pos 0) w && ltZ (pos 0) z))
 
 -- one side more, with the multiplier w
 pub one-more-open : (d t y : List ℤ) (first k : ℕ) {count r : ℕ} {w : ℤ} → count ≡ countBelow (sideOpen d t y first) k → w ≡ at y (first + k) → r ≡ oneIfOpen w (sideSlack d t k) → count + r ≡ countBelow (sideOpen d t y first) (k + 1)

@@ -15,11 +15,10 @@ use Rattle.integer.specs.Bounds.{Within, Within-le, Within-+ℤ, Within-*ℤ, A
 use Rattle.integer.specs.Machine.{Is, Is-as, Is-Within}
 use Rattle.scope.specs.Columns.{at}
 use Rattle.scope.specs.Rows.{Row}
-use Rattle.scope.specs.Sums.{weightedSum, weighed, unit, coefficient, howMany}
+use Rattle.scope.specs.Sums.{weightedSum, weighed, unit, howMany}
 use Rattle.scope.specs.Verdict.{rowAt}
-use Rattle.rows.specs.RowContracts.{pairs, rowOf, SumsAre}
+use Rattle.rows.specs.RowContracts.{pairs, entriesOf, SumsAre}
 use Rattle.rows.specs.MultiplierContracts.{sumBelow, countBelow, rowSum}
-use Rattle.rows.specs.declared.row_sums.EqualityRow.{EqualityRow}
 
 -- ---- the entries of a row
 
@@ -102,9 +101,8 @@ module _ (s₀ : List ℤ) (y : ℤ) (cs : List ℤ) (js : List ℕ) where
       same j = rw (e .same, one-entry-more (unit j) cs js i l k)
           (ring (at s₀ j ∷ y ∷ weightedSum (unit j) (pairs (take i cs) (take i js)) ∷ getD cs i (pos 0) ∷ unit j (getD js i 0) ∷ []) (search terms depth 100) refl)
 
-  pub all-added : (r : EqualityRow) (i : ℕ) {s : List ℤ} → r .coefficients ≡ cs → r .columns ≡ js → i ≡ r .count → i ≤ 8 → Adding s₀ y cs js i s → SumsAre 1000001600000000000 s (λ j. at s₀ j +ℤ y *ℤ coefficient j (rowOf r))
-  unfolding coefficient rowOf
-  all-added r i ec ej e l h = sums-as (h .sums) (omega arith) (λ j. rw (ec, ej, e))
+  pub all-added : (i count : ℕ) {s : List ℤ} → i ≡ count → i ≤ 8 → Adding s₀ y cs js i s → SumsAre 1000001600000000000 s (λ j. at s₀ j +ℤ y *ℤ weightedSum (unit j) (entriesOf cs js count))
+  all-added i count e l h = sums-as (h .sums) (omega arith) (λ j. rw e)
 
 -- ---- sums below a number
 
@@ -172,11 +170,11 @@ unfolding countBelow
 countBelow-none f zero h = refl
 countBelow-none f (suc n) h = ap₂ (λ a b. a + cond b 1 0) (countBelow-none f n (λ k l. h k (omega arith))) (h n (omega arith))
 
+pub one-most : (b : Bool) → cond b 1 0 ≤ 1
+one-most true = omega arith
+one-most false = omega arith
+
 pub countBelow-most : (f : ℕ → Bool) (n : ℕ) → countBelow f n ≤ n
 unfolding countBelow
 countBelow-most f zero = zero-le
 countBelow-most f (suc n) = omega (arith, countBelow-most f n, one-most (f n))
-  where
-    one-most : (b : Bool) → cond b 1 0 ≤ 1
-    one-most true = omega arith
-    one-most false = omega arith

@@ -107,13 +107,25 @@ pairs (c ∷ cs) [] = []
 pairs (c ∷ cs) (j ∷ js) = (c, j) ∷ pairs cs js
 
 -- the row that the numbers say
+-- the first coefficients of a row, with their columns
+abbrev pub entriesOf : List ℤ → List ℕ → ℕ → List (ℤ × ℕ)
+entriesOf coefficients columns count = pairs (take count coefficients) (take count columns)
+
 unfoldable pub rowOf : EqualityRow → Row
 rowOf r = record {
   kind = cond (r .asked) asked unfixed;
-  entries = pairs (take (r .count) (r .coefficients)) (take (r .count) (r .columns));
+  entries = entriesOf (r .coefficients) (r .columns) (r .count);
   live = r .live;
   right = r .right;
 }
+
+-- the entries of a row of a mesh with n columns, by their size
+pub record EntriesFit (coefficients : List ℤ) (columns : List ℕ) (count n : ℕ) : Type 0 where
+  pub long : length coefficients ≡ 8
+  pub wide : length columns ≡ 8
+  pub few : count ≤ 8
+  pub coefficientsFit : AllWithin 2000000 coefficients
+  pub columnsFit : (i : ℕ) → i < count → getD columns i 0 < n
 
 -- an equality row of a mesh with so many columns, by its size
 pub record RowFits (r : EqualityRow) (columns : ℕ) : Type 0 where

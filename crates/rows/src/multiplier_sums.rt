@@ -34,7 +34,7 @@ fn add_equality(m: &[i64], s: Sizes, y: &[i64], k: usize, columns: &mut [i64], s
     let row = equality_row(m, s, k);
     let live = w * row.live;
     let right = w * row.right;
-    add_row(columns, row, w);
+    add_row(columns, &row.coefficients, &row.columns, row.count, w);
     Sums {
         w: sums.w + right,
         m: sums.m + live,

@@ -26,8 +26,10 @@ fn equality_holds(m: &[i64], s: Sizes, x: &[i64], l: i64, n: i64, k: usize) -> b
 {
     let row = equality_row(m, s, k);
     let right = row.right;
+    let live = row.live;
     if row.asked {
-        return left_side(row, x, l) == right * n;
+        let left = left_side(&row.coefficients, &row.columns, row.count, live, x, l);
+        return left == right * n;
     }
     true
 }

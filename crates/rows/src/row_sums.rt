@@ -10,10 +10,10 @@ ghost use Rattle.integer.specs.Tests.{eqZ};
 ghost use Rattle.scope.specs.Columns.{at};
 ghost use Rattle.scope.specs.Mesh.{nodes, elements, edges, corner, x, y, soilEntry, elementSoil};
 ghost use Rattle.scope.specs.Rows.{stepX, stepY, balanceX, balanceY, normalRow, shearRow, equalityRows};
-ghost use Rattle.scope.specs.Sums.{leftSide, coefficient};
+ghost use Rattle.scope.specs.Sums.{weightedSum, unit};
 ghost use Rattle.scope.specs.Verdict.{rowAt};
 ghost use Rattle.rows.specs.Contracts.{Sized};
-ghost use Rattle.rows.specs.RowContracts.{normalOf, shearOf, rowOf, RowFits, Filled, SumsAre, NodeAt, SpanIs, cornerColumns, balancedOf};
+ghost use Rattle.rows.specs.RowContracts.{normalOf, shearOf, entriesOf, EntriesFit, Filled, SumsAre, NodeAt, SpanIs, cornerColumns, balancedOf};
 use crate::sizes::Sizes;
 use crate::sizes::corner_of;
 use crate::sizes::edge_entry;
@@ -34,20 +34,27 @@ pub struct EqualityRow {
     pub asked: bool,
 }
 
-// The left side of a row at the field x with l.
-pub fn left_side(r: EqualityRow, x: &[i64], l: i64) -> i64
-    requires { ⌜ RowFits r (length (now x)) ⌝ ∗ ⌜ AllWithin 1000000000 (now x) ⌝ ∗ ⌜ Within 100000000 l ⌝ }
-    ensures { λ a. ⌜ Is a (leftSide (at (now (x .entry))) l (rowOf r)) 2016000000000000000 ⌝ }
+// The left side of a row at the field x with l. The row is lent by its parts, for a row that is handed over is copied.
+pub fn left_side<'a>(
+    coefficients: &'a [i64; 8],
+    columns: &'a [usize; 8],
+    count: usize,
+    live: i64,
+    x: &[i64],
+    l: i64,
+) -> i64
+    requires { ⌜ EntriesFit (now coefficients) (now columns) count (length (now x)) ⌝ ∗ ⌜ Within 20000000000 live ⌝ ∗ ⌜ AllWithin 1000000000 (now x) ⌝ ∗ ⌜ Within 100000000 l ⌝ }
+    ensures { λ a. ⌜ Is a (weightedSum (at (now (x .entry))) (entriesOf (now (coefficients .entry)) (now (columns .entry)) count) +ℤ live *ℤ l) 2016000000000000000 ⌝ }
 {
     let mut sum: i64 = 0;
     let mut i: usize = 0;
-    while i < r.count {
-        let j = r.columns[i];
-        let c = r.coefficients[i];
+    while i < count {
+        let j = columns[i];
+        let c = coefficients[i];
         sum += c * x[j];
         i += 1;
     }
-    sum + r.live * l
+    sum + live * l
 }
 
 // Adds c to the sum of column j.
@@ -60,14 +67,20 @@ pub fn add_at(sums: &mut [i64], j: usize, c: i64)
 }
 
 // Adds y times a row to the column sums.
-pub fn add_row(sums: &mut [i64], r: EqualityRow, y: i64)
-    requires { ⌜ RowFits r (length (now sums)) ⌝ ∗ ⌜ AllWithin 1000000000000000000 (now sums) ⌝ ∗ ⌜ Within 100000 y ⌝ }
-    ensures { λ _. ⌜ SumsAre 1000001600000000000 (now (sums .exit)) (λ j. at (now (sums .entry)) j +ℤ y *ℤ coefficient j (rowOf r)) ⌝ }
+pub fn add_row<'a>(
+    sums: &mut [i64],
+    coefficients: &'a [i64; 8],
+    columns: &'a [usize; 8],
+    count: usize,
+    y: i64,
+)
+    requires { ⌜ EntriesFit (now coefficients) (now columns) count (length (now sums)) ⌝ ∗ ⌜ AllWithin 1000000000000000000 (now sums) ⌝ ∗ ⌜ Within 100000 y ⌝ }
+    ensures { λ _. ⌜ SumsAre 1000001600000000000 (now (sums .exit)) (λ j. at (now (sums .entry)) j +ℤ y *ℤ weightedSum (unit j) (entriesOf (now (coefficients .entry)) (now (columns .entry)) count)) ⌝ }
 {
     let mut i: usize = 0;
-    while i < r.count {
-        let j = r.columns[i];
-        let c = y * r.coefficients[i];
+    while i < count {
+        let j = columns[i];
+        let c = y * coefficients[i];
         add_at(sums, j, c);
         i += 1;
     }

@@ -2,7 +2,9 @@
 use native.Mathlib.Omega.{arith}
 use Rattle.integer.specs.Machine.{machine, fits, exact, told, Is-read, Is-Within}
 use Rattle.scope.specs.Columns.{at}
-use Rattle.rows.proofs.FieldLaws.{fits-wider}
+use Rattle.scope.specs.Sums.{coefficient}
+use Rattle.rows.specs.RowContracts.{rowOf}
+use Rattle.rows.proofs.FieldLaws.{entries-fit, fits-wider}
 use Rattle.rows.proofs.RowLaws.{equality-among}
 use Rattle.rows.proofs.StrengthLaws.{being}
 use Rattle.rows.proofs.MultiplierLaws.{zero-summed, row-summed}
@@ -26,41 +28,41 @@ equality-row-requires c κs = search needs
 mul-live : tie.Need-mul-live
 unfolding at
 mul-live c =
-    let start = c .before .before .before .before .before in
-    let w = being (c .before .before .before .before .number-at .ensures) (start .pre .1 .1 .0 .each (start .args .k)) in
-    let live = c .before .before .equality-row .ensures .fits .liveFits in
+    let start = c .before .before .before .before in
+    let w = being (c .before .before .before .number-at .ensures) (start .pre .1 .1 .0 .each (start .args .k)) in
+    let live = c .before .equality-row .ensures .fits .liveFits in
     fits (search machine depth 30) (omega arith)
 
 mul-right : tie.Need-mul-right
 unfolding at
 mul-right c =
-    let start = c .before .before .before .before .before .before .before in
-    let w = being (c .before .before .before .before .before .before .number-at .ensures) (start .pre .1 .1 .0 .each (start .args .k)) in
-    let right = c .before .before .before .before .equality-row .ensures .fits .rightFits in
+    let start = c .before .before .before .before .before in
+    let w = being (c .before .before .before .before .number-at .ensures) (start .pre .1 .1 .0 .each (start .args .k)) in
+    let right = c .before .before .equality-row .ensures .fits .rightFits in
     fits (search machine depth 30) (omega arith)
 
 add-row-requires : tie.Need-add-row-requires
 unfolding at
 add-row-requires c κs =
-    let start = c .before .before .before .before .before .before .before .before in
-    let w = being (c .before .before .before .before .before .before .before .number-at .ensures) (start .pre .1 .1 .0 .each (start .args .k)) in
-    (fits-wider (c .before .before .before .before .before .equality-row .ensures .fits) (start .pre .1 .1 .1 .0), (start .pre .1 .1 .1 .1 .columnsFit, Is-Within (Is-read w (omega arith)) (omega arith)))
+    let start = c .before .before .before .before .before .before .before .before .before in
+    let w = being (c .before .before .before .before .before .before .before .before .number-at .ensures) (start .pre .1 .1 .0 .each (start .args .k)) in
+    (entries-fit (fits-wider (c .before .before .before .before .before .before .equality-row .ensures .fits) (start .pre .1 .1 .1 .0)), (start .pre .1 .1 .1 .1 .columnsFit, Is-Within (Is-read w (omega arith)) (omega arith)))
 
-add-t15 : tie.Need-add-t15
+add-t13 : tie.Need-add-t13
 unfolding at
-add-t15 c =
-    let start = c .before .before .before .before .before .before .before .before .before .before .before .before in
-    let w = being (c .before .before .before .before .before .before .before .before .before .before .before .number-at .ensures) (start .pre .1 .1 .0 .each (start .args .k)) in
-    let right = c .before .before .before .before .before .before .before .before .before .equality-row .ensures .fits .rightFits in
+add-t13 c =
+    let start = c .before .before .before .before .before .before .before .before .before .before .before .before .before in
+    let w = being (c .before .before .before .before .before .before .before .before .before .before .before .before .number-at .ensures) (start .pre .1 .1 .0 .each (start .args .k)) in
+    let right = c .before .before .before .before .before .before .before .before .before .before .equality-row .ensures .fits .rightFits in
     let limit = start .pre .1 .1 .1 .1 .limitFits in
     fits (search machine depth 30) (omega arith)
 
-add-t16 : tie.Need-add-t16
+add-t20 : tie.Need-add-t20
 unfolding at
-add-t16 c =
-    let start = c .before .before .before .before .before .before .before .before .before .before .before .before .before .before in
-    let w = being (c .before .before .before .before .before .before .before .before .before .before .before .before .before .number-at .ensures) (start .pre .1 .1 .0 .each (start .args .k)) in
-    let live = c .before .before .before .before .before .before .before .before .before .before .before .equality-row .ensures .fits .liveFits in
+add-t20 c =
+    let start = c .before .before .before .before .before .before .before .before .before .before .before .before .before .before .before in
+    let w = being (c .before .before .before .before .before .before .before .before .before .before .before .before .before .before .number-at .ensures) (start .pre .1 .1 .0 .each (start .args .k)) in
+    let live = c .before .before .before .before .before .before .before .before .before .before .before .before .equality-row .ensures .fits .liveFits in
     let total = start .pre .1 .1 .1 .1 .liveFits in
     fits (search machine depth 30) (omega arith)
 
@@ -68,15 +70,16 @@ same-length : tie.Need-same-length
 same-length c = search needs
 
 returns-2 : tie.Need-returns-2
-unfolding at
+unfolding at coefficient rowOf
 returns-2 c =
-    let start = c .before .before .before .before .before .before .before .before .before .before .before .before .before .before in
-    let w = being (c .before .before .before .before .before .before .before .before .before .before .before .before .before .number-at .ensures) (start .pre .1 .1 .0 .each (start .args .k)) in
-    let right = c .before .before .before .before .before .before .before .before .before .before .before .equality-row .ensures .fits .rightFits in
-    let live = c .before .before .before .before .before .before .before .before .before .before .before .equality-row .ensures .fits .liveFits in
+    let start = c .before .before .before .before .before .before .before .before .before .before .before .before .before .before .before in
+    let w = being (c .before .before .before .before .before .before .before .before .before .before .before .before .before .before .number-at .ensures) (start .pre .1 .1 .0 .each (start .args .k)) in
+    let row = c .before .before .before .before .before .before .before .before .before .before .before .before .equality-row in
+    let right = row .ensures .fits .rightFits in
+    let live = row .ensures .fits .liveFits in
     let limit = start .pre .1 .1 .1 .1 .limitFits in
     let total = start .pre .1 .1 .1 .1 .liveFits in
-    row-summed _ _ _ (c .before .before .before .before .before .before .before .before .before .before .before .equality-row .ensures) (equality-among _ _ (start .pre .0 .1)) (Is-read w (omega arith) .same) (w .inside) (c .before .before .before .before .before .add-row .ensures) (exact (search machine depth 30) (omega arith)) (exact (search machine depth 30) (omega arith))
+    row-summed _ _ _ (row .ensures) (equality-among _ _ (start .pre .0 .1)) (Is-read w (omega arith) .same) (w .inside) (c .before .before .before .before .before .add-row .ensures) (exact (search machine depth 30) (omega arith)) (exact (search machine depth 30) (omega arith))
 
 pub add-equality-spec : {M : Type 1} → statement M
 add-equality-spec =
@@ -88,7 +91,7 @@ add-equality-spec =
     mul-live
     mul-right
     add-row-requires
-    add-t15
-    add-t16
+    add-t13
+    add-t20
     same-length
     returns-2)

@@ -2,9 +2,9 @@
 use lib.IntN.{ℤ, _+ℤ_, _*ℤ_}
 use Rattle.integer.specs.Machine.{unread, is, bounded, machine, fits}
 use Rattle.scope.specs.Columns.{at}
-use Rattle.scope.specs.Sums.{coefficient}
-use Rattle.rows.specs.RowContracts.{rowOf, SumsAre}
-use mathlib.Core.Path.{_≡_, refl, sym, subst}
+use Rattle.scope.specs.Sums.{weightedSum, unit}
+use Rattle.rows.specs.RowContracts.{entriesOf, SumsAre}
+use mathlib.Core.Path.{_≡_, sym, subst}
 use Rattle.integer.specs.Bounds.{AllWithin-le}
 use Rattle.rows.proofs.SumLaws.{sums-within, Adding, none-added, entry-added, all-added}
 use native.Mathlib.Omega.{arith}
@@ -15,10 +15,10 @@ use Rattle.rows.proofs.row_sums.add_row.Statement.{statement}
 use Rattle.rows.proofs.row_sums.add_row.Tie as tie
 
 abbrev Inv-loop : tie.InvT-loop
-Inv-loop sums₀ y r i₀ sums i = (i ≤ r .count) × Adding sums₀ (toZ w64 y) (r .coefficients) (r .columns) i sums
+Inv-loop sums₀ coefficients columns count y i₀ sums i = (i ≤ count) × Adding sums₀ (toZ w64 y) coefficients columns i sums
 
 abbrev μ-loop : tie.MeasureT-loop
-μ-loop sums₀ y r i₀ sums i = r .count - i
+μ-loop sums₀ coefficients columns count y i₀ sums i = count - i
 
 loop-holds : tie.Need-loop-holds Inv-loop μ-loop
 loop-holds c = (omega arith, none-added _ _ _ _ (c .pre .1 .0))
@@ -69,10 +69,10 @@ returns : tie.Need-returns Inv-loop μ-loop
 returns c =
     let start = c .before .before in
     let y = start .pre .1 .1 in
-    let r = start .args .t2 in
-    let read : toZ w64 (ofZ w64 (start .args .y)) ≡ start .args .y = search unread in
-    subst (λ (z : ℤ). SumsAre 1000001600000000000 (c .before .loop .sums) (λ j. at (start .args .sums .now) j +ℤ z *ℤ coefficient j (rowOf r))) read
-    (all-added _ _ _ _ r (c .before .loop .i) refl refl (omega arith) (omega arith) (c .before .loop .inv .1))
+    let a = start .args in
+    let read : toZ w64 (ofZ w64 (a .y)) ≡ a .y = search unread in
+    subst (λ (z : ℤ). SumsAre 1000001600000000000 (c .before .loop .sums) (λ j. at (a .sums .now) j +ℤ z *ℤ weightedSum (unit j) (entriesOf (a .coefficients .now) (a .columns .now) (a .count)))) read
+    (all-added _ _ _ _ (c .before .loop .i) (a .count) (omega arith) (omega arith) (c .before .loop .inv .1))
 
 pub add-row-spec : {M : Type 1} → statement M
 add-row-spec =

@@ -1,11 +1,10 @@
 -- `left_side` meets its contract. The loop's invariant: `sum` is the sum over the entries passed.
 use mathlib.Core.Path.{_≡_, ap, refl, sym}
 use lib.IntN.{_+ℤ_, _*ℤ_}
-use Rattle.scope.specs.Sums.{leftSide, weightedSum}
-use Rattle.rows.specs.RowContracts.{rowOf, pairs}
+use Rattle.scope.specs.Sums.{weightedSum}
+use Rattle.rows.specs.RowContracts.{pairs, entriesOf}
 use native.Mathlib.Omega.{arith}
 use Prim.Native.Nat.{_≤_, _*_, _-_}
-use lib.ListN.{take}
 use mir.Syntax.{w64}
 use mir.Val.{toZ}
 use Rattle.integer.specs.Machine.{Is, machine, fits, is}
@@ -15,10 +14,10 @@ use Rattle.rows.proofs.row_sums.left_side.Statement.{statement}
 use Rattle.rows.proofs.row_sums.left_side.Tie as tie
 
 abbrev Inv-loop : tie.InvT-loop
-Inv-loop x l r sum₀ i₀ sum i = (i ≤ r .count) × Is (toZ w64 sum) (weightedSum (at x) (pairs (take i (r .coefficients)) (take i (r .columns)))) (i * 2000000000000000)
+Inv-loop coefficients columns count live x l sum₀ i₀ sum i = (i ≤ count) × Is (toZ w64 sum) (weightedSum (at x) (entriesOf coefficients columns i)) (i * 2000000000000000)
 
 abbrev μ-loop : tie.MeasureT-loop
-μ-loop x l r sum₀ i₀ sum i = r .count - i
+μ-loop coefficients columns count live x l sum₀ i₀ sum i = count - i
 
 loop-holds : tie.Need-loop-holds Inv-loop μ-loop
 unfolding weightedSum pairs
@@ -65,8 +64,8 @@ loop-again c =
     let loop = c .before .before .before .before .loop in
     let h = loop .inv .1 in
     let row = start .pre .0 .coefficientsFit in
-    let field = start .pre .1 .0 in
-    let next = one-entry-more (at (start .args .x .now)) (start .args .t1 .coefficients) (start .args .t1 .columns) (loop .i) (omega arith) (omega arith) in
+    let field = start .pre .1 .1 .0 in
+    let next = one-entry-more (at (start .args .x .now)) (start .args .coefficients .now) (start .args .columns .now) (loop .i) (omega arith) (omega arith) in
     (omega arith, is (search machine depth 30) (omega arith) (sym next))
 
 mul-result : tie.Need-mul-result Inv-loop μ-loop
@@ -76,11 +75,10 @@ add-result : tie.Need-add-result Inv-loop μ-loop
 add-result c = fits (search machine depth 30) (omega arith)
 
 returns : tie.Need-returns Inv-loop μ-loop
-unfolding leftSide rowOf
 returns c =
-    let a = c .before .before .before .args in
-    let e : c .before .before .loop .i ≡ a .t1 .count = omega arith in
-    is (search machine depth 30) (omega arith) (ap (λ n. weightedSum (at (a .x .now)) (pairs (take n (a .t1 .coefficients)) (take n (a .t1 .columns))) +ℤ a .t1 .live *ℤ a .l) e)
+    let a = c .before .before .args in
+    let e : c .before .loop .i ≡ a .count = omega arith in
+    is (search machine depth 30) (omega arith) (ap (λ n. weightedSum (at (a .x .now)) (entriesOf (a .coefficients .now) (a .columns .now) n) +ℤ a .live *ℤ a .l) e)
 
 pub left-side-spec : {M : Type 1} → statement M
 left-side-spec =
