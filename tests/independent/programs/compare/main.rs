@@ -1,6 +1,7 @@
 //! Holds the proved program against the independent implementation, on sheets, on grids and on
 //! damaged ones of both: answer, line and every byte of the buffer, for files and for numbers.
-//! Arguments: the sheets, each as a .mesh and a .claim file of one name.
+//! Arguments: a folder of inputs that fuzzing found, each a mesh file, a byte 0 and a claim file; then
+//! the sheets, each as a .mesh and a .claim file of one name.
 
 mod archive;
 mod causes;
@@ -165,6 +166,19 @@ fn every_cause(tally: &mut Tally, random: &mut Random) {
     }
 }
 
+/// Every input that fuzzing found.
+fn every_found(tally: &mut Tally, folder: &str) {
+    let mut found = 0;
+    for entry in std::fs::read_dir(folder).expect("the folder of found inputs") {
+        let bytes = std::fs::read(entry.expect("an entry").path()).expect("a found input");
+        let cut = bytes.iter().position(|&b| b == 0).unwrap_or(bytes.len());
+        let claim = bytes.get(cut + 1..).unwrap_or(&[]);
+        tally.file(&bytes[..cut], claim, 113, b'#');
+        found += 1;
+    }
+    println!("inputs found by fuzzing: {found}");
+}
+
 /// One sheet with up to three changes to its numbers, then to its bytes, then to its lists.
 fn damaged(tally: &mut Tally, random: &mut Random, seed: &Sheet) {
     let mut sheet = seed.clone();
@@ -193,10 +207,9 @@ fn read_sheet(name: &str) -> Sheet {
 fn main() {
     let mut random = Random::new(0x9E37_79B9_7F4A_7C15);
     let mut tally = Tally::default();
-    let mut seeds: Vec<Sheet> = std::env::args()
-        .skip(1)
-        .map(|name| read_sheet(&name))
-        .collect();
+    let mut arguments = std::env::args().skip(1);
+    every_found(&mut tally, &arguments.next().expect("a folder"));
+    let mut seeds: Vec<Sheet> = arguments.map(|name| read_sheet(&name)).collect();
     println!("sheets: {}", seeds.len());
     seeds.push(Sheet::worked());
     seeds
