@@ -114,11 +114,13 @@ module _ (m : List ℤ) (facts : MeshFacts m) (e : ℕ) (l : e < elements m) whe
       → RowFits (balancedOf a a′ b b′ (cornerColumns m e first) live right) (3 * nodes m)
   unfolding balancedOf cornerColumns
   balanced-fits first f ha ha′ hb hb′ hl hr = record {
-    long = refl;
-    wide = eight first;
-    few = omega arith;
-    coefficientsFit = AllWithin-le (within-cons ha (within-cons hb (within-cons ha′ (within-cons hb′ (within-cons (Within-negℤ ha) (within-cons (Within-negℤ hb) (within-cons (Within-negℤ ha′) (within-cons (Within-negℤ hb′) within-nil)))))))) (omega arith);
-    columnsFit = λ i h. columns-below first f .each i (omega (arith, eight first));
+    entries = record {
+      long = refl;
+      wide = eight first;
+      few = omega arith;
+      coefficientsFit = AllWithin-le (within-cons ha (within-cons hb (within-cons ha′ (within-cons hb′ (within-cons (Within-negℤ ha) (within-cons (Within-negℤ hb) (within-cons (Within-negℤ ha′) (within-cons (Within-negℤ hb′) within-nil)))))))) (omega arith);
+      columnsFit = λ i h. columns-below first f .each i (omega (arith, eight first));
+    };
     liveFits = hl;
     rightFits = hr;
   }
@@ -191,11 +193,13 @@ module _ {n v : ℕ} {u w dead live : ℤ} (l : v < n) (hu : Within 1000 u) (hw 
   normal-fits : (fixed : Bool) → RowFits (normalOf u w (3 * v) dead live fixed) (3 * n)
   unfolding normalOf
   normal-fits fixed = record {
-    long = refl;
-    wide = refl;
-    few = omega arith;
-    coefficientsFit = within-cons (Within-le (Within-*ℤ hw hw) (omega arith)) (within-cons (Within-negℤ (Within-le (Within-*ℤ (Within-*ℤ (Within-pos 2) hu) hw) (omega arith))) (within-cons (Within-le (Within-*ℤ hu hu) (omega arith)) zeros));
-    columnsFit = λ i h. three (3 * v) (3 * v + 2) (3 * v + 1) i h (omega arith) (omega arith) (omega arith);
+    entries = record {
+      long = refl;
+      wide = refl;
+      few = omega arith;
+      coefficientsFit = within-cons (Within-le (Within-*ℤ hw hw) (omega arith)) (within-cons (Within-negℤ (Within-le (Within-*ℤ (Within-*ℤ (Within-pos 2) hu) hw) (omega arith))) (within-cons (Within-le (Within-*ℤ hu hu) (omega arith)) zeros));
+      columnsFit = λ i h. three (3 * v) (3 * v + 2) (3 * v + 1) i h (omega arith) (omega arith) (omega arith);
+    };
     liveFits = Within-negℤ (Within-le (Within-*ℤ square-within hl) (omega arith));
     rightFits = Within-le (Within-*ℤ square-within hd) (omega arith);
   }
@@ -203,11 +207,13 @@ module _ {n v : ℕ} {u w dead live : ℤ} (l : v < n) (hu : Within 1000 u) (hw 
   shear-fits : (fixed : Bool) → RowFits (shearOf u w (3 * v) dead live fixed) (3 * n)
   unfolding shearOf
   shear-fits fixed = record {
-    long = refl;
-    wide = refl;
-    few = omega arith;
-    coefficientsFit = within-cons (Within-le (Within-*ℤ hu hw) (omega arith)) (within-cons (Within-negℤ (Within-le (Within-*ℤ hu hw) (omega arith))) (within-cons (Within-le (Within--ℤ (Within-*ℤ hw hw) (Within-*ℤ hu hu)) (omega arith)) zeros));
-    columnsFit = λ i h. three (3 * v) (3 * v + 1) (3 * v + 2) i h (omega arith) (omega arith) (omega arith);
+    entries = record {
+      long = refl;
+      wide = refl;
+      few = omega arith;
+      coefficientsFit = within-cons (Within-le (Within-*ℤ hu hw) (omega arith)) (within-cons (Within-negℤ (Within-le (Within-*ℤ hu hw) (omega arith))) (within-cons (Within-le (Within--ℤ (Within-*ℤ hw hw) (Within-*ℤ hu hu)) (omega arith)) zeros));
+      columnsFit = λ i h. three (3 * v) (3 * v + 1) (3 * v + 2) i h (omega arith) (omega arith) (omega arith);
+    };
     liveFits = Within-negℤ (Within-le (Within-*ℤ square-within hl) (omega arith));
     rightFits = Within-le (Within-*ℤ square-within hd) (omega arith);
   }

@@ -24,7 +24,7 @@ use Rattle.scope.specs.Rows.{Row, asked, equalityRows}
 use Rattle.scope.specs.Sums.{leftSide, rightSide, rowHolds}
 use Rattle.scope.specs.Verdict.{rowAt, fieldCheck}
 use Rattle.scope.specs.Facts.{ClaimFacts}
-use Rattle.rows.specs.RowContracts.{rowOf, RowFits, Filled, FieldFits, equalitiesCheck, strengthsCheck, EntriesFit}
+use Rattle.rows.specs.RowContracts.{rowOf, EntriesFit, Filled, FieldFits, equalitiesCheck, strengthsCheck}
 use Rattle.rows.proofs.ClaimLaws.{claim-within, rest-within, stress-of, scale-within, load-within, field-long}
 use Rattle.rows.proofs.StrengthLaws.{being}
 use Rattle.rows.proofs.Loops.{Phase, phase-fails, phase-done}
@@ -44,18 +44,13 @@ module _ {m x : List ℤ} {l n : ℤ} (h : FieldFits m x l n) where
 
 -- ---- a row by its numbers
 
-pub entries-fit : {r : EqualityRow} {n : ℕ} → RowFits r n → EntriesFit (r .coefficients) (r .columns) (r .count) n
-entries-fit h = record { long = h .long; wide = h .wide; few = h .few; coefficientsFit = h .coefficientsFit; columnsFit = h .columnsFit }
-
-pub fits-wider : {r : EqualityRow} {a b : ℕ} → RowFits r a → a ≤ b → RowFits r b
+pub fits-wider : {coefficients : List ℤ} {columns : List ℕ} {count a b : ℕ} → EntriesFit coefficients columns count a → a ≤ b → EntriesFit coefficients columns count b
 fits-wider h l = record {
   long = h .long;
   wide = h .wide;
   few = h .few;
   coefficientsFit = h .coefficientsFit;
   columnsFit = λ i k. le-trans (h .columnsFit i k) l;
-  liveFits = h .liveFits;
-  rightFits = h .rightFits;
 }
 
 module _ (s : ℕ → ℤ) (l n : ℤ) {r : EqualityRow} {row : Row} {columns : ℕ} (h : Filled r row columns) where

@@ -26,12 +26,12 @@ module _ {r : EqualityRow} {n : ℕ} (fit : RowFits r n) (j : ℕ) where
   unfolding weightedSum pairs
   entries-within zero h = record { within = zero-le }
   entries-within (suc i) h =
-      subst (λ z. Within (suc i * 2000000) z) (sym (one-entry-more (unit j) (r .coefficients) (r .columns) i (omega (arith, fit .long)) (omega (arith, fit .wide))) ∙ ap (λ k. weightedSum (unit j) (pairs (take k (r .coefficients)) (take k (r .columns)))) (add-one i))
-      (Within-le (Within-+ℤ (entries-within i (omega arith)) (Within-*ℤ (fit .coefficientsFit .each i) (unit-within j (getD (r .columns) i 0)))) (omega arith))
+      subst (λ z. Within (suc i * 2000000) z) (sym (one-entry-more (unit j) (r .coefficients) (r .columns) i (omega (arith, fit .entries .long)) (omega (arith, fit .entries .wide))) ∙ ap (λ k. weightedSum (unit j) (pairs (take k (r .coefficients)) (take k (r .columns)))) (add-one i))
+      (Within-le (Within-+ℤ (entries-within i (omega arith)) (Within-*ℤ (fit .entries .coefficientsFit .each i) (unit-within j (getD (r .columns) i 0)))) (omega arith))
 
   coefficient-within : Within 16000000 (coefficient j (rowOf r))
   unfolding coefficient rowOf
-  coefficient-within = Within-le (entries-within (r .count) (fit .few)) (omega (arith, fit .few))
+  coefficient-within = Within-le (entries-within (r .count) (fit .entries .few)) (omega (arith, fit .entries .few))
 
 pub grown-by : {a b d : ℤ} {B : ℕ} → b ≡ a +ℤ d → Within B d → Grown a b d B
 grown-by e h = record { by = e; step = h }

@@ -129,11 +129,7 @@ pub record EntriesFit (coefficients : List ℤ) (columns : List ℕ) (count n : 
 
 -- an equality row of a mesh with so many columns, by its size
 pub record RowFits (r : EqualityRow) (columns : ℕ) : Type 0 where
-  pub long : length (r .coefficients) ≡ 8
-  pub wide : length (r .columns) ≡ 8
-  pub few : r .count ≤ 8
-  pub coefficientsFit : AllWithin 2000000 (r .coefficients)
-  pub columnsFit : (i : ℕ) → i < r .count → getD (r .columns) i 0 < columns
+  pub entries : EntriesFit (r .coefficients) (r .columns) (r .count) columns
   pub liveFits : Within 20000000000 (r .live)
   pub rightFits : Within 20000000000 (r .right)
 

@@ -4,7 +4,7 @@ use Rattle.integer.specs.Machine.{machine, fits, exact, told, Is-read, Is-Withi
 use Rattle.scope.specs.Columns.{at}
 use Rattle.scope.specs.Sums.{coefficient}
 use Rattle.rows.specs.RowContracts.{rowOf}
-use Rattle.rows.proofs.FieldLaws.{entries-fit, fits-wider}
+use Rattle.rows.proofs.FieldLaws.{fits-wider}
 use Rattle.rows.proofs.RowLaws.{equality-among}
 use Rattle.rows.proofs.StrengthLaws.{being}
 use Rattle.rows.proofs.MultiplierLaws.{zero-summed, row-summed}
@@ -46,7 +46,7 @@ unfolding at
 add-row-requires c κs =
     let start = c .before .before .before .before .before .before .before .before .before in
     let w = being (c .before .before .before .before .before .before .before .before .number-at .ensures) (start .pre .1 .1 .0 .each (start .args .k)) in
-    (entries-fit (fits-wider (c .before .before .before .before .before .before .equality-row .ensures .fits) (start .pre .1 .1 .1 .0)), (start .pre .1 .1 .1 .1 .columnsFit, Is-Within (Is-read w (omega arith)) (omega arith)))
+    (fits-wider (c .before .before .before .before .before .before .equality-row .ensures .fits .entries) (start .pre .1 .1 .1 .0), (start .pre .1 .1 .1 .1 .columnsFit, Is-Within (Is-read w (omega arith)) (omega arith)))
 
 add-t13 : tie.Need-add-t13
 unfolding at

@@ -4,7 +4,7 @@ use Rattle.integer.specs.Tests.{eqZ}
 use Rattle.scope.specs.Columns.{at}
 use Rattle.scope.specs.Sums.{leftSide, weightedSum}
 use Rattle.rows.specs.RowContracts.{rowOf, entriesOf}
-use Rattle.rows.proofs.FieldLaws.{load-read, entries-fit, fits-wider, row-asked, row-unfixed}
+use Rattle.rows.proofs.FieldLaws.{load-read, fits-wider, row-asked, row-unfixed}
 use mathlib.Core.Path.{_≡_, sym, _∙_, ap₂}
 use native.Mathlib.Omega.{arith}
 use mir.Syntax.{w64}
@@ -22,7 +22,7 @@ left-side-requires c κs =
     let start = c .before .before .before .before .before .before .before in
     let fit = c .before .before .before .before .before .before .equality-row .ensures .fits in
     let live = fit .liveFits in
-    (entries-fit (fits-wider fit (start .pre .1 .long)), (bounded (search machine depth 30) (omega arith), (start .pre .1 .stresses, search limits)))
+    (fits-wider (fit .entries) (start .pre .1 .long), (bounded (search machine depth 30) (omega arith), (start .pre .1 .stresses, search limits)))
 
 mul-result : tie.Need-mul-result
 mul-result c =
