@@ -24,11 +24,11 @@ use Rattle.scope.specs.Rows.{Row, asked, equalityRows}
 use Rattle.scope.specs.Sums.{leftSide, rightSide, rowHolds}
 use Rattle.scope.specs.Verdict.{rowAt, fieldCheck}
 use Rattle.scope.specs.Facts.{ClaimFacts}
+use Rattle.scope.proofs.RowCounts.{equality-count}
 use Rattle.rows.specs.RowContracts.{rowOf, EntriesFit, Filled, FieldFits, equalitiesCheck, strengthsCheck}
 use Rattle.rows.proofs.ClaimLaws.{claim-within, rest-within, stress-of, scale-within, load-within, field-long}
 use Rattle.rows.proofs.StrengthLaws.{being}
 use Rattle.rows.proofs.Loops.{Phase, phase-fails, phase-done}
-use Rattle.rows.proofs.RowLaws.{equality-count}
 
 -- ---- numbers that the machine read back
 

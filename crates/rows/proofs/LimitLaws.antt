@@ -24,6 +24,7 @@ use Rattle.scope.specs.Mesh.{nodes, elements, edges, sides, edgeEntry, fromNode
 use Rattle.scope.specs.Rows.{Kind, asked, unfixed, strength, Row, fixedIf, balanceX, balanceY, normalRow, shearRow, equalityRows, rowsOf}
 use Rattle.scope.specs.Sums.{coefficient, columnSum, liveSum, limitSum, zeroIfUnfixed}
 use Rattle.scope.specs.Verdict.{rowAt, multipliersCheck, ifPart, upperLoad}
+use Rattle.scope.proofs.RowCounts.{equality-count}
 use Rattle.rows.specs.declared.multiplier_sums.Sums.{Sums}
 use Rattle.rows.specs.declared.multiplier_checks.Limit.{Limit}
 use Rattle.rows.specs.declared.multiplier_checks.Limit.the-variants as L
@@ -33,7 +34,7 @@ use Rattle.rows.specs.LimitContracts.{isAsked, unfixedCheck, columnsChec
 use Rattle.rows.proofs.ClaimLaws.{multiplier-is, rest-is, equality-within, strength-within, with-multipliers}
 use Rattle.rows.proofs.EqualityLaws.{balance-row-is, side-row-is}
 use Rattle.rows.proofs.Loops.{Phase, phase-fails, phase-done}
-use Rattle.rows.proofs.RowLaws.{equality-count, row-count}
+use Rattle.rows.proofs.RowLaws.{row-count}
 use Rattle.rows.proofs.SumLaws.{weighed-sum}
 
 -- ---- which rows ask something
@@ -169,15 +170,6 @@ unfolding multipliersLimit multipliersCheck unfixedCheck
 unfixed-refused m w e = sym (rw e)
 
 -- ---- a claim's multipliers
-
--- a part that is there whole, by its flag
-pub few-of : (b : Bool) (k : ℕ) {n r : ℕ} → r ≡ ifThere b k → k ≤ n → r ≤ n
-unfolding ifThere
-few-of b k {n} e h = rw e (by b)
-  where
-    by : (b : Bool) → cond b k 0 ≤ n
-    by true = h
-    by false = omega arith
 
 pub from-header : (c : List ℤ) (n : ℕ) {flag : ℤ} {k : ℕ} → flag ≡ at c 0 → k ≡ ifThere (eqZ flag (pos 1)) n → 4 + k * 3 ≡ 4 + ifThere (hasField c) n * 3
 unfolding hasField

@@ -18,12 +18,12 @@ use Rattle.scope.specs.Mesh.{nodes, elements, edges, sides}
 use Rattle.scope.specs.Rows.{Kind, asked, unfixed, strength, Row, equalityRows, rowsOf}
 use Rattle.scope.specs.Sums.{leftSide, rightSide, isOpen, openRows}
 use Rattle.scope.specs.Verdict.{rowAt, openCount}
-use Rattle.scope.proofs.RowCounts.{equality-kind}
+use Rattle.scope.proofs.RowCounts.{equality-count, equality-kind}
 use Rattle.scope.proofs.Lists.{row-in}
 use Rattle.rows.specs.RowContracts.{Listed, NodeState, MeshSteps, sideSlack, multipliersFrom}
 use Rattle.rows.specs.MultiplierContracts.{countBelow, nodeFirst}
 use Rattle.rows.specs.OpenContracts.{oneIfOpen, sideOpen}
-use Rattle.rows.proofs.RowLaws.{equality-count, equality-among, row-count}
+use Rattle.rows.proofs.RowLaws.{equality-among, row-count}
 use Rattle.rows.proofs.LimitLaws.{multiplier-lent}
 use Rattle.rows.proofs.NodeLaws.{sides-between, next-first, node-row-at}
 use Rattle.rows.proofs.StrengthLaws.{open-test}

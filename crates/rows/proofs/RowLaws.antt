@@ -1,9 +1,8 @@
 -- The rows by their place: pieces of equal length joined, row j of piece i has the place i times that length plus j.
 use mathlib.Core.Path.{_≡_, refl, sym, _∙_, ap, ap₂}
-use mathlib.Core.Logic.{⊎-elim}
 use mathlib.Core.List.{List, [], _∷_, _++_, map}
 use Prim.Native.Nat.{ℕ, zero, suc, _+_, _*_, _<_}
-use native.Mathlib.Nat.{add-comm, add-zero, zero-add, zero-mul, suc-mul}
+use native.Mathlib.Nat.{add-zero, zero-add, zero-mul, suc-mul}
 use native.Mathlib.Omega.{arith}
 use lib.IntN.{ℤ}
 use lib.ListN.{length, getD, length-append, length-map, List·getD-append}
@@ -13,19 +12,12 @@ use Rattle.scope.specs.Polygon.{Side, polygonSides, polygonOf}
 use Rattle.scope.specs.Rows.{Row, Pair, countFrom, joined, balanceX, balanceY, balanceRows, normalRow, shearRow, sideRows, nodeSoil, strengthPairs, strengthRow, pairRows, strengthRows, equalityRows, rowsOf}
 use Rattle.scope.specs.Verdict.{rowAt}
 use Rattle.rows.specs.RowContracts.{Listed, sideAt}
-use Rattle.scope.proofs.RowCounts.{side-of-each}
+use Rattle.scope.proofs.RowCounts.{balance-count, equality-count, polygon-sides, strength-count}
 use Rattle.scope.proofs.Lists.{count-length}
-use Rattle.scope.proofs.PolygonRule.{twelve-sides, twenty-sides, thirty-six-sides}
 
 -- ---- pieces
 
 module _ {A B : Type 0} (f : A → List B) (b : ℕ) (each : (a : A) → length (f a) ≡ b) where
-  length-joined : (l : List A) → length (joined f l) ≡ length l * b
-  unfolding joined
-  length-joined [] = sym (zero-mul b)
-  length-joined (a ∷ l) =
-      length-append (f a) (joined f l) ∙ ap₂ _+_ (each a) (length-joined l) ∙ add-comm b (length l * b) ∙ sym (suc-mul (length l) b)
-
   at-joined : (l : List A) (a₀ : A) (d : B) (i j : ℕ) → i < length l → j < b → getD (joined f l) (i * b + j) d ≡ getD (f (getD l i a₀)) j d
   unfolding joined
   at-joined [] a₀ d i j h k = absurd (omega arith)
@@ -45,9 +37,6 @@ at-count k (suc n) (suc i) d h = at-count (suc k) n i d (omega arith) ∙ (omega
 
 -- pieces numbered from 0
 module _ {B : Type 0} (f : ℕ → List B) (b : ℕ) (each : (a : ℕ) → length (f a) ≡ b) (n : ℕ) where
-  length-pieces : length (joined f (countFrom 0 n)) ≡ n * b
-  length-pieces = length-joined f b each (countFrom 0 n) ∙ ap (λ k. k * b) (count-length 0 n)
-
   at-pieces : (d : B) (i j : ℕ) → i < n → j < b → getD (joined f (countFrom 0 n)) (i * b + j) d ≡ getD (f i) j d
   at-pieces d i j h k =
       at-joined f b each (countFrom 0 n) 0 d i j (omega (arith, count-length 0 n)) k
@@ -66,28 +55,16 @@ rows-after es ss k = getD-append-add es ss k _
 -- ---- the rows of a mesh
 
 module _ (m : List ℤ) where
-  pub balance-count : length (balanceRows m) ≡ elements m * 2
-  unfolding balanceRows
-  balance-count = length-pieces (λ e. balanceX m e ∷ balanceY m e ∷ []) 2 (λ e. refl) (elements m)
-
-  side-count : length (sideRows m) ≡ edges m * 4
-  unfolding sideRows
-  side-count = length-pieces (λ g. normalRow m g (fromNode m g) ∷ shearRow m g (fromNode m g) ∷ normalRow m g (toNode m g) ∷ shearRow m g (toNode m g) ∷ []) 4 (λ g. refl) (edges m)
-
-  pub equality-count : length (equalityRows m) ≡ elements m * 2 + edges m * 4
-  unfolding equalityRows
-  equality-count = length-append (balanceRows m) (sideRows m) ∙ ap₂ _+_ balance-count side-count
-
   pub balance-at : (e i : ℕ) → e < elements m → i < 2 → rowAt (equalityRows m) (e * 2 + i) ≡ rowAt (balanceX m e ∷ balanceY m e ∷ []) i
   unfolding equalityRows balanceRows rowAt
   balance-at e i h k =
-      rows-before (balanceRows m) (sideRows m) (e * 2 + i) (omega (arith, balance-count))
+      rows-before (balanceRows m) (sideRows m) (e * 2 + i) (omega (arith, balance-count m))
       ∙ at-pieces (λ e. balanceX m e ∷ balanceY m e ∷ []) 2 (λ e. refl) (elements m) _ e i h k
 
   pub side-at : (g i : ℕ) → g < edges m → i < 4 → rowAt (equalityRows m) (elements m * 2 + (g * 4 + i)) ≡ rowAt (normalRow m g (fromNode m g) ∷ shearRow m g (fromNode m g) ∷ normalRow m g (toNode m g) ∷ shearRow m g (toNode m g) ∷ []) i
   unfolding equalityRows sideRows rowAt
   side-at g i h k =
-      ap (λ n. rowAt (balanceRows m ++ sideRows m) (n + (g * 4 + i))) (sym balance-count)
+      ap (λ n. rowAt (balanceRows m ++ sideRows m) (n + (g * 4 + i))) (sym (balance-count m))
       ∙ rows-after (balanceRows m) (sideRows m) (g * 4 + i)
       ∙ at-pieces (λ g. normalRow m g (fromNode m g) ∷ shearRow m g (fromNode m g) ∷ normalRow m g (toNode m g) ∷ shearRow m g (toNode m g) ∷ []) 4 (λ g. refl) (edges m) _ g i h k
 
@@ -98,9 +75,6 @@ at-map f [] k a b h = absurd (omega arith)
 at-map f (c ∷ l) zero a b h = refl
 at-map f (c ∷ l) (suc k) a b h = at-map f l k a b (omega arith)
 
-side-number : {n : ℕ} → Listed n → length (polygonSides (polygonOf n .corners)) ≡ n
-side-number {n} l = side-of-each (polygonOf n .corners) ∙ ⊎-elim (λ e. rw e (twelve-sides .count)) (λ r. ⊎-elim (λ e. rw e (twenty-sides .count)) (λ e. rw e (thirty-six-sides .count)) r) (l .listed)
-
 -- the strength row of a node and a side
 unfoldable pub nodeRow : List ℤ → ℕ → Side → Row
 nodeRow m v s = strengthRow (polygonOf (sides m) .radius) (p m (nodeSoil m v)) (q m (nodeSoil m v)) (h m (nodeSoil m v)) (cohesion m (nodeSoil m v)) v s
@@ -108,15 +82,11 @@ nodeRow m v s = strengthRow (polygonOf (sides m) .radius) (p m (nodeSoil m v)) (
 module _ (m : List ℤ) (listed : Listed (sides m)) where
   length-pair : (a : Pair) → length (pairRows (polygonOf (sides m)) m a) ≡ sides m
   unfolding pairRows
-  length-pair a = length-map (polygonSides (polygonOf (sides m) .corners)) _ ∙ side-number listed
+  length-pair a = length-map (polygonSides (polygonOf (sides m) .corners)) _ ∙ polygon-sides (sides m) (listed .listed)
 
   pair-count : length (strengthPairs m) ≡ nodes m
   unfolding strengthPairs
   pair-count = length-map (countFrom 0 (nodes m)) _ ∙ count-length 0 (nodes m)
-
-  pub strength-count : length (strengthRows m) ≡ nodes m * sides m
-  unfolding strengthRows
-  strength-count = length-joined (pairRows (polygonOf (sides m)) m) (sides m) length-pair (strengthPairs m) ∙ ap (λ n. n * sides m) pair-count
 
   pair-at : (v : ℕ) (d : Pair) → v < nodes m → getD (strengthPairs m) v d ≡ record { at = v; soil = nodeSoil m v }
   unfolding strengthPairs
@@ -129,14 +99,14 @@ module _ (m : List ℤ) (listed : Listed (sides m)) where
   strength-at v k l j =
       at-joined (pairRows (polygonOf (sides m)) m) (sides m) length-pair (strengthPairs m) (record { at = 0; soil = 0 }) _ v k (omega (arith, pair-count)) j
       ∙ ap (λ a. rowAt (pairRows (polygonOf (sides m)) m a) k) (pair-at v (record { at = 0; soil = 0 }) l)
-      ∙ at-map _ (polygonSides (polygonOf (sides m) .corners)) k _ _ (omega (arith, side-number listed))
+      ∙ at-map _ (polygonSides (polygonOf (sides m) .corners)) k _ _ (omega (arith, polygon-sides (sides m) (listed .listed)))
 
 -- ---- all rows
 
 module _ (m : List ℤ) where
   pub row-count : Listed (sides m) → length (rowsOf m) ≡ elements m * 2 + edges m * 4 + nodes m * sides m
   unfolding rowsOf
-  row-count l = length-append (equalityRows m) (strengthRows m) ∙ ap₂ _+_ (equality-count m) (strength-count m l)
+  row-count l = length-append (equalityRows m) (strengthRows m) ∙ ap₂ _+_ (equality-count m) (strength-count m (l .listed))
 
   pub equality-among : (k : ℕ) → k < elements m * 2 + edges m * 4 → rowAt (rowsOf m) k ≡ rowAt (equalityRows m) k
   unfolding rowsOf

@@ -12,10 +12,11 @@ use lib.IntN.{ℤ, pos, _+ℤ_, _-ℤ_, _*ℤ_, negℤ}
 use Rattle.integer.specs.Linear.{linear, facts, _&_}
 use Rattle.integer.specs.Ring.{ring, terms}
 use Rattle.integer.specs.Tests.{same-test, yes-leZ, yes-ltZ}
+use Rattle.scope.proofs.RowCounts.{strength-count}
 use Rattle.scope.proofs.SumBounds.{from-0}
 use Rattle.scope.proofs.Checks.{lowest-add, lowest-cong}
-use Rattle.rows.proofs.RowLaws.{nodeRow, strength-at, strength-count}
-use Rattle.integer.specs.Bounds.{Within, bounds}
+use Rattle.rows.proofs.RowLaws.{nodeRow, strength-at}
+use Rattle.integer.specs.Bounds.{Within}
 use Rattle.integer.specs.Machine.{Is, Is-as, Is-Within}
 use Rattle.scope.specs.Mesh.{nodes, sides, p, q, h, cohesion}
 use Rattle.rows.specs.declared.sizes.Sizes.{Sizes}
@@ -30,7 +31,7 @@ use Rattle.scope.specs.Polygon.{Side, Polygon, polygonOf}
 use Rattle.scope.specs.Rows.{Row, sx, sy, t, nodeSoil, cross, strengthRow, strengthRows}
 use Rattle.scope.specs.Sums.{weightedSum, leftSide, rightSide, rowHolds, isOpen}
 use Rattle.scope.specs.Verdict.{rowAt}
-use Rattle.scope.specs.Facts.{Between, SoilFacts}
+use Rattle.scope.specs.Facts.{SoilFacts}
 use Rattle.rows.specs.Contracts.{Sized}
 use Rattle.rows.specs.RowContracts.{Listed, SoilNumbers, SoilFits, NodeNumbers, NodeFits, NodeState, Steps, MeshSteps, StepsFit, sideAt, runOf, riseOf, crossOf, sideSlack, nodeCheck, strengthsCheck}
 
@@ -39,18 +40,15 @@ being e h = record { same = e; inside = h }
 
 -- ---- the numbers of a soil
 
-from-one : {B : ℕ} {z : ℤ} → Between (pos 1) (pos B) z → Within B z
-from-one h = linear (h .least & h .most) (search bounds depth 40) (omega arith)
-
 module _ {m : List ℤ} {s : ℕ} (f : SoilFacts m s) where
   pub p-within : Within 1000 (p m s)
   p-within = from-0 (f .pRange)
 
   pub q-within : Within 1000 (q m s)
-  q-within = from-one (f .qRange)
+  q-within = from-0 (f .qRange)
 
   pub h-within : Within 1000 (h m s)
-  h-within = from-one (f .hRange)
+  h-within = from-0 (f .hRange)
 
   pub cohesion-within : Within 10000 (cohesion m s)
   cohesion-within = from-0 (f .cohesionRange)
@@ -174,11 +172,11 @@ module _ (m c : List ℤ) (listed : Listed (sides m)) {tab : List ℤ} (steps : 
       rest = length (strengthRows m) - (v * sides m + sides m)
 
       total : length (strengthRows m) ≡ v * sides m + sides m + rest
-      total = omega (arith, strength-count m listed, mul-le-mul-right (sides m) h, suc-mul v (sides m))
+      total = omega (arith, strength-count m (listed .listed), mul-le-mul-right (sides m) h, suc-mul v (sides m))
 
   pub all-nodes : (v : ℕ) → v ≡ nodes m → lowest (strengthDemand m c) (v * sides m) ≡ Passed → Passed ≡ strengthsCheck (strengthRows m) (stress m c) (l c) (n c)
   unfolding strengthsCheck
-  all-nodes v e p = sym (ap (lowest (strengthDemand m c)) (strength-count m listed ∙ ap (λ k. k * sides m) (sym e)) ∙ p)
+  all-nodes v e p = sym (ap (lowest (strengthDemand m c)) (strength-count m (listed .listed) ∙ ap (λ k. k * sides m) (sym e)) ∙ p)
 
 -- the number of sides as the code has it
 pub steps-as : {s n : ℕ} {tab : List ℤ} → s ≡ n → Steps (polygonOf s) s tab → Steps (polygonOf n) n tab

@@ -25,7 +25,7 @@ length-joined f w (a ∷ l) h =
 
 -- ---- equality rows
 
-balance-count : (m : List ℤ) → length (balanceRows m) ≡ elements m * 2
+pub balance-count : (m : List ℤ) → length (balanceRows m) ≡ elements m * 2
 unfolding balanceRows
 balance-count m =
     length-joined (λ e. balanceX m e ∷ balanceY m e ∷ []) 2 (countFrom 0 (elements m)) (λ a i. refl)

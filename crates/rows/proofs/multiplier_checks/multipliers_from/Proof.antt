@@ -3,7 +3,8 @@ use native.Mathlib.Omega.{arith}
 use Rattle.integer.specs.Machine.{Is-read}
 use Rattle.scope.specs.Columns.{at}
 use Rattle.rows.proofs.StrengthLaws.{being}
-use Rattle.rows.proofs.LimitLaws.{from-header, few-of}
+use Rattle.rows.proofs.GroupLaws.{few-there}
+use Rattle.rows.proofs.LimitLaws.{from-header}
 use borrow.Author.Needs.{needs}
 use Rattle.rows.proofs.multiplier_checks.multipliers_from.Statement.{statement}
 use Rattle.rows.proofs.multiplier_checks.multipliers_from.Tie as tie
@@ -15,10 +16,10 @@ if-there-requires : tie.Need-if-there-requires
 if-there-requires c κs = search needs
 
 mul-result : tie.Need-mul-result
-mul-result c = omega (arith, few-of _ (c .before .before .args .nodes) (c .if-there .ensures) (c .before .before .pre .1 .1))
+mul-result c = omega (arith, few-there _ (c .if-there .ensures) (c .before .before .pre .1 .1))
 
 add-result : tie.Need-add-result
-add-result c = omega (arith, few-of _ (c .before .before .args .nodes) (c .if-there .ensures) (c .before .before .pre .1 .1))
+add-result c = omega (arith, few-there _ (c .if-there .ensures) (c .before .before .pre .1 .1))
 
 returns : tie.Need-returns
 unfolding at
