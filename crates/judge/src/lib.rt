@@ -51,7 +51,7 @@ fn judge_claim_in(m: &[i64], soils: &[u8], claim: &[u8], numbers: &mut [i64]) ->
     judge_claim(m, soils, &numbers[..count])
 }
 
-// The same. An array is filled with zeros before it is used, and for a small claim that would cost more than its check: so there are three sizes.
+// The same. An array is filled with zeros before it is used, and for a small claim that is a large part of the time: so there are three sizes.
 pub fn judge_claim_file(m: &[i64], soils: &[u8], claim: &[u8]) -> Verdict
     requires { ⌜ SoundMesh (now m) (now soils) ⌝ }
     ensures { λ r. ⌜ r ≡ claimVerdict (now (m .entry)) (claimNumbers fileWidth (now (m .entry)) (now (claim .entry))) ⌝ }
