@@ -1,8 +1,9 @@
 -- A test decides a statement: it passes exactly when the statement holds. One law for each way of building a test.
 use mathlib.Core.Path.{_≡_, subst}
-use mathlib.Core.Logic.{_⊎_, inl, inr}
-use mathlib.Core.Bool.{Bool, true, false, not, _&&_, _||_}
-use Prim.Native.Nat.{ℕ, zero, suc, _<_, _≤_}
+use mathlib.Core.Logic.{_⊎_, inl, inr, ⊎-elim}
+use mathlib.Core.Bool.{Bool, true, false, cond, not, _&&_, _||_}
+use Prim.Native.Nat.{ℕ, zero, suc, _<_, _≤_, zero-le}
+use native.Mathlib.Nat.{eq-or-lt-of-le}
 use native.Mathlib.Omega.{arith}
 use lib.IntN.{ℤ}
 use lib.Signed.{leZ, ltZ, _≤ℤ_, _<ℤ_, leZ-yes, ltZ-yes}
@@ -12,6 +13,7 @@ use Rattle.scope.specs.declared.Place.{Place}
 use Rattle.scope.specs.declared.Outcome.{Outcome}
 use Rattle.scope.specs.declared.Outcome.the-variants.{Passed, Refused}
 use Rattle.scope.specs.Checks.{demand, _then_, lowest, someBelow, allBelow}
+use Rattle.scope.specs.Rows.{firstWhere}
 use Rattle.scope.proofs.Checks.{below-suc, demand-passed, demand-refused, then-passed, then-refused, lowest-passed, lowest-refused}
 
 pub record Decides (b : Bool) (A : Type 0) : Type 0 where
@@ -82,6 +84,30 @@ all-below {f} {P} d (suc n) = said-as (both (all-below d n) (d n)) (λ h k l. up
     up : {k : ℕ} → (((k : ℕ) → k < n → P k) × P n) → (k < n) ⊎ (k ≡ n) → P k
     up {k} h (inl l) = h .0 k l
     up {k} h (inr l) = rw l (h .1)
+
+-- ---- the lowest
+
+-- k is the lowest number below n that passes, or is n
+pub record First (f : ℕ → Bool) (n k : ℕ) : Type 0 where
+  pub fits : k ≤ n
+  pub before : (j : ℕ) → j < k → T (not (f j))
+  pub passes : k < n → T (f k)
+
+pub first-where : (f : ℕ → Bool) (n : ℕ) → First f n (firstWhere f n)
+unfolding firstWhere
+first-where f zero = record { fits = zero-le; before = λ j h. absurd (omega arith); passes = λ h. absurd (omega arith) }
+first-where f (suc n) = step (firstWhere f n) (first-where f n) (eqb (firstWhere f n) n) (equal (firstWhere f n) n) (f n) (λ t. t) (λ t. t)
+  where
+    step : (k : ℕ) → First f n k → (same : Bool) → Decides same (k ≡ n) → (b : Bool) → (T b → T (f n)) → (T (not b) → T (not (f n)))
+        → First f (suc n) (elim same [ true ↦ cond b n (suc n) | false ↦ k ])
+    step k g true is true pass fail = record { fits = omega arith; before = rw (is .holds tt) at (g .before); passes = λ h. pass tt }
+    step k g true is false pass fail = record {
+      fits = omega arith;
+      before = λ j h. let small : j ≤ n = omega arith in ⊎-elim (λ p. rw p (fail tt)) (λ l. g .before j (rw (is .holds tt) l)) (eq-or-lt-of-le small);
+      passes = λ h. absurd (omega arith);
+    }
+    step k g false is b pass fail =
+        let small = g .fits in record { fits = omega arith; before = g .before; passes = λ h. ⊎-elim (λ e. absurd (is .passes e)) (g .passes) (eq-or-lt-of-le small) }
 
 -- ---- checks of such tests
 

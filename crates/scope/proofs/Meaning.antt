@@ -1,17 +1,17 @@
 -- The laws of what the rows mean: ring identities; the element's area and outward normal by its left turns; a node's soil by a search from the lowest element up.
 use mathlib.Core.Path.{_≡_, refl, sym, _∙_}
 use mathlib.Core.Logic.{_↔_, ⊎-elim}
-use mathlib.Core.Bool.{Bool, true, false, cond, not}
+use mathlib.Core.Bool.{Bool, true, false, not}
 use mathlib.Core.List.{List, [], _∷_}
-use Prim.Native.Nat.{ℕ, zero, suc, _+_, _≤_, _<_, zero-le}
+use Prim.Native.Nat.{ℕ, zero, suc, _+_, _<_}
 use native.Mathlib.Omega.{arith}
 use native.Mathlib.Nat.{eq-or-lt-of-le}
-use lib.Dec.{T, T-not, eqb, lit<}
+use lib.Dec.{T-not, lit<}
 use lib.IntN.{ℤ, pos, _+ℤ_, _-ℤ_, _*ℤ_, negℤ}
 use lib.Signed.{_<ℤ_}
 use Rattle.integer.specs.Ring.{ring, ring-from, sides as both-sides, terms}
 use Rattle.integer.specs.Order.{by-pos, +ℤ-mono-<, *ℤ-pos, *ℤ-cancel, <ℤ→≤ℤ}
-use Rattle.scope.proofs.Decides.{Decides, equal}
+use Rattle.scope.proofs.Decides.{First, first-where}
 use Rattle.scope.proofs.Sound.{corner-of}
 use Rattle.scope.specs.Mesh.{elements, x, y, corner, fromNode, toNode}
 use Rattle.scope.specs.Polygon.{Side}
@@ -129,28 +129,6 @@ side-meaning r s p q h C n sx sy t =
     centre e f = rw (e, f) (ring (s .from .px ∷ s .from .py ∷ s .to .px ∷ s .to .py ∷ r ∷ h ∷ sy ∷ []) (search terms depth 100) refl)
 
 -- ---- a node's soil
-
--- k is the lowest number below n that passes, or is n
-record First (f : ℕ → Bool) (n k : ℕ) : Type 0 where
-  fits : k ≤ n
-  before : (j : ℕ) → j < k → T (not (f j))
-  passes : k < n → T (f k)
-
-first-where : (f : ℕ → Bool) (n : ℕ) → First f n (firstWhere f n)
-unfolding firstWhere
-first-where f zero = record { fits = zero-le; before = λ j h. absurd (omega arith); passes = λ h. absurd (omega arith) }
-first-where f (suc n) = step (firstWhere f n) (first-where f n) (eqb (firstWhere f n) n) (equal (firstWhere f n) n) (f n) (λ t. t) (λ t. t)
-  where
-    step : (k : ℕ) → First f n k → (same : Bool) → Decides same (k ≡ n) → (b : Bool) → (T b → T (f n)) → (T (not b) → T (not (f n)))
-        → First f (suc n) (elim same [ true ↦ cond b n (suc n) | false ↦ k ])
-    step k g true is true pass fail = record { fits = omega arith; before = rw (is .holds tt) at (g .before); passes = λ h. pass tt }
-    step k g true is false pass fail = record {
-      fits = omega arith;
-      before = λ j h. let small : j ≤ n = omega arith in ⊎-elim (λ p. rw p (fail tt)) (λ l. g .before j (rw (is .holds tt) l)) (eq-or-lt-of-le small);
-      passes = λ h. absurd (omega arith);
-    }
-    step k g false is b pass fail =
-        let small = g .fits in record { fits = omega arith; before = g .before; passes = λ h. ⊎-elim (λ e. absurd (is .passes e)) (g .passes) (eq-or-lt-of-le small) }
 
 pub lowest-element : (m : List ℤ) (v e : ℕ) → e < elements m → HasCorner m v e → LowestElement m v
 unfolding nodeSoil
