@@ -1,56 +1,31 @@
 -- Laws of a group of lines whose columns all have one limit: its numbers are looked at in one go, and the first that is outside tells the line.
 use mathlib.Core.Path.{_≡_, refl, sym, _∙_, ap, subst}
-use mathlib.Core.Bool.{Bool, true, false, cond, _&&_}
+use mathlib.Core.Bool.{Bool, true, false, _&&_}
 use mathlib.Core.List.{List, [], _∷_}
 use Prim.Native.Nat.{ℕ, zero, suc, _+_, _*_, _/_, _%_, _<_, _≤_, min}
 use native.Mathlib.Nat.{suc-mul, mul-le-mul, mul-le-mul-right, mod-lt, div-add-mod', le-div-iff-mul-le, div-lt-iff-lt-mul, lt-div-mul-add}
+use native.Mathlib.Decide.{decLt}
 use native.Mathlib.Omega.{arith}
 use lib.IntN.{ℤ, pos}
-use lib.Dec.{eqb}
+use lib.Dec.{T, eqb}
 use lib.ListN.{length, getD, take, drop, replicate, length-take, length-drop, length-replicate}
-use lib.Seq.{getD-take, getD-drop}
+use lib.Seq.{getD-take, getD-drop, length-take-le}
 use mir.Syntax.{w64}
 use mir.Val.{SFits}
 use borrow.Author.Tests.{eq-eqb, ne-eqb}
 use Rattle.scope.specs.declared.Place.the-variants.{Line}
 use Rattle.scope.specs.declared.Outcome.the-variants.{Passed, Refused}
-use Rattle.scope.specs.Checks.{demand, _then_}
-use Rattle.scope.specs.Columns.{Limit, between, within, allWithin}
+use Rattle.scope.specs.Checks.{demand, _then_, allBelow}
+use Rattle.scope.specs.Columns.{Limit, between, within, allWithin, at}
 use Rattle.scope.specs.Layout.{Layout, rulesHold, lineCheck}
-use Rattle.rows.specs.LineContracts.{runWithin, groupCheck, evenLines, NumberedFrom}
+use Rattle.rows.specs.LineContracts.{groupCheck, evenLines, NumberedFrom}
+use Rattle.rows.specs.SearchContracts.{firstFailing}
 use Rattle.scope.proofs.Checks.{then-Passed, all-lowest, first-refused}
 use Rattle.rows.proofs.LineLaws.{read, read-limit}
 use Rattle.rows.proofs.GroupLaws.{lineStep}
+use Rattle.rows.proofs.Loops.{each-below, all-of-each, all-cong, holds-before, fails-there}
 
--- ---- the run of numbers within the limit, at the front of a list
-
-run-below : (a : Limit) (s : List ℤ) (j : ℕ) → j < runWithin a s → within a (getD s j (pos 0)) ≡ true
-unfolding runWithin
-run-below a [] j h = absurd (omega arith)
-run-below a (z ∷ s) j h = by (within a z) refl j h (run-below a s)
-  where
-    by : (b : Bool) → within a z ≡ b → (j : ℕ) → j < cond b (suc (runWithin a s)) 0 → ((j : ℕ) → j < runWithin a s → within a (getD s j (pos 0)) ≡ true) → within a (getD (z ∷ s) j (pos 0)) ≡ true
-    by true e zero h r = e
-    by true e (suc j) h r = r j (omega arith)
-    by false e j h r = absurd (omega arith)
-
-run-most : (a : Limit) (s : List ℤ) → runWithin a s ≤ length s
-unfolding runWithin
-run-most a [] = omega arith
-run-most a (z ∷ s) = by (within a z) (run-most a s)
-  where
-    by : (b : Bool) → runWithin a s ≤ length s → cond b (suc (runWithin a s)) 0 ≤ suc (length s)
-    by true h = omega arith
-    by false h = omega arith
-
-run-end : (a : Limit) (s : List ℤ) → runWithin a s < length s → within a (getD s (runWithin a s) (pos 0)) ≡ false
-unfolding runWithin
-run-end a [] h = absurd (omega arith)
-run-end a (z ∷ s) h = by (within a z) refl h (run-end a s)
-  where
-    by : (b : Bool) → within a z ≡ b → cond b (suc (runWithin a s)) 0 < suc (length s) → (runWithin a s < length s → within a (getD s (runWithin a s) (pos 0)) ≡ false) → within a (getD (z ∷ s) (cond b (suc (runWithin a s)) 0) (pos 0)) ≡ false
-    by true e h r = r (omega arith)
-    by false e h r = e
+-- ---- the numbers of one line
 
 all-inside : (w : ℕ) (a : Limit) (s : List ℤ) → ((j : ℕ) → j < w → within a (getD s j (pos 0)) ≡ true) → allWithin (replicate w a) s ≡ true
 unfolding allWithin
@@ -80,7 +55,9 @@ even-line f n w a s line k = rw (length-replicate w a) (then-Passed _)
 pub record EvenRun (s : List ℤ) (n w : ℕ) (a : Limit) (whole run : ℕ) : Type 0 where
   pub someColumn : 0 < w
   pub wholeIs : whole ≡ min (length s / w) n
-  pub runIs : run ≡ runWithin a (take (whole * w) s)
+  pub most : run ≤ whole * w
+  pub inside : (i : ℕ) → i < run → within a (getD s i (pos 0)) ≡ true
+  pub outside : run < whole * w → within a (getD s run (pos 0)) ≡ false
 
 pub whole-there : (s : List ℤ) (n w whole : ℕ) → 0 < w → whole ≡ min (length s / w) n → whole * w ≤ length s
 whole-there s n w whole p e = le-div-iff-mul-le p .0 (omega arith)
@@ -93,14 +70,6 @@ module _ {s : List ℤ} {n w : ℕ} {a : Limit} {whole run : ℕ} (h : EvenRun s
   lines-there : whole * w ≤ length s
   lines-there = whole-there s n w whole (h .someColumn) (h .wholeIs)
 
-  run-there : run ≤ whole * w
-  run-there = omega (arith, h .runIs, run-most a (take (whole * w) s), length-take (whole * w) s)
-
-  in-run : (i : ℕ) → i < run → within a (getD s i (pos 0)) ≡ true
-  in-run i l =
-      let q : i < whole * w = omega (arith, run-there) in
-      rw (getD-take (whole * w) s i (pos 0) q) at (run-below a (take (whole * w) s) i (omega (arith, h .runIs)))
-
   whole-line : (k : ℕ) → k < whole → eqb (length (take w (drop (k * w) s))) w ≡ true
   whole-line k l = eq-eqb (length (take w (drop (k * w) s))) w (omega (arith, length-take w (drop (k * w) s), length-drop (k * w) s, lines-apart whole k l, lines-there))
 
@@ -110,14 +79,7 @@ module _ {s : List ℤ} {n w : ℕ} {a : Limit} {whole run : ℕ} (h : EvenRun s
   passes : (k : ℕ) → k < whole → k * w + w ≤ run → lineStep f (evenLines n w a) s line k ≡ Passed
   passes k l r =
       even-line f n w a s line k
-      ∙ rw (whole-line k l, all-inside w a (take w (drop (k * w) s)) (λ j i. number-at k j i ∙ in-run (k * w + j) (omega arith)))
-
-  after-run : run < whole * w → within a (getD s run (pos 0)) ≡ false
-  after-run l =
-      let t : List ℤ = take (whole * w) s in
-      let e : within a (getD t run (pos 0)) ≡ false =
-      subst (λ (i : ℕ). within a (getD t i (pos 0)) ≡ false) (sym (h .runIs)) (run-end a t (omega (arith, h .runIs, length-take (whole * w) s, lines-there))) in
-      rw (getD-take (whole * w) s run (pos 0) l) at e
+      ∙ rw (whole-line k l, all-inside w a (take w (drop (k * w) s)) (λ j i. number-at k j i ∙ h .inside (k * w + j) (omega arith)))
 
   -- the number after the run is in line run / w
   pub even-outside : run < whole * w → Refused (form + 1) (Line (line + run / w)) ≡ groupCheck f (evenLines n w a) s line
@@ -128,7 +90,7 @@ module _ {s : List ℤ} {n w : ℕ} {a : Limit} {whole run : ℕ} (h : EvenRun s
       let column : i * w + run % w ≡ run = div-add-mod' run w in
       let small : run % w < w = mod-lt run (h .someColumn) in
       let outside : within a (getD (take w (drop (i * w) s)) (run % w) (pos 0)) ≡ false =
-      number-at i (run % w) small ∙ ap (λ (j : ℕ). within a (getD s j (pos 0))) column ∙ after-run l in
+      number-at i (run % w) small ∙ ap (λ (j : ℕ). within a (getD s j (pos 0))) column ∙ h .outside l in
       sym
       (first-refused (lineStep f (evenLines n w a) s line) n (form + 1) (Line (line + i)) i (
         omega (arith, h .wholeIs),
@@ -158,6 +120,48 @@ module _ {s : List ℤ} {n w : ℕ} {a : Limit} {whole run : ℕ} (h : EvenRun s
 pub few-numbers : (s : List ℤ) (n w whole : ℕ) → n ≤ 100 → w ≤ 36 → whole ≡ min (length s / w) n → whole * w ≤ 3600
 few-numbers s n w whole a b e = mul-le-mul {n₂ = 100} {m₂ = 36} (omega arith) b
 
--- with the limits as the machine reads them
-pub even-run : {s : List ℤ} {n w whole run : ℕ} {lo hi : ℤ} → SFits w64 lo → SFits w64 hi → 0 < w → whole ≡ min (length s / w) n → run ≡ runWithin (between (read lo) (read hi)) (take (whole * w) s) → EvenRun s n w (between lo hi) whole run
-even-run {s} {w = w} {whole = whole} f g p e d = record { someColumn = p; wholeIs = e; runIs = d ∙ ap (λ (l : Limit). runWithin l (take (whole * w) s)) (read-limit f g) }
+-- number k is within the limits as the machine reads them
+abbrev inside : ℤ → ℤ → List ℤ → ℕ → Bool
+inside lo hi s k = within (between (read lo) (read hi)) (at s k)
+
+module _ (s : List ℤ) (n w whole : ℕ) {lo hi : ℤ} (f : SFits w64 lo) (g : SFits w64 hi) (p : 0 < w) (e : whole ≡ min (length s / w) n) where
+  as-read : (k : ℕ) {b : Bool} → inside lo hi s k ≡ b → within (between lo hi) (getD s k (pos 0)) ≡ b
+  unfolding at
+  as-read k d = sym (ap (λ (l : Limit). within l (getD s k (pos 0))) (read-limit f g)) ∙ d
+
+  in-whole : (k : ℕ) → k < whole * w → inside lo hi (take (whole * w) s) k ≡ inside lo hi s k
+  unfolding at
+  in-whole k l = ap (within (between (read lo) (read hi))) (getD-take (whole * w) s k (pos 0) l)
+
+  whole-length : length (take (whole * w) s) ≡ whole * w
+  whole-length = length-take-le (whole * w) s (whole-there s n w whole p e)
+
+  each-in-whole : allBelow (inside lo hi (take (whole * w) s)) (length (take (whole * w) s)) ≡ allBelow (inside lo hi s) (whole * w)
+  each-in-whole = ap (allBelow (inside lo hi (take (whole * w) s))) whole-length ∙ all-cong (inside lo hi (take (whole * w) s)) (inside lo hi s) (whole * w) in-whole
+
+  module _ {b : Bool} (d : b ≡ allBelow (inside lo hi (take (whole * w) s)) (length (take (whole * w) s))) where
+    pub none-outside : b ≡ true → EvenRun s n w (between lo hi) whole (whole * w)
+    none-outside t = record {
+      someColumn = p;
+      wholeIs = e;
+      most = omega arith;
+      inside = λ i l. as-read i (each-below (inside lo hi s) (whole * w) (sym each-in-whole ∙ sym d ∙ t) i l);
+      outside = λ l. absurd (omega arith);
+    }
+
+    module _ (t : b ≡ false) {run : ℕ} (r : run ≡ firstFailing (inside lo hi s) (whole * w)) where
+      pub outside-there : run < whole * w
+      outside-there = by (decLt run (whole * w))
+        where
+          by : Dec (run < whole * w) → run < whole * w
+          by (yes l) = l
+          by (no l) = absurd (subst T (sym (all-of-each (inside lo hi s) (whole * w) (λ i j. holds-before (inside lo hi s) (whole * w) r i (omega arith))) ∙ sym each-in-whole ∙ sym d ∙ t) tt)
+
+      pub first-outside : EvenRun s n w (between lo hi) whole run
+      first-outside = record {
+        someColumn = p;
+        wholeIs = e;
+        most = omega (arith, outside-there);
+        inside = λ i l. as-read i (holds-before (inside lo hi s) (whole * w) r i l);
+        outside = λ l. as-read run (fails-there (inside lo hi s) (whole * w) r l);
+      }

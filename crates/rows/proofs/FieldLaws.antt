@@ -1,4 +1,4 @@
--- The check of a field: what an equality row says by its numbers, and one law for each turn and way out of the loops over rows.
+-- The check of a field: what an equality row says by its numbers, and what the lowest row that fails says of the check.
 use mathlib.Core.Path.{_≡_, refl, sym, _∙_, ap, ap₂, subst₂}
 use mathlib.Core.Bool.{Bool, true, false}
 use mathlib.Core.List.{List}
@@ -26,9 +26,10 @@ use Rattle.scope.specs.Verdict.{rowAt, fieldCheck}
 use Rattle.scope.specs.Facts.{ClaimFacts}
 use Rattle.scope.proofs.RowCounts.{equality-count}
 use Rattle.rows.specs.RowContracts.{rowOf, EntriesFit, Filled, FieldFits, equalitiesCheck, strengthsCheck}
+use Rattle.rows.specs.SearchContracts.{firstFailing}
 use Rattle.rows.proofs.ClaimLaws.{claim-within, rest-within, stress-of, scale-within, load-within, field-long}
 use Rattle.rows.proofs.StrengthLaws.{being}
-use Rattle.rows.proofs.Loops.{Phase, phase-fails, phase-done}
+use Rattle.rows.proofs.Loops.{phase-fails, phase-done}
 
 -- ---- numbers that the machine read back
 
@@ -41,6 +42,9 @@ module _ {m x : List ℤ} {l n : ℤ} (h : FieldFits m x l n) where
 
   pub field-read : FieldFits m x (toZ w64 (ofZ w64 l)) (toZ w64 (ofZ w64 n))
   field-read = subst₂ (λ (a b : ℤ). FieldFits m x a b) (sym load-read) (sym scale-read) h
+
+  pub row-read : (row : Row) → rowHolds (at x) (toZ w64 (ofZ w64 l)) (toZ w64 (ofZ w64 n)) row ≡ rowHolds (at x) l n row
+  row-read row = ap₂ (λ (a b : ℤ). rowHolds (at x) a b row) load-read scale-read
 
 -- ---- a row by its numbers
 
@@ -62,27 +66,26 @@ module _ (s : ℕ → ℤ) (l n : ℤ) {r : EqualityRow} {row : Row} {columns : 
   unfolding rowHolds rowOf
   row-unfixed e = sym (ap (rowHolds s l n) (sym (h .is)) ∙ rw e)
 
--- ---- the loop over equality rows
+-- ---- the lowest equality row that fails
 
 -- row i holds at the field as the machine reads it
-abbrev pub rowTest : List Row → List ℤ → ℕ → ℕ → ℕ → Bool
+abbrev rowTest : List Row → List ℤ → ℕ → ℕ → ℕ → Bool
 rowTest rows x l n i = rowHolds (at x) (toZ w64 l) (toZ w64 n) (rowAt rows i)
 
-module _ {m x : List ℤ} {l n : ℤ} (h : FieldFits m x l n) where
+module _ {m x : List ℤ} {l n : ℤ} (h : FieldFits m x l n) {k rows : ℕ} (e : k ≡ firstFailing (rowTest (equalityRows m) x (ofZ w64 l) (ofZ w64 n)) rows) (all : rows ≡ elements m * 2 + edges m * 4) where
   equalities-read : equalitiesCheck (equalityRows m) (at x) (toZ w64 (ofZ w64 l)) (toZ w64 (ofZ w64 n)) ≡ equalitiesCheck (equalityRows m) (at x) l n
   equalities-read = ap₂ (equalitiesCheck (equalityRows m) (at x)) (load-read h) (scale-read h)
 
-  pub equality-fails : {k : ℕ} → Phase (rowTest (equalityRows m) x (ofZ w64 l) (ofZ w64 n)) 21 (λ i. P.Row (suc i)) k ≡ Passed → k < elements m * 2 + edges m * 4
-      → rowTest (equalityRows m) x (ofZ w64 l) (ofZ w64 n) k ≡ false → Refused 21 (P.Row (k + 1)) ≡ equalitiesCheck (equalityRows m) (at x) l n
+  pub equality-fails : k < rows → Refused 21 (P.Row (k + 1)) ≡ equalitiesCheck (equalityRows m) (at x) l n
   unfolding equalitiesCheck
-  equality-fails {k} p lt e =
-      phase-fails (rowTest (equalityRows m) x (ofZ w64 l) (ofZ w64 n)) 21 (λ i. P.Row (suc i)) (length (equalityRows m)) p (omega (arith, equality-count m)) e (ap P.Row (add-one k))
+  equality-fails lt =
+      phase-fails (rowTest (equalityRows m) x (ofZ w64 l) (ofZ w64 n)) 21 (λ i. P.Row (suc i)) (length (equalityRows m)) e (all ∙ sym (equality-count m)) lt (ap P.Row (add-one k))
       ∙ equalities-read
 
-  pub equalities-hold : {k : ℕ} → Phase (rowTest (equalityRows m) x (ofZ w64 l) (ofZ w64 n)) 21 (λ i. P.Row (suc i)) k ≡ Passed → k ≡ elements m * 2 + edges m * 4 → Passed ≡ equalitiesCheck (equalityRows m) (at x) l n
+  pub equalities-hold : rows ≤ k → Passed ≡ equalitiesCheck (equalityRows m) (at x) l n
   unfolding equalitiesCheck
-  equalities-hold p e =
-      phase-done (rowTest (equalityRows m) x (ofZ w64 l) (ofZ w64 n)) 21 (λ i. P.Row (suc i)) (length (equalityRows m)) p (omega (arith, equality-count m)) (omega (arith, equality-count m))
+  equalities-hold le =
+      phase-done (rowTest (equalityRows m) x (ofZ w64 l) (ofZ w64 n)) 21 (λ i. P.Row (suc i)) (length (equalityRows m)) e (all ∙ sym (equality-count m)) le
       ∙ equalities-read
 
 -- ---- both checks

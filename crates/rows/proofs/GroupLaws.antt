@@ -24,8 +24,8 @@ use Rattle.scope.specs.declared.Place.{Place}
 use Rattle.scope.specs.declared.Place.the-variants.{Line}
 use Rattle.scope.specs.declared.Outcome.{Outcome}
 use Rattle.scope.specs.declared.Outcome.the-variants.{Passed, Refused}
-use Rattle.rows.specs.declared.line_checks.LineKind.{LineKind}
-use Rattle.rows.specs.declared.line_checks.LineKind.the-variants.{Soil, Element, Edge}
+use Rattle.rows.specs.declared.line_tests.LineKind.{LineKind}
+use Rattle.rows.specs.declared.line_tests.LineKind.the-variants.{Soil, Element, Edge}
 use Rattle.scope.specs.Checks.{demand, _then_, lowest}
 use Rattle.scope.specs.Columns.{between, within, allWithin, at, hasField, hasMultipliers}
 use Rattle.scope.specs.Layout.{Group, Layout, Placed, width, groups, lineCount, numberCount, lineOf, lineNumbers, lineCheck, lineAt, linesCheck, count}
@@ -33,48 +33,17 @@ use Rattle.scope.specs.Mesh.{meshHeader, meshLayout, soilLines, elementLines, e
 use Rattle.scope.specs.Claim.{claimHeader, claimLayout, ifThere}
 use Rattle.scope.specs.Facts.{Counts}
 use Rattle.rows.specs.LineContracts.{groupCheck, groupsCheck, groupOf, columnsOf, meshBody, MeshCounts, claimBody, CountsAre, SmallCounts, NumberedFrom}
+use Rattle.rows.specs.SearchContracts.{isPassed, firstFailing}
 use Rattle.scope.proofs.Checks.{then-assoc, lowest-all, lowest-add, lowest-cong, first-refused}
 use Rattle.scope.proofs.Lines.{line-here, line-after}
-use Rattle.rows.proofs.LineLaws.{both-true, small, read, passed-whole, passed-within, mesh-header-line}
+use Rattle.rows.proofs.Loops.{first-outcome, no-outcome}
+use Rattle.rows.proofs.LineLaws.{both-true, small, read, line-short, passed-whole, passed-within, mesh-header-line}
 
 -- ---- the lines of a group, one after another
 
 -- line k of the lines of a group at the front of a list
 abbrev pub lineStep : Layout → Group → List ℤ → ℕ → ℕ → Outcome
 lineStep f g s line k = lineCheck f g (take (width g) (drop (k * width g) s)) (Line (line + k))
-
--- the first k of n lines have passed, and the next one begins at number `at`
-pub record LinesTo (f : Layout) (g : Group) (s : List ℤ) (line n k at : ℕ) : Type 0 where
-  pub count : k ≤ n
-  pub place : at ≡ k * width g
-  pub there : at ≤ length s
-  pub passed : lowest (lineStep f g s line) k ≡ Passed
-
-pub lines-start : (f : Layout) (g : Group) (s : List ℤ) (line n : ℕ) → LinesTo f g s line n 0 0
-unfolding lowest
-lines-start f g s line n = record { count = omega arith; place = omega arith; there = omega arith; passed = refl }
-
--- o is what the check of line k says, which begins at number `at` and has w columns
-module _ {f : Layout} {g : Group} {s : List ℤ} {line n k at : ℕ} (h : LinesTo f g s line n k at) (l : k < n) (w : ℕ) (wide : w ≡ width g) {o : Outcome} (e : o ≡ lineCheck f g (take w (take (length s - at) (drop at s))) (Line (line + k))) where
-  step : o ≡ lineStep f g s line k
-  step = e ∙ rw (wide, take-all (length s - at) (drop at s) (omega (arith, length-drop at s)), h .place)
-
-  pub lines-go-on : o ≡ Passed → LinesTo f g s line n (k + 1) (at + w)
-  unfolding lowest
-  lines-go-on d =
-      let passed : lineStep f g s line k ≡ Passed = sym step ∙ d in
-      record {
-        count = omega arith;
-        place = omega (arith, add-mul k 1 (width g), h .place, wide);
-        there = omega (arith, simp (length-take, length-drop) at (passed-whole f g _ _ passed), h .place, h .there, wide);
-        passed = rw add-one (rw (h .passed) passed);
-      }
-
-  pub lines-refused : (c : ℕ) (p : Place) → o ≡ Refused c p → o ≡ lowest (lineStep f g s line) n
-  lines-refused c p d = d ∙ sym (first-refused (lineStep f g s line) n c p k (l, lowest-all (lineStep f g s line) k (h .passed), sym step ∙ d))
-
-pub lines-done : {f : Layout} {g : Group} {s : List ℤ} {line n k at : ℕ} → LinesTo f g s line n k at → n ≤ k → Passed ≡ lowest (lineStep f g s line) n
-lines-done {f} {g} {s} {line} h l = sym (subst (λ (j : ℕ). lowest (lineStep f g s line) j ≡ Passed) (omega (arith, h .count)) (h .passed))
 
 -- ---- the lines of a mesh that have rules of their own
 
@@ -89,11 +58,47 @@ few-columns Soil = omega arith
 few-columns Element = omega arith
 few-columns Edge = omega arith
 
-pub kind-group : (kind : LineKind) (n ns ss : ℕ) (s : List ℤ) (line : ℕ) → lowest (lineStep meshLayout (groupOf kind 0 ns ss) s line) n ≡ groupCheck meshLayout (groupOf kind n ns ss) s line
-unfolding groupOf groupCheck lineCheck soilLines elementLines edgeLines
-kind-group Soil n ns ss s line = refl
-kind-group Element n ns ss s line = refl
-kind-group Edge n ns ss s line = refl
+some-columns : (kind : LineKind) → 0 < columnsOf kind
+some-columns Soil = omega arith
+some-columns Element = omega arith
+some-columns Edge = omega arith
+
+-- line k, where the list ends before it and where it does not
+module _ (kind : LineKind) (ns ss : ℕ) (s : List ℤ) (k : ℕ) (p : Place) {w from : ℕ} (e : w ≡ columnsOf kind) (d : from ≡ k * w) where
+  begins : from ≡ k * columnsOf kind
+  begins = d ∙ ap (λ (j : ℕ). k * j) e
+
+  pub line-missing : length s < from → Refused 1 p ≡ lineCheck meshLayout (groupOf kind 0 ns ss) (take (columnsOf kind) (drop (k * columnsOf kind) s)) p
+  unfolding meshLayout
+  line-missing h =
+      line-short meshLayout (groupOf kind 0 ns ss) (drop (k * columnsOf kind) s) p (omega (arith, length-drop (k * columnsOf kind) s, begins, some-columns kind, columns-are kind ns ss))
+      ∙ ap (λ (j : ℕ). lineCheck meshLayout (groupOf kind 0 ns ss) (take j (drop (k * columnsOf kind) s)) p) (sym (columns-are kind ns ss))
+
+  pub line-left : {o : Outcome} → o ≡ lineCheck meshLayout (groupOf kind 0 ns ss) (take (columnsOf kind) (take (length s - from) (drop from s))) p → o ≡ lineCheck meshLayout (groupOf kind 0 ns ss) (take (columnsOf kind) (drop (k * columnsOf kind) s)) p
+  line-left h =
+      h
+      ∙ ap (λ (t : List ℤ). lineCheck meshLayout (groupOf kind 0 ns ss) (take (columnsOf kind) t) p) (take-all (length s - from) (drop from s) (omega (arith, length-drop from s)) ∙ ap (λ (j : ℕ). drop j s) begins)
+
+-- the lines of one kind, by the lowest that does not pass
+module _ (kind : LineKind) (ns ss : ℕ) (s : List ℤ) (line : ℕ) where
+  abbrev kindStep : ℕ → Outcome
+  kindStep k = lineCheck meshLayout (groupOf kind 0 ns ss) (take (columnsOf kind) (drop (k * columnsOf kind) s)) (Line (line + k))
+
+  kind-group : (n : ℕ) → lowest kindStep n ≡ groupCheck meshLayout (groupOf kind n ns ss) s line
+  unfolding groupOf groupCheck lineCheck soilLines elementLines edgeLines
+  kind-group n = of kind
+    where
+      of : (kind : LineKind) → lowest (λ k. lineCheck meshLayout (groupOf kind 0 ns ss) (take (columnsOf kind) (drop (k * columnsOf kind) s)) (Line (line + k))) n ≡ groupCheck meshLayout (groupOf kind n ns ss) s line
+      of Soil = refl
+      of Element = refl
+      of Edge = refl
+
+  module _ {n r : ℕ} (e : r ≡ firstFailing (λ k. isPassed (kindStep k)) n) where
+    pub lowest-line : {o : Outcome} → r < n → o ≡ kindStep r → o ≡ groupCheck meshLayout (groupOf kind n ns ss) s line
+    lowest-line l d = first-outcome kindStep n e l d ∙ kind-group n
+
+    pub no-line : n ≤ r → Passed ≡ groupCheck meshLayout (groupOf kind n ns ss) s line
+    no-line l = no-outcome kindStep n e l ∙ kind-group n
 
 -- ---- a file by its groups
 

@@ -1,12 +1,13 @@
 -- The laws that the proofs of the functions use, each file after those that it uses; then what a caller may rely on.
+pub mod Loops
 pub mod LineLaws
 pub mod GroupLaws
 pub mod EvenLaws
 pub mod Places
-pub mod Loops
 pub mod MeshLaws
-pub mod SideTables
+pub mod ByteTables
 pub mod SoilTables
+pub mod SideTables
 pub mod SideLaws
 pub mod RowLaws
 pub mod SumLaws
@@ -18,6 +19,7 @@ pub mod MultiplierLaws
 pub mod NodeLaws
 pub mod LimitLaws
 pub mod OpenLaws
+pub mod SearchLaws
 pub mod PartLaws
 pub mod VerdictLaws
 pub mod AnswerLaws

@@ -1,29 +1,33 @@
--- The check of multipliers: what an unfixed row is by its place, one law for each turn and way out of the loops, and the sums over all rows as the definitions have them.
+-- The check of multipliers: what an unfixed row is by its place, what the lowest place that fails says of the checks, and the sums over all rows as the definitions have them.
 use mathlib.Core.Path.{_≡_, refl, sym, _∙_, ap, ap₂, subst, fun-ext}
-use mathlib.Core.Bool.{Bool, true, false, cond, _||_}
+use mathlib.Core.Bool.{Bool, true, false, cond, _&&_, _||_}
 use mathlib.Core.List.{List, [], _∷_}
 use Prim.Native.Nat.{ℕ, zero, suc, _+_, _*_, _-_, _/_, _%_, _≤_, _<_}
 use native.Mathlib.Numerals.{add-one}
 use native.Mathlib.Decide.{decLt}
 use native.Mathlib.Omega.{arith}
-use lib.Ieee.Bits.{is-false}
+use lib.Dec.{T}
+use lib.Ieee.Bits.{is-true, is-false}
 use lib.IntN.{ℤ, pos}
-use lib.Signed.{ltZ}
+use lib.Signed.{leZ, leZ-yes, ltZ}
 use lib.ListN.{length, take, drop, length-drop}
 use lib.Seq.{getD-drop}
 use Rattle.integer.specs.Bounds.{Within, Within-le, all-within}
-use Rattle.integer.specs.Tests.{eqZ, no-eqZ}
+use Rattle.integer.specs.Order.{≤ℤ-antisym}
+use Rattle.integer.specs.Tests.{eqZ, eqZ-yes, yes-eqZ, no-eqZ, same-test}
 use Rattle.scope.specs.declared.Outcome.the-variants.{Passed, Refused}
 use Rattle.scope.specs.declared.Place.{Place}
 use Rattle.scope.specs.declared.Place.the-variants as P
 use Rattle.scope.specs.declared.Load.the-variants.{Exact}
-use Rattle.scope.specs.Columns.{at, hasField, hasMultipliers}
+use Rattle.scope.specs.Checks.{demand}
+use Rattle.scope.specs.Columns.{between, within, at, hasField, hasMultipliers}
 use Rattle.scope.specs.Claim.{ifThere, multiplier}
 use Rattle.scope.specs.Facts.{ClaimFacts}
 use Rattle.scope.specs.Mesh.{nodes, elements, edges, sides, edgeEntry, fromNode, toNode}
 use Rattle.scope.specs.Rows.{Kind, asked, unfixed, strength, Row, fixedIf, balanceX, balanceY, normalRow, shearRow, equalityRows, rowsOf}
 use Rattle.scope.specs.Sums.{coefficient, columnSum, liveSum, limitSum, zeroIfUnfixed}
 use Rattle.scope.specs.Verdict.{rowAt, multipliersCheck, ifPart, upperLoad}
+use Rattle.scope.proofs.Checks.{lowest-cong}
 use Rattle.scope.proofs.RowCounts.{equality-count}
 use Rattle.rows.specs.declared.multiplier_sums.Sums.{Sums}
 use Rattle.rows.specs.declared.multiplier_checks.Limit.{Limit}
@@ -31,8 +35,10 @@ use Rattle.rows.specs.declared.multiplier_checks.Limit.the-variants as L
 use Rattle.rows.specs.RowContracts.{Listed, multipliersFrom}
 use Rattle.rows.specs.MultiplierContracts.{Multipliers, rowSum, Summed}
 use Rattle.rows.specs.LimitContracts.{isAsked, unfixedCheck, columnsCheck, limitOf, sumsLimit, multipliersLimit}
+use Rattle.rows.specs.SearchContracts.{firstFailing}
 use Rattle.rows.proofs.ClaimLaws.{multiplier-is, rest-is, equality-within, strength-within, with-multipliers}
 use Rattle.rows.proofs.EqualityLaws.{balance-row-is, side-row-is}
+use Rattle.rows.proofs.LineLaws.{both-true}
 use Rattle.rows.proofs.Loops.{Phase, phase-fails, phase-done}
 use Rattle.rows.proofs.RowLaws.{row-count}
 use Rattle.rows.proofs.SumLaws.{weighed-sum}
@@ -111,18 +117,41 @@ asked-passes {w} r n e = e ∙ by (r .kind)
     by unfixed = sym (is-false _ (no-eqZ n))
     by strength = refl
 
--- ---- the loops
+-- ---- the lowest row that 31 refuses, and the lowest column that 32 does
 
-abbrev pub unfixedTest : List ℤ → List ℤ → ℕ → Bool
+abbrev unfixedTest : List ℤ → List ℤ → ℕ → Bool
 unfixedTest m y k = zeroIfUnfixed (at y k) (rowAt (equalityRows m) k)
 
-pub unfixed-fails : (m y : List ℤ) {k : ℕ} → Phase (unfixedTest m y) 31 (λ i. P.Row (suc i)) k ≡ Passed → k < elements m * 2 + edges m * 4 → unfixedTest m y k ≡ false → Refused 31 (P.Row (k + 1)) ≡ unfixedCheck (equalityRows m) (at y)
-unfolding unfixedCheck
-unfixed-fails m y {k} p l e = phase-fails (unfixedTest m y) 31 (λ i. P.Row (suc i)) (length (equalityRows m)) p (omega (arith, equality-count m)) e (ap P.Row (add-one k))
+module _ (m y : List ℤ) {k rows : ℕ} (e : k ≡ firstFailing (unfixedTest m y) rows) (all : rows ≡ elements m * 2 + edges m * 4) where
+  pub unfixed-fails : k < rows → Refused 31 (P.Row (k + 1)) ≡ unfixedCheck (equalityRows m) (at y)
+  unfolding unfixedCheck
+  unfixed-fails l = phase-fails (unfixedTest m y) 31 (λ i. P.Row (suc i)) (length (equalityRows m)) e (all ∙ sym (equality-count m)) l (ap P.Row (add-one k))
 
-pub unfixed-done : (m y : List ℤ) {k : ℕ} → Phase (unfixedTest m y) 31 (λ i. P.Row (suc i)) k ≡ Passed → k ≡ elements m * 2 + edges m * 4 → Passed ≡ unfixedCheck (equalityRows m) (at y)
-unfolding unfixedCheck
-unfixed-done m y p e = phase-done (unfixedTest m y) 31 (λ i. P.Row (suc i)) (length (equalityRows m)) p (omega (arith, equality-count m)) (omega (arith, equality-count m))
+  pub unfixed-done : rows ≤ k → Passed ≡ unfixedCheck (equalityRows m) (at y)
+  unfolding unfixedCheck
+  unfixed-done l = phase-done (unfixedTest m y) 31 (λ i. P.Row (suc i)) (length (equalityRows m)) e (all ∙ sym (equality-count m)) l
+
+-- from 0 to 0 is 0
+zero-within : (z : ℤ) → eqZ z (pos 0) ≡ within (between (pos 0) (pos 0)) z
+unfolding within
+zero-within z = same-test (λ t. let e : z ≡ pos 0 = eqZ-yes t in rw e tt) (λ t. by (both-true (leZ (pos 0) z) (leZ z (pos 0)) (is-true _ t)))
+  where
+    by : (leZ (pos 0) z ≡ true) × (leZ z (pos 0) ≡ true) → T (eqZ z (pos 0))
+    by h = yes-eqZ {a = z} {b = pos 0} (≤ℤ-antisym (leZ-yes (subst T (sym (h .1)) tt)) (leZ-yes (subst T (sym (h .0)) tt)))
+
+abbrev zeroTest : List ℤ → ℕ → Bool
+zeroTest columns j = within (between (pos 0) (pos 0)) (at columns j)
+
+module _ (columns : List ℤ) (n : ℕ) {j : ℕ} (e : j ≡ firstFailing (zeroTest columns) n) where
+  zero-columns : Phase (zeroTest columns) 32 (λ i. P.Column (suc i)) n ≡ columnsCheck (at columns) n
+  unfolding columnsCheck
+  zero-columns = lowest-cong _ _ n (λ i l. ap (λ b. demand b 32 (P.Column (suc i))) (sym (zero-within (at columns i))))
+
+  pub column-fails : j < n → Refused 32 (P.Column (j + 1)) ≡ columnsCheck (at columns) n
+  column-fails l = phase-fails (zeroTest columns) 32 (λ i. P.Column (suc i)) n e refl l (ap P.Column (add-one j)) ∙ zero-columns
+
+  pub columns-done : n ≤ j → Passed ≡ columnsCheck (at columns) n
+  columns-done l = phase-done (zeroTest columns) 32 (λ i. P.Column (suc i)) n e refl l ∙ zero-columns
 
 -- ---- 32 and 33
 

@@ -27,7 +27,7 @@ use Rattle.scope.specs.Columns as C
 use Rattle.scope.specs.Columns.{Limit, between, free, within, isOneOf, allWithin, Rule, rightAngle, naming, parts, hasField, hasMultipliers, names, allNamed, ruleNumber, ruleTest, at}
 use Rattle.scope.specs.Layout.{Group, Layout, width, groups, lineOf, lineNumbers, rulesHold, lineCheck, lineAt}
 use Rattle.scope.specs.Mesh.{meshLayout, meshHeader, soilLines, edgeLines}
-use Rattle.rows.specs.LineContracts.{runWithin, ranges, AsMany}
+use Rattle.rows.specs.LineContracts.{ranges, AsMany}
 use Rattle.scope.proofs.Checks.{demand-passed, then-passed}
 
 -- ---- a number and a limit
@@ -59,34 +59,6 @@ not-so {t} e h = sym e ∙ not-true t h
 
 pub so : {t b : Bool} → t ≡ b → not t ≡ false → b ≡ true
 so {t} e h = sym e ∙ not-false t h
-
--- ---- the run at the front of a list, number after number
-
--- the first k numbers are within the limit, and the run goes on from there
-pub record RunTo (a : Limit) (s : List ℤ) (k : ℕ) : Type 0 where
-  pub there : k ≤ length s
-  pub run : runWithin a s ≡ k + runWithin a (drop k s)
-
-pub run-starts : (a : Limit) (s : List ℤ) → RunTo a s 0
-run-starts a s = record { there = omega arith; run = omega arith }
-
-pub run-goes-on : {a : Limit} {s : List ℤ} {k : ℕ} → RunTo a s k → k < length s → within a (getD s k (pos 0)) ≡ true → RunTo a s (k + 1)
-unfolding runWithin
-run-goes-on {a} {s} {k} h l e =
-    let next : runWithin a (drop k s) ≡ suc (runWithin a (drop (suc k) s)) = rw (drop-cons s k (pos 0) l, runWithin, e) in
-    record { there = omega arith; run = rw add-one (h .run ∙ omega (arith, next)) }
-
-pub run-stops : {a : Limit} {s : List ℤ} {k : ℕ} → RunTo a s k → k < length s → within a (getD s k (pos 0)) ≡ false → k ≡ runWithin a s
-unfolding runWithin
-run-stops {a} {s} {k} h l e =
-    let last : runWithin a (drop k s) ≡ 0 = rw (drop-cons s k (pos 0) l, runWithin, e) in
-    omega (arith, h .run, last)
-
-pub run-ends : {a : Limit} {s : List ℤ} {k : ℕ} → RunTo a s k → length s ≤ k → k ≡ runWithin a s
-unfolding runWithin
-run-ends {a} {s} {k} h l =
-    let last : runWithin a (drop k s) ≡ 0 = rw (drop-of-length-le s l) in
-    omega (arith, h .run, last)
 
 -- ---- limits listed number by number
 

@@ -2,7 +2,7 @@
 use mathlib.Core.Path.{_≡_, refl, sym, _∙_, ap, ap₂}
 use mathlib.Core.Bool.{Bool}
 use mathlib.Core.List.{List}
-use Prim.Native.Nat.{ℕ, suc, _+_, _%_, _<_}
+use Prim.Native.Nat.{ℕ, suc, _+_, _*_, _%_, _≤_, _<_}
 use native.Mathlib.Omega.{arith}
 use lib.IntN.{ℤ, pos, _-ℤ_, _*ℤ_}
 use lib.Signed.{ltZ}
@@ -34,11 +34,12 @@ pub node-there : {m : List ℤ} {s : Sizes} → Sized m s → {e : ℕ} → e < 
 unfolding node
 node-there k {e} l i = k .facts .element e l .cornerThere (i % 4) (omega arith)
 
-pub node-below : {m : List ℤ} {s : Sizes} → Sized m s → {a e : ℕ} → e < elements m → (i : ℕ) → a ≡ node m e i → a < 100
-node-below k l i d = omega (arith, node-there k l i, k .facts .counts .nodesMost)
-
 pub corner-below : {m : List ℤ} {s : Sizes} → Sized m s → {a e i : ℕ} → e < elements m → i < 4 → a ≡ corner m e i → a < 100
 corner-below k {e = e} {i = i} l j d = omega (arith, k .facts .element e l .cornerThere i j, k .facts .counts .nodesMost)
+
+-- the place of a side in a table
+pub side-fits : {m : List ℤ} {s : Sizes} → Sized m s → {a b e n : ℕ} → e < elements m → (i : ℕ) → nodes m * 100 ≤ n → a ≡ node m e i → b ≡ node m e (i + 1) → a * 100 + b < n
+side-fits k l i r d f = omega (arith, node-there k l i, node-there k l (i + 1), k .facts .counts .nodesMost)
 
 -- a cross product of numbers that the machine has
 pub cross-from : {ux uy vx vy p q r s : ℤ} {A B C D : ℕ} → Is ux p A → Is uy q B → Is vx r C → Is vy s D → ux *ℤ vy -ℤ vx *ℤ uy ≡ p *ℤ s -ℤ r *ℤ q
@@ -54,11 +55,11 @@ left-turn-from m e i d f g h = h ∙ ap (ltZ (pos 0)) (ap₃ d f g)
 -- ---- edges
 
 module _ (m : List ℤ) where
-  pub from-below : {s : Sizes} → Sized m s → {g a : ℕ} → g < edges m → a ≡ fromNode m g → a < 100
-  from-below k {g} l e = omega (arith, k .facts .edge g l .fromThere, k .facts .counts .nodesMost)
-
-  pub to-below : {s : Sizes} → Sized m s → {g a : ℕ} → g < edges m → a ≡ toNode m g → a < 100
-  to-below k {g} l e = omega (arith, k .facts .edge g l .toThere, k .facts .counts .nodesMost)
+  -- the place of an edge's side in a table, and of the reverse
+  pub edge-fits : {s : Sizes} → Sized m s → {g a b n : ℕ} → g < edges m → nodes m * 100 ≤ n → a ≡ fromNode m g → b ≡ toNode m g → (a * 100 + b < n) × (b * 100 + a < n)
+  edge-fits k {g} l r d e =
+      let f = k .facts .edge g l in
+      (omega (arith, f .fromThere, f .toThere, k .facts .counts .nodesMost), omega (arith, f .fromThere, f .toThere, k .facts .counts .nodesMost))
 
   pub edge-line : {s : Sizes} → Sized m s → (g : ℕ) {r : ℕ} → r ≡ s .soils + s .nodes + s .elements + g + 2 → r ≡ suc (edgeLine m g)
   unfolding edgeLine linesBefore meshGroups groups meshLayout meshHeader soilLines nodeLines elementLines edgeLines

@@ -1,182 +1,229 @@
--- Tables of sides: a store changes one byte, so that one more mark is one more side, and one more side taken is one more edge.
+-- Tables of sides: an element gives its number to its sides, and an edge takes its side, so that a byte tells the lowest that has the side.
 use mathlib.Core.Path.{_≡_, refl, sym, _∙_, ap, ap₂, subst}
-use mathlib.Core.Bool.{Bool, true, false, cond, not, _&&_, _||_, and-false, or-false, or-assoc}
+use mathlib.Core.Bool.{Bool, true, false, cond, not, _&&_, and-false, and-assoc, and-comm, true≢false}
 use mathlib.Core.List.{List}
-use Prim.Native.Nat.{ℕ, suc, _+_, _*_, _≤_, _<_}
+use Prim.Native.Nat.{ℕ, suc, _+_, _*_, _/_, _%_, _≤_, _<_}
 use native.Mathlib.Numerals.{add-one}
 use native.Mathlib.Decide.{ℕ-discrete}
 use native.Mathlib.Omega.{arith}
 use lib.IntN.{ℤ}
-use lib.Dec.{T, ltb, eqb, eqb→eq}
-use lib.ListN.{getD, replicate, length-set, length-replicate, getD-replicate}
-use lib.Seq.{getD-set-same, getD-set-other}
-use borrow.Author.Tests.{eq-eqb, ne-eqb}
+use lib.Dec.{ltb, eqb}
+use lib.ListN.{length, replicate, length-replicate}
+use borrow.Author.Tests.{eqb-true, eqb-false, lt-ltb, le-ltb, eq-eqb, ne-eqb}
 use Rattle.rows.specs.declared.sizes.Sizes.{Sizes}
 use Rattle.scope.specs.Checks.{someBelow, allBelow}
-use Rattle.scope.specs.Mesh.{elements, edges, fromNode, toNode}
-use Rattle.scope.specs.Rows.{node}
+use Rattle.scope.specs.Mesh.{nodes, elements, edges, fromNode, toNode}
+use Rattle.scope.specs.Rows.{firstWhere, node}
 use Rattle.scope.specs.Verdict.{hasSide, ownSides, outerEdge}
-use Rattle.rows.specs.Contracts.{Sized, byteAt, marked, withByte, SideBytes, markOf, Marks, sideBelow, edgeBelow, takenByte}
-use Rattle.rows.proofs.LineLaws.{both-true}
-use Rattle.rows.proofs.MeshLaws.{node-below, from-below, to-below}
+use Rattle.rows.specs.Contracts.{Sized, Holds, isNone, put, keepFirst, byteBelow, byteAt, atPlace, SideBytes, sideByte, SideTable, ownSideAt, hasEnds, edgeByte, EdgeTable}
+use Rattle.rows.proofs.MeshLaws.{node-there, side-fits, edge-fits}
+use Rattle.rows.proofs.ByteTables.{holds-as, holds-none, put-one, first-below, first-found, some-there, byte-found, free-below, cond-same, byte-more, given, none-given, one-given, all-given}
 
-no-bytes : SideBytes (λ a b. 0) (replicate 10000 0)
-no-bytes = record {
-  size = length-replicate {A = ℕ} 10000 0;
-  says = λ a b i j. getD-replicate 10000 (a * 100 + b) 0 0 (omega arith);
-}
+-- ---- places of sides
 
-bytes-as : {f g : ℕ → ℕ → ℕ} {t : List ℕ} → SideBytes f t → ((a b : ℕ) → f a b ≡ g a b) → SideBytes g t
-bytes-as h e = record { size = h .size; says = λ a b i j. h .says a b i j ∙ e a b }
-
--- one byte is stored, and the others stay
-store-one : {f : ℕ → ℕ → ℕ} {t : List ℕ} → SideBytes f t → {p q : ℕ} → p < 100 → q < 100 → (byte : ℕ) → SideBytes (λ a b. cond (eqb p a && eqb q b) byte (f a b)) (withByte t p q byte)
-store-one {f} {t} h {p} {q} lp lq byte = record {
-  size = length-set t (p * 100 + q) byte ∙ h .size;
-  says = λ a b i j. by a b i j (ℕ-discrete p a) (ℕ-discrete q b);
-}
+same-side : (p q : ℕ) → q < 100 → (v : ℕ) → eqb (p * 100 + q) v ≡ eqb p (v / 100) && eqb q (v % 100)
+same-side p q l v = by (ℕ-discrete p (v / 100)) (ℕ-discrete q (v % 100))
   where
-    same : (a b : ℕ) → p ≡ a → q ≡ b → a * 100 + b ≡ p * 100 + q
-    same a b d e = omega arith
+    by : Dec (p ≡ v / 100) → Dec (q ≡ v % 100) → eqb (p * 100 + q) v ≡ eqb p (v / 100) && eqb q (v % 100)
+    by (yes d) (yes e) = eq-eqb (p * 100 + q) v (omega arith) ∙ sym (ap₂ _&&_ (eq-eqb p (v / 100) d) (eq-eqb q (v % 100) e))
+    by (no d) e = ne-eqb (p * 100 + q) v (λ x. d (omega arith)) ∙ sym (ap (λ (b : Bool). b && eqb q (v % 100)) (ne-eqb p (v / 100) d))
+    by (yes d) (no e) = ne-eqb (p * 100 + q) v (λ x. e (omega arith)) ∙ sym (ap (λ (b : Bool). eqb p (v / 100) && b) (ne-eqb q (v % 100) e) ∙ and-false (eqb p (v / 100)))
 
-    other : (a b : ℕ) → a < 100 → b < 100 → ¬ (a * 100 + b ≡ p * 100 + q) → (eqb p a && eqb q b) ≡ false → byteAt (withByte t p q byte) a b ≡ cond (eqb p a && eqb q b) byte (f a b)
-    other a b i j n e =
-        getD-set-other t (p * 100 + q) (a * 100 + b) byte 0 n
-        ∙ h .says a b i j
-        ∙ sym (ap (λ (x : Bool). cond x byte (f a b)) e)
+whole : {n : ℕ} {f : ℕ → ℕ} {t : List ℕ} → Holds n f t → Holds (length t) f t
+whole {f = f} {t = t} h = subst (λ (n : ℕ). Holds n f t) (sym (h .size)) h
 
-    by : (a b : ℕ) → a < 100 → b < 100 → Dec (p ≡ a) → Dec (q ≡ b) → byteAt (withByte t p q byte) a b ≡ cond (eqb p a && eqb q b) byte (f a b)
-    by a b i j (yes d) (yes e) =
-        ap (λ (k : ℕ). getD (withByte t p q byte) k 0) (same a b d e)
-        ∙ getD-set-same t (p * 100 + q) byte 0 (omega (arith, h .size))
-        ∙ sym (ap (λ (x : Bool). cond x byte (f a b)) (ap₂ _&&_ (eq-eqb p a d) (eq-eqb q b e)))
-    by a b i j (no d) e = other a b i j (λ x. d (omega arith)) (ap (λ (x : Bool). x && eqb q b) (ne-eqb p a d))
-    by a b i j (yes d) (no e) = other a b i j (λ x. e (omega arith)) (ap (λ (x : Bool). eqb p a && x) (ne-eqb q b e) ∙ and-false (eqb p a))
+module _ {m : List ℤ} {f : ℕ → ℕ → ℕ} {t : List ℕ} (h : SideBytes m f t) where
+  bytes-to : {g : ℕ → ℕ → ℕ} {u : List ℕ} → Holds (length t) (atPlace g) u → SideBytes m g u
+  bytes-to k = record { room = omega (arith, h .room, k .size); bytes = whole k }
 
--- ---- marks
+  byte-of : {s : Sizes} → Sized m s → {a b : ℕ} → a < nodes m → b < nodes m → byteAt t a b ≡ f a b
+  byte-of k {a} {b} i j =
+      let most = k .facts .counts .nodesMost in
+      h .bytes .says (a * 100 + b) (omega (arith, h .room)) ∙ ap₂ f (omega arith) (omega arith)
 
-marks-as : {f g : ℕ → ℕ → Bool} {t : List ℕ} → Marks f t → ((a b : ℕ) → f a b ≡ g a b) → Marks g t
-marks-as h e = bytes-as h (λ a b. ap markOf (e a b))
-
-mark-one : (f : ℕ → ℕ → Bool) {t : List ℕ} → Marks f t → {p q : ℕ} → p < 100 → q < 100 → Marks (λ a b. f a b || (eqb p a && eqb q b)) (withByte t p q 1)
-mark-one f h {p} {q} lp lq = bytes-as (store-one h lp lq 1) (λ a b. by (f a b) (eqb p a && eqb q b))
-  where
-    by : (old new : Bool) → cond new 1 (markOf old) ≡ markOf (old || new)
-    by true true = refl
-    by true false = refl
-    by false true = refl
-    by false false = refl
-
-is-marked : (b : Bool) → ltb 0 (markOf b) ≡ b
-is-marked true = refl
-is-marked false = refl
+pub bytes-up-to : {m : List ℤ} (f : ℕ → ℕ → ℕ → ℕ) {i n : ℕ} {t : List ℕ} → SideBytes m (f i) t → i ≡ n → SideBytes m (f n) t
+bytes-up-to {m} f {t = t} h d = subst (λ (n : ℕ). SideBytes m (f n) t) d h
 
 -- ---- the sides of elements
 
--- side i of element e is no side of a lower element
-unfoldable pub ownSideAt : List ℤ → ℕ → ℕ → Bool
-ownSideAt m e i = not (sideBelow m e (node m e i) (node m e (i + 1)))
+-- side j of element e goes from a to b
+abbrev sideIs : List ℤ → ℕ → ℕ → ℕ → ℕ → Bool
+sideIs m e a b j = eqb (node m e j) a && eqb (node m e (j + 1)) b
 
--- the sides of the elements below e, and the first i sides of e
-abbrev pub sidesSoFar : List ℤ → ℕ → ℕ → ℕ → ℕ → Bool
-sidesSoFar m e i a b = sideBelow m e a b || someBelow (λ j. eqb (node m e j) a && eqb (node m e (j + 1)) b) i
+-- the byte of the side a to b once the first i sides of element e are given its number
+abbrev pub sidesSoFar : List ℤ → ℕ → ℕ → ℕ → ℕ → ℕ
+sidesSoFar m e i a b = given (sideIs m e a b) (sideByte m e a b) e i
 
-pub no-sides : (m : List ℤ) → Marks (sideBelow m 0) (replicate 10000 0)
-unfolding sideBelow someBelow
-no-sides m = bytes-as no-bytes (λ a b. refl)
+-- no element has the number that stands for none
+few : {n : ℕ} → n ≤ 100 → (k : ℕ) → k < n → isNone k ≡ false
+few l k i = ne-eqb k 255 (λ d. omega arith)
 
-module _ (m : List ℤ) (e : ℕ) where
-  pub own-sides-are : allBelow (ownSideAt m e) 4 ≡ ownSides m e
-  unfolding ownSideAt sideBelow ownSides
-  own-sides-are = refl
+pub no-sides : (m : List ℤ) (n : ℕ) → nodes m * 100 ≤ n → SideTable m 0 (replicate n 255)
+unfolding byteBelow firstWhere
+no-sides m n l = record {
+  room = omega (arith, length-replicate {A = ℕ} n 255);
+  bytes = whole (holds-as (holds-none n) (λ v. refl));
+}
 
-  pub no-side-yet : {t : List ℕ} → Marks (sideBelow m e) t → Marks (sidesSoFar m e 0) t
-  unfolding someBelow
-  no-side-yet h = marks-as h (λ a b. sym (or-false (sideBelow m e a b)))
+module _ (m : List ℤ) where
+  pub no-side-yet : (e : ℕ) {t : List ℕ} → SideTable m e t → SideBytes m (sidesSoFar m e 0) t
+  no-side-yet e h = bytes-to h (none-given (λ v. sideIs m e (v / 100) (v % 100)) (atPlace (sideByte m e)) e (h .bytes))
 
-  pub all-sides : {i : ℕ} {t : List ℕ} → Marks (sidesSoFar m e i) t → i ≤ 4 → 4 ≤ i → Marks (sideBelow m (e + 1)) t
-  unfolding sideBelow someBelow hasSide
-  all-sides {i} {t} h l k =
+  pub own-sides-are : (e : ℕ) → allBelow (ownSideAt m e) 4 ≡ ownSides m e
+  unfolding ownSideAt ownSides
+  own-sides-are e = refl
+
+module _ (m : List ℤ) {s : Sizes} (k : Sized m s) {e : ℕ} (l : e < elements m) where
+  pub side-more : (i : ℕ) {t u : List ℕ} → SideBytes m (sidesSoFar m e i) t → u ≡ keepFirst t (node m e i * 100 + node m e (i + 1)) e → SideBytes m (sidesSoFar m e (i + 1)) u
+  side-more i h d =
+      bytes-to h
+      (one-given (λ v. sideIs m e (v / 100) (v % 100)) (atPlace (sideByte m e)) e i (h .bytes) (side-fits k l i (h .room) refl refl) (same-side (node m e i) (node m e (i + 1)) (omega (arith, node-there k l (i + 1), k .facts .counts .nodesMost))) d)
+
+  pub all-sides : {i : ℕ} {t : List ℕ} → SideBytes m (sidesSoFar m e i) t → i ≤ 4 → 4 ≤ i → SideTable m (e + 1) t
+  unfolding hasSide
+  all-sides {i} h j n =
       let e₄ : i ≡ 4 = omega arith in
-      subst (λ (n : ℕ). Marks (sideBelow m n) t) (sym (add-one e))
-      (bytes-as (subst (λ (n : ℕ). Marks (sidesSoFar m e n) t) e₄ h) (λ a b. refl))
+      bytes-to h (all-given (λ v. sideIs m e (v / 100) (v % 100)) (λ v. hasSide m (v / 100) (v % 100)) (λ k. k) (h .bytes) e₄ (λ v. refl) (few (omega (arith, k .facts .counts .elementsMost))))
 
-  pub sides-to : {n : ℕ} {t : List ℕ} → Marks (sideBelow m e) t → e ≡ n → Marks (sideBelow m n) t
-  sides-to {t = t} h d = subst (λ (k : ℕ). Marks (sideBelow m k) t) d h
+  has-own : {i : ℕ} → i < 4 → hasSide m (node m e i) (node m e (i + 1)) e ≡ true
+  unfolding hasSide
+  has-own {i} j = some-there _ 4 j (ap₂ _&&_ (eq-eqb (node m e i) (node m e i) refl) (eq-eqb (node m e (i + 1)) (node m e (i + 1)) refl))
 
-  module _ {s : Sizes} (k : Sized m s) (l : e < elements m) (i : ℕ) where
-    pub own-side-is : {t : List ℕ} {r : Bool} → Marks (sideBelow m e) t → r ≡ marked t (node m e i) (node m e (i + 1)) → ownSideAt m e i ≡ not r
-    unfolding ownSideAt
-    own-side-is h d = ap not (sym (d ∙ ap (ltb 0) (h .says (node m e i) (node m e (i + 1)) (node-below k l i refl) (node-below k l (i + 1) refl)) ∙ is-marked (sideBelow m e (node m e i) (node m e (i + 1)))))
+  pub own-side-is : {i : ℕ} → i < 4 → {t : List ℕ} → SideTable m (elements m) t → {a b byte : ℕ} → a ≡ node m e i → b ≡ node m e (i + 1) → byte ≡ byteAt t a b → eqb byte e ≡ ownSideAt m e i
+  unfolding ownSideAt
+  own-side-is {i} j {t} h d f g =
+      let has = hasSide m (node m e i) (node m e (i + 1)) in
+      ap (λ (x : ℕ). eqb x e) (g ∙ ap₂ (byteAt t) d f ∙ byte-of h k (node-there k l i) (node-there k l (i + 1)) ∙ byte-found 255 has (λ k. k) (elements m) l (has-own j))
+      ∙ first-found has (elements m) l (has-own j) .1
 
-    pub side-more : {t u : List ℕ} → Marks (sidesSoFar m e i) t → u ≡ withByte t (node m e i) (node m e (i + 1)) 1 → Marks (sidesSoFar m e (i + 1)) u
-    unfolding someBelow
-    side-more {t} {u} h d =
-        subst (λ (n : ℕ). Marks (sidesSoFar m e n) u) (sym (add-one i))
-        (subst (Marks (sidesSoFar m e (suc i))) (sym d) (marks-as (mark-one (sidesSoFar m e i) h (node-below k l i refl) (node-below k l (i + 1) refl)) (λ a b. or-assoc (sideBelow m e a b) _ _)))
+-- ---- the sides that edges take
 
--- ---- the edges passed
+-- a byte of a side that no edge has taken
+abbrev pub isUntaken : ℕ → Bool
+isUntaken byte = ltb byte 100
 
-pub no-edge-yet : (m : List ℤ) {t : List ℕ} → Marks (sideBelow m (elements m)) t → SideBytes (takenByte m 0) t
-unfolding takenByte edgeBelow someBelow
-no-edge-yet m h = bytes-as h (λ a b. refl)
+module _ (m : List ℤ) where
+  no-edge : (a b : ℕ) → sideByte m (elements m) a b ≡ edgeByte m 0 a b
+  unfolding edgeByte byteBelow firstWhere
+  no-edge a b = by (isNone (sideByte m (elements m) a b)) refl
+    where
+      by : (d : Bool) → isNone (sideByte m (elements m) a b) ≡ d → sideByte m (elements m) a b ≡ cond d 255 (sideByte m (elements m) a b)
+      by true d = eqb-true (sideByte m (elements m) a b) 255 d
+      by false d = refl
 
-abbrev byteFor : Bool → Bool → ℕ
-byteFor side taken = cond side (cond taken 2 1) 0
+  pub no-edge-yet : {t : List ℕ} → SideTable m (elements m) t → EdgeTable m 0 t
+  no-edge-yet h = bytes-to h (holds-as (h .bytes) (λ v. no-edge (v / 100) (v % 100)))
 
--- a byte of 1 says that a to b is a side which no earlier edge has, and the byte of its reverse whether that is one
-not-free : (side reverse taken : Bool) → ¬ (byteFor side taken ≡ 1) → false ≡ (side && not reverse && not taken)
-not-free false reverse taken n = refl
-not-free true true taken n = refl
-not-free true false true n = refl
-not-free true false false n = absurd (n refl)
+module _ (m : List ℤ) {s : Sizes} (k : Sized m s) where
+  -- a to b is no element's side exactly where it has no byte
+  side-none : (a b : ℕ) → isNone (sideByte m (elements m) a b) ≡ not (someBelow (hasSide m a b) (elements m))
+  side-none a b = free-below isNone refl (hasSide m a b) (λ k. k) (elements m) (few (k .facts .counts .elementsMost))
 
-free : (side reverse taken back : Bool) → byteFor side taken ≡ 1 → eqb (byteFor reverse back) 0 ≡ (side && not reverse && not taken)
-free false reverse taken back e = absurd (omega arith)
-free true reverse true back e = absurd (omega arith)
-free true false false back e = refl
-free true true false true e = refl
-free true true false false e = refl
+  side-untaken : (a b : ℕ) → isNone (sideByte m (elements m) a b) ≡ false → isUntaken (sideByte m (elements m) a b) ≡ true
+  unfolding byteBelow
+  side-untaken a b = by (eqb first (elements m)) refl
+    where
+      first : ℕ
+      first = firstWhere (hasSide m a b) (elements m)
 
-module _ (m : List ℤ) {s : Sizes} (k : Sized m s) {g : ℕ} (l : g < edges m) {t : List ℕ} (h : SideBytes (takenByte m g) t) where
-  module _ {a b : ℕ} (d : a ≡ fromNode m g) (e : b ≡ toNode m g) {byte : ℕ} (f : byte ≡ byteAt t a b) where
-    edge-byte : byte ≡ takenByte m g (fromNode m g) (toNode m g)
-    edge-byte = f ∙ ap₂ (byteAt t) d e ∙ h .says (fromNode m g) (toNode m g) (from-below m k l refl) (to-below m k l refl)
+      by : (d : Bool) → eqb first (elements m) ≡ d → isNone (cond d 255 first) ≡ false → isUntaken (cond d 255 first) ≡ true
+      by true d h = absurd (true≢false h)
+      by false d h =
+          let below : first ≤ elements m = first-below (hasSide m a b) (elements m) in
+          let other : first ≡ elements m → ⊥ = eqb-false first (elements m) d in
+          lt-ltb first 100 (omega (arith, k .facts .counts .elementsMost))
 
-    pub not-outer : ¬ (byte ≡ 1) → false ≡ outerEdge m g
-    unfolding takenByte sideBelow edgeBelow outerEdge
-    not-outer n =
-        let p = fromNode m g in
-        let q = toNode m g in
-        not-free (sideBelow m (elements m) p q) (sideBelow m (elements m) q p) (edgeBelow m g p q) (λ o. n (edge-byte ∙ o))
+  edge-step : (g a b : ℕ) → cond (hasEnds m a b g) (cond (isUntaken (edgeByte m g a b)) (100 + g) (edgeByte m g a b)) (edgeByte m g a b) ≡ edgeByte m (suc g) a b
+  unfolding edgeByte
+  edge-step g a b = by (isNone side) refl
+    where
+      side : ℕ
+      side = sideByte m (elements m) a b
 
-    pub outer-by-reverse : byte ≡ 1 → {back : ℕ} → back ≡ byteAt t b a → eqb back 0 ≡ outerEdge m g
-    unfolding takenByte sideBelow edgeBelow outerEdge
-    outer-by-reverse o r =
-        let p = fromNode m g in
-        let q = toNode m g in
-        ap (λ (x : ℕ). eqb x 0) (r ∙ ap₂ (byteAt t) e d ∙ h .says q p (to-below m k l refl) (from-below m k l refl))
-        ∙ free (sideBelow m (elements m) p q) (sideBelow m (elements m) q p) (edgeBelow m g p q) (edgeBelow m g q p) (sym edge-byte ∙ o)
+      now : Bool → ℕ → ℕ
+      now d n = cond d 255 (byteBelow side (hasEnds m a b) (λ k. 100 + k) n)
 
-  module _ (o : outerEdge m g ≡ true) where
-    is-side : (a b : ℕ) → (eqb (fromNode m g) a && eqb (toNode m g) b) ≡ true → sideBelow m (elements m) a b ≡ true
-    unfolding sideBelow outerEdge
-    is-side a b e =
-        let ends = both-true (eqb (fromNode m g) a) (eqb (toNode m g) b) e in
-        let side : sideBelow m (elements m) (fromNode m g) (toNode m g) ≡ true = both-true _ _ (both-true _ _ o .0) .0 in
-        subst (λ (x : ℕ). sideBelow m (elements m) x b ≡ true) (eqb→eq (fromNode m g) a (subst T (sym (ends .0)) tt))
-        (subst (λ (y : ℕ). sideBelow m (elements m) (fromNode m g) y ≡ true) (eqb→eq (toNode m g) b (subst T (sym (ends .1)) tt)) side)
+      by : (d : Bool) → isNone side ≡ d → cond (hasEnds m a b g) (cond (isUntaken (now d g)) (100 + g) (now d g)) (now d g) ≡ now d (suc g)
+      by true d = cond-same (hasEnds m a b g) 255
+      by false d = byte-more isUntaken (side-untaken a b d) (hasEnds m a b) (λ k. 100 + k) g (λ k i. le-ltb (100 + k) 100 (omega arith))
 
-    pub edge-more : {u : List ℕ} → u ≡ withByte t (fromNode m g) (toNode m g) 2 → SideBytes (takenByte m (g + 1)) u
-    unfolding takenByte edgeBelow someBelow
-    edge-more {u} d =
-        subst (λ (n : ℕ). SideBytes (takenByte m n) u) (sym (add-one g))
-        (subst (SideBytes (takenByte m (suc g))) (sym d) (bytes-as (store-one h (from-below m k l refl) (to-below m k l refl) 2) (λ a b. by _ (sideBelow m (elements m) a b) (edgeBelow m g a b) (is-side a b))))
+  pub take-more : {g : ℕ} → g < edges m → {t u : List ℕ} → EdgeTable m g t → u ≡ put isUntaken t (fromNode m g * 100 + toNode m g) (100 + g) → EdgeTable m (g + 1) u
+  unfolding hasEnds
+  take-more {g} l {t} {u} h d =
+      bytes-to h
+      (subst (λ (n : ℕ). Holds (length t) (atPlace (edgeByte m n)) u) (sym (add-one g))
+      (subst (Holds (length t) (atPlace (edgeByte m (suc g)))) (sym d)
+      (holds-as (put-one isUntaken (h .bytes) (edge-fits m k l (h .room) refl refl .0) (100 + g)) step)))
+    where
+      now : ℕ → ℕ
+      now = atPlace (edgeByte m g)
+
+      step : (v : ℕ) → cond (eqb (fromNode m g * 100 + toNode m g) v) (cond (isUntaken (now v)) (100 + g) (now v)) (now v) ≡ atPlace (edgeByte m (suc g)) v
+      step v =
+          ap (λ (b : Bool). cond b (cond (isUntaken (now v)) (100 + g) (now v)) (now v)) (same-side (fromNode m g) (toNode m g) (omega (arith, k .facts .edge g l .toThere, k .facts .counts .nodesMost)) v)
+          ∙ edge-step g (v / 100) (v % 100)
+
+  edge-none : (a b : ℕ) → isNone (edgeByte m (edges m) a b) ≡ not (someBelow (hasSide m a b) (elements m))
+  unfolding edgeByte byteBelow
+  edge-none a b = by (isNone side) refl ∙ side-none a b
+    where
+      side : ℕ
+      side = sideByte m (elements m) a b
+
+      first : ℕ
+      first = firstWhere (hasEnds m a b) (edges m)
+
+      either : isNone side ≡ false → (c : Bool) → isNone (cond c side (100 + first)) ≡ isNone side
+      either d true = refl
+      either d false = ne-eqb (100 + first) 255 (λ x. omega (arith, first-below (hasEnds m a b) (edges m), k .facts .counts .edgesMost)) ∙ sym d
+
+      by : (d : Bool) → isNone side ≡ d → isNone (cond d 255 (byteBelow side (hasEnds m a b) (λ k. 100 + k) (edges m))) ≡ isNone side
+      by true d = sym d
+      by false d = either d (eqb first (edges m))
+
+  module _ {g : ℕ} (l : g < edges m) where
+    edge-taken : eqb (edgeByte m (edges m) (fromNode m g) (toNode m g)) (100 + g) ≡ someBelow (hasSide m (fromNode m g) (toNode m g)) (elements m) && not (someBelow (hasEnds m (fromNode m g) (toNode m g)) g)
+    unfolding edgeByte hasEnds
+    edge-taken = by (someBelow (hasSide m p q) (elements m)) (side-none p q)
       where
-        by : (new side old : Bool) → (new ≡ true → side ≡ true) → cond new 2 (byteFor side old) ≡ byteFor side (old || new)
-        by true true true f = refl
-        by true true false f = refl
-        by true false old f = absurd (subst T (sym (f refl)) tt)
-        by false true true f = refl
-        by false true false f = refl
-        by false false old f = refl
+        p : ℕ
+        p = fromNode m g
+
+        q : ℕ
+        q = toNode m g
+
+        side : ℕ
+        side = sideByte m (elements m) p q
+
+        ends : hasEnds m p q g ≡ true
+        ends = ap₂ _&&_ (eq-eqb p p refl) (eq-eqb q q refl)
+
+        past : (x : ℕ) → Dec (x ≡ g) → eqb (100 + x) (100 + g) ≡ eqb x g
+        past x (yes d) = eq-eqb (100 + x) (100 + g) (omega arith) ∙ sym (eq-eqb x g d)
+        past x (no d) = ne-eqb (100 + x) (100 + g) (λ e. d (omega arith)) ∙ sym (ne-eqb x g d)
+
+        byte : ℕ
+        byte = byteBelow side (hasEnds m p q) (λ k. 100 + k) (edges m)
+
+        by : (b : Bool) → isNone side ≡ not b → eqb (cond (isNone side) 255 byte) (100 + g) ≡ b && not (someBelow (hasEnds m p q) g)
+        by false d = ap (λ (x : Bool). eqb (cond x 255 byte) (100 + g)) d ∙ ne-eqb 255 (100 + g) (λ x. omega (arith, k .facts .counts .edgesMost))
+        by true d =
+            ap (λ (x : Bool). eqb (cond x 255 byte) (100 + g)) d
+            ∙ ap (λ (x : ℕ). eqb x (100 + g)) (byte-found side (hasEnds m p q) (λ k. 100 + k) (edges m) l ends)
+            ∙ past (firstWhere (hasEnds m p q) (edges m)) (ℕ-discrete (firstWhere (hasEnds m p q) (edges m)) g)
+            ∙ first-found (hasEnds m p q) (edges m) l ends .1
+
+    -- an edge is an outer side, once, exactly where it has taken its side and the reverse has no byte
+    pub outer-edge-is : {t : List ℕ} → EdgeTable m (edges m) t → {a b byte back : ℕ} → a ≡ fromNode m g → b ≡ toNode m g → byte ≡ byteAt t a b → back ≡ byteAt t b a → outerEdge m g ≡ eqb byte (100 + g) && eqb back 255
+    unfolding outerEdge hasEnds
+    outer-edge-is {t} h d e f r =
+        let p = fromNode m g in
+        let q = toNode m g in
+        let i = k .facts .edge g l .fromThere in
+        let j = k .facts .edge g l .toThere in
+        swap (someBelow (hasSide m p q) (elements m)) _ _
+        ∙ sym (ap₂ _&&_ edge-taken (edge-none q p))
+        ∙ sym (ap₂ (λ (x y : ℕ). eqb x (100 + g) && eqb y 255) (f ∙ ap₂ (byteAt t) d e ∙ byte-of h k i j) (r ∙ ap₂ (byteAt t) e d ∙ byte-of h k j i))
+      where
+        swap : (x y z : Bool) → (x && y) && z ≡ (x && z) && y
+        swap x y z = and-assoc x y z ∙ ap (λ (b : Bool). x && b) (and-comm y z) ∙ sym (and-assoc x z y)

@@ -1,39 +1,41 @@
 -- The strength rows of a node by its numbers: the identity of the printed inequality's sides with those of the row, and sums over the sides.
 use mathlib.Core.Path.{_≡_, refl, sym, _∙_, ap, subst}
-use mathlib.Core.Bool.{_&&_}
+use mathlib.Core.Bool.{Bool, true, _&&_}
 use mathlib.Core.List.{List, [], _∷_}
-use Prim.Native.Nat.{ℕ, suc, _+_, _*_, _-_, _≤_, _<_}
-use native.Mathlib.Nat.{le-refl, zero-mul, suc-mul, mul-le-mul, mul-le-mul-right}
+use Prim.Native.Nat.{ℕ, suc, _+_, _*_, _-_, _/_, _%_, _≤_, _<_}
+use native.Mathlib.Nat.{le-refl, suc-mul, mul-le-mul, mul-le-mul-right, div-lt-iff-lt-mul, div-add-mod', mod-lt}
 use native.Mathlib.Numerals.{add-one}
+use native.Mathlib.Decide.{decLt}
 use native.Mathlib.Omega.{arith}
+use lib.Dec.{T}
 use lib.ListN.{length}
 use lib.Signed.{leZ, ltZ, _≤ℤ_, _<ℤ_, leZ-yes, ltZ-yes}
 use lib.IntN.{ℤ, pos, _+ℤ_, _-ℤ_, _*ℤ_, negℤ}
 use Rattle.integer.specs.Linear.{linear, facts, _&_}
 use Rattle.integer.specs.Ring.{ring, terms}
 use Rattle.integer.specs.Tests.{same-test, yes-leZ, yes-ltZ}
+use Rattle.scope.proofs.Facts.{some-sides}
 use Rattle.scope.proofs.RowCounts.{strength-count}
 use Rattle.scope.proofs.SumBounds.{from-0}
-use Rattle.scope.proofs.Checks.{lowest-add, lowest-cong}
 use Rattle.rows.proofs.RowLaws.{nodeRow, strength-at}
 use Rattle.integer.specs.Bounds.{Within}
 use Rattle.integer.specs.Machine.{Is, Is-as, Is-Within}
 use Rattle.scope.specs.Mesh.{nodes, sides, p, q, h, cohesion}
 use Rattle.rows.specs.declared.sizes.Sizes.{Sizes}
 use Rattle.scope.specs.Columns.{at, n, l}
-use Rattle.scope.specs.declared.Place.{Place}
 use Rattle.scope.specs.declared.Place.the-variants as P
-use Rattle.scope.specs.declared.Outcome.{Outcome}
 use Rattle.scope.specs.declared.Outcome.the-variants.{Passed, Refused}
-use Rattle.scope.specs.Checks.{demand, _then_, lowest}
+use Rattle.scope.specs.Checks.{allBelow}
 use Rattle.scope.specs.Claim.{stress}
 use Rattle.scope.specs.Polygon.{Side, Polygon, polygonOf}
 use Rattle.scope.specs.Rows.{Row, sx, sy, t, nodeSoil, cross, strengthRow, strengthRows}
 use Rattle.scope.specs.Sums.{weightedSum, leftSide, rightSide, rowHolds, isOpen}
 use Rattle.scope.specs.Verdict.{rowAt}
-use Rattle.scope.specs.Facts.{SoilFacts}
+use Rattle.scope.specs.Facts.{Counts, SoilFacts}
 use Rattle.rows.specs.Contracts.{Sized}
-use Rattle.rows.specs.RowContracts.{Listed, SoilNumbers, SoilFits, NodeNumbers, NodeFits, NodeState, Steps, MeshSteps, StepsFit, sideAt, runOf, riseOf, crossOf, sideSlack, nodeCheck, strengthsCheck}
+use Rattle.rows.specs.RowContracts.{Listed, SoilNumbers, SoilFits, NodeNumbers, NodeFits, NodeState, Steps, MeshSteps, StepsFit, sideAt, runOf, riseOf, crossOf, sideSlack, nodeHolds, strengthsCheck}
+use Rattle.rows.specs.SearchContracts.{firstFailing}
+use Rattle.rows.proofs.Loops.{each-below, all-of-each, all-cong, holds-before, fails-there, phase-at, phase-all}
 
 pub being : {v z : ℤ} {B : ℕ} → v ≡ z → Within B z → Is v z B
 being e h = record { same = e; inside = h }
@@ -129,7 +131,7 @@ module _ (m c : List ℤ) (v k : ℕ) {d tab : List ℤ} (state : NodeState d m 
   unfolding isOpen nodeRow strengthRow
   open-test w = ap (λ b. ltZ (pos 0) w && b) (ltZ-slack (leftSide (stress m c) l (nodeRow m v (sideAt (polygonOf (sides m)) k))) (rightSide (n c) (nodeRow m v (sideAt (polygonOf (sides m)) k))) row-slack)
 
--- ---- the loop over nodes
+-- ---- the nodes one by one
 
 pub steps-fit : {g : Polygon} {n : ℕ} {tab : List ℤ} → Steps g n tab → StepsFit tab n
 unfolding at
@@ -144,50 +146,87 @@ steps-fit h = record {
   };
 }
 
--- the check of strength row i
-abbrev pub strengthDemand : List ℤ → List ℤ → ℕ → Outcome
-strengthDemand m c i = demand (rowHolds (stress m c) (l c) (n c) (rowAt (strengthRows m) i)) 22 (P.Row (suc i))
+-- strength row i holds at the claim's field
+abbrev strengthTest : List ℤ → List ℤ → ℕ → Bool
+strengthTest m c i = rowHolds (stress m c) (l c) (n c) (rowAt (strengthRows m) i)
 
-module _ (m c : List ℤ) (listed : Listed (sides m)) {tab : List ℤ} (steps : MeshSteps m tab) where
-  node-rows : (v : ℕ) {d : List ℤ} → v < nodes m → NodeState d m c v → lowest (λ k. strengthDemand m c (v * sides m + k)) (sides m) ≡ nodeCheck d tab (v * sides m) (sides m)
-  unfolding nodeCheck
-  node-rows v h state =
-      lowest-cong _ _ (sides m) (λ k j. ap (λ b. demand b 22 (P.Row (suc (v * sides m + k)))) (ap (rowHolds (stress m c) (l c) (n c)) (strength-at m listed v k h j) ∙ strength-test m c v k state steps j (l c)))
+-- and the row of side k by its slack
+abbrev sideTest : List ℤ → List ℤ → ℕ → Bool
+sideTest d tab k = leZ (pos 0) (sideSlack d tab k)
 
-  -- one node more
-  one-node : (v : ℕ) {d : List ℤ} → v < nodes m → NodeState d m c v → lowest (strengthDemand m c) (v * sides m) ≡ Passed → lowest (strengthDemand m c) (v * sides m + sides m) ≡ nodeCheck d tab (v * sides m) (sides m)
-  one-node v h state e = lowest-add (strengthDemand m c) (v * sides m) (sides m) ∙ ap (λ o. o then lowest (λ k. strengthDemand m c (v * sides m + k)) (sides m)) e ∙ node-rows v h state
+module _ (m c : List ℤ) (counts : Counts m) where
+  module _ {tab : List ℤ} (steps : MeshSteps m tab) {v : ℕ} {d : List ℤ} (h : v < nodes m) (state : NodeState d m c v) where
+    row-test : (k : ℕ) → k < sides m → strengthTest m c (v * sides m + k) ≡ sideTest d tab k
+    row-test k j = ap (rowHolds (stress m c) (l c) (n c)) (strength-at m (record { listed = counts .sidesListed }) v k h j) ∙ strength-test m c v k state steps j (l c)
 
-  pub node-passes : (v : ℕ) {d : List ℤ} → v < nodes m → NodeState d m c v → lowest (strengthDemand m c) (v * sides m) ≡ Passed → nodeCheck d tab (v * sides m) (sides m) ≡ Passed → lowest (strengthDemand m c) ((v + 1) * sides m) ≡ Passed
-  node-passes v h state e p = ap (lowest (strengthDemand m c)) (next v) ∙ one-node v h state e ∙ p
-    where
-      next : (v : ℕ) → (v + 1) * sides m ≡ v * sides m + sides m
-      next v = ap (λ k. k * sides m) (add-one v) ∙ suc-mul v (sides m)
+    pub node-holds-is : {s : ℕ} {r : Bool} → s ≡ sides m → r ≡ allBelow (sideTest d tab) s → r ≡ nodeHolds m c v
+    unfolding nodeHolds
+    node-holds-is e g =
+        g
+        ∙ ap (allBelow (sideTest d tab)) e
+        ∙ sym (all-cong (λ k. strengthTest m c (v * sides m + k)) (sideTest d tab) (sides m) row-test)
 
-  pub node-refuses : (v : ℕ) {d : List ℤ} {k : ℕ} {p : Place} → v < nodes m → NodeState d m c v → lowest (strengthDemand m c) (v * sides m) ≡ Passed → nodeCheck d tab (v * sides m) (sides m) ≡ Refused k p → Refused k p ≡ strengthsCheck (strengthRows m) (stress m c) (l c) (n c)
+  -- the rows of the nodes that hold
+  node-rows : {v : ℕ} → ((u : ℕ) → u < v → nodeHolds m c u ≡ true) → (j : ℕ) → j < v * sides m → strengthTest m c j ≡ true
+  unfolding nodeHolds
+  node-rows {v} holds j l =
+      let s : ℕ = sides m in
+      let u : ℕ = j / s in
+      subst (λ i. strengthTest m c i ≡ true) (div-add-mod' j s)
+      (each-below (λ k. strengthTest m c (u * s + k)) s (holds u (div-lt-iff-lt-mul (some-sides counts) .1 l)) (j % s) (mod-lt j (some-sides counts)))
+
+  -- v is the lowest node on which a row fails, and k the lowest of its sides
+  module _ {tab : List ℤ} (steps : MeshSteps m tab) {v k : ℕ} {d : List ℤ} (e : v ≡ firstFailing (nodeHolds m c) (nodes m)) (h : v < nodes m) (state : NodeState d m c v) (f : k ≡ firstFailing (sideTest d tab) (sides m)) where
+    side-there : k < sides m
+    side-there = by (decLt k (sides m))
+      where
+        by : Dec (k < sides m) → k < sides m
+        by (yes j) = j
+        by (no j) =
+            absurd
+            (subst T
+            (sym (all-of-each (sideTest d tab) (sides m) (λ i l. holds-before (sideTest d tab) (sides m) f i (omega arith)))
+            ∙ node-holds-is steps h state refl refl
+            ∙ fails-there (nodeHolds m c) (nodes m) e h)
+            tt)
+
+    before : (j : ℕ) → j < v * sides m + k → strengthTest m c j ≡ true
+    before j l = by (decLt j (v * sides m))
+      where
+        by : Dec (j < v * sides m) → strengthTest m c j ≡ true
+        by (yes i) = node-rows (holds-before (nodeHolds m c) (nodes m) e) j i
+        by (no i) =
+            let rest : ℕ = j - v * sides m in
+            let same : v * sides m + rest ≡ j = omega arith in
+            let low : rest < k = omega arith in
+            subst (λ i. strengthTest m c i ≡ true) same
+            (row-test steps h state rest (omega (arith, side-there)) ∙ holds-before (sideTest d tab) (sides m) f rest low)
+
+    refused : Refused 22 (P.Row (suc (v * sides m + k))) ≡ strengthsCheck (strengthRows m) (stress m c) (l c) (n c)
+    unfolding strengthsCheck
+    refused =
+        phase-at (strengthTest m c) 22 (λ i. P.Row (suc i)) (length (strengthRows m)) before
+        (omega (arith, strength-count m (counts .sidesListed), mul-le-mul-right (sides m) h, suc-mul v (sides m), side-there))
+        (row-test steps h state k side-there ∙ fails-there (sideTest d tab) (sides m) f side-there)
+        refl
+
+  -- the same by the counts of nodes and of sides that the code has
+  pub strengths-refused : {tab d : List ℤ} {v k nodeCount sideCount : ℕ} → MeshSteps m tab → nodeCount ≡ nodes m → sideCount ≡ sides m
+      → v ≡ firstFailing (nodeHolds m c) nodeCount → v < nodeCount → NodeState d m c v → k ≡ firstFailing (sideTest d tab) sideCount
+      → Refused 22 (P.Row (v * sideCount + k + 1)) ≡ strengthsCheck (strengthRows m) (stress m c) (l c) (n c)
+  strengths-refused {tab} {d} {v} {k} steps en es e h state f =
+      ap (λ i. Refused 22 (P.Row i)) (add-one _ ∙ ap (λ i. suc (v * i + k)) es)
+      ∙ refused steps (e ∙ ap (firstFailing (nodeHolds m c)) en) (omega arith) state (f ∙ ap (firstFailing (sideTest d tab)) es)
+
+  pub strengths-passed : {v nodeCount : ℕ} → nodeCount ≡ nodes m → v ≡ firstFailing (nodeHolds m c) nodeCount → nodeCount ≤ v → Passed ≡ strengthsCheck (strengthRows m) (stress m c) (l c) (n c)
   unfolding strengthsCheck
-  node-refuses v {k = k} {p = p} h state e r = sym (ap (lowest (strengthDemand m c)) total ∙ lowest-add (strengthDemand m c) (v * sides m + sides m) rest ∙ ap (λ o. o then lowest (λ i. strengthDemand m c (v * sides m + sides m + i)) rest) (one-node v h state e ∙ r))
-    where
-      rest : ℕ
-      rest = length (strengthRows m) - (v * sides m + sides m)
-
-      total : length (strengthRows m) ≡ v * sides m + sides m + rest
-      total = omega (arith, strength-count m (listed .listed), mul-le-mul-right (sides m) h, suc-mul v (sides m))
-
-  pub all-nodes : (v : ℕ) → v ≡ nodes m → lowest (strengthDemand m c) (v * sides m) ≡ Passed → Passed ≡ strengthsCheck (strengthRows m) (stress m c) (l c) (n c)
-  unfolding strengthsCheck
-  all-nodes v e p = sym (ap (lowest (strengthDemand m c)) (strength-count m (listed .listed) ∙ ap (λ k. k * sides m) (sym e)) ∙ p)
+  strengths-passed {nodeCount = nodeCount} en e h =
+      phase-all (strengthTest m c) 22 (λ i. P.Row (suc i)) (length (strengthRows m))
+      (λ j l. node-rows {v = nodes m} (λ u k. holds-before (nodeHolds m c) nodeCount e u (omega arith)) j (omega (arith, strength-count m (counts .sidesListed))))
 
 -- the number of sides as the code has it
 pub steps-as : {s n : ℕ} {tab : List ℤ} → s ≡ n → Steps (polygonOf s) s tab → Steps (polygonOf n) n tab
 steps-as {tab = tab} e h = subst (λ k. Steps (polygonOf k) k tab) e h
-
-pub check-as : {s n : ℕ} {r : Outcome} (d tab : List ℤ) (v : ℕ) → s ≡ n → r ≡ nodeCheck d tab (v * s) s → r ≡ nodeCheck d tab (v * n) n
-check-as {r = r} d tab v e h = subst (λ k. r ≡ nodeCheck d tab (v * k) k) e h
-
-pub no-nodes : (m c : List ℤ) → lowest (strengthDemand m c) (0 * sides m) ≡ Passed
-unfolding lowest
-no-nodes m c = ap (lowest (strengthDemand m c)) (zero-mul (sides m))
 
 pub first-row : {v n s : ℕ} → v < n → n ≤ 100 → s ≤ 36 → v * s < 10000
 first-row {v} {n} {s} h k l = omega (arith, mul-le-mul {n₁ = v} {m₁ = s} {n₂ = 99} {m₂ = 36} (omega arith) l)

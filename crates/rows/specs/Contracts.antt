@@ -1,18 +1,17 @@
--- What contracts say of what the code hands around: the sizes of a mesh, tables of sides, tables of soils.
+-- What contracts say of what the code hands around: the sizes of a mesh, tables of soils, tables of sides.
 use mathlib.Core.Path.{_≡_}
-use mathlib.Core.Bool.{Bool, cond, _&&_}
+use mathlib.Core.Bool.{Bool, cond, not, _&&_}
 use mathlib.Core.List.{List}
-use Prim.Native.Nat.{ℕ, _+_, _*_, _<_}
+use Prim.Native.Nat.{ℕ, _+_, _*_, _/_, _%_, _≤_, _<_}
 use lib.IntN.{ℤ}
-use lib.Dec.{ltb, eqb}
+use lib.Dec.{eqb}
 use lib.ListN.{length, getD, set}
-use Rattle.scope.specs.declared.Outcome.{Outcome}
 use Rattle.scope.specs.declared.Outcome.the-variants.{Passed}
 use Rattle.rows.specs.declared.sizes.Sizes.{Sizes}
 use Rattle.scope.specs.Mesh.{nodes, elements, soils, edges, sides, elementSoil, fromNode, toNode}
 use Rattle.scope.specs.Checks.{someBelow}
-use Rattle.scope.specs.Rows.{firstWhere, hasCorner, nodeSoil}
-use Rattle.scope.specs.Verdict.{hasSide, sidesCheck, meshCheck}
+use Rattle.scope.specs.Rows.{firstWhere, node, hasCorner, nodeSoil}
+use Rattle.scope.specs.Verdict.{hasSide, meshCheck}
 use Rattle.scope.specs.Facts.{MeshFacts}
 
 -- ---- sizes: the counts of a mesh whose lines have passed, and where its groups begin
@@ -28,60 +27,35 @@ pub record Sized (m : List ℤ) (s : Sizes) : Type 0 where
   pub elementsFrom : s .«elements_from» ≡ 5 + soils m * 8 + nodes m * 2
   pub edgesFrom : s .«edges_from» ≡ 5 + soils m * 8 + nodes m * 2 + elements m * 5
 
--- ---- tables of sides: 100 bytes for each node, and the byte of the side a to b stands at a·100 + b
+-- ---- tables of bytes: 255 where a place has none yet
 
-abbrev pub byteAt : List ℕ → ℕ → ℕ → ℕ
-byteAt t a b = getD t (a * 100 + b) 0
-
-abbrev pub marked : List ℕ → ℕ → ℕ → Bool
-marked t a b = ltb 0 (byteAt t a b)
-
-abbrev pub withByte : List ℕ → ℕ → ℕ → ℕ → List ℕ
-withByte t a b byte = set t (a * 100 + b) byte
-
-pub record SideBytes (f : ℕ → ℕ → ℕ) (t : List ℕ) : Type 0 where
-  pub size : length t ≡ 10000
-  pub says : (a b : ℕ) → a < 100 → b < 100 → byteAt t a b ≡ f a b
-
--- 1 for the sides that pass a test, and 0 for the others
-abbrev pub markOf : Bool → ℕ
-markOf passes = cond passes 1 0
-
-abbrev pub Marks : (ℕ → ℕ → Bool) → List ℕ → Type 0
-Marks f t = SideBytes (λ a b. markOf (f a b)) t
-
--- a to b is a side of an element below e
-unfoldable pub sideBelow : List ℤ → ℕ → ℕ → ℕ → Bool
-sideBelow m e a b = someBelow (hasSide m a b) e
-
--- an edge below g goes from a to b
-unfoldable pub edgeBelow : List ℤ → ℕ → ℕ → ℕ → Bool
-edgeBelow m g a b = someBelow (λ k. eqb (fromNode m k) a && eqb (toNode m k) b) g
-
--- 0 where a to b is no side of an element, 2 where it is one that an edge below g has taken, and 1 for the other sides
-unfoldable pub takenByte : List ℤ → ℕ → ℕ → ℕ → ℕ
-takenByte m g a b = cond (sideBelow m (elements m) a b) (cond (edgeBelow m g a b) 2 1) 0
-
--- what the check of sides answers, and marks where it passes
-pub record SidesChecked (m : List ℤ) (r : Outcome) (t : List ℕ) : Type 0 where
-  pub answer : r ≡ sidesCheck m
-  pub marks : r ≡ Passed → Marks (sideBelow m (elements m)) t
-
--- ---- tables of soils: a byte for each node, 255 where it has none yet
-
-unfoldable pub keepFirst : List ℕ → ℕ → ℕ → List ℕ
-keepFirst t v soil = cond (eqb (getD t v 0) 255) (set t v soil) t
-
--- the soil of node v among the elements below e
-unfoldable pub soilBelow : List ℤ → ℕ → ℕ → ℕ
-soilBelow m e v =
-    let k : ℕ = firstWhere (hasCorner m v) e in
-    cond (eqb k e) 255 (elementSoil m k)
-
--- a table of n numbers holds f
+-- a table of n bytes holds f
 pub record Holds (n : ℕ) (f : ℕ → ℕ) (t : List ℕ) : Type 0 where
   pub size : length t ≡ n
   pub says : (v : ℕ) → v < n → getD t v 0 ≡ f v
+
+-- a byte goes to place v where the byte there is free
+unfoldable pub put : (ℕ → Bool) → List ℕ → ℕ → ℕ → List ℕ
+put free t v byte = cond (free (getD t v 0)) (set t v byte) t
+
+-- a place with no byte yet is free: each keeps the first that it is given
+abbrev pub isNone : ℕ → Bool
+isNone byte = eqb byte 255
+
+abbrev pub keepFirst : List ℕ → ℕ → ℕ → List ℕ
+keepFirst t v byte = put isNone t v byte
+
+-- the byte of the lowest k below n that passes a test, or another where none does
+unfoldable pub byteBelow : ℕ → (ℕ → Bool) → (ℕ → ℕ) → ℕ → ℕ
+byteBelow none has value n =
+    let k : ℕ = firstWhere has n in
+    cond (eqb k n) none (value k)
+
+-- ---- tables of soils: a byte for each node
+
+-- the soil of node v among the elements below e
+abbrev pub soilBelow : List ℤ → ℕ → ℕ → ℕ
+soilBelow m e v = byteBelow 255 (hasCorner m v) (elementSoil m) e
 
 -- the soil of each node, which is there
 pub record NodeSoils (m : List ℤ) (t : List ℕ) : Type 0 where
@@ -89,7 +63,46 @@ pub record NodeSoils (m : List ℤ) (t : List ℕ) : Type 0 where
   pub says : (v : ℕ) → v < nodes m → getD t v 0 ≡ nodeSoil m v
   pub there : (v : ℕ) → v < nodes m → nodeSoil m v < soils m
 
--- a mesh that passes, with the soils of its nodes
+-- ---- tables of sides: 100 bytes for each node, and the byte of the side a to b stands at a·100 + b
+
+abbrev pub byteAt : List ℕ → ℕ → ℕ → ℕ
+byteAt t a b = getD t (a * 100 + b) 0
+
+-- what f says of the side whose byte stands at v
+abbrev pub atPlace : (ℕ → ℕ → ℕ) → ℕ → ℕ
+atPlace f v = f (v / 100) (v % 100)
+
+-- a table with room for the sides of all nodes holds f
+pub record SideBytes (m : List ℤ) (f : ℕ → ℕ → ℕ) (t : List ℕ) : Type 0 where
+  pub room : nodes m * 100 ≤ length t
+  pub bytes : Holds (length t) (atPlace f) t
+
+-- the lowest element below e that has the side a to b
+abbrev pub sideByte : List ℤ → ℕ → ℕ → ℕ → ℕ
+sideByte m e a b = byteBelow 255 (hasSide m a b) (λ k. k) e
+
+abbrev pub SideTable : List ℤ → ℕ → List ℕ → Type 0
+SideTable m e t = SideBytes m (sideByte m e) t
+
+-- side i of element e is no lower element's
+unfoldable pub ownSideAt : List ℤ → ℕ → ℕ → Bool
+ownSideAt m e i = not (someBelow (hasSide m (node m e i) (node m e (i + 1))) e)
+
+-- edge k goes from a to b
+unfoldable pub hasEnds : List ℤ → ℕ → ℕ → ℕ → Bool
+hasEnds m a b k = eqb (fromNode m k) a && eqb (toNode m k) b
+
+-- 255 where a to b is no element's side, 100 + k where k is the lowest edge below g that has it, and else the lowest element that has it
+unfoldable pub edgeByte : List ℤ → ℕ → ℕ → ℕ → ℕ
+edgeByte m g a b =
+    let side : ℕ = sideByte m (elements m) a b in
+    cond (isNone side) 255 (byteBelow side (hasEnds m a b) (λ k. 100 + k) g)
+
+abbrev pub EdgeTable : List ℤ → ℕ → List ℕ → Type 0
+EdgeTable m g t = SideBytes m (edgeByte m g) t
+
+-- ---- a mesh that passes, with the soils of its nodes
+
 pub record SoundMesh (m : List ℤ) (t : List ℕ) : Type 0 where
   pub passes : meshCheck m ≡ Passed
   pub soilsAre : NodeSoils m t

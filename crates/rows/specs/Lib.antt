@@ -4,6 +4,7 @@ pub mod LineContracts
 pub mod RowContracts
 pub mod MultiplierContracts
 pub mod LimitContracts
+pub mod SearchContracts
 pub mod OpenContracts
 pub mod NumbersAnswer
 pub mod Promises

@@ -10,18 +10,13 @@ use Rattle.scope.specs.declared.Place.the-variants.{Line}
 use Rattle.scope.specs.declared.Outcome.{Outcome}
 use Rattle.rows.specs.declared.line_checks.Lines.{Lines}
 use Rattle.rows.specs.declared.line_checks.Lines.the-variants.{Soils, Nodes, Elements, Edges, Stresses, ElementMultipliers, EdgeMultipliers, StrengthMultipliers, MeshHeader, ClaimHeader}
-use Rattle.rows.specs.declared.line_checks.LineKind.{LineKind}
-use Rattle.rows.specs.declared.line_checks.LineKind.the-variants.{Soil, Element, Edge}
+use Rattle.rows.specs.declared.line_tests.LineKind.{LineKind}
+use Rattle.rows.specs.declared.line_tests.LineKind.the-variants.{Soil, Element, Edge}
 use Rattle.scope.specs.Checks.{demand, _then_, lowest}
 use Rattle.scope.specs.Columns.{Limit, between, within}
 use Rattle.scope.specs.Layout.{Group, Layout, width, lineCheck}
 use Rattle.scope.specs.Mesh.{nodes, elements, edges, sides, meshHeader, soilLines, nodeLines, elementLines, edgeLines}
 use Rattle.scope.specs.Claim.{claimHeader, stressLines, elementMultipliers, edgeMultipliers, strengthMultipliers}
-
--- how many numbers at the front of a list are within a limit
-unfoldable pub runWithin : Limit → List ℤ → ℕ
-runWithin a [] = 0
-runWithin a (z ∷ zs) = cond (within a z) (suc (runWithin a zs)) 0
 
 -- the limits whose least and whose most numbers are listed
 unfoldable pub ranges : List ℤ → List ℤ → List Limit

@@ -6,7 +6,6 @@ use mathlib.Core.List.{List, [], _∷_}
 use Prim.Native.Nat.{ℕ, suc, _+_, _*_, _≤_, _<_}
 use lib.Dec.{ltb}
 use lib.IntN.{ℤ, pos, _+ℤ_, _-ℤ_, _*ℤ_, negℤ}
-use lib.Signed.{leZ}
 use lib.ListN.{length, getD, take, replicate}
 use Rattle.integer.specs.Bounds.{Within, AllWithin}
 use Rattle.integer.specs.Machine.{Is}
@@ -16,16 +15,16 @@ use Rattle.rows.specs.declared.sizes.Sizes.{Sizes}
 use Rattle.rows.specs.declared.polygons.Step.{Step}
 use Rattle.rows.specs.declared.row_sums.EqualityRow.{EqualityRow}
 use Rattle.rows.specs.declared.row_sums.Span.{Span}
-use Rattle.scope.specs.Columns.{at, hasField, n}
+use Rattle.scope.specs.Columns.{at, hasField, n, l}
 use Rattle.scope.specs.Claim.{ifThere, stress}
 use Rattle.scope.specs.Mesh.{nodes, sides, corner, p, q, h, cohesion}
 use Rattle.scope.specs.Polygon.{Point, point, Side, Polygon, polygonSides, polygonOf}
-use Rattle.scope.specs.Rows.{asked, unfixed, Row, sx, sy, t, nodeSoil, cross, riseAcross, runAcross}
+use Rattle.scope.specs.Rows.{asked, unfixed, Row, strengthRows, sx, sy, t, nodeSoil, cross, riseAcross, runAcross}
 use Rattle.scope.specs.Sums.{rowHolds}
 use Rattle.scope.specs.Verdict.{rowAt}
 use Rattle.scope.specs.Facts.{ClaimFacts}
 use Rattle.rows.specs.Contracts.{Sized, NodeSoils}
-use Rattle.scope.specs.Checks.{demand, lowest}
+use Rattle.scope.specs.Checks.{demand, lowest, allBelow}
 
 -- ---- a polygon's sides
 
@@ -106,11 +105,11 @@ pairs [] js = []
 pairs (c ∷ cs) [] = []
 pairs (c ∷ cs) (j ∷ js) = (c, j) ∷ pairs cs js
 
--- the row that the numbers say
 -- the first coefficients of a row, with their columns
 abbrev pub entriesOf : List ℤ → List ℕ → ℕ → List (ℤ × ℕ)
 entriesOf coefficients columns count = pairs (take count coefficients) (take count columns)
 
+-- the row that the numbers say
 unfoldable pub rowOf : EqualityRow → Row
 rowOf r = record {
   kind = cond (r .asked) asked unfixed;
@@ -264,10 +263,6 @@ pub record StepsFit (t : List ℤ) (n : ℕ) : Type 0 where
 unfoldable pub sideSlack : List ℤ → List ℤ → ℕ → ℤ
 sideSlack d t k = at t (3 * k + 2) *ℤ at d 3 -ℤ at d 0 *ℤ (at t (3 * k + 1) *ℤ at d 1 -ℤ at t (3 * k) *ℤ at d 2)
 
--- 22 at one node with n sides, whose first row has the number `first`
-unfoldable pub nodeCheck : List ℤ → List ℤ → ℕ → ℕ → Outcome
-nodeCheck d t first n = lowest (λ k. demand (leZ (pos 0) (sideSlack d t k)) 22 (P.Row (suc (first + k)))) n
-
 -- ---- a claim
 
 -- the place of the first multiplier
@@ -287,3 +282,7 @@ pub record NodeState (d m c : List ℤ) (v : ℕ) : Type 0 where
   pub spread : Is (at d 1) (stress m c (sx v) -ℤ stress m c (sy v)) 2000000000
   pub twist : Is (at d 2) (pos 2 *ℤ stress m c (t v)) 2000000000
   pub reserve : Is (at d 3) (pos 2 *ℤ q m (nodeSoil m v) *ℤ cohesion m (nodeSoil m v) *ℤ n c -ℤ p m (nodeSoil m v) *ℤ (stress m c (sx v) +ℤ stress m c (sy v))) 4000000000000
+
+-- each strength row of node v holds at the claim's field
+unfoldable pub nodeHolds : List ℤ → List ℤ → ℕ → Bool
+nodeHolds m c v = allBelow (λ k. rowHolds (stress m c) (l c) (n c) (rowAt (strengthRows m) (v * sides m + k))) (sides m)

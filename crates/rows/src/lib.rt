@@ -2,6 +2,7 @@
 
 mod claim_parts;
 pub mod line_checks;
+mod line_tests;
 mod mesh_checks;
 mod multiplier_checks;
 mod multiplier_sums;
@@ -10,6 +11,7 @@ mod open_rows;
 mod part_checks;
 mod polygons;
 mod row_sums;
+mod search;
 pub mod sizes;
 mod strength_rows;
 

@@ -1,19 +1,26 @@
 // The checks of the lines of a mesh and of a claim: refusals 1 to 4, and 11 to 13. They take any numbers, and any count of them.
+use crate::line_tests::LineKind;
+use crate::line_tests::is_within;
+use crate::line_tests::limits_hold;
+use crate::line_tests::line_at;
+use crate::line_tests::refused;
+use crate::search::Test;
+use crate::search::first_failing;
 use crate::sizes::count_at;
 use scope::Outcome;
 use scope::Place;
 ghost use mathlib.Core.Path.{_≡_};
 ghost use mathlib.Core.List.{List, [], _∷_};
-ghost use Prim.Native.Nat.{ℕ, min, _*_, _/_, _<_, _≤_, _^_};
+ghost use Prim.Native.Nat.{ℕ, min, _*_, _/_, _<_, _≤_};
 ghost use lib.ListN.{length, take, drop};
-ghost use lib.IntN.{ℤ, pos, _+ℤ_, _*ℤ_};
-ghost use Rattle.integer.specs.Bounds.{Within};
+ghost use lib.IntN.{ℤ, pos};
 ghost use Rattle.integer.specs.Tests.{eqZ};
-ghost use Rattle.scope.specs.Columns.{between, upTo, within, isOneOf, allWithin, parts, ruleTest};
+ghost use Rattle.scope.specs.Checks.{allBelow};
+ghost use Rattle.scope.specs.Columns.{at, between, upTo, within, isOneOf, parts, ruleTest};
 ghost use Rattle.scope.specs.Layout.{Layout, width, lineCheck, lineAt, linesCheck};
-ghost use Rattle.scope.specs.Mesh.{meshLayout, soilLines, elementLines, edgeLines};
+ghost use Rattle.scope.specs.Mesh.{meshLayout};
 ghost use Rattle.scope.specs.Claim.{claimHeader, claimLayout, ifThere};
-ghost use Rattle.rows.specs.LineContracts.{runWithin, ranges, AsMany, groupCheck, groupsCheck, linesGroup, columnsIn, groupOf, columnsOf, evenLines, FewLines, FewColumns, NumberedFrom, meshBody, MeshCounts, multiplierBody, claimBody, MultiplierCounts, CountsAre, SmallCounts};
+ghost use Rattle.rows.specs.LineContracts.{groupCheck, groupsCheck, linesGroup, columnsIn, groupOf, evenLines, FewLines, FewColumns, NumberedFrom, meshBody, MeshCounts, multiplierBody, claimBody, MultiplierCounts, CountsAre, SmallCounts};
 
 // The limits of a mesh's header before its sides, and of a claim's header.
 const MESH_LEAST: [i64; 4] = [4, 1, 1, 0];
@@ -24,122 +31,18 @@ const CLAIM_LEAST: [i64; 4] = [0, 0, 0, -100000000];
 
 const CLAIM_MOST: [i64; 4] = [1, 1, 100000, 100000000];
 
-// The limits of a soil's columns, and of an edge's after its two nodes.
-const SOIL_LEAST: [i64; 8] = [0, 1, 1, 0, -1000, -1000, -1000, -1000];
-
-const SOIL_MOST: [i64; 8] = [1000, 1000, 1000, 10000, 1000, 1000, 1000, 1000];
-
-const EDGE_LEAST: [i64; 5] = [1, -10000, -10000, -10000, -10000];
-
-const EDGE_MOST: [i64; 5] = [3, 10000, 10000, 10000, 10000];
-
-// z is from lo to hi.
-fn is_within(z: i64, lo: i64, hi: i64) -> bool
-    ensures { λ r. ⌜ r ≡ within (between lo hi) z ⌝ }
-{
-    if z < lo {
-        return false;
-    }
-    z <= hi
-}
-
-// How many numbers at the front of a list are from lo to hi.
-fn run_within(s: &[i64], lo: i64, hi: i64) -> usize
-    ensures { λ r. ⌜ r ≡ runWithin (between lo hi) (now (s .entry)) ⌝ }
+// Each number of a list is from lo to hi.
+fn all_within(s: &[i64], lo: i64, hi: i64) -> bool
+    ensures { λ r. ⌜ r ≡ allBelow (λ k. within (between lo hi) (at (now (s .entry)) k)) (length (now (s .entry))) ⌝ }
 {
     let mut k: usize = 0;
     while k < s.len() {
         if !is_within(s[k], lo, hi) {
-            return k;
-        }
-        k += 1;
-    }
-    k
-}
-
-// Number k of a list is from number k of lo to number k of hi, for each k.
-fn limits_hold(s: &[i64], lo: &[i64], hi: &[i64]) -> bool
-    requires { ⌜ AsMany (now lo) (now hi) (now s) ⌝ }
-    ensures { λ r. ⌜ r ≡ allWithin (ranges (now (lo .entry)) (now (hi .entry))) (now (s .entry)) ⌝ }
-{
-    let mut k: usize = 0;
-    while k < s.len() {
-        if !is_within(s[k], lo[k], hi[k]) {
             return false;
         }
         k += 1;
     }
     true
-}
-
-// A refusal at a line.
-fn refused(number: u32, line: usize) -> Outcome
-    requires { ⌜ line < 2 ^ 32 ⌝ }
-    ensures { λ r. ⌜ r ≡ Outcome.Refused number (Place.Line line) ⌝ }
-{
-    Outcome::Refused {
-        number,
-        place: Place::Line(line as u32),
-    }
-}
-
-// p² + q² is h².
-fn right_angle(p: i64, q: i64, h: i64) -> bool
-    requires { ⌜ Within 1000 p ⌝ ∗ ⌜ Within 1000 q ⌝ ∗ ⌜ Within 1000 h ⌝ }
-    ensures { λ r. ⌜ r ≡ eqZ (p *ℤ p +ℤ q *ℤ q) (h *ℤ h) ⌝ }
-{
-    p * p + q * q == h * h
-}
-
-// The soil that stands at the front of a list.
-fn soil_line(s: &[i64], line: usize) -> Outcome
-    requires { ⌜ line < 2 ^ 32 ⌝ }
-    ensures { λ r. ⌜ r ≡ lineCheck meshLayout (soilLines 0) (take 8 (now (s .entry))) (Place.Line line) ⌝ }
-{
-    if s.len() < 8 {
-        return refused(1, line);
-    }
-    if !limits_hold(&s[0..8], &SOIL_LEAST, &SOIL_MOST) {
-        return refused(2, line);
-    }
-    if !right_angle(s[0], s[1], s[2]) {
-        return refused(3, line);
-    }
-    Outcome::Passed
-}
-
-// The element that stands at the front of a list.
-fn element_line(s: &[i64], nodes: usize, soils: usize, line: usize) -> Outcome
-    requires { ⌜ nodes ≤ 100 ⌝ ∗ ⌜ soils ≤ 100 ⌝ ∗ ⌜ line < 2 ^ 32 ⌝ }
-    ensures { λ r. ⌜ r ≡ lineCheck meshLayout (elementLines 0 nodes soils) (take 5 (now (s .entry))) (Place.Line line) ⌝ }
-{
-    if s.len() < 5 {
-        return refused(1, line);
-    }
-    let n = nodes as i64;
-    let most = [n, n, n, n, soils as i64];
-    if !limits_hold(&s[0..5], &[1; 5], &most) {
-        return refused(4, line);
-    }
-    Outcome::Passed
-}
-
-// The edge that stands at the front of a list.
-fn edge_line(s: &[i64], nodes: usize, line: usize) -> Outcome
-    requires { ⌜ nodes ≤ 100 ⌝ ∗ ⌜ line < 2 ^ 32 ⌝ }
-    ensures { λ r. ⌜ r ≡ lineCheck meshLayout (edgeLines 0 nodes) (take 7 (now (s .entry))) (Place.Line line) ⌝ }
-{
-    if s.len() < 7 {
-        return refused(1, line);
-    }
-    if !limits_hold(&s[2..7], &EDGE_LEAST, &EDGE_MOST) {
-        return refused(2, line);
-    }
-    let n = nodes as i64;
-    if !limits_hold(&s[0..2], &[1; 2], &[n; 2]) {
-        return refused(4, line);
-    }
-    Outcome::Passed
 }
 
 // The groups of lines: four of a mesh, then four of a claim, then the two headers. The lines of strength multipliers are as wide as the polygon has sides.
@@ -174,36 +77,6 @@ pub fn columns(group: Lines) -> usize
     }
 }
 
-// The lines of a mesh that have rules of their own.
-enum LineKind {
-    Soil,
-    Element,
-    Edge,
-}
-
-// How many columns a line has.
-fn columns_of(kind: LineKind) -> usize
-    ensures { λ r. ⌜ r ≡ columnsOf kind ⌝ }
-{
-    match kind {
-        LineKind::Soil => columns(Lines::Soils),
-        LineKind::Element => columns(Lines::Elements),
-        LineKind::Edge => columns(Lines::Edges),
-    }
-}
-
-// The line that stands at the front of a list.
-fn line_check(kind: LineKind, s: &[i64], nodes: usize, soils: usize, line: usize) -> Outcome
-    requires { ⌜ nodes ≤ 100 ⌝ ∗ ⌜ soils ≤ 100 ⌝ ∗ ⌜ line < 2 ^ 32 ⌝ }
-    ensures { λ r. ⌜ r ≡ lineCheck meshLayout (groupOf kind 0 nodes soils) (take (columnsOf kind) (now (s .entry))) (Place.Line line) ⌝ }
-{
-    match kind {
-        LineKind::Soil => soil_line(s, line),
-        LineKind::Element => element_line(s, nodes, soils, line),
-        LineKind::Edge => edge_line(s, nodes, line),
-    }
-}
-
 // The lines of one kind that stand at the front of a list.
 fn group_check(
     kind: LineKind,
@@ -216,16 +89,15 @@ fn group_check(
     requires { ⌜ FewLines count nodes soils line ⌝ }
     ensures { λ r. ⌜ r ≡ groupCheck meshLayout (groupOf kind count nodes soils) (now (s .entry)) line ⌝ }
 {
-    let columns = columns_of(kind);
-    let mut k: usize = 0;
-    let mut at: usize = 0;
-    while k < count {
-        let o = line_check(kind, &s[at..], nodes, soils, line + k);
-        if let Outcome::Refused { .. } = o {
-            return o;
-        }
-        k += 1;
-        at += columns;
+    let test = Test::Lines {
+        kind,
+        nodes,
+        soils,
+        line,
+    };
+    let k = first_failing(test, &[], s, &[], &[], count);
+    if k < count {
+        return line_at(kind, s, nodes, soils, line, k);
     }
     Outcome::Passed
 }
@@ -243,6 +115,7 @@ fn whole_lines(numbers: usize, columns: usize, count: usize) -> usize
 }
 
 // The lines that stand at the front of a list, where every column has the limits lo and hi: the numbers of the whole lines are looked at in one go.
+// For speed a loop with nothing else in it asks whether one is outside, and the search only which.
 fn even_check(
     s: &[i64],
     count: usize,
@@ -257,8 +130,8 @@ fn even_check(
 {
     let whole = whole_lines(s.len(), columns, count);
     let end = whole * columns;
-    let run = run_within(&s[..end], lo, hi);
-    if run < end {
+    if !all_within(&s[..end], lo, hi) {
+        let run = first_failing(Test::Limits { lo, hi }, &[], s, &[], &[], end);
         return refused(form + 1, line + run / columns);
     }
     if whole < count {

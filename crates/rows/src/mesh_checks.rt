@@ -1,6 +1,8 @@
 // The shape of a mesh whose lines have passed: refusals 5 to 8, and the soil of each node.
-// Sides are looked up in a table, 100 bytes for each node: the byte at a * 100 + b is 0 where a to b is no side, 1 where it is one, and 2 where an edge has taken it.
-// For speed one table serves 6 and 8: a second would be 10,000 more bytes to fill with 0.
+// Sides are looked up in a table, 100 bytes for each node, that is filled first and then only read: the byte at a * 100 + b is 255 where a to b is no element's side, and else the number, from 0, of the lowest element that has it.
+// For 8 each edge takes its side in the same table: the byte is then 100 and the number of the lowest edge that has it. Elements are at most 100, and edges at most 60.
+use crate::search::Test;
+use crate::search::first_failing;
 use crate::sizes::Sizes;
 use crate::sizes::corner_of;
 use crate::sizes::edge_from;
@@ -11,16 +13,17 @@ use crate::sizes::node_y;
 use scope::Outcome;
 use scope::Place;
 ghost use mathlib.Core.Path.{_≡_};
-ghost use Prim.Native.Nat.{_+_, _*_, _<_};
+ghost use Prim.Native.Nat.{_+_, _*_, _<_, _≤_};
 ghost use lib.IntN.{pos, _-ℤ_, _*ℤ_};
 ghost use lib.Signed.{ltZ};
+ghost use lib.ListN.{length};
 ghost use Rattle.integer.specs.Bounds.{Within};
 ghost use Rattle.integer.specs.Machine.{Is};
-ghost use Rattle.scope.specs.Mesh.{nodes, elements, edges, x, y, fromNode, toNode};
+ghost use Rattle.scope.specs.Mesh.{nodes, elements, edges, x, y};
 ghost use Rattle.scope.specs.Rows.{node};
 ghost use Rattle.scope.specs.Checks.{_then_};
 ghost use Rattle.scope.specs.Verdict.{turn, leftTurnAt, leftTurns, ownSides, outerEdge, turnsCheck, sidesCheck, nodesCheck, edgesCheck, shapeCheck};
-ghost use Rattle.rows.specs.Contracts.{Sized, byteAt, marked, withByte, SideBytes, Marks, sideBelow, takenByte, SidesChecked, keepFirst, soilBelow, Holds, NodeSoils};
+ghost use Rattle.rows.specs.Contracts.{Sized, Holds, keepFirst, soilBelow, NodeSoils, byteAt, SideTable, ownSideAt, EdgeTable};
 
 // ---- 5: a left turn at all four corners
 
@@ -77,7 +80,7 @@ fn left_turn_at(m: &[i64], s: Sizes, e: usize, i: usize) -> bool
     turns_left(m, s, a, b, c)
 }
 
-fn left_turns(m: &[i64], s: Sizes, e: usize) -> bool
+pub fn left_turns(m: &[i64], s: Sizes, e: usize) -> bool
     requires { ⌜ Sized (now m) s × (e < elements (now m)) ⌝ }
     ensures { λ r. ⌜ r ≡ leftTurns (now (m .entry)) e ⌝ }
 {
@@ -96,73 +99,48 @@ fn turns_check(m: &[i64], s: Sizes) -> Outcome
     ensures { λ r. ⌜ r ≡ turnsCheck (now (m .entry)) ⌝ }
 {
     let count = s.elements;
-    let mut e: usize = 0;
-    while e < count {
-        if !left_turns(m, s, e) {
-            return Outcome::Refused {
-                number: 5,
-                place: Place::Element(e as u32 + 1),
-            };
-        }
-        e += 1;
+    let e = first_failing(Test::Turns(s), m, &[], &[], &[], count);
+    if e < count {
+        return Outcome::Refused {
+            number: 5,
+            place: Place::Element(e as u32 + 1),
+        };
     }
     Outcome::Passed
 }
 
 // ---- 6: no directed side that a lower element has
 
-fn side_byte(t: &[u8; 10000], a: usize, b: usize) -> u8
-    requires { ⌜ (a < 100) × (b < 100) ⌝ }
+// Gives a byte to a place that has none yet.
+fn keep_first(t: &mut [u8], v: usize, byte: u8)
+    requires { ⌜ v < length (now t) ⌝ }
+    ensures { λ _. ⌜ now (t .exit) ≡ keepFirst (now (t .entry)) v byte ⌝ }
+{
+    if t[v] == 255 {
+        t[v] = byte;
+    }
+}
+
+fn side_byte(t: &[u8], a: usize, b: usize) -> u8
+    requires { ⌜ a * 100 + b < length (now t) ⌝ }
     ensures { λ r. ⌜ r ≡ byteAt (now (t .entry)) a b ⌝ }
 {
     t[a * 100 + b]
 }
 
-fn set_byte(t: &mut [u8; 10000], a: usize, b: usize, byte: u8)
-    requires { ⌜ (a < 100) × (b < 100) ⌝ }
-    ensures { λ _. ⌜ now (t .exit) ≡ withByte (now (t .entry)) a b byte ⌝ }
-{
-    t[a * 100 + b] = byte;
-}
-
-// Whether side i of element e is marked.
-fn side_marked(m: &[i64], s: Sizes, e: usize, i: usize, t: &[u8; 10000]) -> bool
-    requires { ⌜ Sized (now m) s × (e < elements (now m)) × (i < 4) ⌝ }
-    ensures { λ r. ⌜ r ≡ marked (now (t .entry)) (node (now (m .entry)) e i) (node (now (m .entry)) e (i + 1)) ⌝ }
+// Gives the number of element e to its side i.
+fn mark_side(m: &[i64], s: Sizes, e: usize, i: usize, t: &mut [u8])
+    requires { ⌜ Sized (now m) s × (e < elements (now m)) × (i < 4) × (nodes (now m) * 100 ≤ length (now t)) ⌝ }
+    ensures { λ _. ⌜ now (t .exit) ≡ keepFirst (now (t .entry)) (node (now (m .entry)) e i * 100 + node (now (m .entry)) e (i + 1)) e ⌝ }
 {
     let a = node_of(m, s, e, i);
     let b = node_of(m, s, e, i + 1);
-    0 < side_byte(t, a, b)
+    keep_first(t, a * 100 + b, e as u8)
 }
 
-fn mark_side(m: &[i64], s: Sizes, e: usize, i: usize, t: &mut [u8; 10000])
-    requires { ⌜ Sized (now m) s × (e < elements (now m)) × (i < 4) ⌝ }
-    ensures { λ _. ⌜ now (t .exit) ≡ withByte (now (t .entry)) (node (now (m .entry)) e i) (node (now (m .entry)) e (i + 1)) 1 ⌝ }
-{
-    let a = node_of(m, s, e, i);
-    let b = node_of(m, s, e, i + 1);
-    set_byte(t, a, b, 1)
-}
-
-// Whether no side of element e is marked.
-fn own_sides(m: &[i64], s: Sizes, e: usize, t: &[u8; 10000]) -> bool
-    requires { ⌜ Sized (now m) s × (e < elements (now m)) × Marks (sideBelow (now m) e) (now t) ⌝ }
-    ensures { λ r. ⌜ r ≡ ownSides (now (m .entry)) e ⌝ }
-{
-    let mut i: usize = 0;
-    while i < 4 {
-        if side_marked(m, s, e, i, t) {
-            return false;
-        }
-        i += 1;
-    }
-    true
-}
-
-// Marks the sides of element e.
-fn mark_sides(m: &[i64], s: Sizes, e: usize, t: &mut [u8; 10000])
-    requires { ⌜ Sized (now m) s × (e < elements (now m)) × Marks (sideBelow (now m) e) (now t) ⌝ }
-    ensures { λ _. ⌜ Marks (sideBelow (now (m .entry)) (e + 1)) (now (t .exit)) ⌝ }
+fn mark_sides(m: &[i64], s: Sizes, e: usize, t: &mut [u8])
+    requires { ⌜ Sized (now m) s × (e < elements (now m)) × SideTable (now m) e (now t) ⌝ }
+    ensures { λ _. ⌜ SideTable (now (m .entry)) (e + 1) (now (t .exit)) ⌝ }
 {
     let mut i: usize = 0;
     while i < 4 {
@@ -171,37 +149,59 @@ fn mark_sides(m: &[i64], s: Sizes, e: usize, t: &mut [u8; 10000])
     }
 }
 
-// Marks the sides of all elements, as far as they pass.
-fn sides_check(m: &[i64], s: Sizes, t: &mut [u8; 10000]) -> Outcome
-    requires { ⌜ Sized (now m) s × Marks (sideBelow (now m) 0) (now t) ⌝ }
-    ensures { λ r. ⌜ SidesChecked (now (m .entry)) r (now (t .exit)) ⌝ }
+// Fills a table of sides.
+fn side_table(m: &[i64], s: Sizes, t: &mut [u8])
+    requires { ⌜ Sized (now m) s × SideTable (now m) 0 (now t) ⌝ }
+    ensures { λ _. ⌜ SideTable (now (m .entry)) (elements (now (m .entry))) (now (t .exit)) ⌝ }
 {
     let count = s.elements;
     let mut e: usize = 0;
     while e < count {
-        if !own_sides(m, s, e, t) {
-            return Outcome::Refused {
-                number: 6,
-                place: Place::Element(e as u32 + 1),
-            };
-        }
         mark_sides(m, s, e, t);
         e += 1;
+    }
+}
+
+// Whether side i of element e has its own number, so that no lower element has it.
+fn own_side(m: &[i64], s: Sizes, e: usize, i: usize, t: &[u8]) -> bool
+    requires { ⌜ Sized (now m) s × (e < elements (now m)) × (i < 4) × SideTable (now m) (elements (now m)) (now t) ⌝ }
+    ensures { λ r. ⌜ r ≡ ownSideAt (now (m .entry)) e i ⌝ }
+{
+    let a = node_of(m, s, e, i);
+    let b = node_of(m, s, e, i + 1);
+    side_byte(t, a, b) == e as u8
+}
+
+pub fn own_sides(m: &[i64], s: Sizes, e: usize, t: &[u8]) -> bool
+    requires { ⌜ Sized (now m) s × (e < elements (now m)) × SideTable (now m) (elements (now m)) (now t) ⌝ }
+    ensures { λ r. ⌜ r ≡ ownSides (now (m .entry)) e ⌝ }
+{
+    let mut i: usize = 0;
+    while i < 4 {
+        if !own_side(m, s, e, i, t) {
+            return false;
+        }
+        i += 1;
+    }
+    true
+}
+
+fn sides_check(m: &[i64], s: Sizes, t: &[u8]) -> Outcome
+    requires { ⌜ Sized (now m) s × SideTable (now m) (elements (now m)) (now t) ⌝ }
+    ensures { λ r. ⌜ r ≡ sidesCheck (now (m .entry)) ⌝ }
+{
+    let count = s.elements;
+    let e = first_failing(Test::OwnSides(s), m, &[], &[], t, count);
+    if e < count {
+        return Outcome::Refused {
+            number: 6,
+            place: Place::Element(e as u32 + 1),
+        };
     }
     Outcome::Passed
 }
 
 // ---- 7: each node is in an element
-
-// Gives a soil to a node that has none yet.
-fn keep_first(t: &mut [u8; 100], v: usize, soil: u8)
-    requires { ⌜ v < 100 ⌝ }
-    ensures { λ _. ⌜ now (t .exit) ≡ keepFirst (now (t .entry)) v soil ⌝ }
-{
-    if t[v] == 255 {
-        t[v] = soil;
-    }
-}
 
 // Gives the soil of element e to its corners that have none yet.
 fn give_soil(m: &[i64], s: Sizes, e: usize, t: &mut [u8; 100])
@@ -238,15 +238,12 @@ fn nodes_check(m: &[i64], s: Sizes) -> Outcome
 {
     let t = soils_or_none(m, s);
     let count = s.nodes;
-    let mut v: usize = 0;
-    while v < count {
-        if t[v] == 255 {
-            return Outcome::Refused {
-                number: 7,
-                place: Place::Node(v as u32 + 1),
-            };
-        }
-        v += 1;
+    let v = first_failing(Test::InElement, m, &[], &[], &t, count);
+    if v < count {
+        return Outcome::Refused {
+            number: 7,
+            place: Place::Node(v as u32 + 1),
+        };
     }
     Outcome::Passed
 }
@@ -261,27 +258,42 @@ pub fn node_soils(m: &[i64], s: Sizes) -> [u8; 100]
 
 // ---- 8: each edge is an outer side, once
 
-// Whether edge g is a side that no earlier edge has taken, and its reverse is none.
-fn outer_edge(m: &[i64], s: Sizes, g: usize, t: &[u8; 10000]) -> bool
-    requires { ⌜ Sized (now m) s × (g < edges (now m)) × SideBytes (takenByte (now m) g) (now t) ⌝ }
+// Edge g takes its side, where it is one and no earlier edge has it.
+fn take_side(m: &[i64], s: Sizes, g: usize, t: &mut [u8])
+    requires { ⌜ Sized (now m) s × (g < edges (now m)) × EdgeTable (now m) g (now t) ⌝ }
+    ensures { λ _. ⌜ EdgeTable (now (m .entry)) (g + 1) (now (t .exit)) ⌝ }
+{
+    let a = edge_from(m, s, g);
+    let b = edge_to(m, s, g);
+    let at = a * 100 + b;
+    if t[at] < 100 {
+        t[at] = 100 + g as u8;
+    }
+}
+
+fn take_sides(m: &[i64], s: Sizes, t: &mut [u8])
+    requires { ⌜ Sized (now m) s × SideTable (now m) (elements (now m)) (now t) ⌝ }
+    ensures { λ _. ⌜ EdgeTable (now (m .entry)) (edges (now (m .entry))) (now (t .exit)) ⌝ }
+{
+    let count = s.edges;
+    let mut g: usize = 0;
+    while g < count {
+        take_side(m, s, g, t);
+        g += 1;
+    }
+}
+
+// Whether edge g has taken its side, and the reverse is none.
+pub fn outer_edge(m: &[i64], s: Sizes, g: usize, t: &[u8]) -> bool
+    requires { ⌜ Sized (now m) s × (g < edges (now m)) × EdgeTable (now m) (edges (now m)) (now t) ⌝ }
     ensures { λ r. ⌜ r ≡ outerEdge (now (m .entry)) g ⌝ }
 {
     let a = edge_from(m, s, g);
     let b = edge_to(m, s, g);
-    if side_byte(t, a, b) != 1 {
+    if side_byte(t, a, b) != 100 + g as u8 {
         return false;
     }
-    side_byte(t, b, a) == 0
-}
-
-// Edge g takes its side.
-fn take_side(m: &[i64], s: Sizes, g: usize, t: &mut [u8; 10000])
-    requires { ⌜ Sized (now m) s × (g < edges (now m)) ⌝ }
-    ensures { λ _. ⌜ now (t .exit) ≡ withByte (now (t .entry)) (fromNode (now (m .entry)) g) (toNode (now (m .entry)) g) 2 ⌝ }
-{
-    let a = edge_from(m, s, g);
-    let b = edge_to(m, s, g);
-    set_byte(t, a, b, 2)
+    side_byte(t, b, a) == 255
 }
 
 // The line of edge g, counted from 1: the edges follow the header, the soils, the nodes and the elements.
@@ -292,44 +304,56 @@ fn edge_line(s: Sizes, g: usize) -> u32
     (s.soils + s.nodes + s.elements + g + 2) as u32
 }
 
-fn edges_check(m: &[i64], s: Sizes, t: &mut [u8; 10000]) -> Outcome
-    requires { ⌜ Sized (now m) s × Marks (sideBelow (now m) (elements (now m))) (now t) ⌝ }
+fn edges_check(m: &[i64], s: Sizes, t: &[u8]) -> Outcome
+    requires { ⌜ Sized (now m) s × EdgeTable (now m) (edges (now m)) (now t) ⌝ }
     ensures { λ r. ⌜ r ≡ edgesCheck (now (m .entry)) ⌝ }
 {
     let count = s.edges;
-    let mut g: usize = 0;
-    while g < count {
-        if !outer_edge(m, s, g, t) {
-            return Outcome::Refused {
-                number: 8,
-                place: Place::Line(edge_line(s, g)),
-            };
-        }
-        take_side(m, s, g, t);
-        g += 1;
+    let g = first_failing(Test::OuterEdges(s), m, &[], &[], t, count);
+    if g < count {
+        return Outcome::Refused {
+            number: 8,
+            place: Place::Line(edge_line(s, g)),
+        };
     }
     Outcome::Passed
 }
 
 // ---- all four
 
-// Refusals 6 to 8.
-fn sides_nodes_edges(m: &[i64], s: Sizes) -> Outcome
-    requires { ⌜ Sized (now m) s ⌝ }
+// Refusals 6 to 8, by a table in which no byte is given yet.
+fn checks_by_table(m: &[i64], s: Sizes, t: &mut [u8]) -> Outcome
+    requires { ⌜ Sized (now m) s × SideTable (now m) 0 (now t) ⌝ }
     ensures { λ r. ⌜ r ≡ sidesCheck (now (m .entry)) then nodesCheck (now (m .entry)) then edgesCheck (now (m .entry)) ⌝ }
 {
-    let mut table = [0u8; 10000];
-    let sides = sides_check(m, s, &mut table);
+    side_table(m, s, t);
+    let sides = sides_check(m, s, t);
     match sides {
         Outcome::Refused { number, place } => Outcome::Refused { number, place },
         Outcome::Passed => {
             let nodes = nodes_check(m, s);
             match nodes {
                 Outcome::Refused { number, place } => Outcome::Refused { number, place },
-                Outcome::Passed => edges_check(m, s, &mut table),
+                Outcome::Passed => {
+                    take_sides(m, s, t);
+                    edges_check(m, s, t)
+                }
             }
         }
     }
+}
+
+// Refusals 6 to 8. For speed a small mesh has a small table: filling 10,000 bytes is a tenth of the time of a small sheet.
+fn sides_nodes_edges(m: &[i64], s: Sizes) -> Outcome
+    requires { ⌜ Sized (now m) s ⌝ }
+    ensures { λ r. ⌜ r ≡ sidesCheck (now (m .entry)) then nodesCheck (now (m .entry)) then edgesCheck (now (m .entry)) ⌝ }
+{
+    if s.nodes <= 16 {
+        let mut small = [255u8; 1600];
+        return checks_by_table(m, s, &mut small);
+    }
+    let mut table = [255u8; 10000];
+    checks_by_table(m, s, &mut table)
 }
 
 // Refusals 5 to 8, in their order.

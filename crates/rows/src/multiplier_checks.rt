@@ -17,6 +17,8 @@ use crate::line_checks::if_there;
 use crate::multiplier_sums::Sums;
 use crate::multiplier_sums::row_sums;
 use crate::row_sums::fixes;
+use crate::search::Test;
+use crate::search::first_failing;
 use crate::sizes::Sizes;
 use crate::sizes::edge_entry;
 use crate::sizes::number_at;
@@ -47,7 +49,7 @@ fn row_asked(m: &[i64], s: Sizes, k: usize) -> bool
 }
 
 // The multiplier of equality row k is 0, or the row asks something.
-fn zero_if_unfixed(m: &[i64], s: Sizes, y: &[i64], k: usize) -> bool
+pub fn zero_if_unfixed(m: &[i64], s: Sizes, y: &[i64], k: usize) -> bool
     requires { ⌜ Sized (now m) s × (k < elements (now m) * 2 + edges (now m) * 4) ⌝ ∗ ⌜ k < length (now y) ⌝ ∗ ⌜ AllWithin 100000 (now y) ⌝ }
     ensures { λ r. ⌜ r ≡ zeroIfUnfixed (at (now (y .entry)) k) (rowAt (equalityRows (now (m .entry))) k) ⌝ }
 {
@@ -64,33 +66,27 @@ fn unfixed_check(m: &[i64], s: Sizes, y: &[i64]) -> Outcome
     ensures { λ r. ⌜ r ≡ unfixedCheck (equalityRows (now (m .entry))) (at (now (y .entry))) ⌝ }
 {
     let rows = s.elements * 2 + s.edges * 4;
-    let mut k: usize = 0;
-    while k < rows {
-        if !zero_if_unfixed(m, s, y, k) {
-            return Outcome::Refused {
-                number: 31,
-                place: Place::Row((k + 1) as u32),
-            };
-        }
-        k += 1;
+    let k = first_failing(Test::Unfixed(s), m, y, &[], &[], rows);
+    if k < rows {
+        return Outcome::Refused {
+            number: 31,
+            place: Place::Row((k + 1) as u32),
+        };
     }
     Outcome::Passed
 }
 
-// 32: the lowest column whose sum is not 0. Columns are counted from 1, as places are.
+// 32: the lowest column whose sum is not 0.
 fn columns_check(columns: &[i64], n: usize) -> Outcome
     requires { ⌜ n ≤ length (now columns) ⌝ ∗ ⌜ n ≤ 300 ⌝ ∗ ⌜ AllWithin 1000000000000000000 (now columns) ⌝ }
     ensures { λ r. ⌜ r ≡ columnsCheck (at (now (columns .entry))) n ⌝ }
 {
-    let mut j: usize = 1;
-    while j <= n {
-        if number_at(columns, j - 1) != 0 {
-            return Outcome::Refused {
-                number: 32,
-                place: Place::Column(j as u32),
-            };
-        }
-        j += 1;
+    let j = first_failing(Test::Limits { lo: 0, hi: 0 }, &[], columns, &[], &[], n);
+    if j < n {
+        return Outcome::Refused {
+            number: 32,
+            place: Place::Column((j + 1) as u32),
+        };
     }
     Outcome::Passed
 }

@@ -12,15 +12,16 @@ ghost use Rattle.rows.specs.Contracts.{Sized};
 ghost use Rattle.rows.specs.RowContracts.{FieldFits, Judged, MeshSteps, equalitiesCheck, strengthsCheck};
 use crate::row_sums::equality_row;
 use crate::row_sums::left_side;
+use crate::search::Test;
+use crate::search::first_failing;
 use crate::sizes::Sizes;
 use crate::sizes::number_at;
-use crate::strength_rows::node_check;
 use crate::strength_rows::node_state;
 use scope::Outcome;
 use scope::Place;
 
 // Equality row k holds at the field x with l and n, or asks nothing.
-fn equality_holds(m: &[i64], s: Sizes, x: &[i64], l: i64, n: i64, k: usize) -> bool
+pub fn equality_holds(m: &[i64], s: Sizes, x: &[i64], l: i64, n: i64, k: usize) -> bool
     requires { ⌜ Sized (now m) s × (k < elements (now m) * 2 + edges (now m) * 4) ⌝ ∗ ⌜ FieldFits (now m) (now x) l n ⌝ }
     ensures { λ r. ⌜ r ≡ rowHolds (at (now (x .entry))) l n (rowAt (equalityRows (now (m .entry))) k) ⌝ }
 {
@@ -40,34 +41,31 @@ fn equalities_check(m: &[i64], s: Sizes, x: &[i64], l: i64, n: i64) -> Outcome
     ensures { λ r. ⌜ r ≡ equalitiesCheck (equalityRows (now (m .entry))) (at (now (x .entry))) l n ⌝ }
 {
     let rows = s.elements * 2 + s.edges * 4;
-    let mut k: usize = 0;
-    while k < rows {
-        if !equality_holds(m, s, x, l, n, k) {
-            return Outcome::Refused {
-                number: 21,
-                place: Place::Row((k + 1) as u32),
-            };
-        }
-        k += 1;
+    let k = first_failing(Test::Equalities { s, l, n }, m, x, &[], &[], rows);
+    if k < rows {
+        return Outcome::Refused {
+            number: 21,
+            place: Place::Row((k + 1) as u32),
+        };
     }
     Outcome::Passed
 }
 
-// 22: the lowest strength row that fails.
+// 22: the lowest strength row that fails, which is on the lowest node that has one.
 fn strengths_check(m: &[i64], c: &[i64], s: Sizes, soils: &[u8], steps: &[i64]) -> Outcome
     requires { ⌜ Judged (now m) (now c) s (now soils) × (at (now c) 0 ≡ pos 1) ⌝ ∗ ⌜ MeshSteps (now m) (now steps) ⌝ }
     ensures { λ r. ⌜ r ≡ strengthsCheck (strengthRows (now (m .entry))) (stress (now (m .entry)) (now (c .entry))) (l (now (c .entry))) (n (now (c .entry))) ⌝ }
 {
     let nodes = s.nodes;
-    let sides = s.sides;
-    let mut v: usize = 0;
-    while v < nodes {
+    let v = first_failing(Test::Strengths(s), m, c, steps, soils, nodes);
+    if v < nodes {
+        let sides = s.sides;
         let d = node_state(m, c, s, soils, v);
-        let answer = node_check(steps, sides, &d, v * sides);
-        if let Outcome::Refused { number, place } = answer {
-            return Outcome::Refused { number, place };
-        }
-        v += 1;
+        let k = first_failing(Test::NodeSides, &[], &d, steps, &[], sides);
+        return Outcome::Refused {
+            number: 22,
+            place: Place::Row((v * sides + k + 1) as u32),
+        };
     }
     Outcome::Passed
 }

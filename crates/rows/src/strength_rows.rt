@@ -6,16 +6,15 @@ ghost use lib.IntN.{pos, _-ℤ_, _*ℤ_};
 ghost use lib.Signed.{leZ};
 ghost use Rattle.integer.specs.Machine.{Is};
 ghost use Rattle.integer.specs.Bounds.{Within, AllWithin};
+ghost use Rattle.scope.specs.Checks.{allBelow};
 ghost use Rattle.scope.specs.Columns.{at};
 ghost use Rattle.scope.specs.Mesh.{nodes, soils};
 ghost use Rattle.rows.specs.Contracts.{Sized};
-ghost use Rattle.rows.specs.RowContracts.{SoilNumbers, SoilFits, NodeNumbers, NodeFits, StepFits, StepsFit, sideSlack, Judged, NodeState, nodeCheck};
+ghost use Rattle.rows.specs.RowContracts.{SoilNumbers, SoilFits, NodeNumbers, NodeFits, StepFits, StepsFit, MeshSteps, sideSlack, Judged, NodeState, nodeHolds};
 use crate::polygons::radius_of;
 use crate::sizes::Sizes;
 use crate::sizes::number_at;
 use crate::sizes::soil_entry;
-use scope::Outcome;
-use scope::Place;
 
 // What they read of a soil: r·h, p and 2qC.
 pub fn soil_numbers(m: &[i64], s: Sizes, soil: usize, radius: i64) -> [i64; 3]
@@ -68,7 +67,7 @@ pub fn side_slack(steps: &[i64], k: usize, d: &[i64]) -> i64
 }
 
 // The strength row of side k holds: its right side is not below its left.
-fn side_holds(steps: &[i64], k: usize, d: &[i64]) -> bool
+pub fn side_holds(steps: &[i64], k: usize, d: &[i64]) -> bool
     requires { ⌜ StepFits (now steps) k ⌝ ∗ ⌜ NodeFits (now d) ⌝ }
     ensures { λ r. ⌜ r ≡ leZ (pos 0) (sideSlack (now (d .entry)) (now (steps .entry)) k) ⌝ }
 {
@@ -87,20 +86,26 @@ pub fn node_state(m: &[i64], c: &[i64], s: Sizes, soils: &[u8], v: usize) -> [i6
     node_numbers(&k, &c[4..], v, n)
 }
 
-// 22 at one node: the lowest of its sides that fails. Its first row has the number `first`, counted from 0.
-pub fn node_check(steps: &[i64], sides: usize, d: &[i64], first: usize) -> Outcome
-    requires { ⌜ StepsFit (now steps) sides ⌝ ∗ ⌜ NodeFits (now d) ⌝ ∗ ⌜ first < 10000 ⌝ }
-    ensures { λ r. ⌜ r ≡ nodeCheck (now (d .entry)) (now (steps .entry)) first sides ⌝ }
+// Each strength row of a node holds. For speed this loop has nothing else in it; which row fails is for the search to say.
+fn sides_hold(steps: &[i64], sides: usize, d: &[i64]) -> bool
+    requires { ⌜ StepsFit (now steps) sides ⌝ ∗ ⌜ NodeFits (now d) ⌝ }
+    ensures { λ r. ⌜ r ≡ allBelow (λ k. leZ (pos 0) (sideSlack (now (d .entry)) (now (steps .entry)) k)) sides ⌝ }
 {
     let mut k: usize = 0;
     while k < sides {
         if !side_holds(steps, k, d) {
-            return Outcome::Refused {
-                number: 22,
-                place: Place::Row((first + k + 1) as u32),
-            };
+            return false;
         }
         k += 1;
     }
-    Outcome::Passed
+    true
+}
+
+// 22 at node v: each of its strength rows holds at a claim's field.
+pub fn node_holds(m: &[i64], c: &[i64], s: Sizes, soils: &[u8], steps: &[i64], v: usize) -> bool
+    requires { ⌜ Judged (now m) (now c) s (now soils) × (at (now c) 0 ≡ pos 1) × MeshSteps (now m) (now steps) × (v < nodes (now m)) ⌝ }
+    ensures { λ r. ⌜ r ≡ nodeHolds (now (m .entry)) (now (c .entry)) v ⌝ }
+{
+    let d = node_state(m, c, s, soils, v);
+    sides_hold(steps, s.sides, &d)
 }

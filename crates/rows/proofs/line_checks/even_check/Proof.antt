@@ -1,10 +1,13 @@
--- `even_check` meets its contract: each return by what the run of numbers within the limits says of the lines.
+-- `even_check` meets its contract: each return by what the numbers of the whole lines say of the lines.
 use mathlib.Core.Path.{_∙_, sym}
 use native.Mathlib.Nat.{div-le-self}
 use native.Mathlib.Omega.{arith}
 use lib.Seq.{length-take-le}
 use denote.Ref.{now}
-use Rattle.rows.proofs.EvenLaws.{even-run, even-outside, even-short, even-passed, whole-there, few-numbers}
+use borrow.Author.Tests.{not-true, not-false}
+use Rattle.rows.specs.SearchContracts.{holdsAt, Ready}
+use Rattle.rows.proofs.Loops.{found-within}
+use Rattle.rows.proofs.EvenLaws.{none-outside, first-outside, outside-there, even-outside, even-short, even-passed, whole-there, few-numbers}
 use borrow.Author.Needs.{needs}
 use Rattle.rows.proofs.line_checks.even_check.Statement.{statement}
 use Rattle.rows.proofs.line_checks.even_check.Tie as tie
@@ -18,13 +21,30 @@ mul-end c =
     let few = few-numbers (now (a .args .s)) (a .args .count) (a .args .columns) _ (a .pre .fewLines) (a .pre .fewColumns) (c .whole-lines .ensures) in
     record { fits = omega arith }
 
-slice-aggregate-run-within : tie.Need-slice-aggregate-run-within
-slice-aggregate-run-within c =
+slice-aggregate-all-within : tie.Need-slice-aggregate-all-within
+slice-aggregate-all-within c =
     let a = c .before .before in
     sym (length-take-le _ (now (a .args .s)) (whole-there (now (a .args .s)) (a .args .count) (a .args .columns) _ (a .pre .someColumn) (c .before .whole-lines .ensures)))
 
-run-within-requires : tie.Need-run-within-requires
-run-within-requires c κs = search needs
+all-within-requires : tie.Need-all-within-requires
+all-within-requires c κs = search needs
+
+slice-aggregate-first-failing : tie.Need-slice-aggregate-first-failing
+slice-aggregate-first-failing c = search needs
+
+slice-aggregate-first-failing-2 : tie.Need-slice-aggregate-first-failing-2
+slice-aggregate-first-failing-2 c = search needs
+
+slice-aggregate-first-failing-3 : tie.Need-slice-aggregate-first-failing-3
+slice-aggregate-first-failing-3 c = search needs
+
+first-failing-requires : tie.Need-first-failing-requires
+unfolding Ready
+first-failing-requires c κs =
+    let a = c .before .before .before .before .before .before .before in
+    let there = whole-there (now (a .args .s)) (a .args .count) (a .args .columns) _ (a .pre .someColumn) (c .before .before .before .before .before .before .whole-lines .ensures) in
+    let few = few-numbers (now (a .args .s)) (a .args .count) (a .args .columns) _ (a .pre .fewLines) (a .pre .fewColumns) (c .before .before .before .before .before .before .whole-lines .ensures) in
+    (there, omega arith)
 
 add-refused : tie.Need-add-refused
 add-refused c = search needs
@@ -34,21 +54,27 @@ div-refused c = search needs
 
 add-refused-2 : tie.Need-add-refused-2
 add-refused-2 c =
-    let a = c .before .before .before .before in
-    let few = few-numbers (now (a .args .s)) (a .args .count) (a .args .columns) _ (a .pre .fewLines) (a .pre .fewColumns) (c .before .before .before .whole-lines .ensures) in
-    omega (arith, div-le-self (c .before .run-within .result) (a .args .columns))
+    let a = c .before .before .before .before .before .before .before .before in
+    let few = few-numbers (now (a .args .s)) (a .args .count) (a .args .columns) _ (a .pre .fewLines) (a .pre .fewColumns) (c .before .before .before .before .before .before .before .whole-lines .ensures) in
+    let low = found-within (holdsAt _ _ _ _) _ (c .first-failing .ensures) in
+    omega (arith, div-le-self (c .first-failing .result) (a .args .columns))
 
 refused-requires : tie.Need-refused-requires
 refused-requires c κs =
-    let a = c .before .before .before .before in
-    let few = few-numbers (now (a .args .s)) (a .args .count) (a .args .columns) _ (a .pre .fewLines) (a .pre .fewColumns) (c .before .before .before .whole-lines .ensures) in
-    omega (arith, div-le-self (c .before .run-within .result) (a .args .columns))
+    let a = c .before .before .before .before .before .before .before .before in
+    let few = few-numbers (now (a .args .s)) (a .args .count) (a .args .columns) _ (a .pre .fewLines) (a .pre .fewColumns) (c .before .before .before .before .before .before .before .whole-lines .ensures) in
+    let low = found-within (holdsAt _ _ _ _) _ (c .first-failing .ensures) in
+    omega (arith, div-le-self (c .first-failing .result) (a .args .columns))
 
 returns : tie.Need-returns
+unfolding holdsAt
 returns c =
-    let a = c .before .before .before .before .before in
-    let r = even-run (a .fits .lo) (a .fits .hi) (a .pre .someColumn) (c .before .before .before .before .whole-lines .ensures) (c .before .before .run-within .ensures) in
-    λ f numbers. c .refused .ensures ∙ even-outside r f numbers (a .args .line) (c .before .if1 .taken)
+    let a = c .before .before .before .before .before .before .before .before .before in
+    let whole = c .before .before .before .before .before .before .before .before .whole-lines in
+    let some = not-true _ (c .before .before .before .before .before .if1 .taken) in
+    let r = first-outside (now (a .args .s)) (a .args .count) (a .args .columns) (whole .result) (a .fits .lo) (a .fits .hi) (a .pre .someColumn) (whole .ensures) (c .before .before .before .before .before .before .all-within .ensures) some (c .before .first-failing .ensures) in
+    let l = outside-there (now (a .args .s)) (a .args .count) (a .args .columns) (whole .result) (a .fits .lo) (a .fits .hi) (a .pre .someColumn) (whole .ensures) (c .before .before .before .before .before .before .all-within .ensures) some (c .before .first-failing .ensures) in
+    λ f numbers. c .refused .ensures ∙ even-outside r f numbers (a .args .line) l
 
 add-refused-3 : tie.Need-add-refused-3
 add-refused-3 c = search needs
@@ -59,14 +85,16 @@ refused-requires-2 c κs = search needs
 returns-2 : tie.Need-returns-2
 returns-2 c =
     let a = c .before .before .before .before .before .before in
-    let r = even-run (a .fits .lo) (a .fits .hi) (a .pre .someColumn) (c .before .before .before .before .before .whole-lines .ensures) (c .before .before .before .run-within .ensures) in
-    λ f numbers. c .refused2 .ensures ∙ even-short r f numbers (a .args .line) (c .before .before .if1 .left) (c .before .if2 .taken)
+    let whole = c .before .before .before .before .before .whole-lines in
+    let r = none-outside (now (a .args .s)) (a .args .count) (a .args .columns) (whole .result) (a .fits .lo) (a .fits .hi) (a .pre .someColumn) (whole .ensures) (c .before .before .before .all-within .ensures) (not-false _ (c .before .before .if1 .left)) in
+    λ f numbers. c .refused2 .ensures ∙ even-short r f numbers (a .args .line) (omega arith) (c .before .if2 .taken)
 
 returns-3 : tie.Need-returns-3
 returns-3 c =
     let a = c .before .before .before .before .before in
-    let r = even-run (a .fits .lo) (a .fits .hi) (a .pre .someColumn) (c .before .before .before .before .whole-lines .ensures) (c .before .before .run-within .ensures) in
-    λ f numbers. even-passed r f numbers (a .args .line) (c .before .if1 .left) (c .if2 .left)
+    let whole = c .before .before .before .before .whole-lines in
+    let r = none-outside (now (a .args .s)) (a .args .count) (a .args .columns) (whole .result) (a .fits .lo) (a .fits .hi) (a .pre .someColumn) (whole .ensures) (c .before .before .all-within .ensures) (not-false _ (c .before .if1 .left)) in
+    λ f numbers. even-passed r f numbers (a .args .line) (omega arith) (c .if2 .left)
 
 pub even-check-spec : {M : Type 1} → statement M
 even-check-spec =
@@ -74,8 +102,12 @@ even-check-spec =
     (tie.spec
     whole-lines-requires
     mul-end
-    slice-aggregate-run-within
-    run-within-requires
+    slice-aggregate-all-within
+    all-within-requires
+    slice-aggregate-first-failing
+    slice-aggregate-first-failing-2
+    slice-aggregate-first-failing-3
+    first-failing-requires
     add-refused
     div-refused
     add-refused-2

@@ -17,7 +17,7 @@ element-soil-requires : tie.Need-element-soil-requires Inv-loop μ-loop
 element-soil-requires c κs = (c .pre .0, c .pre .1)
 
 cast-soil : tie.Need-cast-soil Inv-loop μ-loop
-cast-soil c = omega (arith, soil-small _ (c .before .pre .0) (c .before .pre .1), c .element-soil .ensures)
+cast-soil c = omega (arith, soil-small _ (c .before .pre .0 .facts) (c .before .pre .1), c .element-soil .ensures)
 
 loop-holds : tie.Need-loop-holds Inv-loop μ-loop
 loop-holds c = (omega arith, no-corner-yet _ _ (c .before .pre .2))
@@ -26,7 +26,10 @@ corner-of-requires : tie.Need-corner-of-requires Inv-loop μ-loop
 corner-of-requires c κs = (c .before .before .before .pre .0, c .before .before .before .pre .1, c .loop-test .taken)
 
 keep-first-requires : tie.Need-keep-first-requires Inv-loop μ-loop
-keep-first-requires c κs = corner-below (c .before .before .before .before .before .pre .0) (c .before .before .before .before .before .pre .1) (c .before .before .loop-test .taken) (c .before .corner-of .ensures)
+keep-first-requires c κs =
+    let p = c .before .before .before .before .before .pre in
+    let size = c .before .before .before .loop .inv .1 .size in
+    omega (arith, corner-below (p .0) (p .1) (c .before .before .loop-test .taken) (c .before .corner-of .ensures), size)
 
 add-i : tie.Need-add-i Inv-loop μ-loop
 add-i c = omega arith
@@ -41,7 +44,7 @@ loop-again c =
     (omega arith, corner-more _ _ _ (c .before .before .before .before .loop .inv .1) v (corner-below (p .0) (p .1) (c .before .before .before .loop-test .taken) v) (c .before .before .before .before .before .element-soil .ensures) (c .keep-first .ensures))
 
 returns : tie.Need-returns Inv-loop μ-loop
-returns c = all-corners _ (c .before .before .before .pre .0) (c .before .loop .inv .1) (c .before .before .before .pre .1) (omega arith) (omega arith)
+returns c = all-corners _ (c .before .before .before .pre .0 .facts) (c .before .loop .inv .1) (c .before .before .before .pre .1) (omega arith) (omega arith)
 
 pub give-soil-spec : {M : Type 1} → statement M
 give-soil-spec =

@@ -1,9 +1,10 @@
 -- `mark_side` meets its contract: the two corners of the side.
 use mathlib.Core.Path.{_∙_, ap₂}
-use Prim.Native.Nat.{ℕ, _+_}
+use Prim.Native.Nat.{ℕ, _+_, _*_}
+use native.Mathlib.Omega.{arith}
 use borrow.Author.Needs.{needs}
-use Rattle.rows.specs.Contracts.{withByte}
-use Rattle.rows.proofs.MeshLaws.{node-below}
+use Rattle.rows.specs.Contracts.{keepFirst}
+use Rattle.rows.proofs.MeshLaws.{side-fits}
 use Rattle.rows.proofs.mesh_checks.mark_side.Statement.{statement}
 use Rattle.rows.proofs.mesh_checks.mark_side.Tie as tie
 
@@ -16,15 +17,42 @@ add-node-of c = search needs
 node-of-requires-2 : tie.Need-node-of-requires-2
 node-of-requires-2 c κs = search needs
 
-set-byte-requires : tie.Need-set-byte-requires
-set-byte-requires c κs =
-    let p = c .before .before .before .pre in
-    let i = c .before .before .before .args .i in
-    (node-below (p .0) (p .1) i (c .before .before .node-of .ensures), node-below (p .0) (p .1) (i + 1) (c .before .node-of2 .ensures))
+mul-keep-first : tie.Need-mul-keep-first
+mul-keep-first c =
+    let p = c .before .before .before .before .pre in
+    omega (arith, side-fits (p .0) (p .1) (c .before .before .before .before .args .i) (p .3) (c .before .before .node-of .ensures) (c .before .node-of2 .ensures))
+
+add-keep-first : tie.Need-add-keep-first
+add-keep-first c =
+    let p = c .before .before .before .before .pre in
+    omega (arith, side-fits (p .0) (p .1) (c .before .before .before .before .args .i) (p .3) (c .before .before .node-of .ensures) (c .before .node-of2 .ensures))
+
+cast-keep-first : tie.Need-cast-keep-first
+cast-keep-first c = omega (arith, c .before .before .before .before .pre .0 .facts .counts .elementsMost)
+
+keep-first-requires : tie.Need-keep-first-requires
+keep-first-requires c κs =
+    let p = c .before .before .before .before .pre in
+    side-fits (p .0) (p .1) (c .before .before .before .before .args .i) (p .3) (c .before .before .node-of .ensures) (c .before .node-of2 .ensures)
+
+same-length : tie.Need-same-length
+same-length c = omega arith
 
 returns : tie.Need-returns
-returns c = c .set-byte .ensures ∙ ap₂ (λ (a b : ℕ). withByte (c .before .before .before .before .args .t .now) a b 1) (c .before .before .before .node-of .ensures) (c .before .before .node-of2 .ensures)
+returns c =
+    let s = c .before .before .before .before .before .before .before in
+    c .before .before .keep-first .ensures ∙ ap₂ (λ (a b : ℕ). keepFirst (s .args .t .now) (a * 100 + b) (s .args .e)) (c .before .before .before .before .before .node-of .ensures) (c .before .before .before .before .node-of2 .ensures)
 
 pub mark-side-spec : {M : Type 1} → statement M
 mark-side-spec =
-    tie.close (tie.spec node-of-requires add-node-of node-of-requires-2 set-byte-requires returns)
+    tie.close
+    (tie.spec
+    node-of-requires
+    add-node-of
+    node-of-requires-2
+    mul-keep-first
+    add-keep-first
+    cast-keep-first
+    keep-first-requires
+    same-length
+    returns)

@@ -8,7 +8,7 @@ soils-or-none-requires : tie.Need-soils-or-none-requires
 soils-or-none-requires c κs = search needs
 
 returns : tie.Need-returns
-returns c = node-soils _ (c .before .pre .0) (c .before .pre .1) (c .soils-or-none .ensures)
+returns c = node-soils _ (c .before .pre .0 .facts) (c .before .pre .1) (c .soils-or-none .ensures)
 
 pub node-soils-spec : {M : Type 1} → statement M
 node-soils-spec = tie.close (tie.spec soils-or-none-requires returns)

@@ -1,78 +1,67 @@
--- `nodes_check` meets its contract. The invariant: the nodes passed are in elements.
-use mathlib.Core.Path.{_≡_, refl, ap}
-use Prim.Native.Nat.{ℕ, suc, _≤_, _-_}
+-- `nodes_check` meets its contract: by the lowest node that is in no element.
+use mathlib.Core.Path.{ap}
+use Prim.Native.Nat.{suc}
 use native.Mathlib.Numerals.{add-one}
 use native.Mathlib.Omega.{arith}
-use Rattle.scope.specs.declared.Place.{Place}
 use Rattle.scope.specs.declared.Place.the-variants.{Node}
-use Rattle.scope.specs.declared.Outcome.the-variants.{Passed}
-use Rattle.scope.specs.Checks.{lowest}
 use Rattle.scope.specs.Mesh.{nodes}
 use Rattle.scope.specs.Verdict.{inElement, nodesCheck}
-use Rattle.rows.proofs.Loops.{Phase, phase-more, phase-fails, phase-done}
-use Rattle.rows.proofs.SoilTables.{soil-none, soil-some}
+use Rattle.rows.specs.SearchContracts.{holdsAt, Ready}
+use Rattle.rows.proofs.Loops.{phase-fails, phase-done}
+use borrow.Author.Needs.{needs}
 use Rattle.rows.proofs.mesh_checks.nodes_check.Statement.{statement}
 use Rattle.rows.proofs.mesh_checks.nodes_check.Tie as tie
 
-abbrev node : ℕ → Place
-node v = Node (suc v)
-
-abbrev Inv-loop : tie.InvT-loop
-Inv-loop m t count v₀ v = (v ≤ count) × (Phase (inElement m) 7 node v ≡ Passed)
-
-abbrev μ-loop : tie.MeasureT-loop
-μ-loop m t count v₀ v = count - v
-
-soils-or-none-requires : tie.Need-soils-or-none-requires Inv-loop μ-loop
+soils-or-none-requires : tie.Need-soils-or-none-requires
 soils-or-none-requires c κs = c .pre
 
-loop-holds : tie.Need-loop-holds Inv-loop μ-loop
-unfolding lowest
-loop-holds c = (omega arith, refl)
+slice-aggregate-first-failing : tie.Need-slice-aggregate-first-failing
+slice-aggregate-first-failing c = search needs
 
-array-read-if1 : tie.Need-array-read-if1 Inv-loop μ-loop
-array-read-if1 c = omega (arith, c .before .before .before .pre .nodesAre, c .before .before .before .pre .facts .counts .nodesMost)
+slice-aggregate-first-failing-2 : tie.Need-slice-aggregate-first-failing-2
+slice-aggregate-first-failing-2 c = search needs
 
-cast-t11 : tie.Need-cast-t11 Inv-loop μ-loop
-cast-t11 c = omega (arith, c .before .before .before .before .pre .nodesAre, c .before .before .before .before .pre .facts .counts .nodesMost)
+slice-aggregate-first-failing-3 : tie.Need-slice-aggregate-first-failing-3
+slice-aggregate-first-failing-3 c = search needs
 
-add-t12 : tie.Need-add-t12 Inv-loop μ-loop
-add-t12 c = omega (arith, c .before .before .before .before .pre .nodesAre, c .before .before .before .before .pre .facts .counts .nodesMost)
+first-failing-requires : tie.Need-first-failing-requires
+unfolding Ready
+first-failing-requires c κs =
+    let sized = c .before .before .before .before .pre in
+    ((sized .facts, c .before .before .before .soils-or-none .ensures, omega (arith, sized .nodesAre, sized .facts .counts .nodesMost)), omega (arith, sized .nodesAre, sized .facts .counts .nodesMost))
 
-returns : tie.Need-returns Inv-loop μ-loop
-unfolding nodesCheck
+cast-t17 : tie.Need-cast-t17
+cast-t17 c =
+    let sized = c .before .before .before .before .before .before .pre in
+    omega (arith, sized .nodesAre, sized .facts .counts .nodesMost)
+
+add-t18 : tie.Need-add-t18
+add-t18 c =
+    let sized = c .before .before .before .before .before .before .pre in
+    omega (arith, sized .nodesAre, sized .facts .counts .nodesMost)
+
+returns : tie.Need-returns
+unfolding nodesCheck holdsAt
 returns c =
-    let k = c .before .before .before .before .pre in
-    phase-fails (inElement _) 7 node (nodes _) (c .before .before .loop .inv .1) (omega (arith, k .nodesAre)) (soil-none _ k (c .before .before .before .soils-or-none .ensures) _ (omega (arith, k .nodesAre, k .facts .counts .nodesMost)) (c .if1 .taken)) (ap Node (add-one _))
+    let sized = c .before .before .before .before .before .before .pre in
+    phase-fails (inElement _) 7 (λ v. Node (suc v)) (nodes _) (c .before .first-failing .ensures) (sized .nodesAre) (c .if1 .taken) (ap Node (add-one _))
 
-add-v : tie.Need-add-v Inv-loop μ-loop
-add-v c = omega arith
-
-loop-less : tie.Need-loop-less Inv-loop μ-loop
-loop-less c = omega arith
-
-loop-again : tie.Need-loop-again Inv-loop μ-loop
-loop-again c =
-    let k = c .before .before .before .before .pre in
-    (omega arith, phase-more (inElement _) 7 node (c .before .before .loop .inv .1) (soil-some _ k (c .before .before .before .soils-or-none .ensures) _ (omega (arith, k .nodesAre, k .facts .counts .nodesMost)) (c .if1 .left)))
-
-returns-2 : tie.Need-returns-2 Inv-loop μ-loop
-unfolding nodesCheck
-returns-2 c = phase-done (inElement _) 7 node (nodes _) (c .before .loop .inv .1) (omega (arith, c .before .before .before .pre .nodesAre)) (omega (arith, c .before .before .before .pre .nodesAre))
+returns-2 : tie.Need-returns-2
+unfolding nodesCheck holdsAt
+returns-2 c =
+    let sized = c .before .before .before .before .before .before .pre in
+    phase-done (inElement _) 7 (λ v. Node (suc v)) (nodes _) (c .before .first-failing .ensures) (sized .nodesAre) (c .if1 .left)
 
 pub nodes-check-spec : {M : Type 1} → statement M
 nodes-check-spec =
     tie.close
     (tie.spec
-    Inv-loop
-    μ-loop
     soils-or-none-requires
-    loop-holds
-    array-read-if1
-    cast-t11
-    add-t12
+    slice-aggregate-first-failing
+    slice-aggregate-first-failing-2
+    slice-aggregate-first-failing-3
+    first-failing-requires
+    cast-t17
+    add-t18
     returns
-    add-v
-    loop-less
-    loop-again
     returns-2)

@@ -1,7 +1,13 @@
 -- `outer_edge` meets its contract: two looks into the table, each with its answer.
+use mathlib.Core.Path.{refl, sym, _∙_, ap}
+use mathlib.Core.Bool.{Bool, _&&_}
+use native.Mathlib.Omega.{arith}
+use lib.Dec.{eqb}
 use borrow.Author.Needs.{needs}
-use Rattle.rows.proofs.MeshLaws.{from-below, to-below}
-use Rattle.rows.proofs.SideTables.{not-outer, outer-by-reverse}
+use borrow.Author.Tests.{eq-eqb, ne-eqb}
+use Rattle.rows.proofs.LineLaws.{first-fails}
+use Rattle.rows.proofs.MeshLaws.{edge-fits}
+use Rattle.rows.proofs.SideTables.{outer-edge-is}
 use Rattle.rows.proofs.mesh_checks.outer_edge.Statement.{statement}
 use Rattle.rows.proofs.mesh_checks.outer_edge.Tie as tie
 
@@ -13,23 +19,29 @@ edge-to-requires c κs = search needs
 
 side-byte-requires : tie.Need-side-byte-requires
 side-byte-requires c κs =
-    let p = c .before .before .pre in
-    (from-below _ (p .0) (p .1) (c .before .edge-from .ensures), to-below _ (p .0) (p .1) (c .edge-to .ensures))
+    let p = c .before .before .before .pre in
+    edge-fits _ (p .0) (p .1) (p .2 .room) (c .before .edge-from .ensures) (c .edge-to .ensures) .0
+
+cast-if1 : tie.Need-cast-if1
+cast-if1 c = omega (arith, c .before .before .before .before .pre .0 .facts .counts .edgesMost)
+
+add-if1 : tie.Need-add-if1
+add-if1 c = omega (arith, c .before .before .before .before .pre .0 .facts .counts .edgesMost)
 
 returns : tie.Need-returns
 returns c =
-    let p = c .before .before .before .before .pre in
-    not-outer _ (p .0) (p .1) (p .2) (c .before .before .before .edge-from .ensures) (c .before .before .edge-to .ensures) (c .before .side-byte .ensures) (c .if1 .taken)
+    let p = c .before .before .before .before .before .pre in
+    sym (first-fails _ (outer-edge-is _ (p .0) (p .1) (p .2) (c .before .before .before .edge-from .ensures) (c .before .before .edge-to .ensures) (c .before .side-byte .ensures) refl) (ne-eqb _ _ (c .if1 .taken)))
 
 side-byte-requires-2 : tie.Need-side-byte-requires-2
 side-byte-requires-2 c κs =
-    let p = c .before .before .before .before .pre in
-    (to-below _ (p .0) (p .1) (c .before .before .edge-to .ensures), from-below _ (p .0) (p .1) (c .before .before .before .edge-from .ensures))
+    let p = c .before .before .before .before .before .pre in
+    edge-fits _ (p .0) (p .1) (p .2 .room) (c .before .before .before .edge-from .ensures) (c .before .before .edge-to .ensures) .1
 
 returns-2 : tie.Need-returns-2
 returns-2 c =
-    let p = c .before .before .before .before .before .pre in
-    outer-by-reverse _ (p .0) (p .1) (p .2) (c .before .before .before .before .edge-from .ensures) (c .before .before .before .edge-to .ensures) (c .before .before .side-byte .ensures) (c .before .if1 .left) (c .side-byte2 .ensures)
+    let p = c .before .before .before .before .before .before .pre in
+    sym (outer-edge-is _ (p .0) (p .1) (p .2) (c .before .before .before .before .edge-from .ensures) (c .before .before .before .edge-to .ensures) (c .before .before .side-byte .ensures) (c .side-byte2 .ensures) ∙ ap (λ (b : Bool). b && eqb (c .side-byte2 .result) 255) (eq-eqb _ _ (c .before .if1 .left)))
 
 pub outer-edge-spec : {M : Type 1} → statement M
 outer-edge-spec =
@@ -38,6 +50,8 @@ outer-edge-spec =
     edge-from-requires
     edge-to-requires
     side-byte-requires
+    cast-if1
+    add-if1
     returns
     side-byte-requires-2
     returns-2)

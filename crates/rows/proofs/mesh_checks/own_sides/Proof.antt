@@ -1,11 +1,13 @@
--- `own_sides` meets its contract. The invariant: the sides passed are not marked.
-use mathlib.Core.Path.{_≡_, refl, sym, _∙_, ap}
-use mathlib.Core.Bool.{true, not}
+-- `own_sides` meets its contract. The invariant: the sides passed are no lower element's.
+use mathlib.Core.Path.{_≡_, refl, sym, _∙_}
+use mathlib.Core.Bool.{true}
 use Prim.Native.Nat.{_≤_, _-_}
 use native.Mathlib.Omega.{arith}
+use borrow.Author.Tests.{not-true, not-false}
 use Rattle.scope.specs.Checks.{allBelow}
+use Rattle.rows.specs.Contracts.{ownSideAt}
 use Rattle.rows.proofs.Loops.{all-more, all-fails, all-done}
-use Rattle.rows.proofs.SideTables.{ownSideAt, own-sides-are, own-side-is}
+use Rattle.rows.proofs.SideTables.{own-sides-are}
 use Rattle.rows.proofs.mesh_checks.own_sides.Statement.{statement}
 use Rattle.rows.proofs.mesh_checks.own_sides.Tie as tie
 
@@ -19,14 +21,13 @@ loop-holds : tie.Need-loop-holds Inv-loop μ-loop
 unfolding allBelow
 loop-holds c = (omega arith, refl)
 
-side-marked-requires : tie.Need-side-marked-requires Inv-loop μ-loop
-side-marked-requires c κs = (c .before .before .pre .0, c .before .before .pre .1, c .loop-test .taken)
+own-side-requires : tie.Need-own-side-requires Inv-loop μ-loop
+own-side-requires c κs =
+    let p = c .before .before .before .pre in
+    (p .0, p .1, c .loop-test .taken, p .2)
 
 returns : tie.Need-returns Inv-loop μ-loop
-returns c =
-    let p = c .before .before .before .before .pre in
-    let own = own-side-is _ _ (p .0) (p .1) (c .before .before .before .loop .i) (p .2) (c .before .side-marked .ensures) in
-    sym (all-fails (ownSideAt _ _) 4 (c .before .before .loop-test .taken) (own ∙ ap not (c .if1 .taken))) ∙ own-sides-are _ _
+returns c = sym (all-fails (ownSideAt _ _) 4 (c .before .before .loop-test .taken) (sym (c .before .own-side .ensures) ∙ not-true _ (c .if1 .taken))) ∙ own-sides-are _ _
 
 add-i : tie.Need-add-i Inv-loop μ-loop
 add-i c = omega arith
@@ -35,10 +36,7 @@ loop-less : tie.Need-loop-less Inv-loop μ-loop
 loop-less c = omega arith
 
 loop-again : tie.Need-loop-again Inv-loop μ-loop
-loop-again c =
-    let p = c .before .before .before .before .pre in
-    let own = own-side-is _ _ (p .0) (p .1) (c .before .before .before .loop .i) (p .2) (c .before .side-marked .ensures) in
-    (omega arith, all-more (ownSideAt _ _) (c .before .before .before .loop .inv .1) (own ∙ ap not (c .if1 .left)))
+loop-again c = (omega arith, all-more (ownSideAt _ _) (c .before .before .before .loop .inv .1) (sym (c .before .own-side .ensures) ∙ not-false _ (c .if1 .left)))
 
 returns-2 : tie.Need-returns-2 Inv-loop μ-loop
 returns-2 c = all-done (ownSideAt _ _) 4 (c .before .loop .inv .1) (omega arith) (omega arith) ∙ own-sides-are _ _
@@ -50,7 +48,7 @@ own-sides-spec =
     Inv-loop
     μ-loop
     loop-holds
-    side-marked-requires
+    own-side-requires
     returns
     add-i
     loop-less

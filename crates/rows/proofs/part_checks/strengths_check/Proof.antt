@@ -1,92 +1,103 @@
--- `strengths_check` meets its contract. The loop's invariant: the rows of the nodes passed hold.
-use Rattle.rows.proofs.StrengthLaws.{steps-as, check-as, first-row, no-nodes, strengthDemand, node-fits, steps-fit, node-passes, node-refuses, all-nodes}
-use mathlib.Core.Path.{_≡_, sym, _∙_}
-use Prim.Native.Nat.{_*_, _-_, _≤_}
+-- `strengths_check` meets its contract: by the lowest node on which a strength row fails, and the lowest of its sides.
+use mathlib.Core.Path.{sym}
 use native.Mathlib.Omega.{arith}
+use Rattle.rows.specs.SearchContracts.{holdsAt, Ready}
+use Rattle.rows.proofs.Loops.{found-within}
+use Rattle.rows.proofs.StrengthLaws.{steps-as, steps-fit, node-fits, first-row, strengths-refused, strengths-passed}
 use borrow.Author.Needs.{needs}
-use Rattle.scope.specs.declared.Outcome.the-variants.{Passed}
-use Rattle.scope.specs.Checks.{lowest}
-use Rattle.scope.specs.Mesh.{sides as sidesOf}
 use Rattle.rows.proofs.part_checks.strengths_check.Statement.{statement}
 use Rattle.rows.proofs.part_checks.strengths_check.Tie as tie
 
-abbrev Inv-loop : tie.InvT-loop
-Inv-loop m c s soils steps nodes sides v₀ v = (v ≤ nodes) × (lowest (strengthDemand m c) (v * sidesOf m) ≡ Passed)
+first-failing-requires : tie.Need-first-failing-requires
+unfolding Ready
+first-failing-requires c κs =
+    let pre = c .before .pre in
+    let sized = pre .0 .0 .sized in
+    ((pre .0 .0, pre .0 .1, pre .1, omega (arith, sized .nodesAre)), omega (arith, sized .nodesAre, sized .facts .counts .nodesMost))
 
-abbrev μ-loop : tie.MeasureT-loop
-μ-loop m c s soils steps nodes sides v₀ v = nodes - v
-
-loop-holds : tie.Need-loop-holds Inv-loop μ-loop
-loop-holds c = (omega arith, no-nodes _ _)
-
-node-state-requires : tie.Need-node-state-requires Inv-loop μ-loop
+node-state-requires : tie.Need-node-state-requires
 node-state-requires c κs =
-    let judged = c .before .before .before .pre .0 in
-    (judged, omega (arith, judged .0 .sized .nodesAre))
+    let pre = c .before .before .before .pre in
+    (pre .0, omega (arith, pre .0 .0 .sized .nodesAre, c .if1 .taken))
 
-slice-aggregate-node-check : tie.Need-slice-aggregate-node-check Inv-loop μ-loop
-slice-aggregate-node-check c = search needs
+slice-aggregate-first-failing : tie.Need-slice-aggregate-first-failing
+slice-aggregate-first-failing c = search needs
 
-mul-node-check : tie.Need-mul-node-check Inv-loop μ-loop
-mul-node-check c =
-    let pre = c .before .before .before .before .before .pre in
-    let sized = pre .0 .0 .sized in
-    let steps = steps-as (sym (sized .sidesAre)) (pre .1) in
-    let first = first-row {v = c .before .before .before .loop .v} (c .before .before .loop-test .taken) (omega (arith, sized .nodesAre, sized .facts .counts .nodesMost)) (steps .most) in
-    omega arith
+slice-aggregate-first-failing-2 : tie.Need-slice-aggregate-first-failing-2
+slice-aggregate-first-failing-2 c = search needs
 
-node-check-requires : tie.Need-node-check-requires Inv-loop μ-loop
-node-check-requires c κs =
-    let pre = c .before .before .before .before .before .pre in
-    let sized = pre .0 .0 .sized in
-    let steps = steps-as (sym (sized .sidesAre)) (pre .1) in
-    (steps-fit steps, (node-fits (c .before .node-state .ensures), first-row {v = c .before .before .before .loop .v} (c .before .before .loop-test .taken) (omega (arith, sized .nodesAre, sized .facts .counts .nodesMost)) (steps .most)))
+slice-aggregate-first-failing-3 : tie.Need-slice-aggregate-first-failing-3
+slice-aggregate-first-failing-3 c = search needs
 
-enum-known-answer : tie.Need-enum-known-answer Inv-loop μ-loop
-enum-known-answer c = search needs
+first-failing-requires-2 : tie.Need-first-failing-requires-2
+unfolding Ready
+first-failing-requires-2 c κs =
+    let pre = c .before .before .before .before .before .before .before .pre in
+    let steps = steps-as (sym (pre .0 .0 .sized .sidesAre)) (pre .1) in
+    ((steps-fit steps, node-fits (c .before .before .before .node-state .ensures)), omega (arith, steps .most))
 
-returns : tie.Need-returns Inv-loop μ-loop
-returns c =
-    let pre = c .before .before .before .before .before .before .before .before .before .pre in
-    let sized = pre .0 .0 .sized in
-    node-refuses _ _ (record { listed = sized .facts .counts .sidesListed }) (pre .1) (c .before .before .before .before .before .before .before .loop .v) (omega (arith, sized .nodesAre)) (c .before .before .before .before .before .node-state .ensures) (c .before .before .before .before .before .before .before .loop .inv .1) (sym (check-as _ _ _ (sized .sidesAre) (c .before .before .before .node-check .ensures)) ∙ c .before .answer .given .1)
-
-enum-told : tie.Need-enum-told Inv-loop μ-loop
-enum-told c = search needs
-
-add-v : tie.Need-add-v Inv-loop μ-loop
-add-v c = omega arith
-
-loop-less : tie.Need-loop-less Inv-loop μ-loop
-loop-less c = omega arith
-
-loop-again : tie.Need-loop-again Inv-loop μ-loop
-loop-again c =
+mul-t23 : tie.Need-mul-t23
+mul-t23 c =
     let pre = c .before .before .before .before .before .before .before .before .pre in
     let sized = pre .0 .0 .sized in
-    (omega arith, node-passes _ _ (record { listed = sized .facts .counts .sidesListed }) (pre .1) (c .before .before .before .before .before .before .loop .v) (omega (arith, sized .nodesAre)) (c .before .before .before .before .node-state .ensures) (c .before .before .before .before .before .before .loop .inv .1) (sym (check-as _ _ _ (sized .sidesAre) (c .before .before .node-check .ensures)) ∙ c .enum-told .given .1))
+    let steps = steps-as (sym (sized .sidesAre)) (pre .1) in
+    let first = first-row {v = c .before .before .before .before .before .before .first-failing .result} (c .before .before .before .before .before .if1 .taken) (omega (arith, sized .nodesAre, sized .facts .counts .nodesMost)) (steps .most) in
+    let low = found-within (holdsAt _ _ _ _) _ (c .first-failing2 .ensures) in
+    omega arith
 
-returns-2 : tie.Need-returns-2 Inv-loop μ-loop
-returns-2 c =
-    let pre = c .before .before .before .pre in
+add-t24 : tie.Need-add-t24
+add-t24 c =
+    let pre = c .before .before .before .before .before .before .before .before .pre in
     let sized = pre .0 .0 .sized in
-    all-nodes _ _ (record { listed = sized .facts .counts .sidesListed }) (pre .1) (c .before .loop .v) (omega (arith, sized .nodesAre)) (c .before .loop .inv .1)
+    let steps = steps-as (sym (sized .sidesAre)) (pre .1) in
+    let first = first-row {v = c .before .before .before .before .before .before .first-failing .result} (c .before .before .before .before .before .if1 .taken) (omega (arith, sized .nodesAre, sized .facts .counts .nodesMost)) (steps .most) in
+    let low = found-within (holdsAt _ _ _ _) _ (c .first-failing2 .ensures) in
+    omega arith
+
+add-t25 : tie.Need-add-t25
+add-t25 c =
+    let pre = c .before .before .before .before .before .before .before .before .pre in
+    let sized = pre .0 .0 .sized in
+    let steps = steps-as (sym (sized .sidesAre)) (pre .1) in
+    let first = first-row {v = c .before .before .before .before .before .before .first-failing .result} (c .before .before .before .before .before .if1 .taken) (omega (arith, sized .nodesAre, sized .facts .counts .nodesMost)) (steps .most) in
+    let low = found-within (holdsAt _ _ _ _) _ (c .first-failing2 .ensures) in
+    omega arith
+
+cast-t26 : tie.Need-cast-t26
+cast-t26 c =
+    let pre = c .before .before .before .before .before .before .before .before .pre in
+    let sized = pre .0 .0 .sized in
+    let steps = steps-as (sym (sized .sidesAre)) (pre .1) in
+    let first = first-row {v = c .before .before .before .before .before .before .first-failing .result} (c .before .before .before .before .before .if1 .taken) (omega (arith, sized .nodesAre, sized .facts .counts .nodesMost)) (steps .most) in
+    let low = found-within (holdsAt _ _ _ _) _ (c .first-failing2 .ensures) in
+    omega arith
+
+returns : tie.Need-returns
+unfolding holdsAt
+returns c =
+    let pre = c .before .before .before .before .before .before .before .before .pre in
+    let sized = pre .0 .0 .sized in
+    strengths-refused _ _ (sized .facts .counts) (pre .1) (sized .nodesAre) (sized .sidesAre) (c .before .before .before .before .before .before .first-failing .ensures) (c .before .before .before .before .before .if1 .taken) (c .before .before .before .before .node-state .ensures) (c .first-failing2 .ensures)
+
+returns-2 : tie.Need-returns-2
+unfolding holdsAt
+returns-2 c =
+    let sized = c .before .before .before .pre .0 .0 .sized in
+    strengths-passed _ _ (sized .facts .counts) (sized .nodesAre) (c .before .first-failing .ensures) (c .if1 .left)
 
 pub strengths-check-spec : {M : Type 1} → statement M
 strengths-check-spec =
     tie.close
     (tie.spec
-    Inv-loop
-    μ-loop
-    loop-holds
+    first-failing-requires
     node-state-requires
-    slice-aggregate-node-check
-    mul-node-check
-    node-check-requires
-    enum-known-answer
+    slice-aggregate-first-failing
+    slice-aggregate-first-failing-2
+    slice-aggregate-first-failing-3
+    first-failing-requires-2
+    mul-t23
+    add-t24
+    add-t25
+    cast-t26
     returns
-    enum-told
-    add-v
-    loop-less
-    loop-again
     returns-2)

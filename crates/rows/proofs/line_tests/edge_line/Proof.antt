@@ -7,8 +7,8 @@ use Rattle.scope.specs.Mesh.{meshLayout, edgeLines}
 use Rattle.rows.specs.LineContracts.{ranges}
 use Rattle.rows.proofs.LineLaws.{line-short, line-outside, line-by-rules, one-rule-fails, one-rule-holds, edge-limits, edge-names, so, not-so}
 use borrow.Author.Needs.{needs}
-use Rattle.rows.proofs.line_checks.edge_line.Statement.{statement}
-use Rattle.rows.proofs.line_checks.edge_line.Tie as tie
+use Rattle.rows.proofs.line_tests.edge_line.Statement.{statement}
+use Rattle.rows.proofs.line_tests.edge_line.Tie as tie
 
 refused-requires : tie.Need-refused-requires
 refused-requires c κs = search needs

@@ -4,8 +4,8 @@ use Prim.Native.Nat.{_-_}
 use lib.ListN.{length}
 use Rattle.rows.proofs.LineLaws.{LimitsTo, limits-start, limits-go-on, limits-fail, limits-end, read-within, so, not-so}
 use borrow.Author.Needs.{needs}
-use Rattle.rows.proofs.line_checks.limits_hold.Statement.{statement}
-use Rattle.rows.proofs.line_checks.limits_hold.Tie as tie
+use Rattle.rows.proofs.line_tests.limits_hold.Statement.{statement}
+use Rattle.rows.proofs.line_tests.limits_hold.Tie as tie
 
 abbrev Inv-loop : tie.InvT-loop
 Inv-loop s lo hi k₀ k = LimitsTo lo hi s k

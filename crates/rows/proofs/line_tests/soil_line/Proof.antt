@@ -8,8 +8,8 @@ use Rattle.scope.specs.Mesh.{meshLayout, soilLines}
 use Rattle.rows.specs.LineContracts.{ranges}
 use Rattle.rows.proofs.LineLaws.{line-short, line-outside, line-by-rules, one-rule-fails, one-rule-holds, small-angle, angle-read, so, not-so}
 use borrow.Author.Needs.{needs}
-use Rattle.rows.proofs.line_checks.soil_line.Statement.{statement}
-use Rattle.rows.proofs.line_checks.soil_line.Tie as tie
+use Rattle.rows.proofs.line_tests.soil_line.Statement.{statement}
+use Rattle.rows.proofs.line_tests.soil_line.Tie as tie
 
 refused-requires : tie.Need-refused-requires
 refused-requires c κs = search needs

@@ -8,8 +8,8 @@ use Rattle.scope.specs.Mesh.{meshLayout, elementLines}
 use Rattle.rows.specs.LineContracts.{ranges}
 use Rattle.rows.proofs.LineLaws.{line-short, line-by-rules, one-rule-fails, one-rule-holds, all-free, element-names, so, not-so}
 use borrow.Author.Needs.{needs}
-use Rattle.rows.proofs.line_checks.element_line.Statement.{statement}
-use Rattle.rows.proofs.line_checks.element_line.Tie as tie
+use Rattle.rows.proofs.line_tests.element_line.Statement.{statement}
+use Rattle.rows.proofs.line_tests.element_line.Tie as tie
 
 refused-requires : tie.Need-refused-requires
 refused-requires c κs = search needs

@@ -2,8 +2,8 @@
 use Rattle.scope.specs.Mesh.{soilLines, elementLines, edgeLines}
 use Rattle.rows.specs.LineContracts.{linesGroup}
 use borrow.Author.Needs.{needs}
-use Rattle.rows.proofs.line_checks.columns_of.Statement.{statement}
-use Rattle.rows.proofs.line_checks.columns_of.Tie as tie
+use Rattle.rows.proofs.line_tests.columns_of.Statement.{statement}
+use Rattle.rows.proofs.line_tests.columns_of.Tie as tie
 
 enum-told : tie.Need-enum-told
 enum-told c = search needs

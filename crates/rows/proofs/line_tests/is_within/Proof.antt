@@ -3,8 +3,8 @@ use mathlib.Core.Path.{sym, _∙_}
 use native.Mathlib.Omega.{arith}
 use Rattle.integer.specs.Machine.{machine, unbounded, told, decides}
 use Rattle.rows.proofs.LineLaws.{too-low, high-enough}
-use Rattle.rows.proofs.line_checks.is_within.Statement.{statement}
-use Rattle.rows.proofs.line_checks.is_within.Tie as tie
+use Rattle.rows.proofs.line_tests.is_within.Statement.{statement}
+use Rattle.rows.proofs.line_tests.is_within.Tie as tie
 
 returns : tie.Need-returns
 returns c = sym (too-low _ (told (c .if1 .taken) (search (machine, unbounded) depth 30) (omega arith)))

@@ -1,8 +1,8 @@
 -- `line_check` meets its contract: each kind of line by the function that checks it.
 use Rattle.rows.specs.LineContracts.{groupOf}
 use borrow.Author.Needs.{needs}
-use Rattle.rows.proofs.line_checks.line_check.Statement.{statement}
-use Rattle.rows.proofs.line_checks.line_check.Tie as tie
+use Rattle.rows.proofs.line_tests.line_check.Statement.{statement}
+use Rattle.rows.proofs.line_tests.line_check.Tie as tie
 
 enum-told : tie.Need-enum-told
 enum-told c = search needs

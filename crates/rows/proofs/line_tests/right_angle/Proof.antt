@@ -1,8 +1,8 @@
 -- `right_angle` meets its contract: within 1000 no product and no sum leaves 64 bits.
 use native.Mathlib.Omega.{arith}
 use Rattle.integer.specs.Machine.{machine, fits, decides}
-use Rattle.rows.proofs.line_checks.right_angle.Statement.{statement}
-use Rattle.rows.proofs.line_checks.right_angle.Tie as tie
+use Rattle.rows.proofs.line_tests.right_angle.Statement.{statement}
+use Rattle.rows.proofs.line_tests.right_angle.Tie as tie
 
 mul-result : tie.Need-mul-result
 mul-result c = fits (search machine depth 30) (omega arith)
