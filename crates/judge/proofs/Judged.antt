@@ -1,5 +1,5 @@
 -- What is read into a list that is lent, and judged there: the front of the list is the file's numbers.
-use mathlib.Core.Path.{_≡_, sym, ap, _∙_}
+use mathlib.Core.Path.{_≡_, sym, ap, _∙_, subst}
 use mathlib.Core.List.{List}
 use Prim.Native.Nat.{ℕ, _*_, _≤_}
 use native.Mathlib.Nat.{mul-le-mul}
@@ -7,7 +7,6 @@ use native.Mathlib.Omega.{arith}
 use lib.IntN.{ℤ}
 use lib.ListN.{length, take, drop, length-append}
 use lib.Seq.{take-at}
-use Rattle.scope.specs.declared.Outcome.{Outcome}
 use Rattle.scope.specs.declared.Outcome.the-variants.{Passed, Refused as Fails}
 use Rattle.scope.specs.declared.Place.{Place}
 use Rattle.scope.specs.declared.Verdict.{Verdict}
@@ -17,10 +16,12 @@ use Rattle.scope.specs.Facts.{MeshFacts}
 use Rattle.scope.specs.Verdict.{meshCheck, claimVerdict, answer, verdict}
 use Rattle.scope.proofs.Sound.{mesh-passed}
 use Rattle.scope.proofs.Facts.{mesh-facts}
+use Rattle.rows.specs.declared.MeshAnswer.{MeshAnswer}
 use Rattle.rows.specs.declared.sizes.Sizes.{Sizes}
-use Rattle.rows.specs.Contracts.{Sized}
+use Rattle.rows.specs.Contracts.{Sized, MeshAnswered, SoundMesh}
 use Rattle.rows.specs.LineContracts.{SmallCounts}
 use Rattle.rows.proofs.GroupLaws.{small-counts}
+use Rattle.rows.proofs.VerdictLaws.{sound-mesh}
 use Rattle.reader.specs.File.{numbersOf}
 use Rattle.reader.specs.Listed.{Listed, ClaimListed, claimRoom}
 use Rattle.judge.specs.declared.JudgedMesh.{JudgedMesh}
@@ -41,9 +42,9 @@ module _ {zs before after : List ℤ} {r : ℕ} (l : Listed zs before r after) w
 
 -- ---- a mesh
 
-pub mesh-judged : {mesh : List ℕ} {before after : List ℤ} {r : ℕ} {o : Outcome} → Listed (numbersOf 12 meshLayout mesh) before r after → o ≡ meshCheck (take r after) → MeshJudged mesh before (record { count = r; outcome = o }) after
+pub mesh-judged : {mesh : List ℕ} {before after : List ℤ} {r : ℕ} {a : MeshAnswer} → Listed (numbersOf 12 meshLayout mesh) before r after → MeshAnswered (take r after) a → MeshJudged mesh before (record { count = r; answer = a }) after
 unfolding meshNumbers fileWidth
-mesh-judged l e = record { count = l .count; numbers = l .list; outcome = e ∙ ap meshCheck (front l) }
+mesh-judged {a = a} l e = record { count = l .count; numbers = l .list; answer = subst (λ (m : List ℤ). MeshAnswered m a) (front l) e }
 
 pub judged-listed : {mesh : List ℕ} {before after : List ℤ} {r : JudgedMesh} → MeshJudged mesh before r after → Listed (meshNumbers fileWidth mesh) before (r .count) after
 judged-listed j = record { count = j .count; list = j .numbers }
@@ -75,16 +76,16 @@ claim-listed {m} z l = l .against m (sym (z .nodesAre)) (sym (z .elementsAre)) (
 -- ---- two files
 
 module _ {mesh : List ℕ} {before after : List ℤ} {r : JudgedMesh} (j : MeshJudged mesh before r after) where
-  pub judged-passed : r .outcome ≡ Passed → meshCheck (take (r .count) after) ≡ Passed
-  judged-passed e = ap meshCheck (front (judged-listed j)) ∙ sym (j .outcome) ∙ e
+  pub judged-sound : r .answer .outcome ≡ Passed → SoundMesh (take (r .count) after) (r .answer .soils)
+  judged-sound e = subst (λ (m : List ℤ). SoundMesh m (r .answer .soils)) (sym (front (judged-listed j))) (sound-mesh (j .answer) e)
 
-  pub files-refused : (claim : List ℕ) {k : ℕ} {p : Place} → r .outcome ≡ Fails k p → Refused k p ≡ filesVerdict fileWidth mesh claim
+  pub files-refused : (claim : List ℕ) {k : ℕ} {p : Place} → r .answer .outcome ≡ Fails k p → Refused k p ≡ filesVerdict fileWidth mesh claim
   unfolding filesVerdict verdict answer
-  files-refused claim e = rw (sym (j .outcome) ∙ e)
+  files-refused claim e = rw (sym (j .answer .outcome) ∙ e)
 
-  pub files-judged : (claim : List ℕ) {v : Verdict} → r .outcome ≡ Passed → v ≡ claimVerdict (take (r .count) after) (claimNumbers fileWidth (take (r .count) after) claim) → v ≡ filesVerdict fileWidth mesh claim
+  pub files-judged : (claim : List ℕ) {v : Verdict} → r .answer .outcome ≡ Passed → v ≡ claimVerdict (take (r .count) after) (claimNumbers fileWidth (take (r .count) after) claim) → v ≡ filesVerdict fileWidth mesh claim
   unfolding filesVerdict verdict answer
   files-judged claim e v =
       v
       ∙ ap (λ m. claimVerdict m (claimNumbers fileWidth m claim)) (front (judged-listed j))
-      ∙ rw (sym (j .outcome) ∙ e)
+      ∙ rw (sym (j .answer .outcome) ∙ e)

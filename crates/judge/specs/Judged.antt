@@ -5,16 +5,16 @@ use Prim.Native.Nat.{ℕ}
 use lib.IntN.{ℤ}
 use lib.ListN.{length, drop}
 use Rattle.scope.specs.Mesh.{nodes, elements, edges, sides}
-use Rattle.scope.specs.Verdict.{meshCheck}
+use Rattle.rows.specs.Contracts.{MeshAnswered}
 use Rattle.reader.specs.Listed.{claimRoom}
 use Rattle.judge.specs.declared.JudgedMesh.{JudgedMesh}
 use Rattle.judge.specs.Judge.{meshNumbers, fileWidth}
 
--- the numbers of the mesh file stand at the front of the list `before`, which makes it `after`, nothing else is touched, and r has their count and what they are refused for
+-- the numbers of the mesh file stand at the front of the list `before`, which makes it `after`, nothing else is touched, and r has their count and what is said of them
 pub record MeshJudged (mesh : List ℕ) (before : List ℤ) (r : JudgedMesh) (after : List ℤ) : Type 0 where
   pub count : r .count ≡ length (meshNumbers fileWidth mesh)
   pub numbers : after ≡ meshNumbers fileWidth mesh ++ drop (r .count) before
-  pub outcome : r .outcome ≡ meshCheck (meshNumbers fileWidth mesh)
+  pub answer : MeshAnswered (meshNumbers fileWidth mesh) (r .answer)
 
 -- room for the numbers of a claim on the mesh with the numbers m
 abbrev pub roomOn : List ℤ → ℕ

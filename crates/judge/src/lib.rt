@@ -3,12 +3,12 @@
 use reader::claim_room;
 use reader::read_claim;
 use reader::read_mesh;
+use rows::MeshAnswer;
 use rows::judge_claim;
 use rows::judge_mesh;
 use rows::line_checks::Lines;
 use rows::line_checks::columns;
 use rows::sizes::sizes_of;
-use rows::soils_of;
 use scope::Outcome;
 use scope::Verdict;
 ghost use mathlib.Core.Path.{_≡_};
@@ -25,10 +25,10 @@ ghost use Rattle.judge.specs.Judge.{claimNumbers, fileWidth, filesVerdic
 ghost use Rattle.judge.specs.ClaimBytes.{claimBytes, PartBytes};
 ghost use Rattle.judge.specs.Judged.{MeshJudged, roomOn};
 
-// How many numbers a mesh file has, and what they are refused for, 1 to 8, or that they pass.
+// How many numbers a mesh file has, and what is said of them.
 pub struct JudgedMesh {
     pub count: usize,
-    pub outcome: Outcome,
+    pub answer: MeshAnswer,
 }
 
 // A mesh file judged: its numbers stand at the front of the list that is lent.
@@ -37,8 +37,8 @@ pub fn judge_mesh_file(mesh: &[u8], numbers: &mut [i64]) -> JudgedMesh
     ensures { λ r. ⌜ MeshJudged (now (mesh .entry)) (now (numbers .entry)) r (now (numbers .exit)) ⌝ }
 {
     let count = read_mesh(mesh, numbers);
-    let outcome = judge_mesh(&numbers[..count]);
-    JudgedMesh { count, outcome }
+    let answer = judge_mesh(&numbers[..count]);
+    JudgedMesh { count, answer }
 }
 
 // The verdict on a claim file on a judged mesh with the numbers m, with room for the claim's numbers.
@@ -77,13 +77,13 @@ pub fn judge_files(mesh: &[u8], claim: &[u8]) -> Verdict
     let mut numbers = [0i64; 1254];
     let judged = judge_mesh_file(mesh, &mut numbers);
     let count = judged.count;
-    let outcome = judged.outcome;
+    let answer = judged.answer;
+    let outcome = answer.outcome;
     match outcome {
         Outcome::Refused { number, place } => Verdict::Refused { number, place },
         Outcome::Passed => {
             let m = &numbers[..count];
-            let soils = soils_of(m);
-            judge_claim_file(m, &soils, claim)
+            judge_claim_file(m, &answer.soils, claim)
         }
     }
 }

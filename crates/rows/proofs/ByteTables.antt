@@ -1,5 +1,5 @@
 -- Tables of bytes: a place is given a byte only while it is free, so that it keeps the byte of the lowest number that gives it one.
-use mathlib.Core.Path.{_≡_, refl, sym, _∙_, ap, subst}
+use mathlib.Core.Path.{_≡_, refl, sym, _∙_, ap, ap₂, subst}
 use mathlib.Core.Logic.{_⊎_, inl, inr}
 use mathlib.Core.Bool.{Bool, true, false, cond, not, _||_, or-false, or-true, Bool·not-not}
 use mathlib.Core.List.{List}
@@ -112,6 +112,11 @@ first-there f n l h = ne-eqb (firstWhere f n) n (λ d. omega (arith, first-found
 
 pub some-there : (f : ℕ → Bool) (n : ℕ) {e : ℕ} → e < n → f e ≡ true → someBelow f n ≡ true
 some-there f n l h = some-first f n ∙ ap not (first-there f n l h)
+
+pub none-there : (f : ℕ → Bool) (n : ℕ) → ((k : ℕ) → k < n → f k ≡ false) → someBelow f n ≡ false
+unfolding someBelow
+none-there f zero h = refl
+none-there f (suc n) h = ap₂ _||_ (none-there f n (λ k l. h k (omega arith))) (h n (omega arith))
 
 -- ---- its byte
 

@@ -13,7 +13,7 @@ use Rattle.scope.specs.Rows.{Row, Pair, countFrom, joined, balanceX, balanceY, 
 use Rattle.scope.specs.Verdict.{rowAt}
 use Rattle.rows.specs.RowContracts.{Listed, sideAt}
 use Rattle.scope.proofs.RowCounts.{balance-count, equality-count, polygon-sides, strength-count}
-use Rattle.scope.proofs.Lists.{count-length}
+use Rattle.scope.proofs.Lists.{count-length, at-count, at-map, at-each, length-each}
 
 -- ---- pieces
 
@@ -28,12 +28,6 @@ module _ {A B : Type 0} (f : A → List B) (b : ℕ) (each : (a : A) → length 
       ap (λ n. getD (f a ++ joined f l) n d) (omega (arith, suc-mul i b, each a))
       ∙ getD-append-add (f a) (joined f l) (i * b + j) d
       ∙ at-joined l a₀ d i j (omega arith) k
-
-at-count : (k n i d : ℕ) → i < n → getD (countFrom k n) i d ≡ k + i
-unfolding countFrom
-at-count k zero i d h = absurd (omega arith)
-at-count k (suc n) zero d h = sym (add-zero k)
-at-count k (suc n) (suc i) d h = at-count (suc k) n i d (omega arith) ∙ (omega arith)
 
 -- pieces numbered from 0
 module _ {B : Type 0} (f : ℕ → List B) (b : ℕ) (each : (a : ℕ) → length (f a) ≡ b) (n : ℕ) where
@@ -70,11 +64,6 @@ module _ (m : List ℤ) where
 
 -- ---- strength rows
 
-at-map : {A B : Type 0} (f : A → B) (l : List A) (k : ℕ) (a : A) (b : B) → k < length l → getD (map f l) k b ≡ f (getD l k a)
-at-map f [] k a b h = absurd (omega arith)
-at-map f (c ∷ l) zero a b h = refl
-at-map f (c ∷ l) (suc k) a b h = at-map f l k a b (omega arith)
-
 -- the strength row of a node and a side
 unfoldable pub nodeRow : List ℤ → ℕ → Side → Row
 nodeRow m v s = strengthRow (polygonOf (sides m) .radius) (p m (nodeSoil m v)) (q m (nodeSoil m v)) (h m (nodeSoil m v)) (cohesion m (nodeSoil m v)) v s
@@ -86,13 +75,11 @@ module _ (m : List ℤ) (listed : Listed (sides m)) where
 
   pair-count : length (strengthPairs m) ≡ nodes m
   unfolding strengthPairs
-  pair-count = length-map (countFrom 0 (nodes m)) _ ∙ count-length 0 (nodes m)
+  pair-count = length-each _ (nodes m)
 
   pair-at : (v : ℕ) (d : Pair) → v < nodes m → getD (strengthPairs m) v d ≡ record { at = v; soil = nodeSoil m v }
   unfolding strengthPairs
-  pair-at v d l =
-      at-map (λ v. record { at = v; soil = nodeSoil m v }) (countFrom 0 (nodes m)) v 0 d (omega (arith, count-length 0 (nodes m)))
-      ∙ ap (λ v. record { at = v; soil = nodeSoil m v }) (at-count 0 (nodes m) v 0 l ∙ zero-add v)
+  pair-at v d l = at-each (λ v. record { at = v; soil = nodeSoil m v }) (nodes m) v d l
 
   pub strength-at : (v k : ℕ) → v < nodes m → k < sides m → rowAt (strengthRows m) (v * sides m + k) ≡ nodeRow m v (sideAt (polygonOf (sides m)) k)
   unfolding strengthRows rowAt nodeRow sideAt pairRows

@@ -1,13 +1,16 @@
 -- The verdict as its stages give it: mesh, claim lines, parts; one law for each way out.
-use mathlib.Core.Path.{_≡_, sym, _∙_}
+use mathlib.Core.Path.{_≡_, sym, _∙_, ap, subst}
 use mathlib.Core.List.{List}
 use Prim.Native.Nat.{ℕ}
 use lib.IntN.{ℤ}
+use lib.ListN.{replicate}
 use Rattle.scope.specs.declared.Place.{Place}
+use Rattle.scope.specs.declared.Outcome.{Outcome}
 use Rattle.scope.specs.declared.Outcome.the-variants.{Passed, Refused as Fails}
 use Rattle.scope.specs.declared.Verdict.{Verdict}
 use Rattle.scope.specs.declared.Verdict.the-variants.{Accepted, Refused}
-use Rattle.scope.specs.Mesh.{meshLayout}
+use Rattle.scope.specs.Layout.{linesCheck}
+use Rattle.scope.specs.Mesh.{meshLayout, elements}
 use Rattle.scope.specs.Claim.{claimLayout}
 use Rattle.scope.specs.Facts.{MeshFacts}
 use Rattle.scope.specs.Verdict.{shapeCheck, meshCheck, claimCheck, partsCheck, openCount, lowerLoad, upperLoad, answer, claimVerdict, verdict}
@@ -15,9 +18,12 @@ use Rattle.scope.proofs.Checks.{then-passed}
 use Rattle.scope.proofs.Sound.{lines-passed}
 use Rattle.scope.proofs.Facts.{mesh-facts}
 use Rattle.scope.proofs.ClaimFacts.{claim-facts}
+use Rattle.rows.specs.declared.MeshAnswer.{MeshAnswer}
 use Rattle.rows.specs.declared.sizes.Sizes.{Sizes}
-use Rattle.rows.specs.Contracts.{Sized, SoundMesh}
+use Rattle.rows.specs.Contracts.{Sized, SoilTable, NodeSoils, soilBytes, MeshAnswered, SoundMesh}
 use Rattle.rows.specs.RowContracts.{Judged}
+use Rattle.rows.proofs.Loops.{then-goes-on}
+use Rattle.rows.proofs.SoilTables.{soils-are, node-soils}
 
 -- what a mesh that passes is
 pub record MeshKnown (m : List ℤ) : Type 0 where
@@ -29,6 +35,28 @@ unfolding meshCheck
 mesh-known {m} e =
     let h = then-passed _ _ .0 e in
     record { facts = mesh-facts m (lines-passed meshLayout m .says (h .0)); shape = h .1 }
+
+-- ---- what judging a mesh answers
+
+module _ {m : List ℤ} {r : MeshAnswer} where
+  pub refused-mesh : {k : ℕ} {p : Place} → meshCheck m ≡ Fails k p → (r .outcome ≡ Fails k p) × (r .soils ≡ replicate 100 255) → MeshAnswered m r
+  unfolding soilBytes
+  refused-mesh e a = record { outcome = a .0 ∙ sym e; soils = a .1 ∙ sym (ap (λ (o : Outcome). soilBytes o m) e) }
+
+  -- the table that is lent to a claim has the soil of each node
+  pub sound-mesh : MeshAnswered m r → r .outcome ≡ Passed → SoundMesh m (r .soils)
+  sound-mesh a e =
+      let passes : meshCheck m ≡ Passed = sym (a .outcome) ∙ e in
+      let known = mesh-known passes in
+      record { passes = passes; soilsAre = subst (NodeSoils m) (sym (a .soils ∙ ap (λ (o : Outcome). soilBytes o m) passes)) (node-soils m (known .facts) (known .shape)) }
+
+pub passed-mesh : {m : List ℤ} {t : List ℕ} → MeshFacts m → linesCheck meshLayout m ≡ Passed → shapeCheck m ≡ Passed → SoilTable m (elements m) t → MeshAnswered m (record { outcome = Passed; soils = t })
+unfolding meshCheck
+passed-mesh {m} facts e f h =
+    let passes : Passed ≡ meshCheck m = then-goes-on e (sym f) in
+    record { outcome = passes; soils = soils-are m facts f h ∙ ap (λ (o : Outcome). soilBytes o m) passes }
+
+-- ---- the verdict by its stages
 
 pub judged : {m c : List ℤ} {s : Sizes} {soils : List ℕ} → SoundMesh m soils → claimCheck m c ≡ Passed → Sized m s → Judged m c s soils
 unfolding claimCheck

@@ -1,16 +1,18 @@
--- What contracts say of what the code hands around: the sizes of a mesh, tables of soils, tables of sides.
+-- What contracts say of what the code hands around: the sizes of a mesh, tables of soils, tables of sides, a judged mesh.
 use mathlib.Core.Path.{_≡_}
 use mathlib.Core.Bool.{Bool, cond, not, _&&_}
-use mathlib.Core.List.{List}
-use Prim.Native.Nat.{ℕ, _+_, _*_, _/_, _%_, _≤_, _<_}
+use mathlib.Core.List.{List, _++_, map}
+use Prim.Native.Nat.{ℕ, _+_, _-_, _*_, _/_, _%_, _≤_, _<_}
 use lib.IntN.{ℤ}
 use lib.Dec.{eqb}
-use lib.ListN.{length, getD, set}
-use Rattle.scope.specs.declared.Outcome.the-variants.{Passed}
+use lib.ListN.{length, getD, set, replicate}
+use Rattle.scope.specs.declared.Outcome.{Outcome}
+use Rattle.scope.specs.declared.Outcome.the-variants.{Passed, Refused}
+use Rattle.rows.specs.declared.MeshAnswer.{MeshAnswer}
 use Rattle.rows.specs.declared.sizes.Sizes.{Sizes}
 use Rattle.scope.specs.Mesh.{nodes, elements, soils, edges, sides, elementSoil, fromNode, toNode}
 use Rattle.scope.specs.Checks.{someBelow}
-use Rattle.scope.specs.Rows.{firstWhere, node, hasCorner, nodeSoil}
+use Rattle.scope.specs.Rows.{countFrom, firstWhere, node, hasCorner, nodeSoil}
 use Rattle.scope.specs.Verdict.{hasSide, meshCheck}
 use Rattle.scope.specs.Facts.{MeshFacts}
 
@@ -57,6 +59,9 @@ byteBelow none has value n =
 abbrev pub soilBelow : List ℤ → ℕ → ℕ → ℕ
 soilBelow m e v = byteBelow 255 (hasCorner m v) (elementSoil m) e
 
+abbrev pub SoilTable : List ℤ → ℕ → List ℕ → Type 0
+SoilTable m e t = Holds 100 (soilBelow m e) t
+
 -- the soil of each node, which is there
 pub record NodeSoils (m : List ℤ) (t : List ℕ) : Type 0 where
   pub size : length t ≡ 100
@@ -101,8 +106,19 @@ edgeByte m g a b =
 abbrev pub EdgeTable : List ℤ → ℕ → List ℕ → Type 0
 EdgeTable m g t = SideBytes m (edgeByte m g) t
 
--- ---- a mesh that passes, with the soils of its nodes
+-- ---- a mesh that is judged
 
+-- the soil of each node where the mesh passes, and 255 after the last of them; where it is refused, 255 throughout
+unfoldable pub soilBytes : Outcome → List ℤ → List ℕ
+soilBytes Passed m = map (nodeSoil m) (countFrom 0 (nodes m)) ++ replicate (100 - nodes m) 255
+soilBytes (Refused c p) m = replicate 100 255
+
+-- what judging the numbers of a mesh answers
+pub record MeshAnswered (m : List ℤ) (r : MeshAnswer) : Type 0 where
+  pub outcome : r .outcome ≡ meshCheck m
+  pub soils : r .soils ≡ soilBytes (meshCheck m) m
+
+-- a mesh that passes, with the soils of its nodes
 pub record SoundMesh (m : List ℤ) (t : List ℕ) : Type 0 where
   pub passes : meshCheck m ≡ Passed
   pub soilsAre : NodeSoils m t

@@ -18,7 +18,7 @@ use Rattle.scope.specs.Rows.{firstWhere, equalityRows}
 use Rattle.scope.specs.Sums.{rowHolds, zeroIfUnfixed}
 use Rattle.scope.specs.Verdict.{leftTurns, ownSides, inElement, outerEdge, rowAt}
 use Rattle.scope.specs.Facts.{MeshFacts}
-use Rattle.rows.specs.Contracts.{Sized, Holds, soilBelow, SideTable, EdgeTable}
+use Rattle.rows.specs.Contracts.{Sized, SoilTable, SideTable, EdgeTable}
 use Rattle.rows.specs.LineContracts.{groupOf, columnsOf, FewLines}
 use Rattle.rows.specs.RowContracts.{FieldFits, Judged, MeshSteps, StepsFit, NodeFits, sideSlack, nodeHolds}
 use Rattle.rows.specs.MultiplierContracts.{Multipliers}
@@ -50,7 +50,7 @@ Ready (Lines kind ns ss line) m numbers steps bytes count = FewLines count ns ss
 Ready (Limits lo hi) m numbers steps bytes count = count ≤ length numbers
 Ready (Turns s) m numbers steps bytes count = Sized m s × (count ≤ elements m)
 Ready (OwnSides s) m numbers steps bytes count = Sized m s × SideTable m (elements m) bytes × (count ≤ elements m)
-Ready InElement m numbers steps bytes count = MeshFacts m × Holds 100 (soilBelow m (elements m)) bytes × (count ≤ 100)
+Ready InElement m numbers steps bytes count = MeshFacts m × SoilTable m (elements m) bytes × (count ≤ 100)
 Ready (OuterEdges s) m numbers steps bytes count = Sized m s × EdgeTable m (edges m) bytes × (count ≤ edges m)
 Ready (Equalities s load scale) m numbers steps bytes count = Sized m s × FieldFits m numbers load scale × (count ≤ elements m * 2 + edges m * 4)
 Ready (Strengths s) m c steps bytes count = Judged m c s bytes × (at c 0 ≡ pos 1) × MeshSteps m steps × (count ≤ nodes m)

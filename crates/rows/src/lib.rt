@@ -16,8 +16,9 @@ pub mod sizes;
 mod strength_rows;
 
 ghost use mathlib.Core.Path.{_≡_};
+ghost use lib.ListN.{replicate};
 ghost use Rattle.scope.specs.Verdict.{meshCheck, claimCheck, claimVerdict, verdict};
-ghost use Rattle.rows.specs.Contracts.{SoundMesh};
+ghost use Rattle.rows.specs.Contracts.{SoundMesh, MeshAnswered};
 ghost use Rattle.rows.specs.NumbersAnswer.{answerOf};
 use crate::claim_parts::parts_verdict;
 use crate::line_checks::claim_lines;
@@ -28,20 +29,43 @@ use crate::numbers_answer::NumbersAnswer;
 use crate::numbers_answer::answer_of;
 use crate::sizes::sizes_of;
 use scope::Outcome;
+use scope::Place;
 use scope::Verdict;
 
-// What the numbers of a mesh are refused for, 1 to 8, or that they pass.
-pub fn judge_mesh(m: &[i64]) -> Outcome
-    ensures { λ r. ⌜ r ≡ meshCheck (now (m .entry)) ⌝ }
+// What is said of the numbers of a mesh: what they are refused for, 1 to 8, or that they pass, and then the soil of each node. The soils are looked up once a mesh, and lent to the judging of each claim on it.
+pub struct MeshAnswer {
+    pub outcome: Outcome,
+    pub soils: [u8; 100],
+}
+
+// A mesh that is refused: it has no soils.
+fn refused_mesh(number: u32, place: Place) -> MeshAnswer
+    ensures { λ r. ⌜ (r .outcome ≡ Outcome.Refused number place) × (r .soils ≡ replicate 100 255) ⌝ }
+{
+    MeshAnswer {
+        outcome: Outcome::Refused { number, place },
+        soils: [255; 100],
+    }
+}
+
+// The numbers of a mesh, judged.
+pub fn judge_mesh(m: &[i64]) -> MeshAnswer
+    ensures { λ r. ⌜ MeshAnswered (now (m .entry)) r ⌝ }
 {
     let lines = mesh_lines(m);
-    if let Outcome::Refused {
-        number: _,
-        place: _,
-    } = lines {
-        return lines;
+    if let Outcome::Refused { number, place } = lines {
+        return refused_mesh(number, place);
     }
-    mesh_shape(m, sizes_of(m))
+    let s = sizes_of(m);
+    let soils = node_soils(m, s);
+    let shape = mesh_shape(m, s, &soils);
+    if let Outcome::Refused { number, place } = shape {
+        return refused_mesh(number, place);
+    }
+    MeshAnswer {
+        outcome: Outcome::Passed,
+        soils,
+    }
 }
 
 // What the lines of a claim on a judged mesh are refused for, 11 to 13, or that they pass.
@@ -51,14 +75,6 @@ pub fn judge_claim_lines(m: &[i64], c: &[i64]) -> Outcome
 {
     let s = sizes_of(m);
     claim_lines(c, s.nodes, s.elements, s.edges, s.sides)
-}
-
-// The soil of each node of a judged mesh: looked up once a mesh, and lent to the judging of each claim on it.
-pub fn soils_of(m: &[i64]) -> [u8; 100]
-    requires { ⌜ meshCheck (now m) ≡ Outcome.Passed ⌝ }
-    ensures { λ r. ⌜ SoundMesh (now (m .entry)) r ⌝ }
-{
-    node_soils(m, sizes_of(m))
 }
 
 // The verdict on a claim's numbers on a judged mesh, whose soils are lent.
@@ -78,11 +94,11 @@ pub fn check_numbers(m: &[i64], c: &[i64]) -> Verdict
     ensures { λ r. ⌜ r ≡ verdict (now (m .entry)) (now (c .entry)) ⌝ }
 {
     let mesh = judge_mesh(m);
-    if let Outcome::Refused { number, place } = mesh {
+    let outcome = mesh.outcome;
+    if let Outcome::Refused { number, place } = outcome {
         return Verdict::Refused { number, place };
     }
-    let soils = soils_of(m);
-    judge_claim(m, &soils, c)
+    judge_claim(m, &mesh.soils, c)
 }
 
 // The same for a solver that calls from C.

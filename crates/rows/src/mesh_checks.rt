@@ -23,7 +23,7 @@ ghost use Rattle.scope.specs.Mesh.{nodes, elements, edges, x, y};
 ghost use Rattle.scope.specs.Rows.{node};
 ghost use Rattle.scope.specs.Checks.{_then_};
 ghost use Rattle.scope.specs.Verdict.{turn, leftTurnAt, leftTurns, ownSides, outerEdge, turnsCheck, sidesCheck, nodesCheck, edgesCheck, shapeCheck};
-ghost use Rattle.rows.specs.Contracts.{Sized, Holds, keepFirst, soilBelow, NodeSoils, byteAt, SideTable, ownSideAt, EdgeTable};
+ghost use Rattle.rows.specs.Contracts.{Sized, keepFirst, SoilTable, byteAt, SideTable, ownSideAt, EdgeTable};
 
 // ---- 5: a left turn at all four corners
 
@@ -205,8 +205,8 @@ fn sides_check(m: &[i64], s: Sizes, t: &[u8]) -> Outcome
 
 // Gives the soil of element e to its corners that have none yet.
 fn give_soil(m: &[i64], s: Sizes, e: usize, t: &mut [u8; 100])
-    requires { ⌜ Sized (now m) s × (e < elements (now m)) × Holds 100 (soilBelow (now m) e) (now t) ⌝ }
-    ensures { λ _. ⌜ Holds 100 (soilBelow (now (m .entry)) (e + 1)) (now (t .exit)) ⌝ }
+    requires { ⌜ Sized (now m) s × (e < elements (now m)) × SoilTable (now m) e (now t) ⌝ }
+    ensures { λ _. ⌜ SoilTable (now (m .entry)) (e + 1) (now (t .exit)) ⌝ }
 {
     let soil = element_soil(m, s, e) as u8;
     let mut i: usize = 0;
@@ -217,10 +217,10 @@ fn give_soil(m: &[i64], s: Sizes, e: usize, t: &mut [u8; 100])
     }
 }
 
-// The soil of each node, and 255 for a node in no element.
-fn soils_or_none(m: &[i64], s: Sizes) -> [u8; 100]
+// The soil of each node, and 255 for a node in no element. It is made once for a mesh: 7 asks it, and then the strength rows of each claim.
+pub fn node_soils(m: &[i64], s: Sizes) -> [u8; 100]
     requires { ⌜ Sized (now m) s ⌝ }
-    ensures { λ r. ⌜ Holds 100 (soilBelow (now (m .entry)) (elements (now (m .entry)))) r ⌝ }
+    ensures { λ r. ⌜ SoilTable (now (m .entry)) (elements (now (m .entry))) r ⌝ }
 {
     let mut t = [255u8; 100];
     let count = s.elements;
@@ -232,13 +232,12 @@ fn soils_or_none(m: &[i64], s: Sizes) -> [u8; 100]
     t
 }
 
-fn nodes_check(m: &[i64], s: Sizes) -> Outcome
-    requires { ⌜ Sized (now m) s ⌝ }
+fn nodes_check(m: &[i64], s: Sizes, soils: &[u8]) -> Outcome
+    requires { ⌜ Sized (now m) s × SoilTable (now m) (elements (now m)) (now soils) ⌝ }
     ensures { λ r. ⌜ r ≡ nodesCheck (now (m .entry)) ⌝ }
 {
-    let t = soils_or_none(m, s);
     let count = s.nodes;
-    let v = first_failing(Test::InElement, m, &[], &[], &t, count);
+    let v = first_failing(Test::InElement, m, &[], &[], soils, count);
     if v < count {
         return Outcome::Refused {
             number: 7,
@@ -246,14 +245,6 @@ fn nodes_check(m: &[i64], s: Sizes) -> Outcome
         };
     }
     Outcome::Passed
-}
-
-// The soil of each node of a mesh that has passed.
-pub fn node_soils(m: &[i64], s: Sizes) -> [u8; 100]
-    requires { ⌜ Sized (now m) s × (shapeCheck (now m) ≡ Outcome.Passed) ⌝ }
-    ensures { λ r. ⌜ NodeSoils (now (m .entry)) r ⌝ }
-{
-    soils_or_none(m, s)
 }
 
 // ---- 8: each edge is an outer side, once
@@ -322,8 +313,8 @@ fn edges_check(m: &[i64], s: Sizes, t: &[u8]) -> Outcome
 // ---- all four
 
 // Refusals 6 to 8, by a table in which no byte is given yet.
-fn checks_by_table(m: &[i64], s: Sizes, t: &mut [u8]) -> Outcome
-    requires { ⌜ Sized (now m) s × SideTable (now m) 0 (now t) ⌝ }
+fn checks_by_table(m: &[i64], s: Sizes, soils: &[u8], t: &mut [u8]) -> Outcome
+    requires { ⌜ Sized (now m) s × SoilTable (now m) (elements (now m)) (now soils) × SideTable (now m) 0 (now t) ⌝ }
     ensures { λ r. ⌜ r ≡ sidesCheck (now (m .entry)) then nodesCheck (now (m .entry)) then edgesCheck (now (m .entry)) ⌝ }
 {
     side_table(m, s, t);
@@ -331,7 +322,7 @@ fn checks_by_table(m: &[i64], s: Sizes, t: &mut [u8]) -> Outcome
     match sides {
         Outcome::Refused { number, place } => Outcome::Refused { number, place },
         Outcome::Passed => {
-            let nodes = nodes_check(m, s);
+            let nodes = nodes_check(m, s, soils);
             match nodes {
                 Outcome::Refused { number, place } => Outcome::Refused { number, place },
                 Outcome::Passed => {
@@ -344,26 +335,26 @@ fn checks_by_table(m: &[i64], s: Sizes, t: &mut [u8]) -> Outcome
 }
 
 // Refusals 6 to 8. For speed a small mesh has a small table: filling 10,000 bytes is a tenth of the time of a small sheet.
-fn sides_nodes_edges(m: &[i64], s: Sizes) -> Outcome
-    requires { ⌜ Sized (now m) s ⌝ }
+fn sides_nodes_edges(m: &[i64], s: Sizes, soils: &[u8]) -> Outcome
+    requires { ⌜ Sized (now m) s × SoilTable (now m) (elements (now m)) (now soils) ⌝ }
     ensures { λ r. ⌜ r ≡ sidesCheck (now (m .entry)) then nodesCheck (now (m .entry)) then edgesCheck (now (m .entry)) ⌝ }
 {
     if s.nodes <= 16 {
         let mut small = [255u8; 1600];
-        return checks_by_table(m, s, &mut small);
+        return checks_by_table(m, s, soils, &mut small);
     }
     let mut table = [255u8; 10000];
-    checks_by_table(m, s, &mut table)
+    checks_by_table(m, s, soils, &mut table)
 }
 
-// Refusals 5 to 8, in their order.
-pub fn mesh_shape(m: &[i64], s: Sizes) -> Outcome
-    requires { ⌜ Sized (now m) s ⌝ }
+// Refusals 5 to 8, in their order, with the soils of the nodes.
+pub fn mesh_shape(m: &[i64], s: Sizes, soils: &[u8]) -> Outcome
+    requires { ⌜ Sized (now m) s × SoilTable (now m) (elements (now m)) (now soils) ⌝ }
     ensures { λ r. ⌜ r ≡ shapeCheck (now (m .entry)) ⌝ }
 {
     let turns = turns_check(m, s);
     match turns {
         Outcome::Refused { number, place } => Outcome::Refused { number, place },
-        Outcome::Passed => sides_nodes_edges(m, s),
+        Outcome::Passed => sides_nodes_edges(m, s, soils),
     }
 }

@@ -1,11 +1,11 @@
--- Membership in the lists that rows are made of: by induction on the list.
-use mathlib.Core.Path.{_≡_, refl, sym, ap, subst}
+-- The lists that rows are made of, by what is in them and by what stands at a place: by induction on the list.
+use mathlib.Core.Path.{_≡_, refl, sym, _∙_, ap, subst}
 use mathlib.Core.Logic.{⊎-elim}
 use mathlib.Core.List.{List, [], _∷_, _++_, List·Memᴰ·head, List·Memᴰ·tail, List·Memᴰ·append-cases, List·Memᴰ·not-nil, Memᴰ·append-left, Memᴰ·append-right, Memᴰ·of-map, map}
 use Prim.Native.Nat.{ℕ, zero, suc, _+_, _≤_, _<_}
-use native.Mathlib.Nat.{eq-or-lt-of-le}
+use native.Mathlib.Nat.{add-zero, zero-add, eq-or-lt-of-le}
 use native.Mathlib.Omega.{arith}
-use lib.ListN.{length}
+use lib.ListN.{length, getD, length-map}
 use Rattle.scope.specs.Members.{_∈_}
 use Rattle.scope.specs.Rows.{Row, countFrom, joined}
 use Rattle.scope.specs.Verdict.{rowAt}
@@ -57,6 +57,25 @@ module _ {A : Type 0} (P : A → Type 0) where
 
   pub each-joined : {B : Type 0} (f : B → List A) (l : List B) → ((b : B) → b ∈ l → (a : A) → a ∈ f b → P a) → (a : A) → a ∈ joined f l → P a
   each-joined f l h a m = let (b, k, j) = of-joined f l m in h b k a j
+
+-- ---- what stands at a place
+
+pub at-count : (k n i d : ℕ) → i < n → getD (countFrom k n) i d ≡ k + i
+unfolding countFrom
+at-count k zero i d h = absurd (omega arith)
+at-count k (suc n) zero d h = sym (add-zero k)
+at-count k (suc n) (suc i) d h = at-count (suc k) n i d (omega arith) ∙ (omega arith)
+
+pub at-map : {A B : Type 0} (f : A → B) (l : List A) (k : ℕ) (a : A) (b : B) → k < length l → getD (map f l) k b ≡ f (getD l k a)
+at-map f [] k a b h = absurd (omega arith)
+at-map f (c ∷ l) zero a b h = refl
+at-map f (c ∷ l) (suc k) a b h = at-map f l k a b (omega arith)
+
+pub at-each : {A : Type 0} (f : ℕ → A) (n i : ℕ) (d : A) → i < n → getD (map f (countFrom 0 n)) i d ≡ f i
+at-each f n i d h = at-map f (countFrom 0 n) i 0 d (omega (arith, count-length 0 n)) ∙ ap f (at-count 0 n i 0 h ∙ zero-add i)
+
+pub length-each : {A : Type 0} (f : ℕ → A) (n : ℕ) → length (map f (countFrom 0 n)) ≡ n
+length-each f n = length-map (countFrom 0 n) f ∙ count-length 0 n
 
 -- ---- rows by their place
 

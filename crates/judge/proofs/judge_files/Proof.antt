@@ -1,6 +1,6 @@
 -- `judge_files` meets its contract: the claim is judged only on a mesh that has passed.
 use borrow.Author.Needs.{needs}
-use Rattle.judge.proofs.Judged.{fits, as-many, judged-listed, judged-passed, files-refused, files-judged}
+use Rattle.judge.proofs.Judged.{fits, as-many, judged-listed, judged-sound, files-refused, files-judged}
 use Rattle.judge.proofs.judge_files.Statement.{statement}
 use Rattle.judge.proofs.judge_files.Tie as tie
 
@@ -17,29 +17,23 @@ enum-told : tie.Need-enum-told
 enum-told c = search needs
 
 array-share-prefix-numbers : tie.Need-array-share-prefix-numbers
-array-share-prefix-numbers c = fits (judged-listed (c .before .before .before .judge-mesh-file .ensures))
+array-share-prefix-numbers c = fits (judged-listed (c .before .before .before .before .judge-mesh-file .ensures))
 
 slice-aggregate-m : tie.Need-slice-aggregate-m
-slice-aggregate-m c = as-many (judged-listed (c .before .before .before .before .judge-mesh-file .ensures))
-
-soils-of-requires : tie.Need-soils-of-requires
-soils-of-requires c κs = judged-passed (c .before .before .before .before .judge-mesh-file .ensures) (c .before .enum-told .given .1)
-
-slice-aggregate-judge-claim-file : tie.Need-slice-aggregate-judge-claim-file
-slice-aggregate-judge-claim-file c = search needs
+slice-aggregate-m c = as-many (judged-listed (c .before .before .before .before .before .judge-mesh-file .ensures))
 
 judge-claim-file-requires : tie.Need-judge-claim-file-requires
-judge-claim-file-requires c κs = c .before .soils-of .ensures
+judge-claim-file-requires c κs =
+    let told = c .before .before .before .before in
+    judged-sound (told .before .before .before .before .judge-mesh-file .ensures) (told .enum-told .given .1)
 
 returns : tie.Need-returns
-returns c = files-refused (c .before .before .before .before .judge-mesh-file .ensures) _ (c .before .outcome .given .1)
+returns c = files-refused (c .before .before .before .before .before .judge-mesh-file .ensures) _ (c .before .outcome .given .1)
 
 returns-2 : tie.Need-returns-2
 returns-2 c =
-    files-judged (c .before .before .before .before .before .before .before .judge-mesh-file .ensures)
-    _
-    (c .before .before .before .before .enum-told .given .1)
-    (c .judge-claim-file .ensures)
+    let told = c .before .before .before .before .before in
+    files-judged (told .before .before .before .before .judge-mesh-file .ensures) _ (told .enum-told .given .1) (c .judge-claim-file .ensures)
 
 pub judge-files-spec : {M : Type 1} → statement M
 judge-files-spec =
@@ -51,8 +45,6 @@ judge-files-spec =
     enum-told
     array-share-prefix-numbers
     slice-aggregate-m
-    soils-of-requires
-    slice-aggregate-judge-claim-file
     judge-claim-file-requires
     returns
     returns-2)

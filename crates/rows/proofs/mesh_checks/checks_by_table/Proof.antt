@@ -6,10 +6,10 @@ use Rattle.rows.proofs.mesh_checks.checks_by_table.Statement.{statement
 use Rattle.rows.proofs.mesh_checks.checks_by_table.Tie as tie
 
 side-table-requires : tie.Need-side-table-requires
-side-table-requires c κs = c .before .before .pre
+side-table-requires c κs = search needs
 
 sides-check-requires : tie.Need-sides-check-requires
-sides-check-requires c κs = (c .before .before .before .before .before .before .pre .0, c .before .before .before .side-table .ensures)
+sides-check-requires c κs = search needs
 
 enum-known-sides : tie.Need-enum-known-sides
 enum-known-sides c = search needs
@@ -18,7 +18,7 @@ enum-told : tie.Need-enum-told
 enum-told c = search needs
 
 nodes-check-requires : tie.Need-nodes-check-requires
-nodes-check-requires c κs = c .before .before .before .before .before .before .before .before .before .pre .0
+nodes-check-requires c κs = search needs
 
 enum-known-nodes : tie.Need-enum-known-nodes
 enum-known-nodes c = search needs
@@ -27,10 +27,10 @@ enum-told-2 : tie.Need-enum-told-2
 enum-told-2 c = search needs
 
 take-sides-requires : tie.Need-take-sides-requires
-take-sides-requires c κs = let filled = c .before .before .before .before .before .before .before .before .before .before in (filled .before .before .before .pre .0, filled .side-table .ensures)
+take-sides-requires c κs = search needs
 
 edges-check-requires : tie.Need-edges-check-requires
-edges-check-requires c κs = let filled = c .before .before .before .before .before .before .before .before .before .before .before .before .before .before in (filled .before .before .before .pre .0, c .before .before .before .take-sides .ensures)
+edges-check-requires c κs = search needs
 
 same-length : tie.Need-same-length
 same-length c = search needs
