@@ -12,10 +12,7 @@ use Rattle.scope.specs.declared.Place.{Place}
 use Rattle.scope.specs.declared.Verdict.{Verdict}
 use Rattle.scope.specs.declared.Verdict.the-variants.{Refused}
 use Rattle.scope.specs.Mesh.{meshLayout}
-use Rattle.scope.specs.Facts.{MeshFacts}
 use Rattle.scope.specs.Verdict.{meshCheck, claimVerdict, answer, verdict}
-use Rattle.scope.proofs.Sound.{mesh-passed}
-use Rattle.scope.proofs.Facts.{mesh-facts}
 use Rattle.rows.specs.declared.MeshAnswer.{MeshAnswer}
 use Rattle.rows.specs.declared.sizes.Sizes.{Sizes}
 use Rattle.rows.specs.Contracts.{Sized, MeshAnswered, SoundMesh}
@@ -48,9 +45,6 @@ mesh-judged {a = a} l e = record { count = l .count; numbers = l .list; answer =
 
 pub judged-listed : {mesh : List ℕ} {before after : List ℤ} {r : JudgedMesh} → MeshJudged mesh before r after → Listed (meshNumbers fileWidth mesh) before (r .count) after
 judged-listed j = record { count = j .count; list = j .numbers }
-
-pub judged-facts : (m : List ℤ) → meshCheck m ≡ Passed → MeshFacts m
-judged-facts m e = mesh-facts m (mesh-passed m .says e .lines)
 
 -- ---- a claim
 

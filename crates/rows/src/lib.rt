@@ -69,7 +69,7 @@ pub fn judge_mesh(m: &[i64]) -> MeshAnswer
 }
 
 // What the lines of a claim on a judged mesh are refused for, 11 to 13, or that they pass.
-pub fn judge_claim_lines(m: &[i64], c: &[i64]) -> Outcome
+fn judge_claim_lines(m: &[i64], c: &[i64]) -> Outcome
     requires { ⌜ meshCheck (now m) ≡ Outcome.Passed ⌝ }
     ensures { λ r. ⌜ r ≡ claimCheck (now (m .entry)) (now (c .entry)) ⌝ }
 {

@@ -266,7 +266,7 @@ fn mesh_groups(s: &[i64], nodes: usize, elements: usize, soils: usize, edges: us
 }
 
 // The lines of a mesh: refusals 1 to 4.
-pub fn mesh_lines(m: &[i64]) -> Outcome
+pub(crate) fn mesh_lines(m: &[i64]) -> Outcome
     ensures { λ r. ⌜ r ≡ linesCheck meshLayout (now (m .entry)) ⌝ }
 {
     let header = mesh_header(m);
@@ -353,7 +353,13 @@ pub fn if_there(flag: i64, k: usize) -> usize
 }
 
 // The lines of a claim on a mesh with these counts: refusals 11 to 13.
-pub fn claim_lines(c: &[i64], nodes: usize, elements: usize, edges: usize, sides: usize) -> Outcome
+pub(crate) fn claim_lines(
+    c: &[i64],
+    nodes: usize,
+    elements: usize,
+    edges: usize,
+    sides: usize,
+) -> Outcome
     requires { ⌜ SmallCounts nodes elements edges sides ⌝ }
     ensures { λ r. ⌜ ((m : List ℤ) → CountsAre m nodes elements edges sides → r ≡ linesCheck (claimLayout m) (now (c .entry))) ⌝ }
 {

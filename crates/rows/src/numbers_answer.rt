@@ -58,7 +58,7 @@ fn counted(open_rows: OpenRows) -> u64
 }
 
 // The verdict's number and values, and 0 for what is not there.
-pub fn answer_of(v: Verdict) -> NumbersAnswer
+pub(crate) fn answer_of(v: Verdict) -> NumbersAnswer
     ensures { λ r. ⌜ r ≡ answerOf v ⌝ }
 {
     match v {

@@ -81,14 +81,14 @@ fn thing_in(m: &[i64], from: usize, i: usize, width: usize, c: usize) -> usize
 }
 
 // The coordinates of node v.
-pub fn node_x(m: &[i64], s: Sizes, v: usize) -> i64
+pub(crate) fn node_x(m: &[i64], s: Sizes, v: usize) -> i64
     requires { ⌜ Sized (now m) s × (v < nodes (now m)) ⌝ }
     ensures { λ r. ⌜ Is r (x (now (m .entry)) v) 1000 ⌝ }
 {
     number_in(m, s.nodes_from, v, 2, 0)
 }
 
-pub fn node_y(m: &[i64], s: Sizes, v: usize) -> i64
+pub(crate) fn node_y(m: &[i64], s: Sizes, v: usize) -> i64
     requires { ⌜ Sized (now m) s × (v < nodes (now m)) ⌝ }
     ensures { λ r. ⌜ Is r (y (now (m .entry)) v) 1000 ⌝ }
 {
@@ -96,14 +96,14 @@ pub fn node_y(m: &[i64], s: Sizes, v: usize) -> i64
 }
 
 // The node at corner i of element e, and the element's soil.
-pub fn corner_of(m: &[i64], s: Sizes, e: usize, i: usize) -> usize
+pub(crate) fn corner_of(m: &[i64], s: Sizes, e: usize, i: usize) -> usize
     requires { ⌜ Sized (now m) s × (e < elements (now m)) × (i < 4) ⌝ }
     ensures { λ r. ⌜ r ≡ corner (now (m .entry)) e i ⌝ }
 {
     thing_in(m, s.elements_from, e, 5, i)
 }
 
-pub fn element_soil(m: &[i64], s: Sizes, e: usize) -> usize
+pub(crate) fn element_soil(m: &[i64], s: Sizes, e: usize) -> usize
     requires { ⌜ Sized (now m) s × (e < elements (now m)) ⌝ }
     ensures { λ r. ⌜ r ≡ elementSoil (now (m .entry)) e ⌝ }
 {
@@ -111,7 +111,7 @@ pub fn element_soil(m: &[i64], s: Sizes, e: usize) -> usize
 }
 
 // Column c of a soil: p, q, h, cohesion, dead force x and y, live force x and y.
-pub fn soil_entry(m: &[i64], s: Sizes, soil: usize, c: usize) -> i64
+pub(crate) fn soil_entry(m: &[i64], s: Sizes, soil: usize, c: usize) -> i64
     requires { ⌜ Sized (now m) s × (soil < soils (now m)) × (c < 8) ⌝ }
     ensures { λ r. ⌜ Is r (soilEntry (now (m .entry)) soil c) 10000 ⌝ }
 {
@@ -119,7 +119,7 @@ pub fn soil_entry(m: &[i64], s: Sizes, soil: usize, c: usize) -> i64
 }
 
 // Column c of edge g, from what is fixed on: what is fixed, dead normal, dead shear, live normal, live shear.
-pub fn edge_entry(m: &[i64], s: Sizes, g: usize, c: usize) -> i64
+pub(crate) fn edge_entry(m: &[i64], s: Sizes, g: usize, c: usize) -> i64
     requires { ⌜ Sized (now m) s × (g < edges (now m)) × (2 ≤ c) × (c < 7) ⌝ }
     ensures { λ r. ⌜ Is r (edgeEntry (now (m .entry)) g c) 10000 ⌝ }
 {
@@ -127,14 +127,14 @@ pub fn edge_entry(m: &[i64], s: Sizes, g: usize, c: usize) -> i64
 }
 
 // The nodes of edge g.
-pub fn edge_from(m: &[i64], s: Sizes, g: usize) -> usize
+pub(crate) fn edge_from(m: &[i64], s: Sizes, g: usize) -> usize
     requires { ⌜ Sized (now m) s × (g < edges (now m)) ⌝ }
     ensures { λ r. ⌜ r ≡ fromNode (now (m .entry)) g ⌝ }
 {
     thing_in(m, s.edges_from, g, 7, 0)
 }
 
-pub fn edge_to(m: &[i64], s: Sizes, g: usize) -> usize
+pub(crate) fn edge_to(m: &[i64], s: Sizes, g: usize) -> usize
     requires { ⌜ Sized (now m) s × (g < edges (now m)) ⌝ }
     ensures { λ r. ⌜ r ≡ toNode (now (m .entry)) g ⌝ }
 {

@@ -5,13 +5,14 @@ use denote.Ref.{now}
 use borrow.Author.Needs.{needs}
 use Rattle.scope.specs.Claim.{claimHeader, stressLines, elementMultipliers, edgeMultipliers, strengthMultipliers}
 use Rattle.rows.specs.LineContracts.{linesGroup}
-use Rattle.judge.proofs.Judged.{judged-facts, sizes-small}
+use Rattle.rows.proofs.VerdictLaws.{mesh-known}
+use Rattle.judge.proofs.Judged.{sizes-small}
 use Rattle.judge.proofs.ClaimBytes.{parts-bytes}
 use Rattle.judge.proofs.claim_bytes.Statement.{statement}
 use Rattle.judge.proofs.claim_bytes.Tie as tie
 
 sizes-of-requires : tie.Need-sizes-of-requires
-sizes-of-requires c κs = judged-facts (now (c .args .m)) (c .pre)
+sizes-of-requires c κs = mesh-known (c .pre) .facts
 
 line-bytes-requires : tie.Need-line-bytes-requires
 unfolding linesGroup claimHeader

@@ -1,13 +1,13 @@
 -- `judge_claim_file` meets its contract: each of the three rooms is taken where it is enough, and the largest always is.
 use native.Mathlib.Omega.{arith}
-use denote.Ref.{now}
 use borrow.Author.Needs.{needs}
-use Rattle.judge.proofs.Judged.{judged-facts, sizes-small, room-is, room-most}
+use Rattle.rows.proofs.VerdictLaws.{mesh-known}
+use Rattle.judge.proofs.Judged.{sizes-small, room-is, room-most}
 use Rattle.judge.proofs.judge_claim_file.Statement.{statement}
 use Rattle.judge.proofs.judge_claim_file.Tie as tie
 
 sizes-of-requires : tie.Need-sizes-of-requires
-sizes-of-requires c κs = judged-facts (now (c .before .before .args .m)) (c .before .before .pre .passes)
+sizes-of-requires c κs = mesh-known (c .before .before .pre .passes) .facts
 
 claim-room-requires : tie.Need-claim-room-requires
 claim-room-requires c κs = sizes-small (c .sizes-of .ensures)

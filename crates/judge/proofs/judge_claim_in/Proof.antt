@@ -4,12 +4,13 @@ use native.Mathlib.Omega.{arith}
 use denote.Ref.{now}
 use borrow.Author.Needs.{needs}
 use Rattle.scope.specs.Verdict.{claimVerdict}
-use Rattle.judge.proofs.Judged.{front, fits, as-many, judged-facts, sizes-small, room-is, claim-listed}
+use Rattle.rows.proofs.VerdictLaws.{mesh-known}
+use Rattle.judge.proofs.Judged.{front, fits, as-many, sizes-small, room-is, claim-listed}
 use Rattle.judge.proofs.judge_claim_in.Statement.{statement}
 use Rattle.judge.proofs.judge_claim_in.Tie as tie
 
 sizes-of-requires : tie.Need-sizes-of-requires
-sizes-of-requires c κs = judged-facts (now (c .before .before .args .m)) (c .before .before .pre .0 .passes)
+sizes-of-requires c κs = mesh-known (c .before .before .pre .0 .passes) .facts
 
 read-claim-requires : tie.Need-read-claim-requires
 read-claim-requires c κs =
