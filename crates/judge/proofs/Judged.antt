@@ -12,7 +12,7 @@ use Rattle.scope.specs.declared.Place.{Place}
 use Rattle.scope.specs.declared.Verdict.{Verdict}
 use Rattle.scope.specs.declared.Verdict.the-variants.{Refused}
 use Rattle.scope.specs.Mesh.{meshLayout}
-use Rattle.scope.specs.Verdict.{meshCheck, claimVerdict, answer, verdict}
+use Rattle.scope.specs.Verdict.{claimVerdict, answer, verdict}
 use Rattle.rows.specs.declared.MeshAnswer.{MeshAnswer}
 use Rattle.rows.specs.declared.sizes.Sizes.{Sizes}
 use Rattle.rows.specs.Contracts.{Sized, MeshAnswered, SoundMesh}

@@ -15,7 +15,7 @@ use Rattle.scope.specs.Checks.{someBelow}
 use Rattle.scope.specs.Rows.{firstWhere}
 use Rattle.rows.specs.Contracts.{Holds, put, isNone, keepFirst, byteBelow}
 use Rattle.scope.proofs.Checks.{below-suc}
-use Rattle.scope.proofs.Decides.{First, first-where}
+use Rattle.scope.proofs.Decides.{first-where}
 
 -- ---- one byte is put
 

@@ -4,8 +4,8 @@ use mathlib.Core.Logic.{_⊎_, inl, inr}
 use mathlib.Core.Bool.{Bool, true, false}
 use mathlib.Core.List.{List, [], _∷_}
 use Prim.Native.Nat.{ℕ, zero, suc, _+_, _*_, _-_, _<_, _≤_}
-use native.Mathlib.Nat.{add-assoc, add-zero, zero-add, zero-mul, suc-mul, add-mul}
-use native.Mathlib.Numerals.{add-one, one-add}
+use native.Mathlib.Nat.{add-assoc, add-zero, zero-add, zero-mul, suc-mul}
+use native.Mathlib.Numerals.{one-add}
 use native.Mathlib.Decide.{decLt}
 use native.Mathlib.Omega.{arith}
 use lib.IntN.{ℤ, pos, negsuc}
@@ -34,7 +34,7 @@ use Rattle.scope.specs.Claim.{claimHeader, claimLayout, ifThere}
 use Rattle.scope.specs.Facts.{Counts}
 use Rattle.rows.specs.LineContracts.{groupCheck, groupsCheck, groupOf, columnsOf, meshBody, MeshCounts, claimBody, CountsAre, SmallCounts, NumberedFrom}
 use Rattle.rows.specs.SearchContracts.{isPassed, firstFailing}
-use Rattle.scope.proofs.Checks.{then-assoc, lowest-all, lowest-add, lowest-cong, first-refused}
+use Rattle.scope.proofs.Checks.{then-assoc, lowest-all, lowest-add, lowest-cong}
 use Rattle.scope.proofs.Lines.{line-here, line-after}
 use Rattle.rows.proofs.Loops.{first-outcome, no-outcome}
 use Rattle.rows.proofs.LineLaws.{both-true, small, read, line-short, passed-whole, passed-within, mesh-header-line}

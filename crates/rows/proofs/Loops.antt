@@ -7,7 +7,6 @@ use native.Mathlib.Numerals.{add-one}
 use native.Mathlib.Decide.{decLt}
 use native.Mathlib.Omega.{arith}
 use lib.Dec.{T, eqb}
-use lib.Ieee.Bits.{is-true}
 use borrow.Author.Tests.{eq-eqb}
 use Rattle.scope.specs.declared.Place.{Place}
 use Rattle.scope.specs.declared.Outcome.{Outcome}

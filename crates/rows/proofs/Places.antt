@@ -16,7 +16,7 @@ use Rattle.scope.specs.Columns.{at}
 use Rattle.scope.specs.Layout.{groups, numbersBefore, count, entry}
 use Rattle.scope.specs.Mesh.{meshHeader, soilLines, nodeLines, elementLines, edgeLines, meshLayout, meshGroups, nodes, elements, soils, edges, sides, p, q, h, cohesion, soilEntry, x, y, corner, elementSoil, edgeEntry, fromNode, toNode}
 use Rattle.scope.specs.Facts.{Between, MeshFacts, SoilFacts, EdgeFacts}
-use Rattle.rows.specs.Contracts.{Sized}
+use Rattle.rows.specs.Contracts.{Sized, FewThings, nodesFrom, elementsFrom, edgesFrom}
 
 -- ---- counts
 
@@ -66,19 +66,16 @@ module _ {m : List ℤ} (f : MeshFacts m) where
       listed (inr (inr e)) = omega arith
 
   -- the sizes that are made of the counts
-  pub sized : {a b c d e : ℕ} → a ≡ count (at m 0) → b ≡ count (at m 1) → c ≡ count (at m 2) → d ≡ count (at m 3) → e ≡ count (at m 4) → Sized m (record { nodes = a; elements = b; soils = c; edges = d; sides = e; «nodes_from» = 5 + c * 8; «elements_from» = 5 + c * 8 + a * 2; «edges_from» = 5 + c * 8 + a * 2 + b * 5 })
+  pub sized : {a b c d e : ℕ} → a ≡ count (at m 0) → b ≡ count (at m 1) → c ≡ count (at m 2) → d ≡ count (at m 3) → e ≡ count (at m 4) → Sized m (record { nodes = a; elements = b; soils = c; edges = d; sides = e })
   unfolding nodes elements soils edges sides
-  sized ea eb ec ed ee = record {
-    facts = f;
-    nodesAre = ea;
-    elementsAre = eb;
-    soilsAre = ec;
-    edgesAre = ed;
-    sidesAre = ee;
-    nodesFrom = omega arith;
-    elementsFrom = omega arith;
-    edgesFrom = omega arith;
-  }
+  sized ea eb ec ed ee = record { facts = f; nodesAre = ea; elementsAre = eb; soilsAre = ec; edgesAre = ed; sidesAre = ee }
+
+pub few-things : {m : List ℤ} {s : Sizes} → Sized m s → FewThings s
+few-things k = record {
+  fewSoils = omega (arith, k .soilsAre, k .facts .counts .soilsMost);
+  fewNodes = omega (arith, k .nodesAre, k .facts .counts .nodesMost);
+  fewElements = omega (arith, k .elementsAre, k .facts .counts .elementsMost);
+}
 
 -- ---- bounds
 
@@ -114,17 +111,17 @@ module _ {m : List ℤ} {s : Sizes} (k : Sized m s) where
   unfolding entry numbersBefore meshGroups groups meshLayout meshHeader soilLines nodeLines elementLines edgeLines
   soil-at i c = ap (at m) (omega arith)
 
-  node-at : (i c : ℕ) → entry (meshGroups m) m 2 i c ≡ at m (s .«nodes_from» + i * 2 + c)
+  node-at : {from : ℕ} → from ≡ nodesFrom s → (i c : ℕ) → entry (meshGroups m) m 2 i c ≡ at m (from + i * 2 + c)
   unfolding entry numbersBefore meshGroups groups meshLayout meshHeader soilLines nodeLines elementLines edgeLines
-  node-at i c = ap (at m) (omega (arith, k .nodesFrom))
+  node-at b i c = ap (at m) (omega (arith, k .soilsAre))
 
-  element-at : (i c : ℕ) → entry (meshGroups m) m 3 i c ≡ at m (s .«elements_from» + i * 5 + c)
+  element-at : {from : ℕ} → from ≡ elementsFrom s → (i c : ℕ) → entry (meshGroups m) m 3 i c ≡ at m (from + i * 5 + c)
   unfolding entry numbersBefore meshGroups groups meshLayout meshHeader soilLines nodeLines elementLines edgeLines
-  element-at i c = ap (at m) (omega (arith, k .elementsFrom))
+  element-at b i c = ap (at m) (omega (arith, k .soilsAre, k .nodesAre))
 
-  edge-at : (i c : ℕ) → entry (meshGroups m) m 4 i c ≡ at m (s .«edges_from» + i * 7 + c)
+  edge-at : {from : ℕ} → from ≡ edgesFrom s → (i c : ℕ) → entry (meshGroups m) m 4 i c ≡ at m (from + i * 7 + c)
   unfolding entry numbersBefore meshGroups groups meshLayout meshHeader soilLines nodeLines elementLines edgeLines
-  edge-at i c = ap (at m) (omega (arith, k .edgesFrom))
+  edge-at b i c = ap (at m) (omega (arith, k .soilsAre, k .nodesAre, k .elementsAre))
 
   -- ---- what is read there
 
@@ -132,37 +129,37 @@ module _ {m : List ℤ} {s : Sizes} (k : Sized m s) where
   unfolding soilEntry
   soil-read {i = i} {c = c} l j e = record { same = e ∙ sym (soil-at i c); inside = soil-bound (k .facts .soil i l) c j }
 
-  pub x-read : {r : ℤ} {v : ℕ} → v < nodes m → r ≡ at m (s .«nodes_from» + v * 2 + 0) → Is r (x m v) 1000
+  pub x-read : {r : ℤ} {v from : ℕ} → v < nodes m → from ≡ nodesFrom s → r ≡ at m (from + v * 2 + 0) → Is r (x m v) 1000
   unfolding x
-  x-read {v = v} l e = record { same = e ∙ sym (node-at v 0); inside = bounded 1000 (record { le = tt }) (record { le = tt }) (k .facts .node v l .xRange) }
+  x-read {v = v} l b e = record { same = e ∙ sym (node-at b v 0); inside = bounded 1000 (record { le = tt }) (record { le = tt }) (k .facts .node v l .xRange) }
 
-  pub y-read : {r : ℤ} {v : ℕ} → v < nodes m → r ≡ at m (s .«nodes_from» + v * 2 + 1) → Is r (y m v) 1000
+  pub y-read : {r : ℤ} {v from : ℕ} → v < nodes m → from ≡ nodesFrom s → r ≡ at m (from + v * 2 + 1) → Is r (y m v) 1000
   unfolding y
-  y-read {v = v} l e = record { same = e ∙ sym (node-at v 1); inside = bounded 1000 (record { le = tt }) (record { le = tt }) (k .facts .node v l .yRange) }
+  y-read {v = v} l b e = record { same = e ∙ sym (node-at b v 1); inside = bounded 1000 (record { le = tt }) (record { le = tt }) (k .facts .node v l .yRange) }
 
-  pub edge-read : {r : ℤ} {g c : ℕ} → g < edges m → 2 ≤ c → c < 7 → r ≡ at m (s .«edges_from» + g * 7 + c) → Is r (edgeEntry m g c) 10000
+  pub edge-read : {r : ℤ} {g c from : ℕ} → g < edges m → 2 ≤ c → c < 7 → from ≡ edgesFrom s → r ≡ at m (from + g * 7 + c) → Is r (edgeEntry m g c) 10000
   unfolding edgeEntry
-  edge-read {g = g} {c = c} l i j e = record { same = e ∙ sym (edge-at g c); inside = edge-bound (k .facts .edge g l) c i j }
+  edge-read {g = g} {c = c} l i j b e = record { same = e ∙ sym (edge-at b g c); inside = edge-bound (k .facts .edge g l) c i j }
 
-  pub element-there : {e c : ℕ} → e < elements m → c < 5 → There 1 m (s .«elements_from» + e * 5 + c)
-  element-there {e} {c} l i = (omega (arith, k), subst (λ (z : ℤ). pos 1 ≤ℤ z) (element-at e c) (k .facts .element e l .fromOne c i))
+  pub element-there : {e c from : ℕ} → e < elements m → c < 5 → from ≡ elementsFrom s → There 1 m (from + e * 5 + c)
+  element-there {e} {c} l i b = (omega (arith, k), subst (λ (z : ℤ). pos 1 ≤ℤ z) (element-at b e c) (k .facts .element e l .fromOne c i))
 
-  pub edge-there : {g c : ℕ} → g < edges m → c < 2 → There 1 m (s .«edges_from» + g * 7 + c)
+  pub edge-there : {g c from : ℕ} → g < edges m → c < 2 → from ≡ edgesFrom s → There 1 m (from + g * 7 + c)
   unfolding edgeEntry
-  edge-there {g} {c} l i = (omega (arith, k), subst (λ (z : ℤ). pos 1 ≤ℤ z) (edge-at g c) (k .facts .edge g l .fromOne c i))
+  edge-there {g} {c} l i b = (omega (arith, k), subst (λ (z : ℤ). pos 1 ≤ℤ z) (edge-at b g c) (k .facts .edge g l .fromOne c i))
 
-  pub corner-read : {r : ℕ} (e i : ℕ) → r ≡ count (at m (s .«elements_from» + e * 5 + i)) - 1 → r ≡ corner m e i
+  pub corner-read : {r from : ℕ} (e i : ℕ) → from ≡ elementsFrom s → r ≡ count (at m (from + e * 5 + i)) - 1 → r ≡ corner m e i
   unfolding corner
-  corner-read e i d = rw (element-at e i) d
+  corner-read e i b d = rw (element-at b e i) d
 
-  pub element-soil-read : {r : ℕ} (e : ℕ) → r ≡ count (at m (s .«elements_from» + e * 5 + 4)) - 1 → r ≡ elementSoil m e
+  pub element-soil-read : {r from : ℕ} (e : ℕ) → from ≡ elementsFrom s → r ≡ count (at m (from + e * 5 + 4)) - 1 → r ≡ elementSoil m e
   unfolding elementSoil
-  element-soil-read e d = rw (element-at e 4) d
+  element-soil-read e b d = rw (element-at b e 4) d
 
-  pub from-read : {r : ℕ} (g : ℕ) → r ≡ count (at m (s .«edges_from» + g * 7 + 0)) - 1 → r ≡ fromNode m g
+  pub from-read : {r from : ℕ} (g : ℕ) → from ≡ edgesFrom s → r ≡ count (at m (from + g * 7 + 0)) - 1 → r ≡ fromNode m g
   unfolding fromNode edgeEntry
-  from-read g d = rw (edge-at g 0) d
+  from-read g b d = rw (edge-at b g 0) d
 
-  pub to-read : {r : ℕ} (g : ℕ) → r ≡ count (at m (s .«edges_from» + g * 7 + 1)) - 1 → r ≡ toNode m g
+  pub to-read : {r from : ℕ} (g : ℕ) → from ≡ edgesFrom s → r ≡ count (at m (from + g * 7 + 1)) - 1 → r ≡ toNode m g
   unfolding toNode edgeEntry
-  to-read g d = rw (edge-at g 1) d
+  to-read g b d = rw (edge-at b g 1) d

@@ -25,9 +25,22 @@ pub record Sized (m : List ℤ) (s : Sizes) : Type 0 where
   pub soilsAre : s .soils ≡ soils m
   pub edgesAre : s .edges ≡ edges m
   pub sidesAre : s .sides ≡ sides m
-  pub nodesFrom : s .«nodes_from» ≡ 5 + soils m * 8
-  pub elementsFrom : s .«elements_from» ≡ 5 + soils m * 8 + nodes m * 2
-  pub edgesFrom : s .«edges_from» ≡ 5 + soils m * 8 + nodes m * 2 + elements m * 5
+
+-- counts so small that no place of a number leaves 64 bits
+pub record FewThings (s : Sizes) : Type 0 where
+  pub fewSoils : s .soils ≤ 16
+  pub fewNodes : s .nodes ≤ 100
+  pub fewElements : s .elements ≤ 100
+
+-- the place of the first number of the nodes, of the elements and of the edges
+abbrev pub nodesFrom : Sizes → ℕ
+nodesFrom s = 5 + s .soils * 8
+
+abbrev pub elementsFrom : Sizes → ℕ
+elementsFrom s = nodesFrom s + s .nodes * 2
+
+abbrev pub edgesFrom : Sizes → ℕ
+edgesFrom s = elementsFrom s + s .elements * 5
 
 -- ---- tables of bytes: 255 where a place has none yet
 

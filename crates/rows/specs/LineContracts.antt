@@ -1,8 +1,7 @@
 -- What the checks of lines say of a part of a file. That the parts make the check of the whole file is proved in `proofs/GroupLaws.antt`.
 use mathlib.Core.Path.{_≡_}
-use mathlib.Core.Bool.{cond}
 use mathlib.Core.List.{List, [], _∷_}
-use Prim.Native.Nat.{ℕ, suc, _+_, _*_, _≤_, _<_}
+use Prim.Native.Nat.{ℕ, _+_, _*_, _≤_, _<_}
 use lib.IntN.{ℤ}
 use lib.Dec.{leb}
 use lib.ListN.{length, take, drop, replicate}
@@ -13,7 +12,7 @@ use Rattle.rows.specs.declared.line_checks.Lines.the-variants.{Soils, No
 use Rattle.rows.specs.declared.line_tests.LineKind.{LineKind}
 use Rattle.rows.specs.declared.line_tests.LineKind.the-variants.{Soil, Element, Edge}
 use Rattle.scope.specs.Checks.{demand, _then_, lowest}
-use Rattle.scope.specs.Columns.{Limit, between, within}
+use Rattle.scope.specs.Columns.{Limit, between}
 use Rattle.scope.specs.Layout.{Group, Layout, width, lineCheck}
 use Rattle.scope.specs.Mesh.{nodes, elements, edges, sides, meshHeader, soilLines, nodeLines, elementLines, edgeLines}
 use Rattle.scope.specs.Claim.{claimHeader, stressLines, elementMultipliers, edgeMultipliers, strengthMultipliers}

@@ -9,18 +9,15 @@ ghost use Rattle.scope.specs.Columns.{at};
 ghost use Rattle.scope.specs.Layout.{count};
 ghost use Rattle.scope.specs.Mesh.{nodes, elements, soils, edges, x, y, corner, elementSoil, soilEntry, edgeEntry, fromNode, toNode};
 ghost use Rattle.scope.specs.Facts.{MeshFacts};
-ghost use Rattle.rows.specs.Contracts.{Sized};
+ghost use Rattle.rows.specs.Contracts.{Sized, FewThings, nodesFrom, elementsFrom, edgesFrom};
 
-// The counts of the header, and the place of the first number of the nodes, of the elements and of the edges.
+// The counts of the header.
 pub struct Sizes {
     pub nodes: usize,
     pub elements: usize,
     pub soils: usize,
     pub edges: usize,
     pub sides: usize,
-    pub nodes_from: usize,
-    pub elements_from: usize,
-    pub edges_from: usize,
 }
 
 // Number k of a list.
@@ -49,19 +46,35 @@ pub fn sizes_of(m: &[i64]) -> Sizes
     let soils = count_at(m, 2);
     let edges = count_at(m, 3);
     let sides = count_at(m, 4);
-    let nodes_from = 5 + soils * 8;
-    let elements_from = nodes_from + nodes * 2;
-    let edges_from = elements_from + elements * 5;
     Sizes {
         nodes,
         elements,
         soils,
         edges,
         sides,
-        nodes_from,
-        elements_from,
-        edges_from,
     }
+}
+
+// The place of the first number of the nodes, of the elements and of the edges. For speed it is worked out where it is asked, so that fewer numbers are handed around.
+fn nodes_from(s: Sizes) -> usize
+    requires { ⌜ FewThings s ⌝ }
+    ensures { λ r. ⌜ r ≡ nodesFrom s ⌝ }
+{
+    5 + s.soils * 8
+}
+
+fn elements_from(s: Sizes) -> usize
+    requires { ⌜ FewThings s ⌝ }
+    ensures { λ r. ⌜ r ≡ elementsFrom s ⌝ }
+{
+    5 + s.soils * 8 + s.nodes * 2
+}
+
+fn edges_from(s: Sizes) -> usize
+    requires { ⌜ FewThings s ⌝ }
+    ensures { λ r. ⌜ r ≡ edgesFrom s ⌝ }
+{
+    5 + s.soils * 8 + s.nodes * 2 + s.elements * 5
 }
 
 // Column c of line i of a group with this width, whose first number has the place `from`.
@@ -85,14 +98,14 @@ pub(crate) fn node_x(m: &[i64], s: Sizes, v: usize) -> i64
     requires { ⌜ Sized (now m) s × (v < nodes (now m)) ⌝ }
     ensures { λ r. ⌜ Is r (x (now (m .entry)) v) 1000 ⌝ }
 {
-    number_in(m, s.nodes_from, v, 2, 0)
+    number_in(m, nodes_from(s), v, 2, 0)
 }
 
 pub(crate) fn node_y(m: &[i64], s: Sizes, v: usize) -> i64
     requires { ⌜ Sized (now m) s × (v < nodes (now m)) ⌝ }
     ensures { λ r. ⌜ Is r (y (now (m .entry)) v) 1000 ⌝ }
 {
-    number_in(m, s.nodes_from, v, 2, 1)
+    number_in(m, nodes_from(s), v, 2, 1)
 }
 
 // The node at corner i of element e, and the element's soil.
@@ -100,14 +113,14 @@ pub(crate) fn corner_of(m: &[i64], s: Sizes, e: usize, i: usize) -> usize
     requires { ⌜ Sized (now m) s × (e < elements (now m)) × (i < 4) ⌝ }
     ensures { λ r. ⌜ r ≡ corner (now (m .entry)) e i ⌝ }
 {
-    thing_in(m, s.elements_from, e, 5, i)
+    thing_in(m, elements_from(s), e, 5, i)
 }
 
 pub(crate) fn element_soil(m: &[i64], s: Sizes, e: usize) -> usize
     requires { ⌜ Sized (now m) s × (e < elements (now m)) ⌝ }
     ensures { λ r. ⌜ r ≡ elementSoil (now (m .entry)) e ⌝ }
 {
-    thing_in(m, s.elements_from, e, 5, 4)
+    thing_in(m, elements_from(s), e, 5, 4)
 }
 
 // Column c of a soil: p, q, h, cohesion, dead force x and y, live force x and y.
@@ -123,7 +136,7 @@ pub(crate) fn edge_entry(m: &[i64], s: Sizes, g: usize, c: usize) -> i64
     requires { ⌜ Sized (now m) s × (g < edges (now m)) × (2 ≤ c) × (c < 7) ⌝ }
     ensures { λ r. ⌜ Is r (edgeEntry (now (m .entry)) g c) 10000 ⌝ }
 {
-    number_in(m, s.edges_from, g, 7, c)
+    number_in(m, edges_from(s), g, 7, c)
 }
 
 // The nodes of edge g.
@@ -131,12 +144,12 @@ pub(crate) fn edge_from(m: &[i64], s: Sizes, g: usize) -> usize
     requires { ⌜ Sized (now m) s × (g < edges (now m)) ⌝ }
     ensures { λ r. ⌜ r ≡ fromNode (now (m .entry)) g ⌝ }
 {
-    thing_in(m, s.edges_from, g, 7, 0)
+    thing_in(m, edges_from(s), g, 7, 0)
 }
 
 pub(crate) fn edge_to(m: &[i64], s: Sizes, g: usize) -> usize
     requires { ⌜ Sized (now m) s × (g < edges (now m)) ⌝ }
     ensures { λ r. ⌜ r ≡ toNode (now (m .entry)) g ⌝ }
 {
-    thing_in(m, s.edges_from, g, 7, 1)
+    thing_in(m, edges_from(s), g, 7, 1)
 }

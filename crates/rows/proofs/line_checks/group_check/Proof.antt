@@ -1,5 +1,4 @@
 -- `group_check` meets its contract: by the lowest line that does not pass.
-use mathlib.Core.Path.{_∙_}
 use native.Mathlib.Omega.{arith}
 use denote.Ref.{now}
 use Rattle.rows.specs.SearchContracts.{holdsAt, Ready}

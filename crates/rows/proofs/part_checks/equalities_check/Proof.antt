@@ -1,6 +1,4 @@
 -- `equalities_check` meets its contract: by the lowest equality row that fails.
-use mathlib.Core.Path.{_≡_}
-use Prim.Native.Nat.{_+_, _*_}
 use native.Mathlib.Omega.{arith}
 use Rattle.rows.specs.SearchContracts.{holdsAt, Ready}
 use Rattle.rows.proofs.FieldLaws.{field-read, equality-fails, equalities-hold}

@@ -1,6 +1,6 @@
 -- `first_failing` meets its contract. The loop's invariant: the test holds at the places passed.
 use mathlib.Core.Path.{_≡_, refl, sym, _∙_, ap}
-use Prim.Native.Nat.{ℕ, _+_, _-_, _≤_}
+use Prim.Native.Nat.{_+_, _-_, _≤_}
 use native.Mathlib.Omega.{arith}
 use borrow.Author.Tests.{not-true, not-false}
 use Rattle.scope.specs.Rows.{firstWhere}

@@ -1,7 +1,6 @@
 -- `holds_at` meets its contract: each test by the function that it calls.
-use mathlib.Core.Path.{sym, _∙_, ap}
+use mathlib.Core.Path.{_∙_, ap}
 use native.Mathlib.Omega.{arith}
-use denote.Ref.{now}
 use Rattle.scope.specs.Columns.{at}
 use Rattle.rows.specs.SearchContracts.{holdsAt, Ready, isPassed}
 use Rattle.rows.proofs.LineLaws.{read-within}

@@ -1,6 +1,4 @@
--- `sizes_of` meets its contract: each count is there, and the sums fit, since the counts are small.
-use native.Mathlib.Omega.{arith}
-use Rattle.scope.specs.Mesh.{nodes, elements, soils}
+-- `sizes_of` meets its contract: each count is there.
 use Rattle.rows.proofs.Places.{nodes-there, elements-there, soils-there, edges-there, sides-there, sized}
 use Rattle.rows.proofs.sizes.sizes_of.Statement.{statement}
 use Rattle.rows.proofs.sizes.sizes_of.Tie as tie
@@ -20,30 +18,6 @@ count-at-requires-4 c κs = edges-there (c .before .before .before .pre)
 count-at-requires-5 : tie.Need-count-at-requires-5
 count-at-requires-5 c κs = sides-there (c .before .before .before .before .pre)
 
-mul-nodes-from : tie.Need-mul-nodes-from
-unfolding soils
-mul-nodes-from c = omega (arith, c .before .before .before .before .before .pre)
-
-add-nodes-from : tie.Need-add-nodes-from
-unfolding soils
-add-nodes-from c = omega (arith, c .before .before .before .before .before .pre)
-
-mul-elements-from : tie.Need-mul-elements-from
-unfolding nodes
-mul-elements-from c = omega (arith, c .before .before .before .before .before .pre)
-
-add-elements-from : tie.Need-add-elements-from
-unfolding nodes soils
-add-elements-from c = omega (arith, c .before .before .before .before .before .pre)
-
-mul-edges-from : tie.Need-mul-edges-from
-unfolding elements
-mul-edges-from c = omega (arith, c .before .before .before .before .before .pre)
-
-add-edges-from : tie.Need-add-edges-from
-unfolding nodes elements soils
-add-edges-from c = omega (arith, c .before .before .before .before .before .pre)
-
 returns : tie.Need-returns
 returns c = sized (c .before .before .before .before .before .pre) (c .before .before .before .before .count-at .ensures) (c .before .before .before .count-at2 .ensures) (c .before .before .count-at3 .ensures) (c .before .count-at4 .ensures) (c .count-at5 .ensures)
 
@@ -56,10 +30,4 @@ sizes-of-spec =
     count-at-requires-3
     count-at-requires-4
     count-at-requires-5
-    mul-nodes-from
-    add-nodes-from
-    mul-elements-from
-    add-elements-from
-    mul-edges-from
-    add-edges-from
     returns)
