@@ -75,6 +75,7 @@ few-things k = record {
   fewSoils = omega (arith, k .soilsAre, k .facts .counts .soilsMost);
   fewNodes = omega (arith, k .nodesAre, k .facts .counts .nodesMost);
   fewElements = omega (arith, k .elementsAre, k .facts .counts .elementsMost);
+  fewEdges = omega (arith, k .edgesAre, k .facts .counts .edgesMost);
 }
 
 -- ---- bounds

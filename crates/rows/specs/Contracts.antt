@@ -31,6 +31,7 @@ pub record FewThings (s : Sizes) : Type 0 where
   pub fewSoils : s .soils ≤ 16
   pub fewNodes : s .nodes ≤ 100
   pub fewElements : s .elements ≤ 100
+  pub fewEdges : s .edges ≤ 60
 
 -- the place of the first number of the nodes, of the elements and of the edges
 abbrev pub nodesFrom : Sizes → ℕ

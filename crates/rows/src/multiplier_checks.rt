@@ -21,6 +21,7 @@ use crate::search::Test;
 use crate::search::first_failing;
 use crate::sizes::Sizes;
 use crate::sizes::edge_entry;
+use crate::sizes::equality_count;
 use crate::sizes::number_at;
 use scope::Outcome;
 use scope::Place;
@@ -65,7 +66,7 @@ fn unfixed_check(m: &[i64], s: Sizes, y: &[i64]) -> Outcome
     requires { ⌜ Sized (now m) s ⌝ ∗ ⌜ Multipliers (now m) (now y) ⌝ }
     ensures { λ r. ⌜ r ≡ unfixedCheck (equalityRows (now (m .entry))) (at (now (y .entry))) ⌝ }
 {
-    let rows = s.elements * 2 + s.edges * 4;
+    let rows = equality_count(s);
     let k = first_failing(Test::Unfixed(s), m, y, &[], &[], rows);
     if k < rows {
         return Outcome::Refused {

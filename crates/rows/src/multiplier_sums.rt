@@ -11,6 +11,7 @@ use crate::row_sums::add_at;
 use crate::row_sums::add_row;
 use crate::row_sums::equality_row;
 use crate::sizes::Sizes;
+use crate::sizes::equality_count;
 use crate::sizes::number_at;
 use crate::strength_rows::soil_numbers;
 
@@ -46,7 +47,7 @@ fn equality_sums(m: &[i64], s: Sizes, y: &[i64], columns: &mut [i64]) -> Sums
     requires { ⌜ Sized (now m) s ⌝ ∗ ⌜ Multipliers (now m) (now y) ⌝ ∗ ⌜ NoSums (now columns) ⌝ }
     ensures { λ r. ⌜ Summed (now (m .entry)) (now (y .entry)) (elements (now (m .entry)) * 2 + edges (now (m .entry)) * 4) (now (columns .exit)) r ⌝ }
 {
-    let rows = s.elements * 2 + s.edges * 4;
+    let rows = equality_count(s);
     let mut sums = Sums { w: 0, m: 0 };
     let mut k: usize = 0;
     while k < rows {
@@ -134,7 +135,7 @@ fn node_part(m: &[i64], s: Sizes, soils: &[u8], steps: &[i64], y: &[i64], v: usi
     ensures { λ r. ⌜ NodePart r (now (m .entry)) (now (y .entry)) v ⌝ }
 {
     let sides = s.sides;
-    let first = s.elements * 2 + s.edges * 4 + v * sides;
+    let first = equality_count(s) + v * sides;
     let a = side_sums(steps, sides, y, first);
     let soil = soils[v] as usize;
     let radius = radius_of(sides);

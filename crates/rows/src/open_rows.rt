@@ -12,6 +12,7 @@ ghost use Rattle.rows.specs.MultiplierContracts.{Multipliers, SideMultip
 ghost use Rattle.rows.specs.OpenContracts.{oneIfOpen, sideOpen};
 use crate::multiplier_checks::multipliers_from;
 use crate::sizes::Sizes;
+use crate::sizes::equality_count;
 use crate::sizes::number_at;
 use crate::strength_rows::node_state;
 use crate::strength_rows::side_slack;
@@ -53,7 +54,7 @@ fn open_count(m: &[i64], c: &[i64], s: Sizes, soils: &[u8], steps: &[i64], y: &[
 {
     let nodes = s.nodes;
     let sides = s.sides;
-    let first = s.elements * 2 + s.edges * 4;
+    let first = equality_count(s);
     let mut count: u64 = 0;
     let mut v: usize = 0;
     while v < nodes {

@@ -1,6 +1,6 @@
 // The checks of a claim's parts: a field against the rows (21 and 22), and multipliers against the columns (31, 32 and 33).
 ghost use mathlib.Core.Path.{_≡_};
-ghost use Prim.Native.Nat.{_+_, _*_, _<_};
+ghost use Prim.Native.Nat.{_+_, _*_, _<_, _≤_};
 ghost use lib.IntN.{pos};
 ghost use Rattle.scope.specs.Columns.{at, n, l};
 ghost use Rattle.scope.specs.Claim.{stress};
@@ -15,6 +15,7 @@ use crate::row_sums::left_side;
 use crate::search::Test;
 use crate::search::first_failing;
 use crate::sizes::Sizes;
+use crate::sizes::equality_count;
 use crate::sizes::number_at;
 use crate::strength_rows::node_state;
 use scope::Outcome;
@@ -40,7 +41,7 @@ fn equalities_check(m: &[i64], s: Sizes, x: &[i64], l: i64, n: i64) -> Outcome
     requires { ⌜ Sized (now m) s ⌝ ∗ ⌜ FieldFits (now m) (now x) l n ⌝ }
     ensures { λ r. ⌜ r ≡ equalitiesCheck (equalityRows (now (m .entry))) (at (now (x .entry))) l n ⌝ }
 {
-    let rows = s.elements * 2 + s.edges * 4;
+    let rows = equality_count(s);
     let k = first_failing(Test::Equalities { s, l, n }, m, x, &[], &[], rows);
     if k < rows {
         return Outcome::Refused {
@@ -49,6 +50,14 @@ fn equalities_check(m: &[i64], s: Sizes, x: &[i64], l: i64, n: i64) -> Outcome
         };
     }
     Outcome::Passed
+}
+
+// "Its number is (node-1)·sides + k", where v and k are counted from 0.
+fn strength_number(v: usize, sides: usize, k: usize) -> u32
+    requires { ⌜ (v < 100) × (sides ≤ 36) × (k ≤ 36) ⌝ }
+    ensures { λ r. ⌜ r ≡ v * sides + k + 1 ⌝ }
+{
+    (v * sides + k + 1) as u32
 }
 
 // 22: the lowest strength row that fails, which is on the lowest node that has one.
@@ -64,7 +73,7 @@ fn strengths_check(m: &[i64], c: &[i64], s: Sizes, soils: &[u8], steps: &[i64]) 
         let k = first_failing(Test::NodeSides, &[], &d, steps, &[], sides);
         return Outcome::Refused {
             number: 22,
-            place: Place::Row((v * sides + k + 1) as u32),
+            place: Place::Row(strength_number(v, sides, k)),
         };
     }
     Outcome::Passed

@@ -1,7 +1,8 @@
 // The counts of a mesh whose lines have passed, where its groups begin, and its numbers by what they are.
 ghost use mathlib.Core.Path.{_≡_};
+ghost use mathlib.Core.List.{List};
 ghost use Prim.Native.Nat.{_+_, _*_, _-_, _<_, _≤_};
-ghost use lib.IntN.{pos};
+ghost use lib.IntN.{ℤ, pos};
 ghost use lib.Signed.{_≤ℤ_};
 ghost use lib.ListN.{length};
 ghost use Rattle.integer.specs.Machine.{Is};
@@ -53,6 +54,14 @@ pub fn sizes_of(m: &[i64]) -> Sizes
         edges,
         sides,
     }
+}
+
+// How many equality rows a mesh has: two for each element, then four for each edge.
+pub(crate) fn equality_count(s: Sizes) -> usize
+    requires { ⌜ FewThings s ⌝ }
+    ensures { λ r. ⌜ ((m : List ℤ) → Sized m s → r ≡ elements m * 2 + edges m * 4) × (r ≤ 440) ⌝ }
+{
+    s.elements * 2 + s.edges * 4
 }
 
 // The place of the first number of the nodes, of the elements and of the edges. For speed it is worked out where it is asked, so that fewer numbers are handed around.

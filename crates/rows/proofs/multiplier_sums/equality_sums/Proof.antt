@@ -5,6 +5,7 @@ use native.Mathlib.Omega.{arith}
 use Rattle.scope.specs.Mesh.{elements, edges}
 use Rattle.rows.specs.MultiplierContracts.{Summed}
 use Rattle.rows.proofs.MultiplierLaws.{none-summed, one-summed, room}
+use borrow.Author.Needs.{needs}
 use Rattle.rows.proofs.multiplier_sums.equality_sums.Statement.{statement}
 use Rattle.rows.proofs.multiplier_sums.equality_sums.Tie as tie
 
@@ -14,27 +15,19 @@ Inv-loop m s y columns₀ rows sums₀ k₀ columns sums k = (k ≤ rows) × Sum
 abbrev μ-loop : tie.MeasureT-loop
 μ-loop m s y columns₀ rows sums₀ k₀ columns sums k = rows - k
 
-mul-rows : tie.Need-mul-rows Inv-loop μ-loop
-mul-rows c = let counts = c .before .pre .0 .facts .counts in omega (arith, c .before .pre .0 .elementsAre)
-
-mul-rows-2 : tie.Need-mul-rows-2 Inv-loop μ-loop
-mul-rows-2 c = let counts = c .before .before .pre .0 .facts .counts in omega (arith, c .before .before .pre .0 .edgesAre)
-
-add-rows : tie.Need-add-rows Inv-loop μ-loop
-add-rows c =
-    let counts = c .before .before .pre .0 .facts .counts in
-    omega (arith, c .before .before .pre .0 .elementsAre, c .before .before .pre .0 .edgesAre)
+equality-count-requires : tie.Need-equality-count-requires Inv-loop μ-loop
+equality-count-requires c κs = search needs
 
 loop-holds : tie.Need-loop-holds Inv-loop μ-loop
-loop-holds c = (omega arith, none-summed _ _ (c .before .before .pre .1 .1) refl refl)
+loop-holds c = (omega arith, none-summed _ _ (c .before .pre .1 .1) refl refl)
 
 add-equality-requires : tie.Need-add-equality-requires Inv-loop μ-loop
 add-equality-requires c κs =
-    let start = c .before .before .before .before .before in
-    let sized = start .pre .0 in
-    let counts = sized .facts .counts in
+    let rows = c .before .before .before in
+    let pre = rows .before .pre in
+    let count = rows .equality-count .ensures .0 _ (pre .0) in
     let loop = c .before .before .loop in
-    ((sized, omega (arith, sized .elementsAre, sized .edgesAre)), (omega (arith, sized .elementsAre, sized .edgesAre, start .pre .1 .0 .long), (start .pre .1 .0 .bounds, (omega (arith, loop .inv .1 .size), room _ _ (loop .inv .1) (omega (arith, sized .elementsAre, sized .edgesAre))))))
+    ((pre .0, omega arith), (omega (arith, pre .1 .0 .long), (pre .1 .0 .bounds, (omega (arith, loop .inv .1 .size), room _ _ (loop .inv .1) (omega (arith, rows .equality-count .ensures .1))))))
 
 add-k : tie.Need-add-k Inv-loop μ-loop
 add-k c = omega arith
@@ -46,13 +39,14 @@ loop-again : tie.Need-loop-again Inv-loop μ-loop
 loop-again c = (omega arith, one-summed _ _ (c .before .before .before .before .loop .k) (c .before .before .before .before .loop .inv .1) (c .before .add-equality .kept .1 .1 .1 .1 .0) (c .before .add-equality .ensures))
 
 same-length : tie.Need-same-length Inv-loop μ-loop
-same-length c = c .before .loop .inv .1 .size ∙ sym (c .before .before .before .before .pre .1 .1 .size)
+same-length c = c .before .loop .inv .1 .size ∙ sym (c .before .before .before .pre .1 .1 .size)
 
 returns : tie.Need-returns Inv-loop μ-loop
 returns c =
-    let start = c .before .before .before .before in
+    let rows = c .before .before in
+    let start = rows .before in
     let loop = c .before .loop in
-    let e : loop .k ≡ elements (start .args .m .now) * 2 + edges (start .args .m .now) * 4 = omega (arith, start .pre .0 .elementsAre, start .pre .0 .edgesAre) in
+    let e : loop .k ≡ elements (start .args .m .now) * 2 + edges (start .args .m .now) * 4 = omega (arith, rows .equality-count .ensures .0 _ (start .pre .0)) in
     subst (λ k. Summed (start .args .m .now) (start .args .y .now) k (loop .columns) (loop .sums)) e (loop .inv .1)
 
 pub equality-sums-spec : {M : Type 1} → statement M
@@ -61,9 +55,7 @@ equality-sums-spec =
     (tie.spec
     Inv-loop
     μ-loop
-    mul-rows
-    mul-rows-2
-    add-rows
+    equality-count-requires
     loop-holds
     add-equality-requires
     add-k

@@ -16,30 +16,21 @@ Inv-loop m c s soils steps y nodes sides first count₀ v₀ count v = (v ≤ no
 abbrev μ-loop : tie.MeasureT-loop
 μ-loop m c s soils steps y nodes sides first count₀ v₀ count v = nodes - v
 
-mul-first : tie.Need-mul-first Inv-loop μ-loop
-mul-first c = let counts = c .before .before .pre .0 .0 .sized .facts .counts in omega (arith, c .before .before .pre .0 .0 .sized .elementsAre)
-
-mul-first-2 : tie.Need-mul-first-2 Inv-loop μ-loop
-mul-first-2 c = let counts = c .before .before .before .pre .0 .0 .sized .facts .counts in omega (arith, c .before .before .before .pre .0 .0 .sized .edgesAre)
-
-add-first : tie.Need-add-first Inv-loop μ-loop
-add-first c =
-    let sized = c .before .before .before .pre .0 .0 .sized in
-    let counts = sized .facts .counts in
-    omega (arith, sized .elementsAre, sized .edgesAre)
+equality-count-requires : tie.Need-equality-count-requires Inv-loop μ-loop
+equality-count-requires c κs = search needs
 
 loop-holds : tie.Need-loop-holds Inv-loop μ-loop
 loop-holds c = (omega arith, sym (no-node-open _ _ _))
 
 node-state-requires : tie.Need-node-state-requires Inv-loop μ-loop
-node-state-requires c κs = (c .before .before .before .before .before .pre .0, omega (arith, c .before .before .before .before .before .pre .0 .0 .sized .nodesAre, c .loop-test .taken))
+node-state-requires c κs = (c .before .before .before .before .pre .0, omega (arith, c .before .before .before .before .pre .0 .0 .sized .nodesAre, c .loop-test .taken))
 
 slice-aggregate-node-open : tie.Need-slice-aggregate-node-open Inv-loop μ-loop
 slice-aggregate-node-open c = search needs
 
 mul-node-open : tie.Need-mul-node-open Inv-loop μ-loop
 mul-node-open c =
-    let pre = c .before .before .before .before .before .before .before .pre in
+    let pre = c .before .before .before .before .before .before .pre in
     let sized = pre .0 .0 .sized in
     let steps = steps-as (sym (sized .sidesAre)) (pre .1 .0) in
     let first = first-row {v = c .before .before .before .loop .v} (c .before .before .loop-test .taken) (omega (arith, sized .nodesAre, sized .facts .counts .nodesMost)) (steps .most) in
@@ -47,23 +38,23 @@ mul-node-open c =
 
 add-node-open : tie.Need-add-node-open Inv-loop μ-loop
 add-node-open c =
-    let pre = c .before .before .before .before .before .before .before .pre in
+    let pre = c .before .before .before .before .before .before .pre in
     let sized = pre .0 .0 .sized in
     let steps = steps-as (sym (sized .sidesAre)) (pre .1 .0) in
     let counts = sized .facts .counts in
     let first = first-row {v = c .before .before .before .loop .v} (c .before .before .loop-test .taken) (omega (arith, sized .nodesAre, counts .nodesMost)) (steps .most) in
-    omega (arith, sized .elementsAre, sized .edgesAre)
+    omega (arith, c .before .before .before .before .equality-count .ensures .1)
 
 node-open-requires : tie.Need-node-open-requires Inv-loop μ-loop
 node-open-requires c κs =
-    let pre = c .before .before .before .before .before .before .before .pre in
+    let pre = c .before .before .before .before .before .before .pre in
     let sized = pre .0 .0 .sized in
     let steps = steps-as (sym (sized .sidesAre)) (pre .1 .0) in
-    (steps-fit steps, (node-fits (c .before .node-state .ensures), node-multipliers (c .before .before .before .before .before .before .before .args .m .now) (c .before .before .before .before .before .before .before .args .y .now) (c .before .before .before .loop .v) (omega (arith, sized .nodesAre, c .before .before .loop-test .taken)) (pre .1 .1) (omega (arith, ap (λ k. c .before .before .before .loop .v * k) (sized .sidesAre), sized .elementsAre, sized .edgesAre)) (sized .sidesAre)))
+    (steps-fit steps, (node-fits (c .before .node-state .ensures), node-multipliers (c .before .before .before .before .before .before .args .m .now) (c .before .before .before .before .before .before .args .y .now) (c .before .before .before .loop .v) (omega (arith, sized .nodesAre, c .before .before .loop-test .taken)) (pre .1 .1) (omega (arith, ap (λ k. c .before .before .before .loop .v * k) (sized .sidesAre), c .before .before .before .before .equality-count .ensures .0 _ sized)) (sized .sidesAre)))
 
 add-count : tie.Need-add-count Inv-loop μ-loop
 add-count c =
-    let pre = c .before .before .before .before .before .before .before .before .pre in
+    let pre = c .before .before .before .before .before .before .before .pre in
     let sized = pre .0 .0 .sized in
     let steps = steps-as (sym (sized .sidesAre)) (pre .1 .0) in
     omega (arith, count-small _ _ _ (sized .facts .counts) (c .before .before .before .before .loop .v) (omega (arith, sized .nodesAre)) (c .before .before .before .before .loop .inv .1), sides-counted _ _ (c .node-open .ensures) (steps .most))
@@ -77,13 +68,13 @@ loop-less c = omega arith
 loop-again : tie.Need-loop-again Inv-loop μ-loop
 unfolding nodeFirst
 loop-again c =
-    let pre = c .before .before .before .before .before .before .before .before .pre in
+    let pre = c .before .before .before .before .before .before .before .pre in
     let sized = pre .0 .0 .sized in
-    (omega arith, one-more-node _ _ _ (c .before .before .before .before .loop .v) (omega (arith, sized .nodesAre, c .before .before .before .loop-test .taken)) (record { listed = sized .facts .counts .sidesListed }) (c .before .before .node-state .ensures) (pre .1 .0) (c .before .before .before .before .loop .inv .1) (sized .sidesAre) (omega (arith, ap (λ k. c .before .before .before .before .loop .v * k) (sized .sidesAre), sized .elementsAre, sized .edgesAre)) (c .node-open .ensures))
+    (omega arith, one-more-node _ _ _ (c .before .before .before .before .loop .v) (omega (arith, sized .nodesAre, c .before .before .before .loop-test .taken)) (record { listed = sized .facts .counts .sidesListed }) (c .before .before .node-state .ensures) (pre .1 .0) (c .before .before .before .before .loop .inv .1) (sized .sidesAre) (omega (arith, ap (λ k. c .before .before .before .before .loop .v * k) (sized .sidesAre), c .before .before .before .before .before .equality-count .ensures .0 _ sized)) (c .node-open .ensures))
 
 returns : tie.Need-returns Inv-loop μ-loop
 returns c =
-    let sized = c .before .before .before .before .before .pre .0 .0 .sized in
+    let sized = c .before .before .before .before .pre .0 .0 .sized in
     all-nodes-open _ _ _ (record { listed = sized .facts .counts .sidesListed }) (c .before .loop .v) (omega (arith, sized .nodesAre)) (c .before .loop .inv .1)
 
 pub open-count-spec : {M : Type 1} → statement M
@@ -92,9 +83,7 @@ open-count-spec =
     (tie.spec
     Inv-loop
     μ-loop
-    mul-first
-    mul-first-2
-    add-first
+    equality-count-requires
     loop-holds
     node-state-requires
     slice-aggregate-node-open

@@ -1,9 +1,12 @@
 -- `strengths_check` meets its contract: by the lowest node on which a strength row fails, and the lowest of its sides.
-use mathlib.Core.Path.{sym}
+use mathlib.Core.Path.{sym, _∙_, ap}
+use Prim.Native.Nat.{ℕ}
 use native.Mathlib.Omega.{arith}
+use Rattle.scope.specs.declared.Place.the-variants.{Row}
+use Rattle.scope.specs.declared.Outcome.the-variants.{Refused}
 use Rattle.rows.specs.SearchContracts.{holdsAt, Ready}
 use Rattle.rows.proofs.Loops.{found-within}
-use Rattle.rows.proofs.StrengthLaws.{steps-as, steps-fit, node-fits, first-row, strengths-refused, strengths-passed}
+use Rattle.rows.proofs.StrengthLaws.{steps-as, steps-fit, node-fits, strengths-refused, strengths-passed}
 use borrow.Author.Needs.{needs}
 use Rattle.rows.proofs.part_checks.strengths_check.Statement.{statement}
 use Rattle.rows.proofs.part_checks.strengths_check.Tie as tie
@@ -36,48 +39,21 @@ first-failing-requires-2 c κs =
     let steps = steps-as (sym (pre .0 .0 .sized .sidesAre)) (pre .1) in
     ((steps-fit steps, node-fits (c .before .before .before .node-state .ensures)), omega (arith, steps .most))
 
-mul-t23 : tie.Need-mul-t23
-mul-t23 c =
+strength-number-requires : tie.Need-strength-number-requires
+strength-number-requires c κs =
     let pre = c .before .before .before .before .before .before .before .before .pre in
     let sized = pre .0 .0 .sized in
     let steps = steps-as (sym (sized .sidesAre)) (pre .1) in
-    let first = first-row {v = c .before .before .before .before .before .before .first-failing .result} (c .before .before .before .before .before .if1 .taken) (omega (arith, sized .nodesAre, sized .facts .counts .nodesMost)) (steps .most) in
     let low = found-within (holdsAt _ _ _ _) _ (c .first-failing2 .ensures) in
-    omega arith
-
-add-t24 : tie.Need-add-t24
-add-t24 c =
-    let pre = c .before .before .before .before .before .before .before .before .pre in
-    let sized = pre .0 .0 .sized in
-    let steps = steps-as (sym (sized .sidesAre)) (pre .1) in
-    let first = first-row {v = c .before .before .before .before .before .before .first-failing .result} (c .before .before .before .before .before .if1 .taken) (omega (arith, sized .nodesAre, sized .facts .counts .nodesMost)) (steps .most) in
-    let low = found-within (holdsAt _ _ _ _) _ (c .first-failing2 .ensures) in
-    omega arith
-
-add-t25 : tie.Need-add-t25
-add-t25 c =
-    let pre = c .before .before .before .before .before .before .before .before .pre in
-    let sized = pre .0 .0 .sized in
-    let steps = steps-as (sym (sized .sidesAre)) (pre .1) in
-    let first = first-row {v = c .before .before .before .before .before .before .first-failing .result} (c .before .before .before .before .before .if1 .taken) (omega (arith, sized .nodesAre, sized .facts .counts .nodesMost)) (steps .most) in
-    let low = found-within (holdsAt _ _ _ _) _ (c .first-failing2 .ensures) in
-    omega arith
-
-cast-t26 : tie.Need-cast-t26
-cast-t26 c =
-    let pre = c .before .before .before .before .before .before .before .before .pre in
-    let sized = pre .0 .0 .sized in
-    let steps = steps-as (sym (sized .sidesAre)) (pre .1) in
-    let first = first-row {v = c .before .before .before .before .before .before .first-failing .result} (c .before .before .before .before .before .if1 .taken) (omega (arith, sized .nodesAre, sized .facts .counts .nodesMost)) (steps .most) in
-    let low = found-within (holdsAt _ _ _ _) _ (c .first-failing2 .ensures) in
-    omega arith
+    (omega (arith, c .before .before .before .before .before .if1 .taken, sized .nodesAre, sized .facts .counts .nodesMost), steps .most, omega (arith, steps .most))
 
 returns : tie.Need-returns
 unfolding holdsAt
 returns c =
-    let pre = c .before .before .before .before .before .before .before .before .pre in
+    let pre = c .before .before .before .before .before .before .before .before .before .pre in
     let sized = pre .0 .0 .sized in
-    strengths-refused _ _ (sized .facts .counts) (pre .1) (sized .nodesAre) (sized .sidesAre) (c .before .before .before .before .before .before .first-failing .ensures) (c .before .before .before .before .before .if1 .taken) (c .before .before .before .before .node-state .ensures) (c .first-failing2 .ensures)
+    ap (λ (i : ℕ). Refused 22 (Row i)) (c .strength-number .ensures)
+    ∙ strengths-refused _ _ (sized .facts .counts) (pre .1) (sized .nodesAre) (sized .sidesAre) (c .before .before .before .before .before .before .before .first-failing .ensures) (c .before .before .before .before .before .before .if1 .taken) (c .before .before .before .before .before .node-state .ensures) (c .before .first-failing2 .ensures)
 
 returns-2 : tie.Need-returns-2
 unfolding holdsAt
@@ -95,9 +71,6 @@ strengths-check-spec =
     slice-aggregate-first-failing-2
     slice-aggregate-first-failing-3
     first-failing-requires-2
-    mul-t23
-    add-t24
-    add-t25
-    cast-t26
+    strength-number-requires
     returns
     returns-2)
