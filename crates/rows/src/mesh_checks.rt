@@ -8,8 +8,8 @@ use crate::sizes::corner_of;
 use crate::sizes::edge_from;
 use crate::sizes::edge_to;
 use crate::sizes::element_soil;
-use crate::sizes::node_x;
-use crate::sizes::node_y;
+use crate::sizes::rise_between;
+use crate::sizes::run_between;
 use scope::Outcome;
 use scope::Place;
 ghost use mathlib.Core.Path.{_≡_};
@@ -19,7 +19,7 @@ ghost use lib.Signed.{ltZ};
 ghost use lib.ListN.{length};
 ghost use Rattle.integer.specs.Bounds.{Within};
 ghost use Rattle.integer.specs.Machine.{Is};
-ghost use Rattle.scope.specs.Mesh.{nodes, elements, edges, x, y};
+ghost use Rattle.scope.specs.Mesh.{nodes, elements, edges};
 ghost use Rattle.scope.specs.Rows.{node};
 ghost use Rattle.scope.specs.Checks.{_then_};
 ghost use Rattle.scope.specs.Verdict.{turn, leftTurnAt, leftTurns, ownSides, outerEdge, turnsCheck, sidesCheck, nodesCheck, edgesCheck, shapeCheck};
@@ -35,25 +35,10 @@ fn node_of(m: &[i64], s: Sizes, e: usize, i: usize) -> usize
     corner_of(m, s, e, i % 4)
 }
 
-// The step from node a to node b.
-fn step_x(m: &[i64], s: Sizes, a: usize, b: usize) -> i64
-    requires { ⌜ Sized (now m) s × (a < nodes (now m)) × (b < nodes (now m)) ⌝ }
-    ensures { λ r. ⌜ Is r (x (now (m .entry)) b -ℤ x (now (m .entry)) a) 2000 ⌝ }
-{
-    node_x(m, s, b) - node_x(m, s, a)
-}
-
-fn step_y(m: &[i64], s: Sizes, a: usize, b: usize) -> i64
-    requires { ⌜ Sized (now m) s × (a < nodes (now m)) × (b < nodes (now m)) ⌝ }
-    ensures { λ r. ⌜ Is r (y (now (m .entry)) b -ℤ y (now (m .entry)) a) 2000 ⌝ }
-{
-    node_y(m, s, b) - node_y(m, s, a)
-}
-
 // The cross product of two steps.
 fn cross(ux: i64, uy: i64, vx: i64, vy: i64) -> i64
-    requires { ⌜ Within 2000 ux ⌝ ∗ ⌜ Within 2000 uy ⌝ ∗ ⌜ Within 2000 vx ⌝ ∗ ⌜ Within 2000 vy ⌝ }
-    ensures { λ r. ⌜ Is r (ux *ℤ vy -ℤ vx *ℤ uy) 8000000 ⌝ }
+    requires { ⌜ Within 1000 ux ⌝ ∗ ⌜ Within 1000 uy ⌝ ∗ ⌜ Within 1000 vx ⌝ ∗ ⌜ Within 1000 vy ⌝ }
+    ensures { λ r. ⌜ Is r (ux *ℤ vy -ℤ vx *ℤ uy) 2000000 ⌝ }
 {
     ux * vy - vx * uy
 }
@@ -63,10 +48,10 @@ fn turns_left(m: &[i64], s: Sizes, a: usize, b: usize, c: usize) -> bool
     requires { ⌜ Sized (now m) s × (a < nodes (now m)) × (b < nodes (now m)) × (c < nodes (now m)) ⌝ }
     ensures { λ r. ⌜ r ≡ ltZ (pos 0) (turn (now (m .entry)) a b c) ⌝ }
 {
-    let ux = step_x(m, s, a, b);
-    let uy = step_y(m, s, a, b);
-    let vx = step_x(m, s, a, c);
-    let vy = step_y(m, s, a, c);
+    let ux = run_between(m, s, b, a);
+    let uy = rise_between(m, s, b, a);
+    let vx = run_between(m, s, c, a);
+    let vy = rise_between(m, s, c, a);
     0 < cross(ux, uy, vx, vy)
 }
 
@@ -334,7 +319,7 @@ fn checks_by_table(m: &[i64], s: Sizes, soils: &[u8], t: &mut [u8]) -> Outcome
     }
 }
 
-// Refusals 6 to 8. For speed a small mesh has a small table: filling 10,000 bytes is a tenth of the time of a small sheet.
+// Refusals 6 to 8. For speed a small mesh has a small table: the bytes that need no filling were 6 % of the time of the worked sheet.
 fn sides_nodes_edges(m: &[i64], s: Sizes, soils: &[u8]) -> Outcome
     requires { ⌜ Sized (now m) s × SoilTable (now m) (elements (now m)) (now soils) ⌝ }
     ensures { λ r. ⌜ r ≡ sidesCheck (now (m .entry)) then nodesCheck (now (m .entry)) then edgesCheck (now (m .entry)) ⌝ }

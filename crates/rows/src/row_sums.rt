@@ -20,8 +20,8 @@ use crate::sizes::edge_entry;
 use crate::sizes::edge_from;
 use crate::sizes::edge_to;
 use crate::sizes::element_soil;
-use crate::sizes::node_x;
-use crate::sizes::node_y;
+use crate::sizes::rise_between;
+use crate::sizes::run_between;
 use crate::sizes::soil_entry;
 
 // Coefficients with their columns, as many as `count` says, the coefficient of l on the left, the right side at n = 1, and whether the row asks anything.
@@ -84,21 +84,6 @@ pub fn add_row<'a>(
         add_at(sums, j, c);
         i += 1;
     }
-}
-
-// The difference of two nodes' coordinates: x of a minus x of b, and y of a minus y of b.
-fn run_between(m: &[i64], s: Sizes, a: usize, b: usize) -> i64
-    requires { ⌜ Sized (now m) s × (a < nodes (now m)) × (b < nodes (now m)) ⌝ }
-    ensures { λ r. ⌜ Is r (x (now (m .entry)) a -ℤ x (now (m .entry)) b) 1000 ⌝ }
-{
-    node_x(m, s, a) - node_x(m, s, b)
-}
-
-fn rise_between(m: &[i64], s: Sizes, a: usize, b: usize) -> i64
-    requires { ⌜ Sized (now m) s × (a < nodes (now m)) × (b < nodes (now m)) ⌝ }
-    ensures { λ r. ⌜ Is r (y (now (m .entry)) a -ℤ y (now (m .entry)) b) 1000 ⌝ }
-{
-    node_y(m, s, a) - node_y(m, s, b)
 }
 
 // The node at corner i of element e, which is there.

@@ -2,7 +2,7 @@
 ghost use mathlib.Core.Path.{_≡_};
 ghost use mathlib.Core.List.{List};
 ghost use Prim.Native.Nat.{_+_, _*_, _-_, _<_, _≤_};
-ghost use lib.IntN.{ℤ, pos};
+ghost use lib.IntN.{ℤ, pos, _-ℤ_};
 ghost use lib.Signed.{_≤ℤ_};
 ghost use lib.ListN.{length};
 ghost use Rattle.integer.specs.Machine.{Is};
@@ -103,18 +103,33 @@ fn thing_in(m: &[i64], from: usize, i: usize, width: usize, c: usize) -> usize
 }
 
 // The coordinates of node v.
-pub(crate) fn node_x(m: &[i64], s: Sizes, v: usize) -> i64
+fn node_x(m: &[i64], s: Sizes, v: usize) -> i64
     requires { ⌜ Sized (now m) s × (v < nodes (now m)) ⌝ }
     ensures { λ r. ⌜ Is r (x (now (m .entry)) v) 1000 ⌝ }
 {
     number_in(m, nodes_from(s), v, 2, 0)
 }
 
-pub(crate) fn node_y(m: &[i64], s: Sizes, v: usize) -> i64
+fn node_y(m: &[i64], s: Sizes, v: usize) -> i64
     requires { ⌜ Sized (now m) s × (v < nodes (now m)) ⌝ }
     ensures { λ r. ⌜ Is r (y (now (m .entry)) v) 1000 ⌝ }
 {
     number_in(m, nodes_from(s), v, 2, 1)
+}
+
+// The difference of two nodes' coordinates: x of a minus x of b, and y of a minus y of b.
+pub(crate) fn run_between(m: &[i64], s: Sizes, a: usize, b: usize) -> i64
+    requires { ⌜ Sized (now m) s × (a < nodes (now m)) × (b < nodes (now m)) ⌝ }
+    ensures { λ r. ⌜ Is r (x (now (m .entry)) a -ℤ x (now (m .entry)) b) 1000 ⌝ }
+{
+    node_x(m, s, a) - node_x(m, s, b)
+}
+
+pub(crate) fn rise_between(m: &[i64], s: Sizes, a: usize, b: usize) -> i64
+    requires { ⌜ Sized (now m) s × (a < nodes (now m)) × (b < nodes (now m)) ⌝ }
+    ensures { λ r. ⌜ Is r (y (now (m .entry)) a -ℤ y (now (m .entry)) b) 1000 ⌝ }
+{
+    node_y(m, s, a) - node_y(m, s, b)
 }
 
 // The node at corner i of element e, and the element's soil.

@@ -3,8 +3,8 @@ use native.Mathlib.Omega.{arith}
 use Rattle.integer.specs.Machine.{machine, fits, exact}
 use Rattle.rows.proofs.EqualityLaws.{run-within}
 use borrow.Author.Needs.{needs}
-use Rattle.rows.proofs.row_sums.run_between.Statement.{statement}
-use Rattle.rows.proofs.row_sums.run_between.Tie as tie
+use Rattle.rows.proofs.sizes.run_between.Statement.{statement}
+use Rattle.rows.proofs.sizes.run_between.Tie as tie
 
 node-x-requires : tie.Need-node-x-requires
 node-x-requires c κs = search needs

@@ -3,8 +3,8 @@ use native.Mathlib.Omega.{arith}
 use Rattle.integer.specs.Machine.{machine, fits, exact}
 use Rattle.rows.proofs.EqualityLaws.{rise-within}
 use borrow.Author.Needs.{needs}
-use Rattle.rows.proofs.row_sums.rise_between.Statement.{statement}
-use Rattle.rows.proofs.row_sums.rise_between.Tie as tie
+use Rattle.rows.proofs.sizes.rise_between.Statement.{statement}
+use Rattle.rows.proofs.sizes.rise_between.Tie as tie
 
 node-y-requires : tie.Need-node-y-requires
 node-y-requires c κs = search needs
