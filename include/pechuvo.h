@@ -2,7 +2,7 @@
 
    Two archives, each with one call:
      rt staticlib pechuvo    target/staticlib/libpechuvo.a   pechuvo_check
-     rt staticlib rows       target/staticlib/librows.a      pechuvo_check_numbers
+     rt staticlib numbers    target/staticlib/libnumbers.a      pechuvo_check_numbers
 
    Both calls take every input, whatever its bytes or numbers, and answer in bounded time. They
    read only what is lent, keep nothing from call to call, allocate nothing and write nothing but

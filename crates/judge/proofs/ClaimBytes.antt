@@ -1,29 +1,31 @@
 -- A claim file that passes 11 to 13 is as long as its header and its mesh say.
-use mathlib.Core.Path.{_≡_, ap, ap₂}
-use mathlib.Core.List.{List}
-use Prim.Native.Nat.{ℕ, _+_, _*_, _≤_}
-use native.Mathlib.Nat.{mul-le-mul}
+use mathlib.Core.Path.{_≡_, sym, ap, ap₂, _∙_}
+use mathlib.Core.List.{List, [], _∷_, map}
+use Prim.Native.Nat.{ℕ, _+_, _*_}
 use native.Mathlib.Omega.{arith}
 use lib.IntN.{ℤ, pos}
 use lib.ListN.{length, take, length-replicate}
 use lib.Seq.{getD-take}
-use Rattle.integer.specs.Tests.{eqZ}
 use Rattle.scope.specs.declared.Outcome.the-variants.{Passed}
 use Rattle.scope.specs.Columns.{at, hasField, hasMultipliers}
 use Rattle.scope.specs.Mesh.{meshLayout, nodes, elements, edges, sides}
 use Rattle.scope.specs.Claim.{claimLayout, claimHeader, ifThere, stressLines, elementMultipliers, edgeMultipliers, strengthMultipliers}
 use Rattle.scope.specs.Verdict.{meshCheck, claimCheck}
 use Rattle.scope.proofs.Sound.{lines-passed, mesh-passed}
-use Rattle.rows.specs.declared.sizes.Sizes.{Sizes}
-use Rattle.rows.specs.declared.line_checks.Lines.the-variants.{Stresses, ElementMultipliers, EdgeMultipliers, StrengthMultipliers, ClaimHeader}
-use Rattle.rows.specs.Contracts.{Sized}
-use Rattle.rows.specs.LineContracts.{linesGroup, columnsIn}
-use Rattle.rows.proofs.GroupLaws.{there, not-there}
-use Rattle.reader.specs.File.{lineBytes}
+use Rattle.mesh.specs.declared.sizes.Sizes.{Sizes}
+use Rattle.lines.specs.declared.layout.Group as Code
+use Rattle.mesh.specs.MeshContracts.{Sized}
+use Rattle.mesh.proofs.Places.{as-sizes}
+use Rattle.lines.specs.Table.{meant, AllGood, Tabled, claimBody, totalOf}
+use Rattle.lines.proofs.TableLaws.{lines-meant}
+use Rattle.lines.proofs.GroupLaws.{claim-body}
+use Rattle.scope.specs.Layout.{Group}
+use Rattle.reader.specs.File.{lineBytes, widths}
+use Rattle.reader.specs.WellFormed.{bytesOf}
 use Rattle.reader.proofs.Regular.{claim-regular}
 use Rattle.reader.proofs.Cut.{passed-length, group-bytes, no-bytes}
 use Rattle.judge.specs.Judge.{fileWidth, claimNumbers}
-use Rattle.judge.specs.ClaimBytes.{claimBytes, PartBytes}
+use Rattle.judge.specs.ClaimBytes.{claimBytes}
 use Rattle.judge.proofs.Numbers.{some-side}
 
 -- the bytes, counted
@@ -43,22 +45,16 @@ claim-length m claim s e =
     let p = lines-passed meshLayout m .passed (mesh-passed m .says s .lines) in
     passed-length fileWidth (claimLayout m) (claim-regular m (some-side m p)) claim e
 
--- ---- the bytes of a part
+-- ---- the bytes of a table
 
-pub part-absent-bytes : {z : ℤ} {lines columns : ℕ} → ¬ (z ≡ pos 1) → PartBytes (eqZ z (pos 1)) lines columns 0
-part-absent-bytes {z} {lines} {columns} n =
-    let a = not-there {z = z} lines n in
-    record { bytes = omega (arith, ap (λ k. k * lineBytes fileWidth columns) a); most = omega arith }
+bytes-good : (s : Sizes) (gs : List Code.Group) → AllGood s gs → totalOf 12 1 gs ≡ bytesOf 12 (widths (map (meant s) gs))
+unfolding totalOf lineBytes
+bytes-good s [] h = sym (no-bytes 12)
+bytes-good s (g ∷ gs) h =
+    ap₂ _+_ (ap₂ (λ (n k : ℕ). n * (k * 12 + 1)) (sym (lines-meant s g)) (h .0 .wide)) (bytes-good s gs (h .1))
+    ∙ sym (group-bytes 12 (meant s g) (map (meant s) gs))
 
-pub part-bytes-fit : {lines bytes : ℕ} → lines ≤ 100 → bytes ≤ 433 → lines * bytes ≤ 43300
-part-bytes-fit = mul-le-mul {n₂ = 100} {m₂ = 433}
-
-pub part-there-bytes : {z : ℤ} {lines columns bytes : ℕ} → z ≡ pos 1 → lines ≤ 100 → bytes ≡ lineBytes fileWidth columns → bytes ≤ 433 → PartBytes (eqZ z (pos 1)) lines columns (lines * bytes)
-part-there-bytes {z} {lines} e l b k = record { bytes = ap₂ _*_ (there {z = z} {k = lines} e) b; most = part-bytes-fit l k }
-
--- the bytes of the four parts, with the header's line
-pub parts-bytes : {m : List ℤ} (h : List ℤ) {s : Sizes} {f a b d e : ℕ} → Sized m s → f ≡ lineBytes fileWidth (columnsIn ClaimHeader) → PartBytes (eqZ (at h 0) (pos 1)) (s .nodes) (columnsIn Stresses) a → PartBytes (eqZ (at h 1) (pos 1)) (s .elements) (columnsIn ElementMultipliers) b → PartBytes (eqZ (at h 1) (pos 1)) (s .edges) (columnsIn EdgeMultipliers) d → PartBytes (eqZ (at h 1) (pos 1)) (s .nodes) (columnsIn (StrengthMultipliers (s .sides))) e → f + a + b + d + e ≡ claimBytes m h
-unfolding lineBytes fileWidth hasField hasMultipliers linesGroup claimHeader stressLines elementMultipliers edgeMultipliers strengthMultipliers
-parts-bytes {m} h {s} z o p q r t =
-    rw (o, p .bytes, q .bytes, r .bytes, t .bytes, z .nodesAre, z .elementsAre, z .edgesAre, z .sidesAre)
-    (simp (length-replicate) (omega (arith, claim-bytes m h)))
+-- the bytes of the header's line, and those of the table
+pub table-bytes : {m : List ℤ} (h : List ℤ) {s : Sizes} {gs : List Code.Group} → Sized m s → Tabled s gs (claimBody s (hasField h) (hasMultipliers h)) → 49 + totalOf 12 1 gs ≡ claimBytes m h
+unfolding claimBytes lineBytes fileWidth claimLayout claimHeader
+table-bytes h {s} {gs} z t = ap (λ (k : ℕ). 49 + k) (bytes-good s gs (t .table .good) ∙ ap (λ (ks : List Group). bytesOf 12 (widths ks)) (t .same ∙ claim-body (as-sizes z) h))

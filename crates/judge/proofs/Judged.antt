@@ -1,24 +1,30 @@
 -- What is read into a list that is lent, and judged there: the front of the list is the file's numbers.
 use mathlib.Core.Path.{_≡_, sym, ap, _∙_, subst}
-use mathlib.Core.List.{List}
-use Prim.Native.Nat.{ℕ, _*_, _≤_}
+use mathlib.Core.Bool.{true}
+use mathlib.Core.List.{List, [], _∷_}
+use Prim.Native.Nat.{ℕ, _+_, _*_, _≤_}
 use native.Mathlib.Nat.{mul-le-mul}
 use native.Mathlib.Omega.{arith}
-use lib.IntN.{ℤ}
+use lib.IntN.{ℤ, pos}
 use lib.ListN.{length, take, drop, length-append}
 use lib.Seq.{take-at}
 use Rattle.scope.specs.declared.Outcome.the-variants.{Passed, Refused as Fails}
 use Rattle.scope.specs.declared.Place.{Place}
 use Rattle.scope.specs.declared.Verdict.{Verdict}
 use Rattle.scope.specs.declared.Verdict.the-variants.{Refused}
+use Rattle.scope.specs.Columns.{at, hasField, hasMultipliers}
+use Rattle.scope.specs.Layout.{Group, groups, numberCount}
 use Rattle.scope.specs.Mesh.{meshLayout}
+use Rattle.scope.specs.Claim.{claimLayout, claimHeader, ifThere}
 use Rattle.scope.specs.Verdict.{claimVerdict, answer, verdict}
-use Rattle.rows.specs.declared.MeshAnswer.{MeshAnswer}
-use Rattle.rows.specs.declared.sizes.Sizes.{Sizes}
-use Rattle.rows.specs.Contracts.{Sized, MeshAnswered, SoundMesh}
-use Rattle.rows.specs.LineContracts.{SmallCounts}
-use Rattle.rows.proofs.GroupLaws.{small-counts}
-use Rattle.rows.proofs.VerdictLaws.{sound-mesh}
+use Rattle.verdict.specs.declared.MeshAnswer.{MeshAnswer}
+use Rattle.mesh.specs.declared.sizes.Sizes.{Sizes}
+use Rattle.mesh.specs.MeshContracts.{Sized}
+use Rattle.verdict.specs.JudgeContracts.{MeshAnswered, SoundMesh}
+use Rattle.mesh.proofs.Places.{few-things, as-sizes}
+use Rattle.lines.proofs.GroupLaws.{claim-body}
+use Rattle.reader.proofs.Told.{claim-count}
+use Rattle.verdict.proofs.VerdictLaws.{sound-mesh}
 use Rattle.reader.specs.File.{numbersOf}
 use Rattle.reader.specs.Listed.{Listed, ClaimListed, claimRoom}
 use Rattle.judge.specs.declared.JudgedMesh.{JudgedMesh}
@@ -48,24 +54,21 @@ judged-listed j = record { count = j .count; list = j .numbers }
 
 -- ---- a claim
 
--- the counts that the reader of a claim asks for
-pub sizes-small : {m : List ℤ} {s : Sizes} → Sized m s → SmallCounts (s .nodes) (s .elements) (s .edges) (s .sides)
-sizes-small z =
-    small-counts (z .facts .counts) (record { nodesAre = z .nodesAre; elementsAre = z .elementsAre; edgesAre = z .edgesAre; sidesAre = z .sidesAre })
-
 -- the room that the sizes of a mesh tell, and the most that it can be
-pub room-is : {m : List ℤ} {s : Sizes} → Sized m s → claimRoom (s .nodes) (s .elements) (s .edges) (s .sides) ≡ roomOn m
-room-is z = rw (z .nodesAre, z .elementsAre, z .edgesAre, z .sidesAre)
+pub room-is : {m : List ℤ} {s : Sizes} → Sized m s → claimRoom s ≡ roomOn m
+unfolding roomOn groups claimLayout claimHeader numberCount hasField hasMultipliers at
+room-is z = ap (λ (gs : List Group). 4 + numberCount gs + 1) (claim-body (as-sizes z) (pos 1 ∷ pos 1 ∷ []))
 
 pub room-most : {m : List ℤ} {s : Sizes} → Sized m s → roomOn m ≤ 4345
+unfolding ifThere
 room-most {s = s} z =
-    let k = sizes-small z in
+    let k = few-things z in
     let n : s .nodes * s .sides ≤ 100 * 36 = mul-le-mul {n₂ = 100} {m₂ = 36} (k .fewNodes) (k .fewSides) in
-    omega (arith, room-is z, k .fewNodes, k .fewElements, k .fewEdges)
+    omega (arith, room-is z, claim-count s true true, k .fewNodes, k .fewElements, k .fewEdges)
 
-pub claim-listed : {m before after : List ℤ} {s : Sizes} {claim : List ℕ} {r : ℕ} → Sized m s → ClaimListed claim (s .nodes) (s .elements) (s .edges) (s .sides) before r after → Listed (claimNumbers fileWidth m claim) before r after
+pub claim-listed : {m before after : List ℤ} {s : Sizes} {claim : List ℕ} {r : ℕ} → Sized m s → ClaimListed claim s before r after → Listed (claimNumbers fileWidth m claim) before r after
 unfolding claimNumbers fileWidth
-claim-listed {m} z l = l .against m (sym (z .nodesAre)) (sym (z .elementsAre)) (sym (z .edgesAre)) (sym (z .sidesAre))
+claim-listed {m} z l = l .against m (as-sizes z)
 
 -- ---- two files
 

@@ -1,11 +1,9 @@
 -- How long a claim file is (document 01, 'The two files', "Claim"): its header and its mesh say what lines it has.
-use mathlib.Core.Path.{_≡_}
-use mathlib.Core.Bool.{Bool}
 use mathlib.Core.List.{List}
-use Prim.Native.Nat.{ℕ, _+_, _*_, _≤_}
+use Prim.Native.Nat.{ℕ, _+_}
 use lib.IntN.{ℤ}
 use Rattle.scope.specs.Layout.{width}
-use Rattle.scope.specs.Claim.{claimLayout, ifThere}
+use Rattle.scope.specs.Claim.{claimLayout}
 use Rattle.reader.specs.File.{lineBytes, widths}
 use Rattle.reader.specs.WellFormed.{bytesOf}
 use Rattle.judge.specs.Judge.{fileWidth}
@@ -14,8 +12,3 @@ use Rattle.judge.specs.Judge.{fileWidth}
 unfoldable pub claimBytes : List ℤ → List ℤ → ℕ
 claimBytes m header =
     lineBytes fileWidth (width (claimLayout m .header)) + bytesOf fileWidth (widths (claimLayout m .body header))
-
--- the bytes r of so many lines of so many columns, where their part is there
-pub record PartBytes (there : Bool) (lines columns r : ℕ) : Type 0 where
-  pub bytes : r ≡ ifThere there lines * lineBytes fileWidth columns
-  pub most : r ≤ 43300

@@ -1,12 +1,12 @@
 -- What judging a mesh file answers and leaves in the list that is lent, and the room that judging a claim file needs.
 use mathlib.Core.Path.{_≡_}
-use mathlib.Core.List.{List, _++_}
-use Prim.Native.Nat.{ℕ}
-use lib.IntN.{ℤ}
+use mathlib.Core.List.{List, [], _∷_, _++_}
+use Prim.Native.Nat.{ℕ, _+_}
+use lib.IntN.{ℤ, pos}
 use lib.ListN.{length, drop}
-use Rattle.scope.specs.Mesh.{nodes, elements, edges, sides}
-use Rattle.rows.specs.Contracts.{MeshAnswered}
-use Rattle.reader.specs.Listed.{claimRoom}
+use Rattle.scope.specs.Layout.{groups, numberCount}
+use Rattle.scope.specs.Claim.{claimLayout}
+use Rattle.verdict.specs.JudgeContracts.{MeshAnswered}
 use Rattle.judge.specs.declared.JudgedMesh.{JudgedMesh}
 use Rattle.judge.specs.Judge.{meshNumbers, fileWidth}
 
@@ -16,6 +16,6 @@ pub record MeshJudged (mesh : List ℕ) (before : List ℤ) (r : JudgedMesh) (af
   pub numbers : after ≡ meshNumbers fileWidth mesh ++ drop (r .count) before
   pub answer : MeshAnswered (meshNumbers fileWidth mesh) (r .answer)
 
--- room for the numbers of a claim on the mesh with the numbers m
-abbrev pub roomOn : List ℤ → ℕ
-roomOn m = claimRoom (nodes m) (elements m) (edges m) (sides m)
+-- room for the numbers of a claim on the mesh with the numbers m: those of a claim with both parts, and one for bytes left over
+unfoldable pub roomOn : List ℤ → ℕ
+roomOn m = numberCount (groups (claimLayout m) (pos 1 ∷ pos 1 ∷ [])) + 1

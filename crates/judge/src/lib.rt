@@ -1,28 +1,24 @@
 // Two byte strings into a verdict: the numbers of a mesh file and of a claim file are read, and judged by the check of numbers.
 
+use lines::layout::claim_groups;
+use lines::layout::has_part;
+use lines::layout::total_of;
+use mesh::sizes::sizes_of;
 use reader::claim_room;
 use reader::read_claim;
 use reader::read_mesh;
-use rows::MeshAnswer;
-use rows::judge_claim;
-use rows::judge_mesh;
-use rows::line_checks::Lines;
-use rows::line_checks::columns;
-use rows::sizes::sizes_of;
 use scope::Outcome;
 use scope::Verdict;
+use verdict::MeshAnswer;
+use verdict::judge_claim;
+use verdict::judge_mesh;
 ghost use mathlib.Core.Path.{_≡_};
 ghost use Prim.Native.Nat.{_≤_};
-ghost use lib.IntN.{pos};
 ghost use lib.ListN.{length};
-ghost use Rattle.integer.specs.Tests.{eqZ};
-ghost use Rattle.scope.specs.Columns.{at};
 ghost use Rattle.scope.specs.Verdict.{meshCheck, claimVerdict};
-ghost use Rattle.rows.specs.Contracts.{SoundMesh};
-ghost use Rattle.rows.specs.LineContracts.{columnsIn};
-ghost use Rattle.reader.specs.File.{lineBytes};
+ghost use Rattle.verdict.specs.JudgeContracts.{SoundMesh};
 ghost use Rattle.judge.specs.Judge.{claimNumbers, fileWidth, filesVerdict};
-ghost use Rattle.judge.specs.ClaimBytes.{claimBytes, PartBytes};
+ghost use Rattle.judge.specs.ClaimBytes.{claimBytes};
 ghost use Rattle.judge.specs.Judged.{MeshJudged, roomOn};
 
 // How many numbers a mesh file has, and what is said of them.
@@ -47,7 +43,7 @@ fn judge_claim_in(m: &[i64], soils: &[u8], claim: &[u8], numbers: &mut [i64]) ->
     ensures { λ r. ⌜ r ≡ claimVerdict (now (m .entry)) (claimNumbers fileWidth (now (m .entry)) (now (claim .entry))) ⌝ }
 {
     let s = sizes_of(m);
-    let count = read_claim(claim, s.nodes, s.elements, s.edges, s.sides, numbers);
+    let count = read_claim(claim, s, numbers);
     judge_claim(m, soils, &numbers[..count])
 }
 
@@ -57,7 +53,7 @@ pub fn judge_claim_file(m: &[i64], soils: &[u8], claim: &[u8]) -> Verdict
     ensures { λ r. ⌜ r ≡ claimVerdict (now (m .entry)) (claimNumbers fileWidth (now (m .entry)) (now (claim .entry))) ⌝ }
 {
     let s = sizes_of(m);
-    let room = claim_room(s.nodes, s.elements, s.edges, s.sides);
+    let room = claim_room(s);
     if room <= 256 {
         let mut small = [0i64; 256];
         return judge_claim_in(m, soils, claim, &mut small);
@@ -88,38 +84,11 @@ pub fn judge_files(mesh: &[u8], claim: &[u8]) -> Verdict
     }
 }
 
-// The bytes of a line of a group: columns of 12 bytes, and byte 10.
-fn line_bytes(group: Lines) -> usize
-    requires { ⌜ columnsIn group ≤ 36 ⌝ }
-    ensures { λ r. ⌜ r ≡ lineBytes fileWidth (columnsIn group) ⌝ ∗ ⌜ r ≤ 433 ⌝ }
-{
-    columns(group) * 12 + 1
-}
-
-// The bytes of so many lines of a group, where number k of a claim's header says that their part is there.
-fn part_bytes(header: &[i64], k: usize, lines: usize, group: Lines) -> usize
-    requires { ⌜ (lines ≤ 100) × (columnsIn group ≤ 36) ⌝ }
-    ensures { λ r. ⌜ PartBytes (eqZ (at (now (header .entry)) k) (pos 1)) lines (columnsIn group) r ⌝ }
-{
-    if header.len() <= k {
-        return 0;
-    }
-    if header[k] == 1 {
-        return lines * line_bytes(group);
-    }
-    0
-}
-
-// The bytes of a claim file that begins with these numbers, on a judged mesh with the numbers m.
+// The bytes of a claim file that begins with these numbers, on a judged mesh with the numbers m: a column takes 12, and a line 1 more.
 pub fn claim_bytes(m: &[i64], header: &[i64]) -> usize
     requires { ⌜ meshCheck (now m) ≡ Outcome.Passed ⌝ }
     ensures { λ r. ⌜ r ≡ claimBytes (now (m .entry)) (now (header .entry)) ⌝ }
 {
-    let s = sizes_of(m);
-    let first = line_bytes(Lines::ClaimHeader);
-    let field = part_bytes(header, 0, s.nodes, Lines::Stresses);
-    let by_element = part_bytes(header, 1, s.elements, Lines::ElementMultipliers);
-    let by_edge = part_bytes(header, 1, s.edges, Lines::EdgeMultipliers);
-    let by_node = part_bytes(header, 1, s.nodes, Lines::StrengthMultipliers(s.sides));
-    first + field + by_element + by_edge + by_node
+    let groups = claim_groups(sizes_of(m), has_part(header, 0), has_part(header, 1));
+    49 + total_of(groups, 12, 1)
 }

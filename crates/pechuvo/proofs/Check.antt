@@ -6,14 +6,16 @@ use Prim.Native.Nat.{ℕ, _+_, _*_, _≤_, _<_}
 use native.Mathlib.Nat.{mul-le-mul}
 use native.Mathlib.Omega.{arith}
 use lib.Dec.{ltb}
-use lib.IntN.{ℤ}
+use lib.IntN.{ℤ, pos, negsuc}
+use lib.Signed.{_≤ℤ_}
 use lib.ListN.{length, take, getD}
 use borrow.Table.Steps.{cases}
 use Rattle.scope.specs.declared.Place.the-variants.{Line}
 use Rattle.scope.specs.declared.Outcome.{Outcome}
 use Rattle.scope.specs.declared.Outcome.the-variants.{Passed, Refused as Fails}
 use Rattle.scope.specs.Columns.{free, at, hasField, hasMultipliers}
-use Rattle.scope.specs.Layout.{width, lineCheck, linesCheck}
+use Rattle.integer.specs.Order.{≤ℤ-pos}
+use Rattle.scope.specs.Layout.{width, count, lineCheck, linesCheck}
 use Rattle.scope.specs.Mesh.{meshLayout, meshHeader, soilLines, nodeLines, elementLines, edgeLines, nodes, elements, soils, edges, sides}
 use Rattle.scope.specs.Claim.{claimLayout, ifThere}
 use Rattle.scope.specs.Sound.{Within}
@@ -25,11 +27,10 @@ use Rattle.scope.proofs.Exactly.{returns-zero}
 use Rattle.scope.proofs.Facts.{counts}
 use Rattle.scope.proofs.Lines.{within-at}
 use Rattle.scope.proofs.InOrder.{line-check-passed}
-use Rattle.scope.proofs.AnswerBounds.{there-most}
+use Rattle.scope.proofs.Exactly.{there-most}
 use Rattle.reader.specs.File.{lineBytes, widths, numbersOf}
 use Rattle.reader.specs.WellFormed.{bytesOf}
 use Rattle.reader.proofs.Regular.{mesh-regular, claim-regular}
-use Rattle.reader.proofs.Told.{count-most}
 use Rattle.reader.proofs.Cut.{numbers-cut, passed-length, group-bytes, no-bytes}
 use Rattle.judge.specs.Judge.{fileWidth, meshNumbers, claimNumbers, filesVerdict}
 use Rattle.judge.specs.ClaimBytes.{claimBytes}
@@ -47,6 +48,11 @@ mesh-bytes h = simp (group-bytes, no-bytes) (omega arith)
 mesh-short : (h : List ℤ) → soils h ≤ 16 → nodes h ≤ 100 → elements h ≤ 100 → edges h ≤ 60 → lineBytes 12 (width (meshLayout .header)) + bytesOf 12 (widths (meshLayout .body h)) < 65536
 unfolding meshLayout meshHeader lineBytes
 mesh-short h s n e g = rw (mesh-bytes h) (omega arith)
+
+count-most : (z : ℤ) {k : ℕ} → z ≤ℤ pos k → count z ≤ k
+unfolding count
+count-most (pos n) h = ≤ℤ-pos h
+count-most (negsuc n) h = omega arith
 
 -- a mesh whose header passes
 mesh-header-short : (h : List ℤ) → lineCheck meshLayout (meshLayout .header) h (Line 1) ≡ Passed → lineBytes 12 (width (meshLayout .header)) + bytesOf 12 (widths (meshLayout .body h)) < 65536

@@ -24,38 +24,42 @@ use Rattle.scope.specs.declared.Load.the-variants.{Exact}
 use Rattle.scope.specs.declared.OpenRows.{OpenRows}
 use Rattle.scope.specs.declared.Verdict.{Verdict}
 use Rattle.scope.specs.declared.Verdict.the-variants.{Accepted, Refused}
-use Rattle.scope.specs.Answer.{numberOf, placeOf}
+use Rattle.scope.specs.Answer.{placeFor, numberOf, placeOf}
 use Rattle.scope.specs.Members.{_∈_}
 use Rattle.scope.specs.Columns.{at, hasField, hasMultipliers, n, l}
+use Rattle.scope.specs.Mesh.{meshLayout}
 use Rattle.scope.specs.Rows.{rowsOf}
 use Rattle.scope.specs.Sums.{openRows, liveSum, limitSum}
-use Rattle.scope.specs.Claim.{stress, multiplier}
+use Rattle.scope.specs.Claim.{claimLayout, stress, multiplier}
 use Rattle.scope.specs.Verdict.{verdict, lowerLoad, upperLoad, openCount}
 use Rattle.scope.specs.Refusals.{HasField, HasMultipliers}
 use Rattle.scope.specs.Sound.{MeshSound}
 use Rattle.scope.specs.Accepted.{FieldAccepted, MultipliersAccepted, ClaimAccepted}
-use Rattle.scope.specs.Parts.{carried, allowed, SameRows}
+use Rattle.scope.specs.Parts.{carried, allowed}
 use Rattle.scope.proofs.Exactly.{accepted-exactly, refused-exactly, verdict-cases, returns-zero, claim-by-parts}
+use Rattle.scope.proofs.Sound.{lines-passed}
 use Rattle.scope.proofs.AnswerBounds.{refusal-bounds}
 use Rattle.scope.proofs.Parts.{field-n, open-rows-count}
-use Rattle.rows.specs.declared.numbers_answer.NumbersAnswer.{NumbersAnswer}
-use Rattle.rows.specs.NumbersAnswer.{answerOf}
-use Rattle.rows.specs.Promises as Handed-over
-use Rattle.rows.specs.Promises.{Returned, TellsField, FractionsBracket, placeFor}
-use Rattle.rows.proofs.Promises.{returned, returns-zero-exactly, refuses-exactly, field-exactly, multipliers-exactly, criterion-at-each-node, fractions-allowed}
+use Rattle.numbers.specs.declared.numbers_answer.NumbersAnswer.{NumbersAnswer}
+use Rattle.numbers.specs.NumbersAnswer.{answerOf}
+use Rattle.numbers.specs.Promises as Handed-over
+use Rattle.numbers.specs.Promises.{Returned, TellsField}
+use Rattle.numbers.proofs.Promises.{returned, returns-zero-exactly, refuses-exactly, rows-refused, field-exactly, multipliers-exactly, criterion-at-each-node, fractions-allowed}
 use Rattle.report.specs.Text.{Said, number as shows}
 use Rattle.report.specs.Report.{reportLine, decimals}
 use Rattle.report.specs.Says.{LoadSays, no-load, rounded, Says, says-accepted, says-refused, LineSays}
 use Rattle.report.proofs.Line.{line-says, lower-within, upper-within}
-use Rattle.judge.specs.Judge.{fileWidth, filesVerdict}
-use Rattle.judge.specs.Handed.{Handed, meshOf, claimOf, HasAcceptedMultipliers, OnTheSameMesh, HandedBracket}
-use Rattle.judge.proofs.Numbers.{numbers-verdict, width-there}
+use Rattle.judge.specs.Judge.{meshNumbers, claimNumbers, fileWidth, filesVerdict}
+use Rattle.reader.proofs.Regular.{mesh-regular, claim-regular}
+use Rattle.reader.proofs.WrittenBack.{written-back}
+use Rattle.judge.specs.Handed.{Handed, meshOf, claimOf}
+use Rattle.judge.proofs.Numbers.{some-side, numbers-verdict, width-there}
 use Rattle.judge.proofs.Form as Form
 use Rattle.judge.proofs.Handed.{handed-bracket}
 use Rattle.pechuvo.specs.Check.{reportBytes, check}
 use Rattle.pechuvo.specs.Sheets.{Sheet, printed, starred}
 use Rattle.pechuvo.specs.Answers.{Answers}
-use Rattle.pechuvo.specs.Promises.{meshIn, claimIn, AnyCall, LongFiles, OnFiles, FormExactly, LowerPrinted, UpperPrinted, Prints, OpenRowsPrinted, Call, on-files, on-numbers, AsAFile, Written}
+use Rattle.pechuvo.specs.Promises.{meshIn, claimIn, AnyCall, LongFiles, OnFiles, FormExactly, LowerPrinted, UpperPrinted, Prints, OpenRowsPrinted, Call, on-files, on-numbers, AcceptedFiles, TwoCalls, CallAndMultipliers, FractionsAndCall, AsAFile, Written}
 use Rattle.pechuvo.proofs.Check.{check-cut, longer-refused}
 use Rattle.pechuvo.proofs.Held.{held}
 use Rattle.pechuvo.proofs.Words.{lower-word, upper-word, rows-word}
@@ -255,6 +259,7 @@ module _ (mesh claim before : List ℕ) (number place : ℕ) (after : List ℕ) 
       record {
         returns-zero = returns-zero-exactly (meshIn mesh) (claimIn mesh claim) number place r;
         refuses = refuses-exactly (meshIn mesh) (claimIn mesh claim) number place r;
+        rows = rows-refused (meshIn mesh) (claimIn mesh claim) number place r;
         field = field-exactly (meshIn mesh) (claimIn mesh claim) number place r;
         multipliers = multipliers-exactly (meshIn mesh) (claimIn mesh claim) number place r;
         criterion = criterion-at-each-node (meshIn mesh) (claimIn mesh claim) number place r;
@@ -267,6 +272,18 @@ module _ (mesh claim before : List ℕ) (number place : ℕ) (after : List ℕ) 
       record {
         mesh-form = λ j. Iff·trans (refuses 1 (suc j) (λ e. omega arith)) (Iff·trans (Iff·symm (refused-exactly (meshIn mesh) (claimIn mesh claim) 1 (Line (suc j)))) (Form.mesh-form fileWidth mesh claim j));
         claim-form = λ j. Iff·trans (refuses 11 (suc j) (λ e. omega arith)) (Iff·trans (Iff·symm (refused-exactly (meshIn mesh) (claimIn mesh claim) 11 (Line (suc j)))) (Form.claim-form fileWidth mesh claim j));
+      }
+
+  -- what is accepted passes the checks of its lines, so its bytes are those of its numbers
+  pub accepted-files : 113 ≤ length before → AcceptedFiles mesh claim number
+  unfolding meshNumbers claimNumbers
+  accepted-files b =
+      let accepted : number ≡ 0 → ClaimAccepted (meshIn mesh) (claimIn mesh claim) = on-numbers-read b .returns-zero .exactly .0 in
+      record {
+        mesh-file = λ z. written-back fileWidth meshLayout mesh-regular mesh (lines-passed meshLayout (meshIn mesh) .passed (accepted z .mesh .lines));
+        claim-file = λ z.
+            let mesh-lines = lines-passed meshLayout (meshIn mesh) .passed (accepted z .mesh .lines) in
+            written-back fileWidth (claimLayout (meshIn mesh)) (claim-regular (meshIn mesh) (some-side (meshIn mesh) mesh-lines)) claim (lines-passed (claimLayout (meshIn mesh)) (claimIn mesh claim) .passed (accepted z .lines));
       }
 
   pub prints-columns : 113 ≤ length before → Prints (meshIn mesh) (claimIn mesh claim) number place (take 113 after)
@@ -298,15 +315,15 @@ call-multipliers (on-files mesh claim before number place after h) t z = by (two
 call-multipliers (on-numbers m c r h) t z = multipliers-exactly m c (r .number) (r .place) (returned h) .told .0 (t, z) .0
 
 -- the field of one call and the multipliers of another or of the same, each on files or on numbers, on meshes with the same rows
-pub calls-bracket : {a b : Handed} {i j : ℕ} → Call a i → Call b j → OnTheSameMesh a b → TellsField (claimOf a) i → HasMultipliers (claimOf b) → j ≡ 0 → HandedBracket a b
+pub calls-bracket : {a b : Handed} {i j : ℕ} → TwoCalls a b i j
 calls-bracket {a} {b} p q same t w z = handed-bracket a b same (call-field p t) (call-multipliers q w z)
 
 -- against accepted multipliers of any claim, one that is refused for its field too
-pub accepted-parts : {a : Handed} {i : ℕ} → Call a i → (b : Handed) → OnTheSameMesh a b → TellsField (claimOf a) i → HasAcceptedMultipliers b → HandedBracket a b
+pub accepted-parts : {a : Handed} {i : ℕ} → CallAndMultipliers a i
 accepted-parts {a} p b same t w = handed-bracket a b same (call-field p t) w
 
 -- a field in fractions against the multipliers of a call
-pub fractions-bracket : {b : Handed} {j : ℕ} → Call b j → HasMultipliers (claimOf b) → j ≡ 0 → (m : List ℤ) → MeshSound m → SameRows m (meshOf b) → FractionsBracket m (meshOf b) (claimOf b) (allowed (meshOf b) (claimOf b))
+pub fractions-bracket : {b : Handed} {j : ℕ} → FractionsAndCall b j
 fractions-bracket {b} q w z m sound same = fractions-allowed m (meshOf b) (claimOf b) sound same (call-multipliers q w z)
 
 -- numbers handed over as a file of them

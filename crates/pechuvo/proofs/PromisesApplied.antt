@@ -1,9 +1,9 @@
 -- Each promise of the check of two files applied to document 01's sheets as bytes: antt computes what is returned and written, and the promise says the rest.
 use mathlib.Core.Path.{_≡_, refl, sym, _∙_, ap, subst}
 use mathlib.Core.Logic.{inl, inr, _≢_}
-use mathlib.Core.List.{List, [], _∷_, _++_, List·Memᴰ·head}
+use mathlib.Core.List.{List, [], _∷_, _++_, map, List·Memᴰ·head}
 use mathlib.Core.Option.{some}
-use Prim.Native.Nat.{ℕ, _*_, _<_, _≤_}
+use Prim.Native.Nat.{ℕ, _+_, _*_, _<_, _≤_}
 use native.Mathlib.Omega.{arith}
 use lib.IntN.{ℤ, pos}
 use lib.ListN.{length, take, drop, replicate, getD, length-replicate}
@@ -11,20 +11,24 @@ use Rattle.integer.specs.Fraction.{_over_, _≈ᶠ_, _≤ᶠ_}
 use Rattle.scope.specs.declared.Place.the-variants.{Column}
 use Rattle.scope.specs.Computed.{computed}
 use Rattle.scope.specs.Members.{_∈_}
-use Rattle.scope.specs.Mesh.{meshLayout, nodes}
-use Rattle.scope.specs.Rows.{nodeSoil, equalityRows, rowsOf}
-use Rattle.scope.specs.Claim.{claimLayout, multiplier}
+use Rattle.scope.specs.Columns.{n, l}
+use Rattle.scope.specs.Mesh.{meshLayout, nodes, elements, edges, fromNode}
+use Rattle.scope.specs.Rows.{nodeSoil, equalityRows, rowsOf, judged}
+use Rattle.scope.specs.Claim.{claimLayout, stress, multiplier}
 use Rattle.scope.specs.Sound.{MeshSound}
+use Rattle.scope.specs.Answer.{placeFor}
 use Rattle.scope.specs.Refusals.{HasField, HasMultipliers, Refusal}
 use Rattle.scope.specs.Accepted.{FieldAccepted, MultipliersAccepted, ClaimAccepted}
+use Rattle.scope.specs.Printed.{NormalAt}
 use Rattle.scope.specs.AcceptedField.{MeetsCriterion}
-use Rattle.scope.specs.Parts.{carried, allowed}
+use Rattle.scope.specs.Parts.{carried, allowed, SameRows}
 use Rattle.scope.specs.Worked as Numbers
 use Rattle.scope.proofs.Sound.{mesh-passed, lines-passed, multipliers-passed}
-use Rattle.rows.specs.Promises.{Returned, placeFor, TellsField}
-use Rattle.rows.proofs.PromisesApplied.{secondSoil, answer19, aloneAnswer, nineteen-answered, alone-answered, sheet-accepted, same-rows, fraction, fractions, fractions-meet}
+use Rattle.numbers.specs.Promises.{Returned, TellsField}
+use Rattle.numbers.proofs.PromisesApplied.{secondSoil, answer19, aloneAnswer, nineteen-answered, alone-answered, sheet-accepted, same-rows, fraction, fractions, fractions-meet}
+use Rattle.reader.specs.File.{fileOf}
 use Rattle.reader.specs.WellFormed.{FormFails}
-use Rattle.report.specs.Text.{word, number as shows, beforePoint, afterPoint, decimal, saidNumber, signedDecimal, isNone, said}
+use Rattle.report.specs.Text.{word, number as shows, beforePoint, afterPoint, decimal, saidNumber, belowZero, saidMinus, andSaid, signedDecimal, isNone, said}
 use Rattle.report.specs.Report.{reportLine, decimals}
 use Rattle.report.specs.Says.{columnOf, LineSays}
 use Rattle.judge.specs.Judge.{fileWidth, filesVerdict}
@@ -34,11 +38,11 @@ use Rattle.pechuvo.specs.Sheets.{Sheet, sheet, starred}
 use Rattle.pechuvo.specs.Answers.{Answers}
 use Rattle.pechuvo.specs.Promises.{meshIn, claimIn, LowerPrinted, UpperPrinted, OpenRowsPrinted, Call, on-files, on-numbers, AsAFile}
 use Rattle.pechuvo.proofs.Sheets.{computedLine}
-use Rattle.pechuvo.proofs.Promises.{any-call, long-files, on-numbers-read, form-exactly, prints-columns, prints-open-rows, calls-bracket, accepted-parts, fractions-bracket, as-a-file, starred-written}
+use Rattle.pechuvo.proofs.Promises.{any-call, long-files, on-numbers-read, form-exactly, accepted-files, prints-columns, prints-open-rows, calls-bracket, accepted-parts, fractions-bracket, as-a-file, starred-written}
 
 -- for proofs by computation: besides the definitions that make a line, those that read its columns and those that say what was handed over
 unfoldable opened : Unit {0}
-unfolding computedLine beforePoint afterPoint decimal saidNumber signedDecimal isNone said columnOf meshOf claimOf
+unfolding computedLine beforePoint afterPoint decimal saidNumber belowZero saidMinus andSaid signedDecimal isNone said columnOf meshOf claimOf
 opened = tt
 
 -- sheet k of the starred ones, counted from 0, and a buffer of 113 bytes
@@ -63,6 +67,10 @@ nineteen-file = record { numberIs = refl; placeIs = refl; bufferIs = refl }
 pub refused-answered : Answers (at 4 .mesh) (at 4 .claim) room 32 7 (at 4 .line)
 unfolding opened
 refused-answered = record { numberIs = refl; placeIs = refl; bufferIs = refl }
+
+pub row-3-answered : Answers (at 3 .mesh) (at 3 .claim) room 21 3 (at 3 .line)
+unfolding opened
+row-3-answered = record { numberIs = refl; placeIs = refl; bufferIs = refl }
 
 pub empty-answered : Answers [] [] room 1 1 (at 5 .line)
 unfolding opened
@@ -148,6 +156,27 @@ sheet-accepted-file = on-numbers-read (at 0 .mesh) (at 0 .claim) room 0 0 (at 0 
 pub refused-column-7 : Refusal (meshIn (at 4 .mesh)) (claimIn (at 4 .mesh) (at 4 .claim)) 32 (Column 7)
 unfolding placeFor
 refused-column-7 = on-numbers-read (at 4 .mesh) (at 4 .claim) room 32 7 (at 4 .line) refused-answered fits .refuses .exactly 32 7 (λ e. omega arith) .0 (refl, refl)
+
+-- l 20, sy -21: row 3 is the normal row of the first edge at its from-node, and the field does not meet it as it is printed
+abbrev meshAt3 : List ℤ
+meshAt3 = meshIn (at 3 .mesh)
+
+abbrev claimAt3 : List ℤ
+claimAt3 = claimIn (at 3 .mesh) (at 3 .claim)
+
+row-3 : (0 < edges meshAt3) × (3 ≡ 2 * elements meshAt3 + 4 * 0 + 1)
+unfolding opened
+row-3 = (omega arith, refl)
+
+pub row-3-fails : ¬ NormalAt meshAt3 (stress meshAt3 claimAt3) (l claimAt3) (n claimAt3) 0 (fromNode meshAt3 0)
+row-3-fails = on-numbers-read (at 3 .mesh) (at 3 .claim) room 21 3 (at 3 .line) row-3-answered fits .rows .equality refl .normal-from 0 (row-3 .0) (row-3 .1)
+
+-- the sheet's files are those of their numbers
+pub sheet-mesh-file : at 0 .mesh ≡ fileOf fileWidth meshLayout (meshIn (at 0 .mesh))
+sheet-mesh-file = accepted-files (at 0 .mesh) (at 0 .claim) room 0 0 (at 0 .line) sheet-answered fits .mesh-file refl
+
+pub sheet-claim-file : at 0 .claim ≡ fileOf fileWidth (claimLayout (meshIn (at 0 .mesh))) (claimIn (at 0 .mesh) (at 0 .claim))
+sheet-claim-file = accepted-files (at 0 .mesh) (at 0 .claim) room 0 0 (at 0 .line) sheet-answered fits .claim-file refl
 
 -- its field is accepted, and meets the criterion at node 3
 tells-field : TellsField (claimIn (at 4 .mesh) (at 4 .claim)) 32
@@ -243,6 +272,10 @@ numbers-call = on-numbers Numbers.workedMesh Numbers.sheet19 answer19 nineteen-a
 alone-call : Call (numbers secondSoil Numbers.multipliersAlone) 0
 alone-call = on-numbers secondSoil Numbers.multipliersAlone aloneAnswer alone-answered
 
+-- equal numbers have the same rows
+same-mesh : {m d : List ℤ} → m ≡ d → SameRows m d
+same-mesh e = ap (λ (m : List ℤ). map judged (rowsOf m)) e
+
 -- the meshes of the files are the numbers of document 01's sheet
 sheet-mesh : meshOf (files (at 0 .mesh) (at 0 .claim)) ≡ Numbers.workedMesh
 unfolding opened Numbers.zeros Numbers.workedMesh
@@ -267,17 +300,17 @@ one-file = calls-bracket sheet-call sheet-call refl (sheet-parts .0, inl refl) s
 
 -- two files: the field of the claim that is refused for its multipliers, and the sheet's multipliers
 pub two-files : HandedBracket (files (at 4 .mesh) (at 4 .claim)) (files (at 0 .mesh) (at 0 .claim))
-two-files = calls-bracket refused-call sheet-call (ap rowsOf (refused-mesh ∙ sym sheet-mesh)) refused-tells sheet-has refl
+two-files = calls-bracket refused-call sheet-call (same-mesh (refused-mesh ∙ sym sheet-mesh)) refused-tells sheet-has refl
 
 -- the field of a file, and multipliers handed over as numbers on another mesh with the same rows
 pub file-and-numbers : HandedBracket (files (at 4 .mesh) (at 4 .claim)) (numbers secondSoil Numbers.multipliersAlone)
 unfolding computed meshOf claimOf Numbers.zeros Numbers.workedMultipliers Numbers.multipliersAlone
-file-and-numbers = calls-bracket refused-call alone-call (ap rowsOf refused-mesh ∙ same-rows) refused-tells refl refl
+file-and-numbers = calls-bracket refused-call alone-call (same-mesh refused-mesh ∙ same-rows) refused-tells refl refl
 
 -- the other way round: a field handed over as numbers, and the multipliers of a file
 pub numbers-and-file : HandedBracket (numbers Numbers.workedMesh Numbers.sheet19) (files (at 0 .mesh) (at 0 .claim))
 unfolding computed meshOf claimOf Numbers.zeros Numbers.workedStresses Numbers.workedMultipliers Numbers.workedClaim Numbers.sheet19
-numbers-and-file = calls-bracket numbers-call sheet-call (ap rowsOf (sym sheet-mesh)) (refl, inl refl) sheet-has refl
+numbers-and-file = calls-bracket numbers-call sheet-call (same-mesh (sym sheet-mesh)) (refl, inl refl) sheet-has refl
 
 -- against the multipliers of the claim with l 21, which is refused with 22 for its field
 pub beyond-strength : HasAcceptedMultipliers (files (at 2 .mesh) (at 2 .claim))
@@ -298,12 +331,12 @@ beyond-mesh = refl
 
 pub sheet-and-refused : HandedBracket (files (at 0 .mesh) (at 0 .claim)) (files (at 2 .mesh) (at 2 .claim))
 unfolding claimOf
-sheet-and-refused = accepted-parts sheet-call (files (at 2 .mesh) (at 2 .claim)) (ap rowsOf (sheet-mesh ∙ sym beyond-mesh)) (sheet-parts .0, inl refl) beyond-strength
+sheet-and-refused = accepted-parts sheet-call (files (at 2 .mesh) (at 2 .claim)) (same-mesh (sheet-mesh ∙ sym beyond-mesh)) (sheet-parts .0, inl refl) beyond-strength
 
 -- a field in fractions over twelve denominators, and the multipliers of a file
 pub fractions-and-file : pos 38 over pos 2 ≤ᶠ allowed (meshOf (files (at 0 .mesh) (at 0 .claim))) (claimOf (files (at 0 .mesh) (at 0 .claim)))
 unfolding fraction fractions
-fractions-and-file = fractions-bracket sheet-call sheet-has refl Numbers.workedMesh (sheet-accepted .mesh) (ap rowsOf (sym sheet-mesh)) .at-most fractions fractions-meet
+fractions-and-file = fractions-bracket sheet-call sheet-has refl Numbers.workedMesh (sheet-accepted .mesh) (same-mesh (sym sheet-mesh)) .at-most fractions fractions-meet
 
 -- numbers handed over get the answer of a file of them
 pub nineteen-as-a-file : AsAFile Numbers.workedMesh Numbers.sheet19 answer19

@@ -1,5 +1,5 @@
 -- What a caller of `pechuvo_check` may rely on: demands 1, 2 and 3 of document 01, each promise a plain statement about the number and the place that are returned and about the bytes of the buffer.
--- Each is proved of every call (`proofs/Promises.antt`) and applied to document 01's sheet (`proofs/PromisesApplied.antt`). What number and place say of the two files' numbers is said as for numbers handed over (`rows/specs/Promises.antt`).
+-- Each is proved of every call (`proofs/Promises.antt`) and applied to document 01's sheet (`proofs/PromisesApplied.antt`). What number and place say of the two files' numbers is said as for numbers handed over (`numbers/specs/Promises.antt`).
 use mathlib.Core.Path.{_≡_}
 use mathlib.Core.Logic.{_↔_, _⊎_, _≢_}
 use mathlib.Core.List.{List}
@@ -16,18 +16,18 @@ use Rattle.scope.specs.Verdict.{rowAt}
 use Rattle.scope.specs.Sound.{MeshSound}
 use Rattle.scope.specs.Refusals.{HasField, HasMultipliers}
 use Rattle.scope.specs.Bracket.{Open}
-use Rattle.scope.specs.Parts.{carried, allowed, NumberOf}
-use Rattle.rows.specs.declared.numbers_answer.NumbersAnswer.{NumbersAnswer}
-use Rattle.rows.specs.Promises as Handed-over
-use Rattle.rows.specs.Promises.{Returned, ReturnsZero, RefusesExactly, TellsField, FieldExactly, MultipliersExactly, CriterionAtEachNode}
-use Rattle.rows.specs.NumbersAnswer.{answerOf}
+use Rattle.scope.specs.Parts.{carried, allowed, SameRows, NumberOf}
+use Rattle.numbers.specs.declared.numbers_answer.NumbersAnswer.{NumbersAnswer}
+use Rattle.numbers.specs.Promises as Handed-over
+use Rattle.numbers.specs.Promises.{Returned, ReturnsZero, RefusesExactly, TellsField, RowsRefused, FieldExactly, MultipliersExactly, CriterionAtEachNode, FractionsBracket}
+use Rattle.numbers.specs.NumbersAnswer.{answerOf}
 use Rattle.reader.specs.File.{fileOf}
 use Rattle.reader.specs.WellFormed.{Fit, FormFails}
 use Rattle.report.specs.Text.{word, number as shows, said}
 use Rattle.report.specs.Report.{reportLine, decimals}
 use Rattle.report.specs.Says.{columnOf, LineSays}
 use Rattle.judge.specs.Judge.{meshNumbers, claimNumbers, fileWidth, filesVerdict}
-use Rattle.judge.specs.Handed.{Handed, files, numbers}
+use Rattle.judge.specs.Handed.{Handed, files, numbers, meshOf, claimOf, HasAcceptedMultipliers, OnTheSameMesh, HandedBracket}
 use Rattle.pechuvo.specs.Answers.{Answers}
 use Rattle.pechuvo.specs.Sheets.{Sheet}
 
@@ -63,6 +63,7 @@ pub record LongFiles (mesh claim before : List ℕ) (number place : ℕ) (after 
 pub record OnFiles (mesh claim : List ℕ) (number place : ℕ) : Type 0 where
   pub returns-zero : ReturnsZero (meshIn mesh) (claimIn mesh claim) number place
   pub refuses : RefusesExactly (meshIn mesh) (claimIn mesh claim) number place
+  pub rows : RowsRefused (meshIn mesh) (claimIn mesh claim) number place
   pub field : FieldExactly (meshIn mesh) (claimIn mesh claim) number
   pub multipliers : MultipliersExactly (meshIn mesh) (claimIn mesh claim) number
   pub criterion : TellsField (claimIn mesh claim) number → CriterionAtEachNode (meshIn mesh) (claimIn mesh claim)
@@ -71,6 +72,11 @@ pub record OnFiles (mesh claim : List ℕ) (number place : ℕ) : Type 0 where
 pub record FormExactly (mesh claim : List ℕ) (number place : ℕ) : Type 0 where
   pub mesh-form : (j : ℕ) → ((number ≡ 1) × (place ≡ suc j)) ↔ FormFails fileWidth meshLayout mesh j
   pub claim-form : (j : ℕ) → ((number ≡ 11) × (place ≡ suc j)) ↔ (MeshSound (meshIn mesh) × FormFails fileWidth (claimLayout (meshIn mesh)) claim j)
+
+-- an accepted file is the file of its numbers, byte by byte: no other file has them
+pub record AcceptedFiles (mesh claim : List ℕ) (number : ℕ) : Type 0 where
+  pub mesh-file : number ≡ 0 → mesh ≡ fileOf fileWidth meshLayout (meshIn mesh)
+  pub claim-file : number ≡ 0 → claim ≡ fileOf fileWidth (claimLayout (meshIn mesh)) (claimIn mesh claim)
 
 -- "Both loads have six decimals .. The lower goes towards minus infinity": the third column reads as v millionths, v/10^6 ≤ l/n < (v + 1)/10^6
 pub record LowerPrinted (c : List ℤ) (line : List ℕ) : Type 0 where
@@ -109,6 +115,18 @@ pub record OpenRowsPrinted (m c : List ℤ) (line : List ℕ) : Type 0 where
 pub data Call : Handed → ℕ → Type 0 where
   on-files : (mesh claim before : List ℕ) (number place : ℕ) (after : List ℕ) → Answers mesh claim before number place after → Call (files mesh claim) number
   on-numbers : (m c : List ℤ) (r : NumbersAnswer) → Handed-over.Answers m c r → Call (numbers m c) (r .number)
+
+-- "Parts are on the same mesh when they are judged against the same rows": the field of one call and the multipliers of another or of the same, each on files or on numbers
+abbrev pub TwoCalls : (a b : Handed) (i j : ℕ) → Type 0
+TwoCalls a b i j = Call a i → Call b j → OnTheSameMesh a b → TellsField (claimOf a) i → HasMultipliers (claimOf b) → j ≡ 0 → HandedBracket a b
+
+-- the field of a call against accepted multipliers of any claim, one that is refused for its field too
+abbrev pub CallAndMultipliers : (a : Handed) (i : ℕ) → Type 0
+CallAndMultipliers a i = Call a i → (b : Handed) → OnTheSameMesh a b → TellsField (claimOf a) i → HasAcceptedMultipliers b → HandedBracket a b
+
+-- a field in fractions, on any mesh with the same rows, against the multipliers of a call
+abbrev pub FractionsAndCall : (b : Handed) (j : ℕ) → Type 0
+FractionsAndCall b j = Call b j → HasMultipliers (claimOf b) → j ≡ 0 → (m : List ℤ) → MeshSound m → SameRows m (meshOf b) → FractionsBracket m (meshOf b) (claimOf b) (allowed (meshOf b) (claimOf b))
 
 -- "Numbers handed to it get the refusals that a file of them, with columns as wide as needed, would get"
 pub record AsAFile (m c : List ℤ) (r : NumbersAnswer) : Type 0 where

@@ -5,6 +5,7 @@ pub mod File
 pub mod Form
 pub mod Regular
 pub mod Written
+pub mod WrittenBack
 pub mod Cut
 pub mod OnePass
 pub mod Entries

@@ -1,6 +1,6 @@
 -- What the functions that read lines say holds again after each turn of their loops, and at their ends.
-use mathlib.Core.Path.{_≡_, refl, sym, _∙_, subst}
-use mathlib.Core.List.{List, [], _∷_, _++_, append-assoc}
+use mathlib.Core.Path.{_≡_, refl, sym, _∙_, ap, ap₂, subst}
+use mathlib.Core.List.{List, [], _∷_, _++_, append-nil, append-assoc}
 use mathlib.Core.Bool.{Bool, true, false, cond}
 use mathlib.Core.Option.{Option, none, some}
 use Prim.Native.Nat.{ℕ, zero, suc, _+_, _*_, _-_, _≤_, _<_}
@@ -8,12 +8,15 @@ use native.Mathlib.Nat.{suc-mul, mul-le-mul-right}
 use native.Mathlib.Numerals.{add-one}
 use native.Mathlib.Omega.{arith}
 use lib.IntN.{ℤ, pos}
-use lib.ListN.{length, take, drop, getD, set, replicate, length-set, length-drop, length-append, replicate-append-replicate}
+use lib.ListN.{length, take, drop, getD, set, replicate, length-set, length-drop, length-append, drop-of-length-le, replicate-append-replicate}
 use lib.Seq.{paste, paste-zero, paste-suc, drop-drop, take-at, drop-at, length-take-le}
-use Rattle.reader.specs.declared.lines.Progress.{Progress}
-use Rattle.reader.specs.declared.lines.Group.{Group}
+use Rattle.reader.specs.declared.file_lines.Progress.{Progress}
+use Rattle.lines.specs.declared.layout.Group.{Group}
+use Rattle.lines.specs.Table.{lineWidths, numbersIn, totalOf}
+use Rattle.lines.proofs.TableLaws.{from-place}
+use Rattle.lines.proofs.ThroughLaws.{noGroup}
 use Rattle.reader.specs.File.{lineBytes, readLine, readLines}
-use Rattle.reader.specs.HowFar.{past, written, LineTaken, linesOf, allNumbers, total, LinesTaken}
+use Rattle.reader.specs.HowFar.{past, written, LineTaken, linesOf, allNumbers, total, LinesTaken, Room}
 use Rattle.reader.proofs.Line.{line-means}
 use Rattle.reader.proofs.Cut.{line-there}
 
@@ -129,11 +132,6 @@ unfolding total
 total-replicate zero k = omega arith
 total-replicate (suc i) k = omega (arith, total-replicate i k, suc-mul i k)
 
--- the numbers of a group
-pub group-most : (g : Group) {bs : List ℕ} {p q : Progress} {out after : List ℤ} → LinesTaken bs (linesOf g) p out q after → q .numbers ≤ p .numbers + g .lines * g .columns
-unfolding linesOf
-group-most g h = omega (arith, h .most, total-replicate (g .lines) (g .columns))
-
 module _ {bs : List ℕ} {lines columns : ℕ} {p : Progress} {before : List ℤ} where
   pub group-first : (line : List ℤ) → 36 ≤ length line → p .at ≤ length bs → InGroup bs lines columns p before line before p 0
   group-first line e l = record { most = omega arith; size = refl; room = e; taken = no-lines bs p before l }
@@ -158,6 +156,64 @@ module _ {bs : List ℕ} {lines columns : ℕ} {p : Progress} {before : List ℤ
     pub group-ends : lines ≤ i → LinesTaken bs (replicate lines columns) p before q out
     group-ends l = let e : lines ≡ i = omega (arith, h .most) in rw e (h .taken)
 
--- the number of columns as another function tells it
-pub line-as : {bs : List ℕ} {j k : ℕ} {p r : Progress} {before after : List ℤ} → j ≡ k → LineTaken bs j p before r after → LineTaken bs k p before r after
-line-as {bs} {p = p} {r} {before} {after} e h = subst (λ k. LineTaken bs k p before r after) e h
+-- ---- the groups before group i are read
+
+pub record InGroups (bs : List ℕ) (gs : List Group) (p : Progress) (before line out : List ℤ) (q : Progress) (i : ℕ) : Type 0 where
+  pub most : i ≤ 4
+  pub size : length out ≡ length before
+  pub room : 36 ≤ length line
+  pub done : List ℕ
+  pub split : done ++ lineWidths (drop i gs) ≡ lineWidths gs
+  pub taken : LinesTaken bs done p before q out
+
+-- their numbers are those of the table
+widths-total : (gs : List Group) → total (lineWidths gs) ≡ numbersIn gs
+unfolding total lineWidths totalOf
+widths-total [] = refl
+widths-total (g ∷ gs) =
+    total-++ (replicate (g .lines) (g .columns)) (lineWidths gs)
+    ∙ ap₂ _+_ (total-replicate (g .lines) (g .columns) ∙ ap (λ (k : ℕ). g .lines * k) (one (g .columns))) (widths-total gs)
+  where
+    one : (k : ℕ) → k ≡ k * 1 + 0
+    one k = omega arith
+
+module _ {bs : List ℕ} {gs : List Group} {p : Progress} {before : List ℤ} where
+  pub groups-first : (line : List ℤ) → 36 ≤ length line → p .at ≤ length bs → InGroups bs gs p before line before p 0
+  groups-first line e l = record { most = omega arith; size = refl; room = e; done = []; split = refl; taken = no-lines bs p before l }
+
+  module _ {line out : List ℤ} {q : Progress} {i : ℕ} (r : Room p gs (length before)) (h : InGroups bs gs p before line out q i) where
+    module _ (l : i < 4) where
+      abbrev here : Group
+      here = getD gs i noGroup
+
+      widths-here : lineWidths (drop i gs) ≡ linesOf here ++ lineWidths (drop (i + 1) gs)
+      unfolding lineWidths linesOf
+      widths-here = ap lineWidths (from-place gs noGroup i (omega (arith, r .known .table .size)))
+
+      pub groups-room : q .numbers + here .lines * here .columns ≤ length out
+      unfolding linesOf
+      groups-room =
+          let all = ap total (h .split) ∙ widths-total gs in
+          let rest = ap total widths-here ∙ total-++ (linesOf here) (lineWidths (drop (i + 1) gs)) in
+          omega (arith, h .size, h .taken .most, all, total-++ (h .done) (lineWidths (drop i gs)), rest, total-replicate (here .lines) (here .columns), r .fits)
+
+      pub groups-next : {wide after : List ℤ} {u : Progress} → length wide ≡ length line → length after ≡ length out → LinesTaken bs (linesOf here) q out u after → InGroups bs gs p before wide after u (i + 1)
+      groups-next w s t = record {
+        most = omega arith;
+        size = s ∙ h .size;
+        room = omega (arith, w, h .room);
+        done = h .done ++ linesOf here;
+        split = append-assoc (h .done) (linesOf here) (lineWidths (drop (i + 1) gs)) ∙ ap (λ (ks : List ℕ). h .done ++ ks) (sym widths-here) ∙ h .split;
+        taken = lines-then (h .taken) t;
+      }
+
+    pub groups-end : 4 ≤ i → LinesTaken bs (lineWidths gs) p before q out
+    unfolding lineWidths
+    groups-end l =
+        let none : lineWidths (drop i gs) ≡ [] = ap lineWidths (drop-of-length-le gs {i = i} (omega (arith, r .known .table .size))) in
+        let all : h .done ≡ lineWidths gs = sym (append-nil (h .done)) ∙ ap (λ (ks : List ℕ). h .done ++ ks) (sym none) ∙ h .split in
+        subst (λ (ks : List ℕ). LinesTaken bs ks p before q out) all (h .taken)
+
+-- after the last group there is room for one number more
+pub groups-fit : {bs : List ℕ} {gs : List Group} {p q : Progress} {before out : List ℤ} → Room p gs (length before) → LinesTaken bs (lineWidths gs) p before q out → q .numbers < length before
+groups-fit {gs = gs} r t = omega (arith, t .most, widths-total gs, r .fits)

@@ -1,119 +1,79 @@
 -- What a header tells of the lines after it: their columns are those of the layout, and their numbers fit the list that is lent.
-use mathlib.Core.Path.{_≡_, sym, ap, _∙_}
-use mathlib.Core.Bool.{true, false}
-use mathlib.Core.List.{List, [], _++_, append-nil, append-assoc}
-use Prim.Native.Nat.{ℕ, _*_, _≤_, _<_}
+use mathlib.Core.Path.{_≡_, refl, sym, ap, ap₂, _∙_}
+use mathlib.Core.Bool.{Bool, true, false}
+use mathlib.Core.List.{List, [], _∷_, _++_, map}
+use Prim.Native.Nat.{ℕ, _+_, _*_, _≤_, _<_}
 use native.Mathlib.Nat.{mul-le-mul-right}
 use native.Mathlib.Omega.{arith}
-use lib.IntN.{ℤ, pos, negsuc}
-use lib.Signed.{_≤ℤ_}
-use lib.ListN.{length, take, drop, getD, length-replicate, take-append-drop}
+use lib.IntN.{ℤ, pos}
+use lib.ListN.{length, take, drop, replicate, length-replicate, take-append-drop}
 use lib.Seq.{getD-take, length-take-le}
-use mir.Syntax.{w64}
-use mir.Val.{SFits, toZ, ofZ}
-use mir.Facts.{toZ-ofZ}
-use Rattle.integer.specs.Order.{≤ℤ-pos, pos-≤ℤ}
-use Rattle.integer.specs.Tests.{eqZ}
 use Rattle.scope.specs.declared.Place.{Place}
 use Rattle.scope.specs.declared.Place.the-variants.{Line}
 use Rattle.scope.specs.declared.Outcome.{Outcome}
 use Rattle.scope.specs.declared.Outcome.the-variants.{Passed, Refused}
-use Rattle.scope.specs.Columns.{at, free, hasField, hasMultipliers}
-use Rattle.scope.specs.Layout.{width, count, groups, lineOf, lineNumbers, lineCheck, lineAt}
-use Rattle.scope.specs.Sound.{Within}
-use Rattle.scope.specs.Mesh.{meshLayout, meshHeader, soilLines, nodeLines, elementLines, edgeLines, nodes, elements, soils, edges, sides}
+use Rattle.mesh.specs.declared.sizes.Sizes.{Sizes}
+use Rattle.lines.specs.declared.layout.Group as Code
+use Rattle.scope.specs.Columns.{at, hasField, hasMultipliers}
+use Rattle.scope.specs.Layout.{Group, width, numberCount, groups, lineOf, lineNumbers, lineCheck, lineAt}
+use Rattle.scope.specs.Mesh.{meshLayout, meshHeader, soilLines, nodeLines, elementLines, edgeLines}
 use Rattle.scope.specs.Claim.{ifThere, claimLayout, claimHeader, stressLines, elementMultipliers, edgeMultipliers, strengthMultipliers}
-use Rattle.rows.specs.declared.line_checks.Lines.{Lines}
-use Rattle.rows.specs.declared.line_checks.Lines.the-variants.{Soils, Nodes, Elements, Edges, Stresses, ElementMultipliers, EdgeMultipliers, StrengthMultipliers}
-use Rattle.rows.specs.LineContracts.{linesGroup, claimBody, SmallCounts}
-use Rattle.reader.specs.declared.lines.Progress.{Progress}
-use Rattle.reader.specs.declared.lines.Group.{Group}
-use Rattle.scope.proofs.InOrder.{line-check-passed}
-use Rattle.scope.proofs.AnswerBounds.{there-most}
-use Rattle.scope.proofs.Lines.{within-at}
+use Rattle.mesh.specs.MeshContracts.{SizesAre, HeaderThere, FewThings}
+use Rattle.lines.specs.Table.{meant, AllGood, Tabled, meshBody, claimBody, lineWidths}
+use Rattle.lines.proofs.TableLaws.{lines-meant, numbers-meant}
+use Rattle.lines.proofs.GroupLaws.{mesh-body, claim-body, header-counts}
+use Rattle.reader.specs.declared.file_lines.Progress.{Progress}
+use Rattle.scope.proofs.Exactly.{there-most}
 use Rattle.reader.specs.File.{widths, numbersOf}
-use Rattle.reader.specs.HowFar.{start, LineTaken, linesOf, allNumbers, Room}
+use Rattle.reader.specs.HowFar.{start, LineTaken, allNumbers, Room}
 use Rattle.reader.specs.Listed.{Listed, claimRoom, ClaimListed}
-use Rattle.reader.specs.Tells.{FewLines, bodyOf}
 use Rattle.reader.proofs.Regular.{mesh-regular}
 use Rattle.reader.proofs.Whole.{HeaderRead, headerSays, no-header, header-read, header-refused, header-passed}
 
-abbrev alike : ℕ → ℕ → Group
-alike n k = record { lines = n; columns = k }
+-- ---- the lines of a table
 
--- lines of this group have k columns, whatever their counts
-abbrev Wide : Lines → ℕ → Type 0
-Wide g k = (count nodes soils : ℕ) → k ≡ width (linesGroup g count nodes soils)
+widths-good : (s : Sizes) (gs : List Code.Group) → AllGood s gs → lineWidths gs ≡ widths (map (meant s) gs)
+unfolding lineWidths widths
+widths-good s [] h = refl
+widths-good s (g ∷ gs) h = ap₂ _++_ (ap₂ (λ (n k : ℕ). replicate n k) (sym (lines-meant s g)) (h .0 .wide)) (widths-good s gs (h .1))
 
-four : (a b c d : List ℕ) → a ++ b ++ c ++ d ≡ a ++ (b ++ (c ++ (d ++ [])))
-four a b c d = simp (append-assoc, append-nil)
+-- they have the columns that the definitions give them
+pub widths-meant : {s : Sizes} {gs : List Code.Group} {body : List Group} → Tabled s gs body → lineWidths gs ≡ widths body
+widths-meant {s} {gs} t = widths-good s gs (t .table .good) ∙ ap widths (t .same)
+
+room-for : {s : Sizes} {gs : List Code.Group} {body : List Group} (p : Progress) (k : ℕ) → Tabled s gs body → p .numbers + numberCount body < k → Room p gs k
+room-for {s} p k t l = record { known = record { sizes = s; table = t .table }; fits = omega (arith, numbers-meant t) }
 
 -- ---- a mesh
 
-pub count-most : (z : ℤ) {k : ℕ} → z ≤ℤ pos k → count z ≤ k
-unfolding count
-count-most (pos n) h = ≤ℤ-pos h
-count-most (negsuc n) h = omega arith
+mesh-count : (s : Sizes) → numberCount (meshBody s) ≡ s .soils * 8 + s .nodes * 2 + s .elements * 5 + s .edges * 7
+unfolding numberCount meshBody soilLines nodeLines elementLines edgeLines
+mesh-count s = omega arith
 
-module _ (m : List ℤ) {ns es ss gs ks kn ke kg : ℕ} (n : ns ≡ count (at m 0)) (e : es ≡ count (at m 1)) (s : ss ≡ count (at m 2)) (g : gs ≡ count (at m 3)) (ws : Wide Soils ks) (wn : Wide Nodes kn) (we : Wide Elements ke) (wg : Wide Edges kg) where
-  pub mesh-lines : linesOf (alike ss ks) ++ linesOf (alike ns kn) ++ linesOf (alike es ke) ++ linesOf (alike gs kg) ≡ widths (meshLayout .body m)
-  unfolding linesOf widths meshLayout linesGroup soilLines nodeLines elementLines edgeLines soils nodes elements edges
-  mesh-lines =
-      four (linesOf (alike ss ks)) (linesOf (alike ns kn)) (linesOf (alike es ke)) (linesOf (alike gs kg))
-      ∙ rw (n, e, s, g, ws 0 0 0, wn 0 0 0, we 0 0 0, wg 0 0 0)
+module _ {s : Sizes} {gs : List Code.Group} (t : Tabled s gs (meshBody s)) where
+  pub mesh-lines : {m : List ℤ} → SizesAre m s → lineWidths gs ≡ widths (meshLayout .body m)
+  mesh-lines k = widths-meant t ∙ ap widths (mesh-body k)
 
-  pub mesh-room : (p : Progress) (k : ℕ) → FewLines m → p .numbers ≡ 5 → 1254 ≤ k → Room p (alike ss ks) (alike ns kn) (alike es ke) (alike gs kg) k
-  unfolding linesGroup soilLines nodeLines elementLines edgeLines
-  mesh-room p k f q l =
-      let a = count-most (at m 0) (f .nodes .most) in
-      let b = count-most (at m 1) (f .elements .most) in
-      let c = count-most (at m 2) (f .soils .most) in
-      let d = count-most (at m 3) (f .edges .most) in
-      rw (ws 0 0 0, wn 0 0 0, we 0 0 0, wg 0 0 0)
-      (record { columnsA = omega arith; columnsB = omega arith; columnsC = omega arith; columnsD = omega arith; fits = omega arith })
+  pub mesh-room : (p : Progress) (k : ℕ) → FewThings s → p .numbers ≡ 5 → 1254 ≤ k → Room p gs k
+  mesh-room p k f q l = room-for p k t (omega (arith, mesh-count s, f .fewSoils, f .fewNodes, f .fewElements, f .fewEdges))
 
 -- ---- a claim
 
-module _ (ns es gs ss : ℕ) (c : List ℤ) {fn me mg mn kf ke kg kn : ℕ} (a : fn ≡ ifThere (hasField c) ns) (b : me ≡ ifThere (hasMultipliers c) es) (d : mg ≡ ifThere (hasMultipliers c) gs) (e : mn ≡ ifThere (hasMultipliers c) ns) (wf : Wide Stresses kf) (we : Wide ElementMultipliers ke) (wg : Wide EdgeMultipliers kg) (wn : Wide (StrengthMultipliers ss) kn) where
-  pub claim-lines : linesOf (alike fn kf) ++ linesOf (alike me ke) ++ linesOf (alike mg kg) ++ linesOf (alike mn kn) ≡ bodyOf ns es gs ss c
-  unfolding linesOf bodyOf widths claimBody linesGroup stressLines elementMultipliers edgeMultipliers strengthMultipliers
-  claim-lines =
-      four (linesOf (alike fn kf)) (linesOf (alike me ke)) (linesOf (alike mg kg)) (linesOf (alike mn kn))
-      ∙ rw (a, b, d, e, wf 0 0 0, we 0 0 0, wg 0 0 0, wn 0 0 0)
+pub claim-count : (s : Sizes) (a b : Bool) → numberCount (claimBody s a b) ≡ ifThere a (s .nodes) * 3 + ifThere b (s .elements) * 2 + ifThere b (s .edges) * 4 + ifThere b (s .nodes) * s .sides
+unfolding numberCount claimBody stressLines elementMultipliers edgeMultipliers strengthMultipliers
+claim-count s a b = simp (length-replicate) (omega arith)
 
-  pub claim-room : (p : Progress) (k : ℕ) → SmallCounts ns es gs ss → p .numbers ≡ 4 → claimRoom ns es gs ss ≤ k → Room p (alike fn kf) (alike me ke) (alike mg kg) (alike mn kn) k
-  unfolding linesGroup stressLines elementMultipliers edgeMultipliers strengthMultipliers
-  claim-room p k m q l =
-      let f = there-most (hasField c) ns in
-      let g = there-most (hasMultipliers c) es in
-      let h = there-most (hasMultipliers c) gs in
-      let i = there-most (hasMultipliers c) ns in
-      let j : mn * ss ≤ ns * ss = mul-le-mul-right ss (omega arith) in
-      rw (wf 0 0 0, we 0 0 0, wg 0 0 0, wn 0 0 0 ∙ length-replicate ss _)
-      (record { columnsA = omega arith; columnsB = omega arith; columnsC = omega arith; columnsD = omega arith; fits = omega arith })
+-- no claim has more numbers than one with both parts
+claim-most : (s : Sizes) (a b : Bool) → numberCount (claimBody s a b) ≤ numberCount (claimBody s true true)
+unfolding ifThere
+claim-most s a b =
+    let n : ifThere b (s .nodes) * s .sides ≤ s .nodes * s .sides = mul-le-mul-right (s .sides) (there-most b (s .nodes)) in
+    omega (arith, claim-count s a b, claim-count s true true, there-most a (s .nodes), there-most b (s .elements), there-most b (s .edges))
 
--- the machine's reading of a flag is the flag
-pub flag-read : (k : ℕ) {z flag : ℤ} {r : ℕ} → SFits w64 z → z ≡ flag → r ≡ ifThere (eqZ (toZ w64 (ofZ w64 z)) (pos 1)) k → r ≡ ifThere (eqZ flag (pos 1)) k
-flag-read k f e h = rw (toZ-ofZ f ∙ e) at h
+pub claim-room : {s : Sizes} {gs : List Code.Group} (a b : Bool) (p : Progress) (k : ℕ) → Tabled s gs (claimBody s a b) → p .numbers ≡ 4 → claimRoom s ≤ k → Room p gs k
+claim-room {s} a b p k t q l = room-for p k t (omega (arith, claim-most s a b))
 
 -- ---- the header of a mesh file
-
-from-nought : {a : ℕ} {z : ℤ} → pos a ≤ℤ z → pos 0 ≤ℤ z
-from-nought {z = pos n} h = pos-≤ℤ (omega arith)
-from-nought {z = negsuc n} h = absurd (h .le)
-
--- the limits of a header that passes
-pub header-few : (h : List ℤ) → lineCheck meshLayout (meshLayout .header) h (Line 1) ≡ Passed → FewLines h
-unfolding meshLayout meshHeader
-header-few h e =
-    let s = line-check-passed meshLayout meshHeader h (Line 1) .says e in
-    let w : (c : ℕ) → c < 5 → Within (getD (meshHeader .limits) c free) (at h c) = λ c l. within-at (meshHeader .limits) h c (s .0) l (s .1) in
-    record {
-      nodes = record { least = from-nought (w 0 (omega arith) .0); most = w 0 (omega arith) .1 };
-      elements = record { least = from-nought (w 1 (omega arith) .0); most = w 1 (omega arith) .1 };
-      soils = record { least = from-nought (w 2 (omega arith) .0); most = w 2 (omega arith) .1 };
-      edges = record { least = w 3 (omega arith) .0; most = w 3 (omega arith) .1 };
-    }
 
 module _ (bs : List ℕ) (out : List ℤ) {p : Progress} {after : List ℤ} where
   pub mesh-no-header : LineTaken bs 5 start out p after → p .going ≡ false → Listed (numbersOf 12 meshLayout bs) out 0 after
@@ -140,20 +100,8 @@ module _ (bs : List ℕ) (out : List ℤ) {p : Progress} {after : List ℤ} wher
     unfolding meshLayout meshHeader
     mesh-refused e r = rw mesh-numbers (header-refused meshLayout bs out h (sym (mesh-says e) ∙ r))
 
-    in-front : (k : ℕ) → k < 5 → at (take 5 after) k ≡ at after k
-    unfolding at
-    in-front k l = getD-take 5 after k (pos 0) l
-
-    pub few-lines : {o : Outcome} → o ≡ lineAt meshLayout after 0 → o ≡ Passed → FewLines after
-    unfolding meshLayout meshHeader
-    few-lines e r =
-        let f = header-few (take 5 after) (sym (mesh-says e) ∙ r) in
-        record {
-          nodes = rw (in-front 0 (omega arith)) at (f .nodes);
-          elements = rw (in-front 1 (omega arith)) at (f .elements);
-          soils = rw (in-front 2 (omega arith)) at (f .soils);
-          edges = rw (in-front 3 (omega arith)) at (f .edges);
-        }
+    pub mesh-header-there : {o : Outcome} → o ≡ lineAt meshLayout after 0 → o ≡ Passed → HeaderThere after
+    mesh-header-there e r = header-counts after (sym e ∙ r)
 
     same-body : meshLayout .body after ≡ meshLayout .body (take 5 after)
     unfolding meshLayout meshHeader
@@ -168,9 +116,9 @@ module _ (bs : List ℕ) (out : List ℤ) {p : Progress} {after : List ℤ} wher
 -- ---- the header of a claim file
 
 module _ (bs : List ℕ) (out : List ℤ) {p : Progress} {after : List ℤ} where
-  pub claim-no-header : (ns es gs ss : ℕ) → LineTaken bs 4 start out p after → p .going ≡ false → ClaimListed bs ns es gs ss out 0 after
+  pub claim-no-header : (s : Sizes) → LineTaken bs 4 start out p after → p .going ≡ false → ClaimListed bs s out 0 after
   unfolding claimLayout claimHeader
-  claim-no-header ns es gs ss t g = record { against = λ m n e d s. no-header (claimLayout m) bs out t g }
+  claim-no-header s t g = record { against = λ m k. no-header (claimLayout m) bs out t g }
 
   pub claim-header-read : LineTaken bs 4 start out p after → 4 ≤ length out → p .going ≡ true → (m : List ℤ) → HeaderRead (claimLayout m) bs out p after
   unfolding claimLayout claimHeader
@@ -196,17 +144,16 @@ module _ (bs : List ℕ) (out : List ℤ) {p : Progress} {after : List ℤ} wher
     unfolding hasMultipliers at
     same-multipliers = rw (getD-take 4 after 1 (pos 0) (omega arith))
 
-    module _ (ns es gs ss : ℕ) {o : Outcome} (e : o ≡ lineCheck (claimLayout []) claimHeader (take 4 after) (Line 1)) where
-      pub claim-refused : {k : ℕ} {q : Place} → o ≡ Refused k q → ClaimListed bs ns es gs ss out (p .numbers) after
+    module _ (s : Sizes) {o : Outcome} (e : o ≡ lineCheck (claimLayout []) claimHeader (take 4 after) (Line 1)) where
+      pub claim-refused : {k : ℕ} {q : Place} → o ≡ Refused k q → ClaimListed bs s out (p .numbers) after
       unfolding claimLayout claimHeader
-      claim-refused r = record { against = λ m n d g s. rw claim-numbers (header-refused (claimLayout m) bs out (h m) (sym (claim-says m e) ∙ r)) }
+      claim-refused r = record { against = λ m k. rw claim-numbers (header-refused (claimLayout m) bs out (h m) (sym (claim-says m e) ∙ r)) }
 
-      same-lines : (m : List ℤ) → nodes m ≡ ns → elements m ≡ es → edges m ≡ gs → sides m ≡ ss → bodyOf ns es gs ss after ≡ widths (claimLayout m .body (take 4 after))
-      unfolding bodyOf claimBody claimLayout
-      same-lines m n d g s = rw (← n, ← d, ← g, ← s, same-field, same-multipliers)
+      same-lines : (m : List ℤ) → SizesAre m s → widths (claimBody s (hasField after) (hasMultipliers after)) ≡ widths (claimLayout m .body (take 4 after))
+      same-lines m k = ap₂ (λ (a b : Bool). widths (claimBody s a b)) (sym same-field) (sym same-multipliers) ∙ ap widths (claim-body k (take 4 after))
 
-      pub claim-passed : {r : ℕ} {end : List ℤ} → o ≡ Passed → Listed (allNumbers bs (bodyOf ns es gs ss after) p after) after r end → ClaimListed bs ns es gs ss out r end
+      pub claim-passed : {r : ℕ} {end : List ℤ} → o ≡ Passed → Listed (allNumbers bs (widths (claimBody s (hasField after) (hasMultipliers after))) p after) after r end → ClaimListed bs s out r end
       unfolding claimLayout claimHeader
       claim-passed r l = record {
-        against = λ m n d g s. header-passed (claimLayout m) bs out (h m) (sym (claim-says m e) ∙ r) (rw (same-lines m n d g s) at l);
+        against = λ m k. header-passed (claimLayout m) bs out (h m) (sym (claim-says m e) ∙ r) (rw (same-lines m k) at l);
       }

@@ -15,7 +15,7 @@ use Rattle.scope.specs.declared.Place.{Place}
 use Rattle.scope.specs.declared.Outcome.{Outcome}
 use Rattle.scope.specs.declared.Outcome.the-variants.{Passed, Refused}
 use Rattle.scope.specs.Layout.{Layout, width, lineCheck}
-use Rattle.reader.specs.declared.lines.Progress.{Progress}
+use Rattle.reader.specs.declared.file_lines.Progress.{Progress}
 use Rattle.reader.specs.File.{lineBytes, readLine, widths, readLines, hasPassed, headerPasses, numbersOf}
 use Rattle.reader.specs.HowFar.{start, past, written, LineTaken, allNumbers, LinesTaken}
 use Rattle.reader.specs.Listed.{Listed}

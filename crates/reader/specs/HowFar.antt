@@ -6,8 +6,9 @@ use mathlib.Core.Option.{Option, none, some}
 use Prim.Native.Nat.{ℕ, _+_, _*_, _≤_, _<_}
 use lib.IntN.{ℤ}
 use lib.ListN.{length, take, drop, replicate}
-use Rattle.reader.specs.declared.lines.Progress.{Progress}
-use Rattle.reader.specs.declared.lines.Group.{Group}
+use Rattle.reader.specs.declared.file_lines.Progress.{Progress}
+use Rattle.lines.specs.declared.layout.Group.{Group}
+use Rattle.lines.specs.Table.{Known, numbersIn}
 use Rattle.reader.specs.File.{lineBytes, readLine, readLines}
 
 -- nothing is read
@@ -54,10 +55,7 @@ pub record LinesTaken (bs ks : List ℕ) (p : Progress) (out : List ℤ) (r : Pr
   pub within : r .at ≤ length bs
   pub others : drop (r .numbers) after ≡ drop (r .numbers) out
 
--- four groups fit a list of n numbers after those that are read, with one number more for bytes left over
-pub record Room (p : Progress) (a b c d : Group) (n : ℕ) : Type 0 where
-  pub columnsA : a .columns ≤ 36
-  pub columnsB : b .columns ≤ 36
-  pub columnsC : c .columns ≤ 36
-  pub columnsD : d .columns ≤ 36
-  pub fits : p .numbers + (a .lines * a .columns + b .lines * b .columns + c .lines * c .columns + d .lines * d .columns) < n
+-- the groups of a table fit a list of n numbers after those that are read, with one number more for bytes left over
+pub record Room (p : Progress) (gs : List Group) (n : ℕ) : Type 0 where
+  pub known : Known gs
+  pub fits : p .numbers + numbersIn gs < n

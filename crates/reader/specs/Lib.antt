@@ -2,7 +2,7 @@
 pub mod Spelling
 pub mod File
 pub mod WellFormed
+pub mod WrittenBack
 pub mod Listed
 pub mod OnePass
 pub mod HowFar
-pub mod Tells

@@ -1,10 +1,14 @@
 -- What reading a file leaves in the list that is lent.
 use mathlib.Core.Path.{_≡_}
 use mathlib.Core.List.{List, _++_}
-use Prim.Native.Nat.{ℕ, _+_, _*_}
+use mathlib.Core.Bool.{true}
+use Prim.Native.Nat.{ℕ, _+_}
 use lib.IntN.{ℤ}
 use lib.ListN.{length, drop}
-use Rattle.scope.specs.Mesh.{nodes, elements, edges, sides}
+use Rattle.mesh.specs.declared.sizes.Sizes.{Sizes}
+use Rattle.mesh.specs.MeshContracts.{SizesAre}
+use Rattle.lines.specs.Table.{claimBody}
+use Rattle.scope.specs.Layout.{numberCount}
 use Rattle.scope.specs.Claim.{claimLayout}
 use Rattle.reader.specs.File.{numbersOf}
 
@@ -13,10 +17,10 @@ pub record Listed (zs before : List ℤ) (r : ℕ) (after : List ℤ) : Type 0 w
   pub count : r ≡ length zs
   pub list : after ≡ zs ++ drop r before
 
--- the most numbers that a claim file has on a mesh with these counts: its header's, those of all lines of both parts, and one for bytes left over
-abbrev pub claimRoom : ℕ → ℕ → ℕ → ℕ → ℕ
-claimRoom ns es gs ss = 4 + ns * 3 + es * 2 + gs * 4 + ns * ss + 1
+-- the most numbers that a claim file has on a mesh with these sizes: its header's, those of all lines of both parts, and one for bytes left over
+abbrev pub claimRoom : Sizes → ℕ
+claimRoom s = 4 + numberCount (claimBody s true true) + 1
 
--- so stand the numbers of the claim file bs, whichever mesh with these counts it is read against
-pub record ClaimListed (bs : List ℕ) (ns es gs ss : ℕ) (before : List ℤ) (r : ℕ) (after : List ℤ) : Type 0 where
-  pub against : (m : List ℤ) → nodes m ≡ ns → elements m ≡ es → edges m ≡ gs → sides m ≡ ss → Listed (numbersOf 12 (claimLayout m) bs) before r after
+-- so stand the numbers of the claim file bs, whichever mesh with these sizes it is read against
+pub record ClaimListed (bs : List ℕ) (s : Sizes) (before : List ℤ) (r : ℕ) (after : List ℤ) : Type 0 where
+  pub against : (m : List ℤ) → SizesAre m s → Listed (numbersOf 12 (claimLayout m) bs) before r after

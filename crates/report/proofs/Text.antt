@@ -1,20 +1,21 @@
 -- A text of the report says the number that it was written from: the digits before the point and after it are read back by the laws of decimal digits.
-use mathlib.Core.Path.{_≡_, refl, ap, ap₂, _∙_}
+use mathlib.Core.Path.{_≡_, refl, sym, ap, ap₂, _∙_}
 use mathlib.Core.Logic.{_≢_}
 use mathlib.Core.Bool.{Bool, true, false, cond, _&&_}
 use mathlib.Core.List.{List, [], _∷_, _++_, append-nil}
-use mathlib.Core.Option.{none, some, Option·map}
+use mathlib.Core.Option.{Option, none, some}
 use Prim.Native.Nat.{ℕ, zero, suc, _+_, _*_, _-_, _/_, _^_, _≤_, _<_}
 use native.Mathlib.Nat.{div-add-mod', div-le-of-le-mul}
 use native.Mathlib.Omega.{arith}
 use lib.Dec.{T}
-use lib.IntN.{ℤ, pos, negsuc, negℤ, natAbs}
+use lib.IntN.{ℤ, pos, negsuc, natAbs}
+use lib.Signed.{_<ℤ_, ltZ-yes}
 use lib.ListN.{length, replicate, length-append}
 use borrow.Author.Tests.{ne-eqb}
 use mir.Facts.{and-yes, yes-and}
 use Rattle.integer.specs.Decimal.{digits, lastDigits, rightJustified, properDigits, isDigit, allDigits, valueAfter}
 use Rattle.integer.specs.DecimalLaws.{digits-length, value-digits, digits-proper, digits-some, proper-all, first-digit, lastDigits-length, lastDigits-digits, lastDigits-value}
-use Rattle.report.specs.Text.{pointed, fixed, noneText, word, number, beforePoint, afterPoint, decimal, saidNumber, signedDecimal, isNone, said}
+use Rattle.report.specs.Text.{pointed, fixed, noneText, word, number, MinusSaid, beforePoint, afterPoint, decimal, saidNumber, belowZero, saidMinus, andSaid, signedDecimal, isNone, said}
 
 -- ---- before and after the point
 
@@ -88,7 +89,7 @@ not-none b (c ∷ d ∷ e ∷ []) h = rw (ne-eqb b 110 h)
 not-none b (c ∷ d ∷ e ∷ f ∷ bs) h = refl
 
 -- a text that begins with a digit is no word and has no minus
-from-digit : (bs cs : List ℕ) → T (allDigits bs) → 0 < length bs → said (bs ++ cs) ≡ Option·map (saidNumber (λ k. pos k)) (decimal (bs ++ cs))
+from-digit : (bs cs : List ℕ) → T (allDigits bs) → 0 < length bs → said (bs ++ cs) ≡ andSaid saidNumber (decimal (bs ++ cs))
 unfolding said signedDecimal
 from-digit [] cs t l = absurd (omega arith)
 from-digit (b ∷ bs) cs t l =
@@ -96,30 +97,40 @@ from-digit (b ∷ bs) cs t l =
     rw (ne-eqb b 32 (omega arith), said) (rw (not-none b (bs ++ cs) (omega arith)) (rw (ne-eqb b 45 (omega arith), signedDecimal)))
 
 -- a text after a minus
-from-minus : (bs : List ℕ) → said (45 ∷ bs) ≡ Option·map (saidNumber (λ k. negℤ (pos k))) (decimal bs)
+from-minus : (bs : List ℕ) → said (45 ∷ bs) ≡ andSaid saidMinus (decimal bs)
 unfolding said signedDecimal
 from-minus bs = rw (not-none 45 bs (omega arith))
 
 said-pointed : (d k : ℕ) → said (pointed d k) ≡ some (number (pos k) d)
-unfolding pointed saidNumber
+unfolding pointed saidNumber andSaid
 said-pointed zero k =
     (rw (append-nil (digits k)) at (from-digit (digits k) [] (proper-all (digits k) (digits-proper k)) (digits-some k)))
-    ∙ ap (Option·map (saidNumber (λ k. pos k))) (pointed-said 0 k)
+    ∙ ap (andSaid saidNumber) (pointed-said 0 k)
 said-pointed (suc d) k =
     let q = k / 10 ^ suc d in
     from-digit (digits q) (46 ∷ lastDigits (suc d) k) (proper-all (digits q) (digits-proper q)) (digits-some q)
-    ∙ ap (Option·map (saidNumber (λ k. pos k))) (pointed-said (suc d) k)
+    ∙ ap (andSaid saidNumber) (pointed-said (suc d) k)
 
 -- v/10^d with d decimals says v/10^d
 pub said-fixed : (d : ℕ) (v : ℤ) → said (fixed d v) ≡ some (number v d)
-unfolding fixed saidNumber
+unfolding fixed saidMinus belowZero andSaid
 said-fixed d (pos k) = said-pointed d k
-said-fixed d (negsuc k) = from-minus (pointed d (suc k)) ∙ ap (Option·map (saidNumber (λ k. negℤ (pos k)))) (pointed-said d (suc k))
+said-fixed d (negsuc k) = from-minus (pointed d (suc k)) ∙ ap (andSaid saidMinus) (pointed-said d (suc k))
 
 -- digits say their number
 pub said-digits : (k : ℕ) → said (digits k) ≡ some (number (pos k) 0)
 unfolding pointed
 said-digits k = said-pointed 0 k
+
+-- what has a minus says a number below 0: "a zero has no minus"
+minus-below : (v : ℤ) (d : ℕ) (r : Option (ℕ × ℕ)) → andSaid saidMinus r ≡ some (number v d) → v <ℤ pos 0
+unfolding andSaid saidMinus belowZero
+minus-below v d none e = let z : _≡_ {A = ℕ} 0 1 = cc in absurd (omega arith)
+minus-below v d (some (zero, b)) e = let z : _≡_ {A = ℕ} 0 1 = cc in absurd (omega arith)
+minus-below v d (some (suc k, b)) e = let f : negsuc k ≡ v = cc in rw (← f) (ltZ-yes tt)
+
+pub minus-said : MinusSaid
+minus-said bs v d e = minus-below v d (decimal bs) (sym (from-minus bs) ∙ e)
 
 -- ---- the length of a text
 

@@ -1,10 +1,12 @@
 -- How the report spells a load (document 01, 'Verdict and report'): "Both loads have six decimals and at least one digit before the point; a zero has no minus."
 -- The number of decimals d is a parameter: six in the report. And what such a text says, read with no look at how it was written.
+use mathlib.Core.Path.{_≡_}
 use mathlib.Core.Bool.{Bool, true, false, cond, _&&_}
 use mathlib.Core.List.{List, [], _∷_, _++_}
-use mathlib.Core.Option.{Option, none, some, Option·map}
+use mathlib.Core.Option.{Option, none, some}
 use Prim.Native.Nat.{ℕ, zero, suc, _/_, _^_}
-use lib.IntN.{ℤ, pos, negsuc, negℤ}
+use lib.IntN.{ℤ, pos, negsuc}
+use lib.Signed.{_<ℤ_}
 use lib.Dec.{eqb}
 use lib.ListN.{length}
 use Rattle.integer.specs.Decimal.{digits, lastDigits, properDigits, allDigits, valueAfter}
@@ -52,16 +54,29 @@ decimal bs =
           cond (properDigits whole && allDigits (c ∷ cs)) (some (valueAfter (valueAfter 0 whole) (c ∷ cs), length (c ∷ cs))) none
     ]
 
-unfoldable pub saidNumber : (ℕ → ℤ) → ℕ × ℕ → Said
-saidNumber sign vd = number (sign (vd .0)) (vd .1)
+unfoldable pub saidNumber : ℕ × ℕ → Option Said
+saidNumber vd = some (number (pos (vd .0)) (vd .1))
 
--- a minus and a number, or a number
+-- after a minus: "a zero has no minus"
+unfoldable pub belowZero : ℕ → ℕ → Option Said
+belowZero zero d = none
+belowZero (suc k) d = some (number (negsuc k) d)
+
+unfoldable pub saidMinus : ℕ × ℕ → Option Said
+saidMinus vd = belowZero (vd .0) (vd .1)
+
+-- what is read, said on
+unfoldable pub andSaid : (ℕ × ℕ → Option Said) → Option (ℕ × ℕ) → Option Said
+andSaid f none = none
+andSaid f (some vd) = f vd
+
+-- a minus and a number that is not zero, or a number
 unfoldable pub signedDecimal : List ℕ → Option Said
 signedDecimal [] = none
 signedDecimal (b ∷ bs) =
     elim (eqb b 45) [
-      | true ↦ Option·map (saidNumber (λ k. negℤ (pos k))) (decimal bs)
-      | false ↦ Option·map (saidNumber (λ k. pos k)) (decimal (b ∷ bs))
+      | true ↦ andSaid saidMinus (decimal bs)
+      | false ↦ andSaid saidNumber (decimal (b ∷ bs))
     ]
 
 unfoldable pub isNone : List ℕ → Bool
@@ -80,3 +95,7 @@ said (b ∷ bs) =
       | true ↦ said bs
       | false ↦ cond (isNone (b ∷ bs)) (some word) (signedDecimal (b ∷ bs))
     ]
+
+-- "a zero has no minus": a text with a minus says a number below 0, or nothing
+abbrev pub MinusSaid : Type 0
+MinusSaid = (bs : List ℕ) (v : ℤ) (d : ℕ) → said (45 ∷ bs) ≡ some (number v d) → v <ℤ pos 0

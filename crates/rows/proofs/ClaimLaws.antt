@@ -13,7 +13,7 @@ use Rattle.integer.specs.Bounds.{Within, Within-le, AllWithin, all-within, AllW
 use Rattle.integer.specs.Tests.{eqZ}
 use Rattle.scope.specs.Columns.{at, hasField, hasMultipliers, n, l}
 use Rattle.scope.specs.Layout.{groups, numbersBefore}
-use Rattle.scope.specs.Mesh.{nodes, elements, edges, sides}
+use Rattle.scope.specs.Mesh.{nodes, elements, edges, sides, equalityCount}
 use Rattle.scope.specs.Claim.{claimHeader, claimLayout, ifThere, stressLines, stress, multiplier}
 use Rattle.scope.specs.Facts.{ClaimFacts}
 use Rattle.scope.proofs.SumBounds.{between, from-0}
@@ -73,14 +73,14 @@ module _ {m c : List ℤ} (f : ClaimFacts m c) where
   unfolding multiplier groups claimLayout claimHeader stressLines numbersBefore multipliersFrom
   multiplier-at k = ap (λ n. at c (n + k)) (omega arith)
 
-  pub equality-within : at c 1 ≡ pos 1 → (k : ℕ) → k < elements m * 2 + edges m * 4 → Within 100000 (at c (multipliersFrom m c + k))
+  pub equality-within : at c 1 ≡ pos 1 → (k : ℕ) → k < equalityCount m → Within 100000 (at c (multipliersFrom m c + k))
   equality-within e k h = subst (Within 100000) (multiplier-at k) (between (f .equalityRange e k h))
 
-  pub strength-within : at c 1 ≡ pos 1 → (k : ℕ) → k < nodes m * sides m → Within 10000 (at c (multipliersFrom m c + (elements m * 2 + edges m * 4 + k)))
+  pub strength-within : at c 1 ≡ pos 1 → (k : ℕ) → k < nodes m * sides m → Within 10000 (at c (multipliersFrom m c + (equalityCount m + k)))
   strength-within e k h = subst (Within 10000) (multiplier-at _) (from-0 (f .strengthRange e k h))
 
   -- where the multipliers begin and where the claim ends
-  pub with-multipliers : at c 1 ≡ pos 1 → length c ≡ multipliersFrom m c + (elements m * 2 + edges m * 4) + nodes m * sides m
+  pub with-multipliers : at c 1 ≡ pos 1 → length c ≡ multipliersFrom m c + (equalityCount m) + nodes m * sides m
   unfolding multipliersFrom
   with-multipliers e = f .size ∙ rw (multipliers-there e (elements m), multipliers-there e (edges m), multipliers-there e (nodes m)) (omega arith)
 
@@ -101,18 +101,18 @@ module _ {m c : List ℤ} (f : ClaimFacts m c) where
           subst (λ j. Within 1000000000 (at c j)) same (stress-within e (i - 4) (omega (arith, field-there e (nodes m))))
 
   multiplier-part : (i : ℕ) → multipliersFrom m c ≤ i → i < length c → Within 1000000000 (at c i)
-  multiplier-part i h k = ⊎-elim none (λ e. some e (decLt (i - multipliersFrom m c) (elements m * 2 + edges m * 4))) (f .multipliersFlag)
+  multiplier-part i h k = ⊎-elim none (λ e. some e (decLt (i - multipliersFrom m c) (equalityCount m))) (f .multipliersFlag)
     where
       none : at c 1 ≡ pos 0 → Within 1000000000 (at c i)
       none e = absurd (omega (arith, without-multipliers e))
 
-      some : at c 1 ≡ pos 1 → Dec (i - multipliersFrom m c < elements m * 2 + edges m * 4) → Within 1000000000 (at c i)
+      some : at c 1 ≡ pos 1 → Dec (i - multipliersFrom m c < equalityCount m) → Within 1000000000 (at c i)
       some e (yes d) =
           let same : multipliersFrom m c + (i - multipliersFrom m c) ≡ i = omega arith in
           subst (λ j. Within 1000000000 (at c j)) same (Within-le (equality-within e (i - multipliersFrom m c) d) (omega arith))
       some e (no d) =
-          let j : ℕ = i - multipliersFrom m c - (elements m * 2 + edges m * 4) in
-          let same : multipliersFrom m c + (elements m * 2 + edges m * 4 + j) ≡ i = omega arith in
+          let j : ℕ = i - multipliersFrom m c - (equalityCount m) in
+          let same : multipliersFrom m c + (equalityCount m + j) ≡ i = omega arith in
           subst (λ j. Within 1000000000 (at c j)) same (Within-le (strength-within e j (omega (arith, with-multipliers e))) (omega arith))
 
   pub claim-within : AllWithin 1000000000 c

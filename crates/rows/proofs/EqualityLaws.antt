@@ -21,17 +21,6 @@ use Rattle.scope.specs.Facts.{Between, MeshFacts}
 use Rattle.rows.specs.RowContracts.{pairs, rowOf, RowFits, Filled, cornerColumns, balancedOf, normalOf, shearOf}
 use Rattle.rows.proofs.RowLaws.{balance-at, side-at}
 
--- ---- differences of coordinates
-
-apart : {a b : ℤ} → Between (pos 0) (pos 1000) a → Between (pos 0) (pos 1000) b → Within 1000 (a -ℤ b)
-apart h k = linear (h .least & h .most & k .least & k .most) (search bounds depth 40) (omega arith)
-
-pub run-within : {m : List ℤ} → MeshFacts m → {a b : ℕ} → a < nodes m → b < nodes m → Within 1000 (x m a -ℤ x m b)
-run-within f {a} {b} h k = apart (f .node a h .xRange) (f .node b k .xRange)
-
-pub rise-within : {m : List ℤ} → MeshFacts m → {a b : ℕ} → a < nodes m → b < nodes m → Within 1000 (y m a -ℤ y m b)
-rise-within f {a} {b} h k = apart (f .node a h .yRange) (f .node b k .yRange)
-
 -- ---- a balance row
 
 pub as-balanced : {k₀ k₁ k₂ k₃ k₄ k₅ k₆ k₇ a a′ b b′ v w live right : ℤ} (columns : List ℕ)

@@ -1,27 +1,7 @@
--- The laws that the proofs of the functions use, each file after those that it uses; then what a caller may rely on.
-pub mod Loops
-pub mod LineLaws
-pub mod GroupLaws
-pub mod EvenLaws
-pub mod Places
-pub mod MeshLaws
-pub mod ByteTables
-pub mod SoilTables
-pub mod SideTables
+-- laws
 pub mod SideLaws
 pub mod RowLaws
 pub mod SumLaws
 pub mod EqualityLaws
 pub mod ClaimLaws
-pub mod FieldLaws
 pub mod StrengthLaws
-pub mod MultiplierLaws
-pub mod NodeLaws
-pub mod LimitLaws
-pub mod OpenLaws
-pub mod SearchLaws
-pub mod PartLaws
-pub mod VerdictLaws
-pub mod AnswerLaws
-pub mod Promises
-pub mod PromisesApplied

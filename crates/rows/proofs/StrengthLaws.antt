@@ -21,7 +21,7 @@ use Rattle.rows.proofs.RowLaws.{nodeRow, strength-at}
 use Rattle.integer.specs.Bounds.{Within}
 use Rattle.integer.specs.Machine.{Is, Is-as, Is-Within}
 use Rattle.scope.specs.Mesh.{nodes, sides, p, q, h, cohesion}
-use Rattle.rows.specs.declared.sizes.Sizes.{Sizes}
+use Rattle.mesh.specs.declared.sizes.Sizes.{Sizes}
 use Rattle.scope.specs.Columns.{at, n, l}
 use Rattle.scope.specs.declared.Place.the-variants as P
 use Rattle.scope.specs.declared.Outcome.the-variants.{Passed, Refused}
@@ -32,10 +32,10 @@ use Rattle.scope.specs.Rows.{Row, sx, sy, t, nodeSoil, cross, strengthRow, stre
 use Rattle.scope.specs.Sums.{weightedSum, leftSide, rightSide, rowHolds, isOpen}
 use Rattle.scope.specs.Verdict.{rowAt}
 use Rattle.scope.specs.Facts.{Counts, SoilFacts}
-use Rattle.rows.specs.Contracts.{Sized}
+use Rattle.mesh.specs.MeshContracts.{Sized}
 use Rattle.rows.specs.RowContracts.{Listed, SoilNumbers, SoilFits, NodeNumbers, NodeFits, NodeState, Steps, MeshSteps, StepsFit, sideAt, runOf, riseOf, crossOf, sideSlack, nodeHolds, strengthsCheck}
-use Rattle.rows.specs.SearchContracts.{firstFailing}
-use Rattle.rows.proofs.Loops.{each-below, all-of-each, all-cong, holds-before, fails-there, phase-at, phase-all}
+use Rattle.lines.specs.SearchContracts.{firstFailing}
+use Rattle.lines.proofs.Loops.{each-below, all-of-each, all-cong, holds-before, fails-there, phase-at, phase-all}
 
 pub being : {v z : ℤ} {B : ℕ} → v ≡ z → Within B z → Is v z B
 being e h = record { same = e; inside = h }

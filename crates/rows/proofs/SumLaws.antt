@@ -18,7 +18,7 @@ use Rattle.scope.specs.Rows.{Row}
 use Rattle.scope.specs.Sums.{weightedSum, weighed, unit, howMany}
 use Rattle.scope.specs.Verdict.{rowAt}
 use Rattle.rows.specs.RowContracts.{pairs, entriesOf, SumsAre}
-use Rattle.rows.specs.MultiplierContracts.{sumBelow, countBelow, rowSum}
+use Rattle.rows.specs.RowContracts.{sumBelow, countBelow, rowSum}
 
 -- ---- the entries of a row
 

@@ -3,7 +3,7 @@ use mathlib.Core.Path.{_≡_}
 use mathlib.Core.Logic.{_⊎_}
 use mathlib.Core.Bool.{Bool, true, cond}
 use mathlib.Core.List.{List, [], _∷_}
-use Prim.Native.Nat.{ℕ, suc, _+_, _*_, _≤_, _<_}
+use Prim.Native.Nat.{ℕ, zero, suc, _+_, _*_, _≤_, _<_}
 use lib.Dec.{ltb}
 use lib.IntN.{ℤ, pos, _+ℤ_, _-ℤ_, _*ℤ_, negℤ}
 use lib.ListN.{length, getD, take, replicate}
@@ -11,7 +11,7 @@ use Rattle.integer.specs.Bounds.{Within, AllWithin}
 use Rattle.integer.specs.Machine.{Is}
 use Rattle.scope.specs.declared.Outcome.{Outcome}
 use Rattle.scope.specs.declared.Place.the-variants as P
-use Rattle.rows.specs.declared.sizes.Sizes.{Sizes}
+use Rattle.mesh.specs.declared.sizes.Sizes.{Sizes}
 use Rattle.rows.specs.declared.polygons.Step.{Step}
 use Rattle.rows.specs.declared.row_sums.EqualityRow.{EqualityRow}
 use Rattle.rows.specs.declared.row_sums.Span.{Span}
@@ -23,7 +23,7 @@ use Rattle.scope.specs.Rows.{asked, unfixed, Row, strengthRows, sx, sy, t, node
 use Rattle.scope.specs.Sums.{rowHolds}
 use Rattle.scope.specs.Verdict.{rowAt}
 use Rattle.scope.specs.Facts.{ClaimFacts}
-use Rattle.rows.specs.Contracts.{Sized, NodeSoils}
+use Rattle.mesh.specs.MeshContracts.{Sized, NodeSoils}
 use Rattle.scope.specs.Checks.{demand, lowest, allBelow}
 
 -- ---- a polygon's sides
@@ -286,3 +286,27 @@ pub record NodeState (d m c : List ℤ) (v : ℕ) : Type 0 where
 -- each strength row of node v holds at the claim's field
 unfoldable pub nodeHolds : List ℤ → List ℤ → ℕ → Bool
 nodeHolds m c v = allBelow (λ k. rowHolds (stress m c) (l c) (n c) (rowAt (strengthRows m) (v * sides m + k))) (sides m)
+
+-- ---- sums
+
+-- the sum of f below n, and how many below n pass a test
+unfoldable pub sumBelow : (ℕ → ℤ) → ℕ → ℤ
+sumBelow f zero = pos 0
+sumBelow f (suc n) = sumBelow f n +ℤ f n
+
+unfoldable pub countBelow : (ℕ → Bool) → ℕ → ℕ
+countBelow f zero = 0
+countBelow f (suc n) = countBelow f n + cond (f n) 1 0
+
+-- F over the first n rows, each times its multiplier
+unfoldable pub rowSum : (Row → ℤ) → (ℕ → ℤ) → List Row → ℕ → ℤ
+rowSum F w rs n = sumBelow (λ k. w k *ℤ F (rowAt rs k)) n
+
+-- F over n rows from row a on, each times its multiplier
+unfoldable pub partSum : (Row → ℤ) → (ℕ → ℤ) → List Row → ℕ → ℕ → ℤ
+partSum F w rs a n = sumBelow (λ i. w (a + i) *ℤ F (rowAt rs (a + i))) n
+
+-- a number that grew by d, which is within B
+pub record Grown (a b d : ℤ) (B : ℕ) : Type 0 where
+  pub by : b ≡ a +ℤ d
+  pub step : Within B d

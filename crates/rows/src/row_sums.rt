@@ -8,21 +8,21 @@ ghost use Rattle.integer.specs.Bounds.{Within, AllWithin};
 ghost use Rattle.integer.specs.Machine.{Is};
 ghost use Rattle.integer.specs.Tests.{eqZ};
 ghost use Rattle.scope.specs.Columns.{at};
-ghost use Rattle.scope.specs.Mesh.{nodes, elements, edges, corner, x, y, soilEntry, elementSoil};
+ghost use Rattle.scope.specs.Mesh.{nodes, elements, edges, corner, x, y, soilEntry, elementSoil, equalityCount};
 ghost use Rattle.scope.specs.Rows.{stepX, stepY, balanceX, balanceY, normalRow, shearRow, equalityRows};
 ghost use Rattle.scope.specs.Sums.{weightedSum, unit};
 ghost use Rattle.scope.specs.Verdict.{rowAt};
-ghost use Rattle.rows.specs.Contracts.{Sized};
+ghost use Rattle.mesh.specs.MeshContracts.{Sized};
 ghost use Rattle.rows.specs.RowContracts.{normalOf, shearOf, entriesOf, EntriesFit, Filled, SumsAre, NodeAt, SpanIs, cornerColumns, balancedOf};
-use crate::sizes::Sizes;
-use crate::sizes::corner_of;
-use crate::sizes::edge_entry;
-use crate::sizes::edge_from;
-use crate::sizes::edge_to;
-use crate::sizes::element_soil;
-use crate::sizes::rise_between;
-use crate::sizes::run_between;
-use crate::sizes::soil_entry;
+use mesh::sizes::Sizes;
+use mesh::sizes::corner_of;
+use mesh::sizes::edge_entry;
+use mesh::sizes::edge_from;
+use mesh::sizes::edge_to;
+use mesh::sizes::element_soil;
+use mesh::sizes::rise_between;
+use mesh::sizes::run_between;
+use mesh::sizes::soil_entry;
 
 // Coefficients with their columns, as many as `count` says, the coefficient of l on the left, the right side at n = 1, and whether the row asks anything.
 pub struct EqualityRow {
@@ -323,7 +323,7 @@ fn side_row(m: &[i64], s: Sizes, g: usize, i: usize) -> EqualityRow
 
 // Equality row k: two for each element, then four for each edge.
 pub fn equality_row(m: &[i64], s: Sizes, k: usize) -> EqualityRow
-    requires { ⌜ Sized (now m) s × (k < elements (now m) * 2 + edges (now m) * 4) ⌝ }
+    requires { ⌜ Sized (now m) s × (k < equalityCount (now m)) ⌝ }
     ensures { λ r. ⌜ Filled r (rowAt (equalityRows (now (m .entry))) k) (3 * nodes (now (m .entry))) ⌝ }
 {
     let first = s.elements * 2;

@@ -9,12 +9,12 @@ ghost use Rattle.integer.specs.Bounds.{Within, AllWithin};
 ghost use Rattle.scope.specs.Checks.{allBelow};
 ghost use Rattle.scope.specs.Columns.{at};
 ghost use Rattle.scope.specs.Mesh.{nodes, soils};
-ghost use Rattle.rows.specs.Contracts.{Sized};
+ghost use Rattle.mesh.specs.MeshContracts.{Sized};
 ghost use Rattle.rows.specs.RowContracts.{SoilNumbers, SoilFits, NodeNumbers, NodeFits, StepFits, StepsFit, MeshSteps, sideSlack, Judged, NodeState, nodeHolds};
 use crate::polygons::radius_of;
-use crate::sizes::Sizes;
-use crate::sizes::number_at;
-use crate::sizes::soil_entry;
+use mesh::sizes::Sizes;
+use mesh::sizes::number_at;
+use mesh::sizes::soil_entry;
 
 // What they read of a soil: r·h, p and 2qC.
 pub fn soil_numbers(m: &[i64], s: Sizes, soil: usize, radius: i64) -> [i64; 3]

@@ -1,5 +1,5 @@
 -- The theorems applied to document 01's sheet: antt computes that its mesh and parts pass, and the theorems say the rest.
-use mathlib.Core.Path.{_≡_, refl}
+use mathlib.Core.Path.{_≡_, refl, sym, _∙_, ap}
 use mathlib.Core.List.{List}
 use Prim.Native.Nat.{ℕ, suc, _*_}
 use native.Mathlib.Omega.{arith}
@@ -14,22 +14,24 @@ use Rattle.scope.specs.declared.Verdict.the-variants.{Refused}
 use Rattle.scope.specs.Columns.{n, l}
 use Rattle.scope.specs.Layout.{linesCheck}
 use Rattle.scope.specs.Mesh.{nodes}
-use Rattle.scope.specs.Rows.{equalityRows, strengthRows, rowsOf}
+use Rattle.scope.specs.Rows.{Row, t, equalityRows, strengthRows, rowsOf}
 use Rattle.scope.specs.Sums.{weightedSum, weighed, liveSum, limitSum, openRows}
 use Rattle.scope.specs.Claim.{claimLayout, stress, multiplier}
 use Rattle.scope.specs.Verdict.{meshCheck, fieldCheck, multipliersCheck, verdict, rowAt}
 use Rattle.scope.specs.Computed.{computed}
 use Rattle.scope.specs.Refusals.{HasField, HasMultipliers}
 use Rattle.scope.specs.Accepted.{FieldAccepted, MultipliersAccepted}
+use Rattle.scope.specs.PrintedColumns.{printedColumn, printedLive, printedLimit}
 use Rattle.scope.specs.Bracket.{toSpare}
-use Rattle.scope.specs.Parts.{carried, allowed, PartsBracket}
-use Rattle.scope.specs.Worked.{zeros, workedMesh, workedStresses, workedMultipliers, workedClaim, multipliersAlone, sheet, sheet19, sheet29, nineteenFractions, nineteenSixths}
+use Rattle.scope.specs.Parts.{carried, allowed, SameRows, PartsBracket}
+use Rattle.scope.specs.Worked.{zeros, workedMesh, workedStresses, workedMultipliers, workedClaim, multipliersAlone, sheet, sheet19, sheet29, nineteenFractions, nineteenSixths, oneEdge, freeShear}
 use Rattle.scope.specs.Fractions.{FractionField, WrittenOver}
 use Rattle.scope.specs.AcceptedFractions.{MeetsMesh}
 use Rattle.integer.specs.Tests.{eqZ}
 use Rattle.scope.proofs.Decides.{all-below, equalℤ}
 use Rattle.scope.proofs.Sound.{mesh-passed, lines-passed, field-passed, multipliers-passed}
 use Rattle.scope.proofs.Parts.{parts-bracket, open-rows-count}
+use Rattle.scope.proofs.AcceptedMultipliers.{sums-printed, multipliers-as-printed}
 use Rattle.scope.proofs.AcceptedFractions.{mesh-fractions}
 
 -- ---- what passes is accepted
@@ -64,6 +66,15 @@ sheet-multipliers = multipliers-accepted workedMesh sheet refl refl refl refl
 pub sheet-sums : (liveSum (multiplier workedMesh sheet) (rowsOf workedMesh) ≡ pos 30) × (limitSum (multiplier workedMesh sheet) (rowsOf workedMesh) ≡ pos 600)
 unfolding computed zeros workedMesh workedStresses workedMultipliers workedClaim multipliersAlone sheet sheet19 sheet29
 sheet-sums = (refl, refl)
+
+-- the same as sums over the printed rows
+pub sheet-printed : (printedLive workedMesh (multiplier workedMesh sheet) ≡ pos 30) × (printedLimit workedMesh (multiplier workedMesh sheet) ≡ pos 600)
+sheet-printed = let sums = sums-printed workedMesh sheet (sheet-multipliers .mesh) in (sym (sums .live) ∙ sheet-sums .0, sym (sums .limit) ∙ sheet-sums .1)
+
+-- the t column of node 3, as printed
+pub sheet-column-9 : printedColumn workedMesh (multiplier workedMesh sheet) (t 2) ≡ pos 0
+unfolding computed zeros workedMesh
+sheet-column-9 = multipliers-as-printed workedMesh sheet .exactly .0 sheet-multipliers .3 .columns 2 (omega arith) .2
 
 -- 20 carried, 600/30 allowed, and no row open
 pub sheet-bracket : PartsBracket workedMesh sheet workedMesh sheet
@@ -152,3 +163,30 @@ fractions-meet = record {
 pub fractions-at-most : pos 38 over pos 2 ≤ᶠ allowed workedMesh sheet
 unfolding fractions
 fractions-at-most = mesh-fractions workedMesh (sheet-field .mesh) .at-most sheet fractions sheet-multipliers fractions-meet
+
+-- ---- meshes that differ in a number of an unfixed part: the same rows, though not the same numbers
+
+pub one-edge-rows : SameRows (oneEdge (pos 0)) (oneEdge (pos 5))
+unfolding computed zeros oneEdge
+one-edge-rows = refl
+
+-- row 4 of each, the unfixed shear at the edge's from-node, has another right side
+pub one-edge-numbers : ¬ (rowsOf (oneEdge (pos 0)) ≡ rowsOf (oneEdge (pos 5)))
+unfolding computed zeros oneEdge
+one-edge-numbers e = let z : _≡_ {A = ℤ} (pos 0) (pos 5) = ap (λ (rs : List Row). rowAt rs 3 .right) e in let y : _≡_ {A = ℕ} 0 5 = cc in omega arith
+
+-- a field on the one mesh and multipliers on the other
+pub free-field : FieldAccepted (freeShear (pos 0)) sheet19
+unfolding computed zeros freeShear workedStresses workedMultipliers workedClaim sheet19
+free-field = field-accepted (freeShear (pos 0)) sheet19 refl refl refl refl
+
+pub free-multipliers : MultipliersAccepted (freeShear (pos 5)) sheet
+unfolding computed zeros freeShear workedStresses workedMultipliers workedClaim sheet
+free-multipliers = multipliers-accepted (freeShear (pos 5)) sheet refl refl refl refl
+
+pub free-rows : SameRows (freeShear (pos 0)) (freeShear (pos 5))
+unfolding computed zeros freeShear
+free-rows = refl
+
+pub free-bracket : PartsBracket (freeShear (pos 0)) sheet19 (freeShear (pos 5)) sheet
+free-bracket = parts-bracket (freeShear (pos 0)) sheet19 (freeShear (pos 5)) sheet free-rows free-field free-multipliers

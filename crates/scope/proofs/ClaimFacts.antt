@@ -14,7 +14,7 @@ use Rattle.integer.specs.Order.{≤ℤ-pos}
 use Rattle.integer.specs.Tests.{eqZ, yes-eqZ, no-eqZ}
 use Rattle.scope.specs.Columns.{Limit, between, free, upTo, at, hasField, hasMultipliers, n, l}
 use Rattle.scope.specs.Layout.{Group, Layout, width, groups, numberCount, numbersBefore, entry}
-use Rattle.scope.specs.Mesh.{nodes, elements, edges, sides}
+use Rattle.scope.specs.Mesh.{nodes, elements, edges, sides, equalityCount}
 use Rattle.scope.specs.Claim.{claimHeader, ifThere, stressLines, elementMultipliers, edgeMultipliers, strengthMultipliers, claimLayout, stress, multiplier}
 use Rattle.scope.specs.Sound.{Within, PartsFit, LinesSound}
 use Rattle.scope.specs.Facts.{Between, MeshFacts, ClaimFacts}
@@ -157,13 +157,13 @@ module _ (m c : List ℤ) (s : LinesSound (claimLayout m) c) where
       by-flag (inl e) = size-without f (λ d. let z : _≡_ {A = ℕ} 0 1 = cc in omega arith)
       by-flag (inr e) = size-with f e
 
-      equality : at c 1 ≡ pos 1 → (k : ℕ) → k < elements m * 2 + edges m * 4 → Dec (k < elements m * 2) → Between (negℤ (pos 100000)) (pos 100000) (multiplier m c k)
+      equality : at c 1 ≡ pos 1 → (k : ℕ) → k < equalityCount m → Dec (k < elements m * 2) → Between (negℤ (pos 100000)) (pos 100000) (multiplier m c k)
       equality e k h (yes d) = elementPart k (omega (arith, part-is e (elements m)))
       equality e k h (no d) =
           subst (λ (i : ℕ). Between (negℤ (pos 100000)) (pos 100000) (multiplier m c i)) (omega (arith, part-is e (elements m)))
           (edgePart (k - elements m * 2) (omega (arith, part-is e (edges m))))
 
-      strength : at c 1 ≡ pos 1 → (k : ℕ) → k < nodes m * sides m → Between (pos 0) (pos 10000) (multiplier m c (elements m * 2 + edges m * 4 + k))
+      strength : at c 1 ≡ pos 1 → (k : ℕ) → k < nodes m * sides m → Between (pos 0) (pos 10000) (multiplier m c (equalityCount m + k))
       strength e k h =
           subst (λ (i : ℕ). Between (pos 0) (pos 10000) (multiplier m c i)) (omega (arith, part-is e (elements m), part-is e (edges m)))
           (strengthPart (some-sides (f .counts)) k (subst (λ (i : ℕ). k < i * sides m) (sym (part-is e (nodes m))) h))

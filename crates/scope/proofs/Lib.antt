@@ -3,8 +3,11 @@ pub mod Checks
 pub mod Decides
 pub mod Lines
 pub mod Sound
+pub mod Phases
 pub mod Refusals
 pub mod Exactly
+pub mod PlaceKinds
+pub mod LineRefusals
 pub mod Facts
 pub mod ClaimFacts
 pub mod PolygonRule
@@ -19,8 +22,13 @@ pub mod Columns
 pub mod Bracket
 pub mod Fractions
 pub mod RowCounts
+pub mod RowNumbers
+pub mod PrintedColumns
+pub mod RefusedRows
 pub mod OpenPlaces
+pub mod SameRows
 pub mod Parts
+pub mod AcceptedMultipliers
 pub mod AcceptedFractions
 pub mod InOrder
 pub mod SumBounds

@@ -20,7 +20,6 @@ use Rattle.scope.specs.Sums.{isOpen, openRows}
 use Rattle.scope.specs.Claim.{stress, multiplier}
 use Rattle.scope.specs.Verdict.{rowAt, openCount}
 use Rattle.scope.specs.Sound.{NoneOnUnfixed, MeshSound}
-use Rattle.scope.specs.Meets.{FieldMeets}
 use Rattle.scope.specs.Accepted.{FieldAccepted, MultipliersAccepted}
 use Rattle.scope.specs.Facts.{MeshFacts, ClaimFacts}
 use Rattle.scope.specs.Bracket.{NodesNamed, MultipliersMeet, Bracket}
@@ -32,6 +31,7 @@ use Rattle.scope.proofs.OpenPlaces.{number-of}
 use Rattle.scope.proofs.RowCounts.{equality-count, equality-kind, strength-count, strength-kind}
 use Rattle.scope.proofs.Columns.{mesh-columns}
 use Rattle.scope.proofs.Bracket.{is-open, bracket}
+use Rattle.scope.proofs.SameRows.{same-met}
 
 -- ---- rows by their place in both lists
 
@@ -139,7 +139,7 @@ pub parts-bracket : (m c d k : List ℤ) → SameRows m d → FieldAccepted m c 
 unfolding carried allowed
 parts-bracket m c d k same f w =
     let sums : Bracket (stress m c) (l c) (n c) (multiplier d k) (rowsOf d) =
-    bracket (stress m c) (l c) (n c) (multiplier d k) (rowsOf d) (3 * nodes d) (mesh-columns d (nodes-named d (w .mesh))) (subst (FieldMeets (stress m c) (l c) (n c)) same (f .meets)) (multipliers-meet d k w) in
+    bracket (stress m c) (l c) (n c) (multiplier d k) (rowsOf d) (3 * nodes d) (mesh-columns d (nodes-named d (w .mesh))) (same-met m d same (stress m c) (l c) (n c) (f .meets)) (multipliers-meet d k w) in
     record {
       n-above-0 = field-n m c f;
       m-above-0 = w .meet .live;

@@ -12,13 +12,14 @@ use Rattle.integer.specs.Tests.{eqZ}
 use Rattle.integer.specs.Order.{by-nn, nn-diff}
 use Rattle.scope.proofs.Lists.{in-joined, in-count, of-count, each-nil, each-cons, each-++, each-map, each-joined}
 use Rattle.scope.proofs.Decides.{Decides, either, equalℤ}
-use Rattle.scope.specs.Mesh.{elements, edges, sides, p, q, h, cohesion, deadX, deadY, liveX, liveY, elementSoil, edgeEntry, fromNode, toNode}
+use Rattle.scope.specs.Mesh.{elements, edges, sides, p, q, h, cohesion, deadX, deadY, liveX, liveY, x, y, corner, elementSoil, edgeEntry, fromNode, toNode}
 use Rattle.scope.specs.Polygon.{Polygon, Side, polygonSides, polygonOf}
 use Rattle.scope.specs.Rows.{rowsOf, equalityRows, balanceRows, sideRows, strengthPairs, strengthRows, pairRows, asked, unfixed, Row, Pair, sx, sy, t, countFrom, joined, node, riseAcross, runAcross, twiceArea, balanceX, balanceY, stepX, stepY, stepSquare, normalRow, shearRow, fixedIf, cross, strengthRow}
 use Rattle.scope.specs.Sums.{weightedSum, leftSide, rightSide}
 use Rattle.scope.specs.Members.{_∈_}
 use Rattle.scope.specs.Meets.{Asks, RowMet, FieldMeets}
-use Rattle.scope.specs.Printed.{BalanceXAt, BalanceYAt, NormalAt, ShearAt, StrengthAt, MeetsPrinted}
+use Rattle.scope.specs.PrintedColumns.{lessX, lessY, lessNormal, lessShear, RowsPrinted}
+use Rattle.scope.specs.Printed.{forceX, forceY, deviator, resistance, BalanceXAt, BalanceYAt, NormalAt, ShearAt, StrengthAt, MeetsPrinted}
 
 same-equation : {a b c d : ℤ} → a -ℤ b ≡ c -ℤ d → (a ≡ b) ↔ (c ≡ d)
 same-equation {a} {b} {c} {d} e = (
@@ -26,8 +27,10 @@ same-equation {a} {b} {c} {d} e = (
   λ f. ring-from (pos 1) f (e ∙ ring (c ∷ d ∷ []) (search terms depth 100) refl),
 )
 
-same-inequality : {a b c d : ℤ} → b -ℤ a ≡ d -ℤ c → (a ≤ℤ b) ↔ (c ≤ℤ d)
-same-inequality e = (λ f. by-nn (nn-diff f) (sym e), λ f. by-nn (nn-diff f) e)
+same-inequality : {a b c d : ℤ} → a -ℤ b ≡ c -ℤ d → (a ≤ℤ b) ↔ (c ≤ℤ d)
+same-inequality {a} {b} {c} {d} e =
+    let turned : b -ℤ a ≡ d -ℤ c = ring-from (negℤ (pos 1)) e (ring (a ∷ b ∷ c ∷ d ∷ []) (search terms depth 100) refl) in
+    (λ f. by-nn (nn-diff f) (sym turned), λ f. by-nn (nn-diff f) turned)
 
 -- a row of an edge asks its equation where the edge fixes it
 if-fixed : {B : Type 0} {a b : ℤ} (what fixed : ℤ) → ((a ≡ b) ↔ B) → Asks (fixedIf what fixed) a b ↔ ((fixed ≡ what) ⊎ (fixed ≡ pos 3) → B)
@@ -39,13 +42,13 @@ if-fixed {B} {a} {b} what fixed e = go (eqZ fixed what || eqZ fixed (pos 3)) (ei
     go false d = (λ h k. absurd (d .passes k), λ h. tt)
 
 -- the body force: a sum L of stresses with l moved to it and n taken out
-with-force : (S : ℤ) {L : ℤ} (D F f n l : ℤ) → S ≡ L → (S +ℤ D *ℤ f *ℤ l ≡ negℤ (D *ℤ F) *ℤ n) ↔ (L ≡ negℤ D *ℤ (n *ℤ F +ℤ l *ℤ f))
-with-force S {L} D F f n l e = same-equation (ring-from (pos 1) e (ring (S ∷ L ∷ D ∷ F ∷ f ∷ n ∷ l ∷ []) (search terms depth 100) refl))
+with-force : (S : ℤ) {L : ℤ} (D F f n l : ℤ) → S ≡ L → S +ℤ D *ℤ f *ℤ l -ℤ negℤ (D *ℤ F) *ℤ n ≡ L -ℤ negℤ D *ℤ (n *ℤ F +ℤ l *ℤ f)
+with-force S {L} D F f n l e = ring-from (pos 1) e (ring (S ∷ L ∷ D ∷ F ∷ f ∷ n ∷ l ∷ []) (search terms depth 100) refl)
 
 -- the two sides of a strength row, with k for ad - bc and (e, f) for (c - a, d - b)
 strength-sides : (r h k e f p q C n sx sy t l : ℤ)
-    → k *ℤ (pos 2 *ℤ q *ℤ C) *ℤ n -ℤ ((r *ℤ h *ℤ f +ℤ k *ℤ p) *ℤ sx +ℤ ((k *ℤ p -ℤ r *ℤ h *ℤ f) *ℤ sy +ℤ (negℤ (pos 2 *ℤ (r *ℤ h *ℤ e)) *ℤ t +ℤ pos 0)) +ℤ pos 0 *ℤ l)
-    ≡ k *ℤ (pos 2 *ℤ q *ℤ C *ℤ n -ℤ p *ℤ (sx +ℤ sy)) -ℤ r *ℤ h *ℤ (f *ℤ (sx -ℤ sy) -ℤ pos 2 *ℤ e *ℤ t)
+    → (r *ℤ h *ℤ f +ℤ k *ℤ p) *ℤ sx +ℤ ((k *ℤ p -ℤ r *ℤ h *ℤ f) *ℤ sy +ℤ (negℤ (pos 2 *ℤ (r *ℤ h *ℤ e)) *ℤ t +ℤ pos 0)) +ℤ pos 0 *ℤ l -ℤ k *ℤ (pos 2 *ℤ q *ℤ C) *ℤ n
+    ≡ r *ℤ h *ℤ (f *ℤ (sx -ℤ sy) -ℤ pos 2 *ℤ e *ℤ t) -ℤ k *ℤ (pos 2 *ℤ q *ℤ C *ℤ n -ℤ p *ℤ (sx +ℤ sy))
 strength-sides r h k e f p q C n sx sy t l = ring (r ∷ h ∷ k ∷ e ∷ f ∷ p ∷ q ∷ C ∷ n ∷ sx ∷ sy ∷ t ∷ l ∷ []) (both-sides (search terms depth 100) (search terms depth 100)) refl
 
 -- the rows of an element, of an edge and of a pair among the rows of the mesh
@@ -71,32 +74,59 @@ module _ (m : List ℤ) where
   of-pair a k j = Memᴰ·append-right (equalityRows m) (in-joined (pairRows (polygonOf (sides m)) m) (strengthPairs m) k j)
 
 module _ (m : List ℤ) (s : ℕ → ℤ) (l n : ℤ) where
-  pub balance-x : (e : ℕ) → RowMet s l n (balanceX m e) ↔ BalanceXAt m s l n e
+  -- ---- left minus right
+
+  row-x : (e : ℕ) → leftSide s l (balanceX m e) -ℤ rightSide n (balanceX m e) ≡ lessX m s l n e
   unfolding balanceX leftSide rightSide weightedSum joined countFrom riseAcross runAcross node
-  balance-x e =
-      with-force (weightedSum s (balanceX m e .entries)) (twiceArea m e) (deadX m (elementSoil m e)) (liveX m (elementSoil m e)) n l (simp (+ℤ-assoc, +ℤ-idr))
+  row-x e =
+      let forces : weightedSum s (balanceX m e .entries) ≡ forceX (λ i. x m (corner m e i)) (λ i. y m (corner m e i)) (λ i. s (sx (corner m e i))) (λ i. s (t (corner m e i))) = simp (+ℤ-assoc, +ℤ-idr) in
+      with-force (weightedSum s (balanceX m e .entries)) (twiceArea m e) (deadX m (elementSoil m e)) (liveX m (elementSoil m e)) n l forces
+
+  row-y : (e : ℕ) → leftSide s l (balanceY m e) -ℤ rightSide n (balanceY m e) ≡ lessY m s l n e
+  unfolding balanceY leftSide rightSide weightedSum joined countFrom riseAcross runAcross node
+  row-y e =
+      let forces : weightedSum s (balanceY m e .entries) ≡ forceY (λ i. x m (corner m e i)) (λ i. y m (corner m e i)) (λ i. s (sy (corner m e i))) (λ i. s (t (corner m e i))) = simp (+ℤ-assoc, +ℤ-idr) in
+      with-force (weightedSum s (balanceY m e .entries)) (twiceArea m e) (deadY m (elementSoil m e)) (liveY m (elementSoil m e)) n l forces
+
+  row-normal : (g v : ℕ) → leftSide s l (normalRow m g v) -ℤ rightSide n (normalRow m g v) ≡ lessNormal m s l n g v
+  unfolding normalRow leftSide rightSide weightedSum stepSquare
+  row-normal g v = ring (stepX m g ∷ stepY m g ∷ s (sx v) ∷ s (sy v) ∷ s (t v) ∷ edgeEntry m g 3 ∷ edgeEntry m g 5 ∷ n ∷ l ∷ []) (search terms depth 100) refl
+
+  row-shear : (g v : ℕ) → leftSide s l (shearRow m g v) -ℤ rightSide n (shearRow m g v) ≡ lessShear m s l n g v
+  unfolding shearRow leftSide rightSide weightedSum stepSquare
+  row-shear g v = ring (stepX m g ∷ stepY m g ∷ s (sx v) ∷ s (sy v) ∷ s (t v) ∷ edgeEntry m g 4 ∷ edgeEntry m g 6 ∷ n ∷ l ∷ []) (search terms depth 100) refl
+
+  row-strength : (r : ℤ) (a : Pair) (d : Side)
+      → leftSide s l (strengthRow r (p m (a .soil)) (q m (a .soil)) (h m (a .soil)) (cohesion m (a .soil)) (a .at) d) -ℤ rightSide n (strengthRow r (p m (a .soil)) (q m (a .soil)) (h m (a .soil)) (cohesion m (a .soil)) (a .at) d)
+      ≡ deviator r d (h m (a .soil)) (s (sx (a .at))) (s (sy (a .at))) (s (t (a .at))) -ℤ resistance d (p m (a .soil)) (q m (a .soil)) (cohesion m (a .soil)) n (s (sx (a .at))) (s (sy (a .at)))
+  unfolding strengthRow leftSide rightSide weightedSum cross
+  row-strength r a d =
+      strength-sides r (h m (a .soil)) (cross (d .from) (d .to)) (d .to .px -ℤ d .from .px) (d .to .py -ℤ d .from .py) (p m (a .soil)) (q m (a .soil)) (cohesion m (a .soil)) n (s (sx (a .at))) (s (sy (a .at))) (s (t (a .at))) l
+
+  pub rows-printed : RowsPrinted m s l n
+  rows-printed = record { balance-x = row-x; balance-y = row-y; normal = row-normal; shear = row-shear; strength = row-strength (polygonOf (sides m) .radius) }
+
+  -- ---- what is asked
+
+  pub balance-x : (e : ℕ) → RowMet s l n (balanceX m e) ↔ BalanceXAt m s l n e
+  unfolding balanceX
+  balance-x e = same-equation (row-x e)
 
   pub balance-y : (e : ℕ) → RowMet s l n (balanceY m e) ↔ BalanceYAt m s l n e
-  unfolding balanceY leftSide rightSide weightedSum joined countFrom riseAcross runAcross node
-  balance-y e =
-      with-force (weightedSum s (balanceY m e .entries)) (twiceArea m e) (deadY m (elementSoil m e)) (liveY m (elementSoil m e)) n l (simp (+ℤ-assoc, +ℤ-idr))
+  unfolding balanceY
+  balance-y e = same-equation (row-y e)
 
   pub normal : (g v : ℕ) → RowMet s l n (normalRow m g v) ↔ NormalAt m s l n g v
-  unfolding normalRow leftSide rightSide weightedSum stepSquare
-  normal g v =
-      if-fixed (pos 1) (edgeEntry m g 2)
-      (same-equation (ring (stepX m g ∷ stepY m g ∷ s (sx v) ∷ s (sy v) ∷ s (t v) ∷ edgeEntry m g 3 ∷ edgeEntry m g 5 ∷ n ∷ l ∷ []) (search terms depth 100) refl))
+  unfolding normalRow
+  normal g v = if-fixed (pos 1) (edgeEntry m g 2) (same-equation (row-normal g v))
 
   pub shear : (g v : ℕ) → RowMet s l n (shearRow m g v) ↔ ShearAt m s l n g v
-  unfolding shearRow leftSide rightSide weightedSum stepSquare
-  shear g v =
-      if-fixed (pos 2) (edgeEntry m g 2)
-      (same-equation (ring (stepX m g ∷ stepY m g ∷ s (sx v) ∷ s (sy v) ∷ s (t v) ∷ edgeEntry m g 4 ∷ edgeEntry m g 6 ∷ n ∷ l ∷ []) (search terms depth 100) refl))
+  unfolding shearRow
+  shear g v = if-fixed (pos 2) (edgeEntry m g 2) (same-equation (row-shear g v))
 
   pub strength : (r : ℤ) (a : Pair) (d : Side) → RowMet s l n (strengthRow r (p m (a .soil)) (q m (a .soil)) (h m (a .soil)) (cohesion m (a .soil)) (a .at) d) ↔ StrengthAt m s l n r a d
-  unfolding strengthRow leftSide rightSide weightedSum cross
-  strength r a d =
-      same-inequality (strength-sides r (h m (a .soil)) (cross (d .from) (d .to)) (d .to .px -ℤ d .from .px) (d .to .py -ℤ d .from .py) (p m (a .soil)) (q m (a .soil)) (cohesion m (a .soil)) n (s (sx (a .at))) (s (sy (a .at))) (s (t (a .at))) l)
+  unfolding strengthRow
+  strength r a d = same-inequality (row-strength r a d)
 
   pub pair-rows : (g : Polygon) (a : Pair) → FieldMeets s l n (pairRows g m a) ↔ ((d : Side) → d ∈ polygonSides (g .corners) → StrengthAt m s l n (g .radius) a d)
   unfolding pairRows

@@ -1,156 +1,236 @@
--- Each refusal with its place comes exactly when document 01's table says: composed from one law for a check, one for checks in order, and one for the lowest place.
-use mathlib.Core.Path.{_≡_, refl, subst₂}
+-- Each refusal with its place comes exactly when document 01's table says: the checks of the verdict are those of the phases, whose tests decide their statements, and one law says the rest.
+use mathlib.Core.Path.{_≡_, refl, sym, _∙_, ap, ap₂, subst}
 use mathlib.Core.Logic.{_⊎_, inl, inr}
-use mathlib.Core.Bool.{Bool}
-use mathlib.Core.List.{List, [], _∷_}
-use Prim.Native.Nat.{ℕ, suc, _<_, _≤_}
-use lib.IntN.{ℤ}
-use lib.Dec.{eqb}
+use mathlib.Core.Bool.{Bool, true, false}
+use mathlib.Core.List.{List, [], _∷_, _++_}
+use Prim.Native.Nat.{ℕ, zero, suc, _*_, _<_, _≤_}
+use native.Mathlib.Omega.{arith}
+use lib.IntN.{ℤ, pos}
+use lib.Dec.{eqb, leb}
+use lib.Signed.{ltZ}
 use lib.ListN.{length}
+use Rattle.integer.specs.Tests.{eqZ}
 use Rattle.scope.specs.declared.Place.{Place}
-use Rattle.scope.specs.declared.Place.the-variants.{Line, Node, Element}
-use Rattle.scope.specs.Checks.{demand, lowest}
-use Rattle.scope.specs.Columns.{Rule, ruleNumber, allWithin}
+use Rattle.scope.specs.declared.Place.the-variants.{Line, Row, Column, Node, Element}
+use Rattle.scope.specs.declared.Outcome.{Outcome}
+use Rattle.scope.specs.declared.Outcome.the-variants.{Passed, Refused}
+use Rattle.scope.specs.Checks.{demand, _then_, lowest}
+use Rattle.scope.specs.Columns.{Rule, ruleNumber, allWithin, ruleTest, at, hasField, hasMultipliers, n, l}
 use Rattle.scope.specs.Layout.{Layout, width, groups, lineCount, numberCount, rulesHold, lineCheck, lineAt, linesCheck}
 use Rattle.scope.specs.Mesh.{meshLayout, nodes, elements, edges, edgeLine}
-use Rattle.scope.specs.Verdict.{turnsCheck, sidesCheck, nodesCheck, edgesCheck, shapeCheck, meshCheck}
-use Rattle.scope.specs.Sound.{Says, numbersAt, groupAt, Complete, InLimits, LineSound, LinesSound, LeftTurns, OwnSides, InElement, OuterEdge}
-use Rattle.scope.specs.Refusals.{Below, FirstFailing, LineRefusal, missing, outside, broken, left-over, MeshRefusal, in-line, no-left-turn, side-again, in-none, no-edge}
-use Rattle.scope.proofs.Checks.{passed-is-not-refused}
-use Rattle.scope.proofs.Decides.{Decides, equal, at-most, Passes, one-check, and-then, at-each, Refuses, told-as, one-refusal, then-refusal, lowest-refusal}
-use Rattle.scope.proofs.Sound.{all-within, rule-says, line-passed, lines-passed, left-turns, own-sides, in-element, outer-edge}
+use Rattle.scope.specs.Claim.{claimLayout, ifThere, stress, multiplier}
+use Rattle.scope.specs.Rows.{equalityRows, strengthRows, rowsOf}
+use Rattle.scope.specs.Sums.{rowHolds, zeroIfUnfixed, columnSum, liveSum}
+use Rattle.scope.specs.Verdict.{leftTurns, ownSides, inElement, outerEdge, rowAt, turnsCheck, sidesCheck, nodesCheck, edgesCheck, shapeCheck, meshCheck, claimCheck, fieldCheck, multipliersCheck, ifPart, partsCheck}
+use Rattle.scope.specs.Sound.{Says, AllSay, numbersAt, groupAt, LineSound, LinesSound, LeftTurns, OwnSides, InElement, OuterEdge, MeshSound}
+use Rattle.scope.specs.Phases.{Phase, phase, Below, AllHold, FirstFails, Everywhere, AllPass, RefusedBy, checkSteps, checkPhase, checkPhases}
+use Rattle.scope.specs.Refusals.{ruleSteps, lineSteps, linePhases, shapePhases, meshPhases, HasField, HasMultipliers, RowsMet, ColumnsMet, EqualityMet, StrengthMet, UnfixedFree, ColumnZero, LiveAbove, fieldPhases, multiplierPhases, claimPhases, LineRefusal, MeshRefusal, Refusal}
+use Rattle.scope.proofs.Checks.{then-assoc, then-Passed, lowest-cong}
+use Rattle.scope.proofs.Decides.{Decides, equal, at-most, equalℤ, belowℤ, Passes, put-as, Refuses}
+use Rattle.scope.proofs.Sound.{all-within, rule-says, left-turns, own-sides, in-element, outer-edge, row-meets, none-on-unfixed}
+use Rattle.scope.proofs.Phases.{Exact, exact-as, DecidedSteps, Decided, phases-exact, check-join, pass-join, pass-parts, decided-join}
+
+-- ---- one step at each place
+
+alone : (number count : ℕ) (Holds : ℕ → Type 0) (test : ℕ → Bool) (place : ℕ → Place) → checkPhase (phase number count Holds test place) ≡ lowest (λ k. demand (test k) number (place k)) count
+unfolding checkPhase checkSteps
+alone number count Holds test place = lowest-cong (λ k. demand (test k) number (place k) then Passed) (λ k. demand (test k) number (place k)) count (λ k h. then-Passed (demand (test k) number (place k)))
+
+-- and where it is the last
+last : (number count : ℕ) (Holds : ℕ → Type 0) (test : ℕ → Bool) (place : ℕ → Place) → checkPhases (phase number count Holds test place ∷ []) ≡ lowest (λ k. demand (test k) number (place k)) count
+unfolding checkPhases
+last number count Holds test place = then-Passed (checkPhase (phase number count Holds test place)) ∙ alone number count Holds test place
 
 -- ---- lines
 
--- a refusal by the number k and the place q
-pub at-place : (R : ℕ → Place → Type 0) {k c : ℕ} {q p : Place} → R k q → k ≡ c → q ≡ p → R c p
-at-place R r e d = subst₂ R e d r
+rules-checked : (rs : List Rule) (line : List ℤ) (p : Place) → checkSteps (ruleSteps rs line) p ≡ rulesHold rs line p
+unfolding checkSteps rulesHold
+rules-checked [] line p = refl
+rules-checked (r ∷ rs) line p = ap (λ o. demand (ruleTest r line) (ruleNumber r) p then o) (rules-checked rs line p)
 
-rules-refusal : (rs : List Rule) (line : List ℤ) (q : Place) → Refuses (rulesHold rs line q) (λ c p. FirstFailing rs line c × (q ≡ p))
-unfolding rulesHold
-rules-refusal [] line q = record { why = λ c p e. passed-is-not-refused e; refused = λ c p r. absurd (r .0) }
-rules-refusal (r ∷ rs) line q =
-    told-as
-    (then-refusal (one-check (rule-says r line) (ruleNumber r) q) (one-refusal (rule-says r line) (ruleNumber r) q) (rules-refusal rs line q))
-    to
-    from
-  where
-    to : (c : ℕ) (p : Place) → ((¬ Says r line) × (ruleNumber r ≡ c) × (q ≡ p)) ⊎ (Says r line × (FirstFailing rs line c × (q ≡ p))) → FirstFailing (r ∷ rs) line c × (q ≡ p)
-    to c p (inl h) = (inl (h .0, h .1), h .2)
-    to c p (inr h) = (inr (h .0, h .1 .0), h .1 .1)
+rules-decided : (rs : List Rule) (line : List ℤ) → DecidedSteps (ruleSteps rs line)
+rules-decided [] line = tt
+rules-decided (r ∷ rs) line = (rule-says r line, λ h. rules-decided rs line)
 
-    from : (c : ℕ) (p : Place) → FirstFailing (r ∷ rs) line c × (q ≡ p) → ((¬ Says r line) × (ruleNumber r ≡ c) × (q ≡ p)) ⊎ (Says r line × (FirstFailing rs line c × (q ≡ p)))
-    from c p (inl h, e) = inl (h .0, h .1, e)
-    from c p (inr h, e) = inr (h .0, (h .1, e))
+rules-say : (rs : List Rule) (line : List ℤ) → AllHold (ruleSteps rs line) → AllSay rs line
+rules-say [] line h = tt
+rules-say (r ∷ rs) line h = (h .0, rules-say rs line (h .1))
+
+say-rules : (rs : List Rule) (line : List ℤ) → AllSay rs line → AllHold (ruleSteps rs line)
+say-rules [] line h = tt
+say-rules (r ∷ rs) line h = (h .0, say-rules rs line (h .1))
 
 module _ (f : Layout) (ns : List ℤ) where
-  -- how line k is refused
-  abbrev AtLine : ℕ → ℕ → Place → Type 0
-  AtLine k c p =
-      (((¬ Complete f ns k) × (f .formNumber ≡ c) × (Line (suc k) ≡ p)) ⊎ (Complete f ns k × ((¬ InLimits f ns k) × (f .limitNumber ≡ c) × (Line (suc k) ≡ p))))
-      ⊎ ((Complete f ns k × InLimits f ns k) × (FirstFailing (groupAt f ns k .rules) (numbersAt f ns k) c × (Line (suc k) ≡ p)))
+  line-checked : (k : ℕ) → checkSteps (lineSteps f ns k) (Line (suc k)) ≡ lineAt f ns k
+  unfolding checkSteps lineAt lineCheck numbersAt groupAt
+  line-checked k =
+      let p = Line (suc k) in
+      let form = demand (eqb (length (numbersAt f ns k)) (width (groupAt f ns k))) (f .formNumber) p in
+      let limits = demand (allWithin (groupAt f ns k .limits) (numbersAt f ns k)) (f .limitNumber) p in
+      ap (λ o. form then (limits then o)) (rules-checked (groupAt f ns k .rules) (numbersAt f ns k) p)
+      ∙ sym (then-assoc form limits (rulesHold (groupAt f ns k .rules) (numbersAt f ns k) p))
 
-  line-refusal : (k : ℕ) → Refuses (lineAt f ns k) (AtLine k)
-  unfolding lineAt lineCheck numbersAt groupAt
-  line-refusal k =
-      then-refusal (and-then complete limits)
-      (then-refusal complete (one-refusal full (f .formNumber) (Line (suc k))) (one-refusal within (f .limitNumber) (Line (suc k))))
-      (rules-refusal (groupAt f ns k .rules) (numbersAt f ns k) (Line (suc k)))
-    where
-      full : Decides (eqb (length (numbersAt f ns k)) (width (groupAt f ns k))) (Complete f ns k)
-      full = equal (length (numbersAt f ns k)) (width (groupAt f ns k))
+  lines-checked : checkPhases (linePhases f ns) ≡ linesCheck f ns
+  unfolding checkPhases checkPhase linesCheck lowest
+  lines-checked =
+      ap₂ _then_
+      (lowest-cong (λ k. checkSteps (lineSteps f ns k) (Line (suc k))) (lineAt f ns) (lineCount (groups f ns)) (λ k h. line-checked k))
+      (last (f .formNumber) 1 (λ k. length ns ≤ numberCount (groups f ns)) (λ k. leb (length ns) (numberCount (groups f ns))) (λ k. Line (suc (lineCount (groups f ns)))))
 
-      within : Decides (allWithin (groupAt f ns k .limits) (numbersAt f ns k)) (InLimits f ns k)
-      within = all-within (groupAt f ns k .limits) (numbersAt f ns k)
+  lines-decided : Decided (linePhases f ns)
+  lines-decided = (
+    λ k h b. (
+      equal (length (numbersAt f ns k)) (width (groupAt f ns k)),
+      λ c. (all-within (groupAt f ns k .limits) (numbersAt f ns k), λ i. rules-decided (groupAt f ns k .rules) (numbersAt f ns k)),
+    ),
+    λ e. (λ k h b. (at-most (length ns) (numberCount (groups f ns)), λ i. tt), λ i. tt),
+  )
 
-      complete : Passes (demand (eqb (length (numbersAt f ns k)) (width (groupAt f ns k))) (f .formNumber) (Line (suc k))) (Complete f ns k)
-      complete = one-check full (f .formNumber) (Line (suc k))
+  pub line-sound : (k : ℕ) → AllHold (lineSteps f ns k) → LineSound f ns k
+  line-sound k r = record { complete = r .0; inLimits = r .1 .0; rulesHold = rules-say (groupAt f ns k .rules) (numbersAt f ns k) (r .1 .1) }
 
-      limits : Passes (demand (allWithin (groupAt f ns k .limits) (numbersAt f ns k)) (f .limitNumber) (Line (suc k))) (InLimits f ns k)
-      limits = one-check within (f .limitNumber) (Line (suc k))
+  pub lines-sound : AllPass (linePhases f ns) → LinesSound f ns
+  lines-sound a = record {
+    lines = λ k h. line-sound k (a .0 k h);
+    noneLeft = a .1 .0 0 (omega arith) .0;
+  }
 
-  abbrev InLines : ℕ → Place → Type 0
-  InLines c p =
-      ((k : ℕ) × (k < lineCount (groups f ns)) × Below k (LineSound f ns) × AtLine k c p)
-      ⊎ (Below (lineCount (groups f ns)) (LineSound f ns) × ((¬ (length ns ≤ numberCount (groups f ns))) × (f .formNumber ≡ c) × (Line (suc (lineCount (groups f ns))) ≡ p)))
+  pub sound-lines : LinesSound f ns → AllPass (linePhases f ns)
+  sound-lines s = (
+    λ k h. let r = s .lines k h in (r .complete, (r .inLimits, say-rules (groupAt f ns k .rules) (numbersAt f ns k) (r .rulesHold))),
+    (λ k h. (s .noneLeft, tt), tt),
+  )
+
+  pub lines-exact : Exact (linesCheck f ns) (LinesSound f ns) (LineRefusal f ns)
+  lines-exact = subst (λ o. Exact o (LinesSound f ns) (LineRefusal f ns)) lines-checked (exact-as (phases-exact (linePhases f ns) lines-decided) lines-sound sound-lines (λ c p r. record { by = r }) (λ c p r. r .by))
 
   pub lines-refusal : Refuses (linesCheck f ns) (LineRefusal f ns)
-  unfolding linesCheck
-  lines-refusal =
-      told-as
-      (then-refusal (at-each (line-passed f ns) (lineCount (groups f ns)))
-      (lowest-refusal (line-passed f ns) line-refusal (lineCount (groups f ns)))
-      (one-refusal (at-most (length ns) (numberCount (groups f ns))) (f .formNumber) (Line (suc (lineCount (groups f ns))))))
-      to
-      from
-    where
-      to : (c : ℕ) (p : Place) → InLines c p → LineRefusal f ns c p
-      to c p (inl (k, l, b, inl (inl h))) = at-place (LineRefusal f ns) (missing k l b (h .0)) (h .1) (h .2)
-      to c p (inl (k, l, b, inl (inr h))) = at-place (LineRefusal f ns) (outside k l b (h .0) (h .1 .0)) (h .1 .1) (h .1 .2)
-      to c p (inl (k, l, b, inr h)) = at-place (LineRefusal f ns) (broken k c l b (h .0 .0) (h .0 .1) (h .1 .0)) refl (h .1 .1)
-      to c p (inr h) = at-place (LineRefusal f ns) (left-over (h .0) (h .1 .0)) (h .1 .1) (h .1 .2)
-
-      from : (c : ℕ) (p : Place) → LineRefusal f ns c p → InLines c p
-      from c p (missing k l b h) = inl (k, l, b, inl (inl (h, refl, refl)))
-      from c p (outside k l b d h) = inl (k, l, b, inl (inr (d, (h, refl, refl))))
-      from c p (broken k _ l b d i h) = inl (k, l, b, inr ((d, i), (h, refl)))
-      from c p (left-over b h) = inr (b, (h, refl, refl))
+  lines-refusal = lines-exact .refuses
 
 -- ---- the mesh
 
--- the statements of 5, 6, 7 and 8, each with its lowest place
-abbrev pub AtPlace : ℕ → (ℕ → Place) → (ℕ → Type 0) → ℕ → ℕ → Place → Type 0
-AtPlace number place P n c p = (k : ℕ) × (k < n) × Below k P × ((¬ P k) × (number ≡ c) × (place k ≡ p))
-
-pub phase-refusal : {b : ℕ → Bool} {P : ℕ → Type 0} → ((k : ℕ) → Decides (b k) (P k)) → (number : ℕ) (place : ℕ → Place) (n : ℕ) → Refuses (lowest (λ k. demand (b k) number (place k)) n) (AtPlace number place P n)
-phase-refusal d number place n =
-    lowest-refusal (λ k. one-check (d k) number (place k)) (λ k. one-refusal (d k) number (place k)) n
-
 module _ (m : List ℤ) where
-  abbrev InShape : ℕ → Place → Type 0
-  InShape c p =
-      ((AtPlace 5 (λ e. Element (suc e)) (LeftTurns m) (elements m) c p
-      ⊎ (Below (elements m) (LeftTurns m) × AtPlace 6 (λ e. Element (suc e)) (OwnSides m) (elements m) c p))
-      ⊎ ((Below (elements m) (LeftTurns m) × Below (elements m) (OwnSides m)) × AtPlace 7 (λ v. Node (suc v)) (InElement m) (nodes m) c p))
-      ⊎ (((Below (elements m) (LeftTurns m) × Below (elements m) (OwnSides m)) × Below (nodes m) (InElement m)) × AtPlace 8 (λ g. Line (suc (edgeLine m g))) (OuterEdge m) (edges m) c p)
+  shape-checked : checkPhases (shapePhases m) ≡ shapeCheck m
+  unfolding checkPhases shapeCheck turnsCheck sidesCheck nodesCheck edgesCheck
+  shape-checked =
+      ap₂ _then_ (alone 5 (elements m) (LeftTurns m) (leftTurns m) (λ e. Element (suc e)))
+      (ap₂ _then_ (alone 6 (elements m) (OwnSides m) (ownSides m) (λ e. Element (suc e)))
+      (ap₂ _then_ (alone 7 (nodes m) (InElement m) (inElement m) (λ v. Node (suc v)))
+      (last 8 (edges m) (OuterEdge m) (outerEdge m) (λ g. Line (suc (edgeLine m g))))))
+      ∙ sym (then-assoc (turnsCheck m) (sidesCheck m) (nodesCheck m then edgesCheck m))
+      ∙ sym (then-assoc (turnsCheck m then sidesCheck m) (nodesCheck m) (edgesCheck m))
 
-  shape-refusal : Refuses (shapeCheck m) InShape
-  unfolding turnsCheck sidesCheck nodesCheck edgesCheck shapeCheck
-  shape-refusal =
-      then-refusal (and-then (and-then turns sides) inside)
-      (then-refusal (and-then turns sides)
-      (then-refusal turns
-      (phase-refusal (left-turns m) 5 (λ e. Element (suc e)) (elements m))
-      (phase-refusal (own-sides m) 6 (λ e. Element (suc e)) (elements m)))
-      (phase-refusal (in-element m) 7 (λ v. Node (suc v)) (nodes m)))
-      (phase-refusal (outer-edge m) 8 (λ g. Line (suc (edgeLine m g))) (edges m))
-    where
-      turns : Passes (turnsCheck m) (Below (elements m) (LeftTurns m))
-      turns = at-each (λ e. one-check (left-turns m e) 5 (Element (suc e))) (elements m)
+  mesh-checked : checkPhases (meshPhases m) ≡ meshCheck m
+  unfolding meshCheck
+  mesh-checked = check-join (linePhases meshLayout m) (shapePhases m) ∙ ap₂ _then_ (lines-checked meshLayout m) shape-checked
 
-      sides : Passes (sidesCheck m) (Below (elements m) (OwnSides m))
-      sides = at-each (λ e. one-check (own-sides m e) 6 (Element (suc e))) (elements m)
+  pub mesh-decided : Decided (meshPhases m)
+  mesh-decided =
+      decided-join (linePhases meshLayout m) (shapePhases m) (lines-decided meshLayout m) (λ a. (
+        λ e h b. (left-turns m e, λ i. tt),
+        λ t. (
+          λ e h b. (own-sides m e, λ i. tt),
+          λ s. (
+            λ v h b. (in-element m v, λ i. tt),
+            λ v. (λ g h b. (outer-edge m g, λ i. tt), λ i. tt),
+          ),
+        ),
+      ))
 
-      inside : Passes (nodesCheck m) (Below (nodes m) (InElement m))
-      inside = at-each (λ v. one-check (in-element m v) 7 (Node (suc v))) (nodes m)
+  pub mesh-sound : AllPass (meshPhases m) → MeshSound m
+  mesh-sound a =
+      let (lines, shape) = pass-parts (linePhases meshLayout m) (shapePhases m) a in
+      record {
+        lines = lines-sound meshLayout m lines;
+        leftTurns = λ e h. shape .0 e h .0;
+        ownSides = λ e h. shape .1 .0 e h .0;
+        inElement = λ v h. shape .1 .1 .0 v h .0;
+        outerEdges = λ g h. shape .1 .1 .1 .0 g h .0;
+      }
 
-  abbrev InMesh : ℕ → Place → Type 0
-  InMesh c p = LineRefusal meshLayout m c p ⊎ (LinesSound meshLayout m × InShape c p)
+  pub sound-mesh : MeshSound m → AllPass (meshPhases m)
+  sound-mesh s =
+      pass-join (linePhases meshLayout m) (shapePhases m) (sound-lines meshLayout m (s .lines)) (
+        λ e h. (s .leftTurns e h, tt),
+        (λ e h. (s .ownSides e h, tt), (λ v h. (s .inElement v h, tt), (λ g h. (s .outerEdges g h, tt), tt))),
+      )
+
+  pub mesh-exact : Exact (meshCheck m) (MeshSound m) (MeshRefusal m)
+  mesh-exact = subst (λ o. Exact o (MeshSound m) (MeshRefusal m)) mesh-checked (exact-as (phases-exact (meshPhases m) mesh-decided) mesh-sound sound-mesh (λ c p r. record { by = r }) (λ c p r. r .by))
 
   pub mesh-refusal : Refuses (meshCheck m) (MeshRefusal m)
-  unfolding meshCheck
-  mesh-refusal = told-as (then-refusal (lines-passed meshLayout m) (lines-refusal meshLayout m) shape-refusal) to from
-    where
-      to : (c : ℕ) (p : Place) → InMesh c p → MeshRefusal m c p
-      to c p (inl h) = in-line c p h
-      to c p (inr (s, inl (inl (inl (k, l, b, h))))) = at-place (MeshRefusal m) (no-left-turn k s l b (h .0)) (h .1) (h .2)
-      to c p (inr (s, inl (inl (inr (t, (k, l, b, h)))))) = at-place (MeshRefusal m) (side-again k s t l b (h .0)) (h .1) (h .2)
-      to c p (inr (s, inl (inr ((t, u), (k, l, b, h))))) = at-place (MeshRefusal m) (in-none k s t u l b (h .0)) (h .1) (h .2)
-      to c p (inr (s, inr (((t, u), v), (k, l, b, h)))) = at-place (MeshRefusal m) (no-edge k s t u v l b (h .0)) (h .1) (h .2)
+  mesh-refusal = mesh-exact .refuses
 
-      from : (c : ℕ) (p : Place) → MeshRefusal m c p → InMesh c p
-      from c p (in-line _ _ h) = inl h
-      from c p (no-left-turn k s l b h) = inr (s, inl (inl (inl (k, l, b, (h, refl, refl)))))
-      from c p (side-again k s t l b h) = inr (s, inl (inl (inr (t, (k, l, b, (h, refl, refl))))))
-      from c p (in-none k s t u l b h) = inr (s, inl (inr ((t, u), (k, l, b, (h, refl, refl)))))
-      from c p (no-edge k s t u v l b h) = inr (s, inr (((t, u), v), (k, l, b, (h, refl, refl))))
+-- ---- the claim
+
+-- a part that is absent has no places
+module _ (b : Bool) (number count : ℕ) (Holds : ℕ → Type 0) (test : ℕ → Bool) (place : ℕ → Place) where
+  alone-there : checkPhase (phase number (ifThere b count) Holds test place) ≡ ifPart b (lowest (λ k. demand (test k) number (place k)) count)
+  unfolding ifThere ifPart lowest
+  alone-there = alone number (ifThere b count) Holds test place ∙ by b
+    where
+      by : (b : Bool) → lowest (λ k. demand (test k) number (place k)) (ifThere b count) ≡ ifPart b (lowest (λ k. demand (test k) number (place k)) count)
+      by true = refl
+      by false = refl
+
+  last-there : checkPhases (phase number (ifThere b count) Holds test place ∷ []) ≡ ifPart b (lowest (λ k. demand (test k) number (place k)) count)
+  unfolding checkPhases
+  last-there = then-Passed (checkPhase (phase number (ifThere b count) Holds test place)) ∙ alone-there
+
+two-there : (b : Bool) (x y : Outcome) → ifPart b x then ifPart b y ≡ ifPart b (x then y)
+unfolding ifPart
+two-there true x y = refl
+two-there false x y = refl
+
+three-there : (b : Bool) (x y z : Outcome) → ifPart b x then (ifPart b y then ifPart b z) ≡ ifPart b (x then y then z)
+unfolding ifPart
+three-there true x y z = sym (then-assoc x y z)
+three-there false x y z = refl
+
+module _ (m c : List ℤ) where
+  field-checked : checkPhases (fieldPhases m c) ≡ ifPart (hasField c) (fieldCheck (equalityRows m) (strengthRows m) (stress m c) (l c) (n c))
+  unfolding checkPhases fieldCheck
+  field-checked =
+      ap₂ _then_
+      (alone-there (hasField c) 21 (length (equalityRows m)) (EqualityMet m c) (λ k. rowHolds (stress m c) (l c) (n c) (rowAt (equalityRows m) k)) (λ k. Row (suc k)))
+      (last-there (hasField c) 22 (length (strengthRows m)) (StrengthMet m c) (λ k. rowHolds (stress m c) (l c) (n c) (rowAt (strengthRows m) k)) (λ k. Row (suc k)))
+      ∙ two-there (hasField c) _ _
+
+  multipliers-checked : checkPhases (multiplierPhases m c) ≡ ifPart (hasMultipliers c) (multipliersCheck (equalityRows m) (rowsOf m) (3 * nodes m) (multiplier m c))
+  unfolding checkPhases multipliersCheck lowest
+  multipliers-checked =
+      ap₂ _then_
+      (alone-there (hasMultipliers c) 31 (length (equalityRows m)) (UnfixedFree m c) (λ k. zeroIfUnfixed (multiplier m c k) (rowAt (equalityRows m) k)) (λ k. Row (suc k)))
+      (ap₂ _then_
+      (alone-there (hasMultipliers c) 32 (3 * nodes m) (ColumnZero m c) (λ j. eqZ (columnSum (multiplier m c) (rowsOf m) j) (pos 0)) (λ j. Column (suc j)))
+      (last-there (hasMultipliers c) 33 1 (λ j. LiveAbove m c) (λ j. ltZ (pos 0) (liveSum (multiplier m c) (rowsOf m))) (λ j. Column 0)))
+      ∙ three-there (hasMultipliers c) _ _ _
+
+  claim-checked : checkPhases (claimPhases m c) ≡ claimCheck m c then partsCheck m c
+  unfolding claimCheck partsCheck
+  claim-checked =
+      check-join (linePhases (claimLayout m) c) (fieldPhases m c ++ multiplierPhases m c)
+      ∙ ap₂ _then_ (lines-checked (claimLayout m) c) (check-join (fieldPhases m c) (multiplierPhases m c) ∙ ap₂ _then_ field-checked multipliers-checked)
+
+  claim-decided : Decided (claimPhases m c)
+  claim-decided =
+      decided-join (linePhases (claimLayout m) c) (fieldPhases m c ++ multiplierPhases m c) (lines-decided (claimLayout m) c) (λ a. (
+        λ k h b. (row-meets (stress m c) (l c) (n c) (rowAt (equalityRows m) k), λ i. tt),
+        λ e. (
+          λ k h b. (row-meets (stress m c) (l c) (n c) (rowAt (strengthRows m) k), λ i. tt),
+          λ s. (
+            λ k h b. (none-on-unfixed (multiplier m c k) (rowAt (equalityRows m) k), λ i. tt),
+            λ u. (
+              λ j h b. (equalℤ (columnSum (multiplier m c) (rowsOf m) j) (pos 0), λ i. tt),
+              λ z. (λ j h b. (belowℤ (pos 0) (liveSum (multiplier m c) (rowsOf m)), λ i. tt), λ i. tt),
+            ),
+          ),
+        ),
+      ))
+
+  -- all checks of a mesh and a claim
+  pub all-exact : Exact (meshCheck m then (claimCheck m c then partsCheck m c)) (AllPass (meshPhases m ++ claimPhases m c)) (Refusal m c)
+  all-exact =
+      subst (λ o. Exact o (AllPass (meshPhases m ++ claimPhases m c)) (Refusal m c))
+      (check-join (meshPhases m) (claimPhases m c) ∙ ap₂ _then_ (mesh-checked m) claim-checked)
+      (exact-as (phases-exact (meshPhases m ++ claimPhases m c) (decided-join (meshPhases m) (claimPhases m c) (mesh-decided m) (λ a. claim-decided))) (λ a. a) (λ a. a) (λ k p r. record { by = r }) (λ k p r. r .by))

@@ -10,7 +10,7 @@ use lib.IntN.{ℤ, pos}
 use lib.ListN.{length, length-append, length-map}
 use Rattle.integer.specs.Tests.{eqZ}
 use Rattle.scope.specs.Members.{_∈_}
-use Rattle.scope.specs.Mesh.{nodes, elements, edges, sides, edgeEntry}
+use Rattle.scope.specs.Mesh.{nodes, elements, edges, sides, edgeEntry, equalityCount}
 use Rattle.scope.specs.Polygon.{Point, sidesTo, polygonSides, polygonOf}
 use Rattle.scope.specs.Rows.{Kind, asked, unfixed, strength, Row, countFrom, joined, balanceX, balanceY, balanceRows, fixedIf, normalRow, shearRow, sideRows, strengthPairs, strengthRow, pairRows, strengthRows, equalityRows}
 use Rattle.scope.proofs.Lists.{count-length, each-nil, each-cons, each-++, each-map, each-joined}
@@ -35,7 +35,7 @@ side-count : (m : List ℤ) → length (sideRows m) ≡ edges m * 4
 unfolding sideRows
 side-count m = length-joined _ 4 (countFrom 0 (edges m)) (λ a i. refl) ∙ ap (λ (k : ℕ). k * 4) (count-length 0 (edges m))
 
-pub equality-count : (m : List ℤ) → length (equalityRows m) ≡ elements m * 2 + edges m * 4
+pub equality-count : (m : List ℤ) → length (equalityRows m) ≡ equalityCount m
 unfolding equalityRows
 equality-count m = length-append (balanceRows m) (sideRows m) ∙ ap₂ _+_ (balance-count m) (side-count m)
 

@@ -1,5 +1,7 @@
 -- What is answered (document 01, 'Verdict and report'): the number and the place of each case of each enum. (Loads and open rows have theirs where they are printed, `report/specs/Report.antt`.)
+use mathlib.Core.Bool.{cond, _||_}
 use Prim.Native.Nat.{ℕ}
+use lib.Dec.{eqb}
 use Rattle.scope.specs.declared.Place.{Place}
 use Rattle.scope.specs.declared.Place.the-variants.{Line, Row, Column, Node, Element}
 use Rattle.scope.specs.declared.Outcome.{Outcome}
@@ -14,6 +16,15 @@ placeNumber (Row k) = k
 placeNumber (Column k) = k
 placeNumber (Node k) = k
 placeNumber (Element k) = k
+
+-- the table's "What is returned", "1, line" to "33, column 0": what the place j of a refusal with the number k is
+unfoldable pub placeFor : ℕ → ℕ → Place
+placeFor k j =
+    cond (eqb k 5 || eqb k 6) (Element j)
+    (cond (eqb k 7) (Node j)
+    (cond (eqb k 21 || eqb k 22 || eqb k 31) (Row j)
+    (cond (eqb k 32 || eqb k 33) (Column j)
+    (Line j))))
 
 -- "Accepted returns 0, place 0"; "Refused: number, place"
 abbrev pub numberOf : Verdict → ℕ

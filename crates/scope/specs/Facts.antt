@@ -10,7 +10,7 @@ use Rattle.scope.specs.Columns.{at, hasField, hasMultipliers, n, l}
 use Rattle.scope.specs.Layout.{entry}
 use Rattle.scope.specs.Claim.{ifThere, stress, multiplier}
 use Rattle.scope.specs.Sound.{PartsFit}
-use Rattle.scope.specs.Mesh.{meshGroups, nodes, elements, soils, edges, sides, p, q, h, cohesion, soilEntry, x, y, corner, elementSoil, edgeEntry, fromNode, toNode}
+use Rattle.scope.specs.Mesh.{meshGroups, nodes, elements, soils, edges, sides, p, q, h, cohesion, soilEntry, x, y, corner, elementSoil, edgeEntry, fromNode, toNode, equalityCount}
 
 -- z is from lo to hi
 pub record Between (lo hi z : ℤ) : Type 0 where
@@ -76,5 +76,5 @@ pub record ClaimFacts (m c : List ℤ) : Type 0 where
   pub partsFit : PartsFit c
   pub size : length c ≡ 4 + ifThere (hasField c) (nodes m) * 3 + ifThere (hasMultipliers c) (elements m) * 2 + ifThere (hasMultipliers c) (edges m) * 4 + ifThere (hasMultipliers c) (nodes m) * sides m
   pub stressRange : at c 0 ≡ pos 1 → (j : ℕ) → j < nodes m * 3 → Between (negℤ (pos 1000000000)) (pos 1000000000) (stress m c j)
-  pub equalityRange : at c 1 ≡ pos 1 → (k : ℕ) → k < elements m * 2 + edges m * 4 → Between (negℤ (pos 100000)) (pos 100000) (multiplier m c k)
-  pub strengthRange : at c 1 ≡ pos 1 → (k : ℕ) → k < nodes m * sides m → Between (pos 0) (pos 10000) (multiplier m c (elements m * 2 + edges m * 4 + k))
+  pub equalityRange : at c 1 ≡ pos 1 → (k : ℕ) → k < equalityCount m → Between (negℤ (pos 100000)) (pos 100000) (multiplier m c k)
+  pub strengthRange : at c 1 ≡ pos 1 → (k : ℕ) → k < nodes m * sides m → Between (pos 0) (pos 10000) (multiplier m c (equalityCount m + k))

@@ -1,7 +1,7 @@
 -- A mesh (document 01, 'The two files', "Mesh, in this order"): its lines, and what its numbers are.
 -- Soils, nodes, elements and edges are counted from 0 here; the file counts from 1.
 use mathlib.Core.List.{List, [], _∷_}
-use Prim.Native.Nat.{ℕ, _+_, _-_}
+use Prim.Native.Nat.{ℕ, _+_, _-_, _*_}
 use lib.IntN.{ℤ, pos}
 use lib.ListN.{replicate}
 use Rattle.scope.specs.Columns.{between, oneOf, free, upTo, rightAngle, naming, at}
@@ -143,3 +143,9 @@ toNode m g = count (edgeEntry m g 1) - 1
 -- the line of edge g, counted from 0
 unfoldable pub edgeLine : List ℤ → ℕ → ℕ
 edgeLine m g = linesBefore (meshGroups m) 4 + g
+
+-- ---- what is counted
+
+-- the equality rows: two for each element, then four for each edge
+abbrev pub equalityCount : List ℤ → ℕ
+equalityCount m = elements m * 2 + edges m * 4

@@ -1,7 +1,7 @@
 -- The bracket for accepted parts (document 01, "Loads compared"): "A claim's field carries l/n and its multipliers allow W/m, both as exact fractions", in one claim or in two.
 use mathlib.Core.Path.{_≡_}
-use mathlib.Core.Logic.{_↔_}
-use mathlib.Core.List.{List, [], _∷_}
+use mathlib.Core.Logic.{_↔_, _⊎_}
+use mathlib.Core.List.{List, [], _∷_, map}
 use Prim.Native.Nat.{ℕ, _<_}
 use lib.IntN.{ℤ, pos}
 use lib.Signed.{_<ℤ_}
@@ -10,7 +10,8 @@ use Rattle.integer.specs.Fraction.{Frac, _over_, _≈ᶠ_, _≤ᶠ_}
 use Rattle.scope.specs.declared.OpenRows.the-variants.{Count}
 use Rattle.scope.specs.Members.{_∈_}
 use Rattle.scope.specs.Columns.{n, l}
-use Rattle.scope.specs.Rows.{rowsOf}
+use Rattle.scope.specs.Rows as R
+use Rattle.scope.specs.Rows.{rowsOf, judged}
 use Rattle.scope.specs.Sums.{liveSum, limitSum, openRows}
 use Rattle.scope.specs.Claim.{stress, multiplier}
 use Rattle.scope.specs.Verdict.{rowAt, openCount}
@@ -23,9 +24,16 @@ carried c = l c over n c
 unfoldable pub allowed : List ℤ → List ℤ → Frac
 allowed d k = limitSum (multiplier d k) (rowsOf d) over liveSum (multiplier d k) (rowsOf d)
 
--- "Parts are on the same mesh when they are judged against the same rows"
+-- "Parts are on the same mesh when they are judged against the same rows": the same rows in the same order, where two unfixed rows are the same whatever their numbers
 abbrev pub SameRows : List ℤ → List ℤ → Type 0
-SameRows m d = rowsOf m ≡ rowsOf d
+SameRows m d = map judged (rowsOf m) ≡ map judged (rowsOf d)
+
+-- that is: as many rows, and at each place rows that are equal or both unfixed
+abbrev pub SameRow : R.Row → R.Row → Type 0
+SameRow r t = (r ≡ t) ⊎ ((r .kind ≡ R.unfixed) × (t .kind ≡ R.unfixed))
+
+abbrev pub SameRowsMeans : List ℤ → List ℤ → Type 0
+SameRowsMeans m d = SameRows m d ↔ ((length (rowsOf m) ≡ length (rowsOf d)) × ((k : ℕ) → k < length (rowsOf m) → SameRow (rowAt (rowsOf m) k) (rowAt (rowsOf d) k)))
 
 -- an accepted field of claim c on the mesh m, and accepted multipliers of claim k on the mesh d
 pub record PartsBracket (m c d k : List ℤ) : Type 0 where

@@ -23,19 +23,22 @@ previous i = (i + 3) % 4
 abbrev pub cornerSum : (ℕ → ℤ) → ℤ
 cornerSum f = f 0 +ℤ f 1 +ℤ f 2 +ℤ f 3
 
--- "sum of (y[i+1]-y[i-1])·sx[i] + (x[i-1]-x[i+1])·t[i] = -D·(n·Fx + l·fx)": its left side, then the equation
+-- "sum of (y[i+1]-y[i-1])·sx[i] + (x[i-1]-x[i+1])·t[i] = -D·(n·Fx + l·fx)": its left side, its right side, then the equation
 abbrev pub forceX : (x y sx t : ℕ → ℤ) → ℤ
 forceX x y sx t = cornerSum (λ i. (y (next i) -ℤ y (previous i)) *ℤ sx i +ℤ (x (previous i) -ℤ x (next i)) *ℤ t i)
 
+abbrev pub bodyForce : (D F f n l : ℤ) → ℤ
+bodyForce D F f n l = negℤ D *ℤ (n *ℤ F +ℤ l *ℤ f)
+
 abbrev pub BalanceX : (x y sx t : ℕ → ℤ) (D Fx fx n l : ℤ) → Type 0
-BalanceX x y sx t D Fx fx n l = forceX x y sx t ≡ negℤ D *ℤ (n *ℤ Fx +ℤ l *ℤ fx)
+BalanceX x y sx t D Fx fx n l = forceX x y sx t ≡ bodyForce D Fx fx n l
 
 -- "sum of (x[i-1]-x[i+1])·sy[i] + (y[i+1]-y[i-1])·t[i] = -D·(n·Fy + l·fy)"
 abbrev pub forceY : (x y sy t : ℕ → ℤ) → ℤ
 forceY x y sy t = cornerSum (λ i. (x (previous i) -ℤ x (next i)) *ℤ sy i +ℤ (y (next i) -ℤ y (previous i)) *ℤ t i)
 
 abbrev pub BalanceY : (x y sy t : ℕ → ℤ) (D Fy fy n l : ℤ) → Type 0
-BalanceY x y sy t D Fy fy n l = forceY x y sy t ≡ negℤ D *ℤ (n *ℤ Fy +ℤ l *ℤ fy)
+BalanceY x y sy t D Fy fy n l = forceY x y sy t ≡ bodyForce D Fy fy n l
 
 -- ---- sides: (u, w) is the edge's step
 
@@ -43,15 +46,18 @@ BalanceY x y sy t D Fy fy n l = forceY x y sy t ≡ negℤ D *ℤ (n *ℤ Fy +�
 abbrev pub normalForce : (u w sx sy t : ℤ) → ℤ
 normalForce u w sx sy t = w *ℤ w *ℤ sx -ℤ pos 2 *ℤ u *ℤ w *ℤ t +ℤ u *ℤ u *ℤ sy
 
+abbrev pub edgeForce : (u w dead live n l : ℤ) → ℤ
+edgeForce u w dead live n l = (u *ℤ u +ℤ w *ℤ w) *ℤ (n *ℤ dead +ℤ l *ℤ live)
+
 abbrev pub Normal : (u w sx sy t dead live n l : ℤ) → Type 0
-Normal u w sx sy t dead live n l = normalForce u w sx sy t ≡ (u *ℤ u +ℤ w *ℤ w) *ℤ (n *ℤ dead +ℤ l *ℤ live)
+Normal u w sx sy t dead live n l = normalForce u w sx sy t ≡ edgeForce u w dead live n l
 
 -- "shear: uw·(sx-sy) + (w²-u²)·t = (u²+w²)·(n·dead + l·live)"
 abbrev pub shearForce : (u w sx sy t : ℤ) → ℤ
 shearForce u w sx sy t = u *ℤ w *ℤ (sx -ℤ sy) +ℤ (w *ℤ w -ℤ u *ℤ u) *ℤ t
 
 abbrev pub Shear : (u w sx sy t dead live n l : ℤ) → Type 0
-Shear u w sx sy t dead live n l = shearForce u w sx sy t ≡ (u *ℤ u +ℤ w *ℤ w) *ℤ (n *ℤ dead +ℤ l *ℤ live)
+Shear u w sx sy t dead live n l = shearForce u w sx sy t ≡ edgeForce u w dead live n l
 
 -- "what is fixed (1 normal, 2 shear, 3 both)"
 abbrev pub FixesNormal : ℤ → Type 0

@@ -207,3 +207,14 @@ equalityRows m = balanceRows m ++ sideRows m
 
 unfoldable pub rowsOf : List ℤ → List Row
 rowsOf m = equalityRows m ++ strengthRows m
+
+-- ---- rows as they are judged
+
+-- "An unfixed one keeps its number and asks nothing": its coefficients and its right side count for nothing
+unfoldable pub judgedAs : Kind → Row → Row
+judgedAs asked r = r
+judgedAs unfixed r = record { kind = unfixed; entries = []; live = pos 0; right = pos 0 }
+judgedAs strength r = r
+
+unfoldable pub judged : Row → Row
+judged r = judgedAs (r .kind) r

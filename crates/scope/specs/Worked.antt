@@ -63,3 +63,25 @@ unfoldable pub nineteenSixths : ℕ → ℤ
 nineteenSixths k =
     let s : ℤ = negℤ (pos 114) in
     getD (pos 0 ∷ s ∷ pos 0 ∷ pos 0 ∷ s ∷ pos 0 ∷ pos 0 ∷ s ∷ pos 0 ∷ pos 0 ∷ s ∷ pos 0 ∷ []) k (pos 0)
+
+-- ---- meshes that differ in a number of an unfixed part
+
+-- "4 1 1 1 12 / 0 1 1 10 0 0 0 0 / 0 0 / 1 0 / 1 1 / 0 1 / 1 2 3 4 1 / 2 3 1 0 z 0 0": the edge's shear is unfixed, with z as its dead number
+unfoldable pub oneEdge : ℤ → List ℤ
+oneEdge z =
+    (pos 4 ∷ pos 1 ∷ pos 1 ∷ pos 1 ∷ pos 12 ∷ [])
+    ++ (pos 0 ∷ pos 1 ∷ pos 1 ∷ pos 10 ∷ zeros 4)
+    ++ (pos 0 ∷ pos 0 ∷ pos 1 ∷ pos 0 ∷ pos 1 ∷ pos 1 ∷ pos 0 ∷ pos 1 ∷ [])
+    ++ (pos 1 ∷ pos 2 ∷ pos 3 ∷ pos 4 ∷ pos 1 ∷ [])
+    ++ (pos 2 ∷ pos 3 ∷ pos 1 ∷ pos 0 ∷ z ∷ zeros 2)
+
+-- the sheet's mesh with the shear of its third edge unfixed, "4 1 1 0 z 0 0"
+unfoldable pub freeShear : ℤ → List ℤ
+freeShear z =
+    (pos 4 ∷ pos 1 ∷ pos 1 ∷ pos 3 ∷ pos 12 ∷ [])
+    ++ (pos 0 ∷ pos 1 ∷ pos 1 ∷ pos 10 ∷ zeros 4)
+    ++ (pos 0 ∷ pos 0 ∷ pos 1 ∷ pos 0 ∷ pos 1 ∷ pos 1 ∷ pos 0 ∷ pos 1 ∷ [])
+    ++ (pos 1 ∷ pos 2 ∷ pos 3 ∷ pos 4 ∷ pos 1 ∷ [])
+    ++ (pos 3 ∷ pos 4 ∷ pos 3 ∷ pos 0 ∷ pos 0 ∷ negsuc 0 ∷ pos 0 ∷ [])
+    ++ (pos 2 ∷ pos 3 ∷ pos 3 ∷ zeros 4)
+    ++ (pos 4 ∷ pos 1 ∷ pos 1 ∷ pos 0 ∷ z ∷ zeros 2)

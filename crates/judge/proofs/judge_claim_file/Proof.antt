@@ -1,8 +1,9 @@
 -- `judge_claim_file` meets its contract: each of the three rooms is taken where it is enough, and the largest always is.
 use native.Mathlib.Omega.{arith}
 use borrow.Author.Needs.{needs}
-use Rattle.rows.proofs.VerdictLaws.{mesh-known}
-use Rattle.judge.proofs.Judged.{sizes-small, room-is, room-most}
+use Rattle.mesh.proofs.Places.{few-things}
+use Rattle.verdict.proofs.VerdictLaws.{mesh-known}
+use Rattle.judge.proofs.Judged.{room-is, room-most}
 use Rattle.judge.proofs.judge_claim_file.Statement.{statement}
 use Rattle.judge.proofs.judge_claim_file.Tie as tie
 
@@ -10,7 +11,7 @@ sizes-of-requires : tie.Need-sizes-of-requires
 sizes-of-requires c κs = mesh-known (c .before .before .pre .passes) .facts
 
 claim-room-requires : tie.Need-claim-room-requires
-claim-room-requires c κs = sizes-small (c .sizes-of .ensures)
+claim-room-requires c κs = few-things (c .sizes-of .ensures)
 
 slice-aggregate-judge-claim-in : tie.Need-slice-aggregate-judge-claim-in
 slice-aggregate-judge-claim-in c = search needs

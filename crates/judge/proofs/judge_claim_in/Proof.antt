@@ -4,8 +4,9 @@ use native.Mathlib.Omega.{arith}
 use denote.Ref.{now}
 use borrow.Author.Needs.{needs}
 use Rattle.scope.specs.Verdict.{claimVerdict}
-use Rattle.rows.proofs.VerdictLaws.{mesh-known}
-use Rattle.judge.proofs.Judged.{front, fits, as-many, sizes-small, room-is, claim-listed}
+use Rattle.mesh.proofs.Places.{few-things}
+use Rattle.verdict.proofs.VerdictLaws.{mesh-known}
+use Rattle.judge.proofs.Judged.{front, fits, as-many, room-is, claim-listed}
 use Rattle.judge.proofs.judge_claim_in.Statement.{statement}
 use Rattle.judge.proofs.judge_claim_in.Tie as tie
 
@@ -15,7 +16,7 @@ sizes-of-requires c κs = mesh-known (c .before .before .pre .0 .passes) .facts
 read-claim-requires : tie.Need-read-claim-requires
 read-claim-requires c κs =
     let z = c .before .sizes-of .ensures in
-    (sizes-small z, omega (arith, room-is z, c .before .before .before .before .pre .1))
+    (few-things z, omega (arith, room-is z, c .before .before .before .before .pre .1))
 
 slice-reshare-prefix-judge-claim : tie.Need-slice-reshare-prefix-judge-claim
 slice-reshare-prefix-judge-claim c = fits (claim-listed (c .before .before .before .sizes-of .ensures) (c .before .read-claim .ensures))

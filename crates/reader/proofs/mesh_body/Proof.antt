@@ -1,75 +1,30 @@
--- `reader::mesh_body` meets its contract: the counts tell the lines, whose numbers fit.
--- Assumes nothing.
+-- `reader::mesh_body` meets its contract: the header tells the table, whose numbers fit.
+
+use Rattle.mesh.proofs.Places.{few-sizes}
 use Rattle.reader.proofs.Told.{mesh-lines, mesh-room}
 use borrow.Author.Needs.{needs}
 use Rattle.reader.proofs.mesh_body.Statement.{statement}
 use Rattle.reader.proofs.mesh_body.Tie as tie
 
-count-at-requires : tie.Need-count-at-requires
-count-at-requires c κs = search needs
+header-sizes-requires : tie.Need-header-sizes-requires
+header-sizes-requires c κs = search needs
 
-count-at-requires-2 : tie.Need-count-at-requires-2
-count-at-requires-2 c κs = search needs
+mesh-groups-requires : tie.Need-mesh-groups-requires
+mesh-groups-requires c κs = few-sizes (c .header-sizes .ensures)
 
-count-at-requires-3 : tie.Need-count-at-requires-3
-count-at-requires-3 c κs = search needs
-
-count-at-requires-4 : tie.Need-count-at-requires-4
-count-at-requires-4 c κs = search needs
-
-columns-requires : tie.Need-columns-requires
-columns-requires c κs = search needs
-
-columns-requires-2 : tie.Need-columns-requires-2
-columns-requires-2 c κs = search needs
-
-columns-requires-3 : tie.Need-columns-requires-3
-columns-requires-3 c κs = search needs
-
-columns-requires-4 : tie.Need-columns-requires-4
-columns-requires-4 c κs = search needs
-
-read-body-requires : tie.Need-read-body-requires
-read-body-requires c κs =
-    let z = c .before in
-    let y = z .before in
-    let x = y .before in
-    let w = x .before in
-    let d = w .before in
-    let b = d .before .before in
-    let e = b .before .before in
-    let a = e .before .before in
-    let s = a .before .before .before in
-    (s .pre .0, (s .pre .1 .0, mesh-room (s .args .out .now) (a .count-at .ensures) (e .count-at2 .ensures) (b .count-at3 .ensures) (d .count-at4 .ensures) (w .columns .ensures) (x .columns2 .ensures) (y .columns3 .ensures) (z .columns4 .ensures) (s .args .p) _ (s .pre .1 .1 .1 .0) (s .pre .1 .1 .0) (s .pre .1 .1 .1 .1)))
+read-groups-requires : tie.Need-read-groups-requires
+read-groups-requires c κs =
+    let p = c .before .before .before .before .before .pre in
+    let sizes = c .before .before .header-sizes .ensures in
+    (p .0, (p .1 .0, mesh-room (c .before .mesh-groups .ensures) _ _ (few-sizes sizes) (p .1 .1 .0) (p .1 .1 .1 .1)))
 
 same-length : tie.Need-same-length
 same-length c = search needs
 
 returns : tie.Need-returns
-returns c =
-    let z = c .before .before .before in
-    let y = z .before in
-    let x = y .before in
-    let w = x .before in
-    let d = w .before in
-    let b = d .before .before in
-    let e = b .before .before in
-    let a = e .before .before in
-    let s = a .before .before .before in
-    rw (mesh-lines (s .args .out .now) (a .count-at .ensures) (e .count-at2 .ensures) (b .count-at3 .ensures) (d .count-at4 .ensures) (w .columns .ensures) (x .columns2 .ensures) (y .columns3 .ensures) (z .columns4 .ensures)) at (c .before .read-body .ensures)
+returns c = rw (mesh-lines (c .before .before .before .mesh-groups .ensures) (c .before .before .before .before .header-sizes .ensures)) at (c .before .read-groups .ensures)
 
 pub mesh-body-spec : {M : Type 1} → statement M
 mesh-body-spec =
     tie.close
-    (tie.spec
-    count-at-requires
-    count-at-requires-2
-    count-at-requires-3
-    count-at-requires-4
-    columns-requires
-    columns-requires-2
-    columns-requires-3
-    columns-requires-4
-    read-body-requires
-    same-length
-    returns)
+    (tie.spec header-sizes-requires mesh-groups-requires read-groups-requires same-length returns)

@@ -4,10 +4,9 @@ use native.Mathlib.Omega.{arith}
 use borrow.Author.Tests.{not-true, not-false}
 use mathlib.Core.List.{List}
 use lib.IntN.{ℤ}
-use Rattle.scope.specs.Claim.{claimHeader, claimLayout}
+use Rattle.scope.specs.Claim.{claimLayout}
 use Rattle.reader.proofs.Whole.{HeaderRead}
 use Rattle.reader.proofs.Told.{claim-no-header, claim-header-read, claim-at, claim-numbers, claim-refused, claim-passed}
-use Rattle.rows.specs.LineContracts.{linesGroup}
 use borrow.Author.Needs.{needs}
 use Rattle.reader.proofs.read_claim.Statement.{statement}
 use Rattle.reader.proofs.read_claim.Tie as tie
@@ -16,19 +15,16 @@ table-requires : tie.Need-table-requires
 table-requires c κs = search needs
 
 read-header-requires : tie.Need-read-header-requires
-unfolding linesGroup claimHeader
 read-header-requires c κs = search needs
 
 same-length : tie.Need-same-length
 same-length c = search needs
 
 returns : tie.Need-returns
-unfolding linesGroup claimHeader
-returns c = claim-no-header _ _ _ _ _ _ (c .before .before .before .read-header .ensures) (not-true _ (c .if1 .taken))
+returns c = claim-no-header _ _ _ (c .before .before .before .read-header .ensures) (not-true _ (c .if1 .taken))
 
 -- past the first test a header stands at the front
 header : (c : tie.Else1) → (m : List ℤ) → HeaderRead (claimLayout m) (c .before .before .before .before .before .before .before .before .args .bytes .now) (c .before .before .before .before .before .before .before .before .args .out .now) (c .before .before .before .read-header .result) (c .before .before .before .read-header .last .1 .1 .1 .0)
-unfolding linesGroup claimHeader
 header c =
     let r = c .before .before .before in
     claim-header-read _ _ (r .read-header .ensures) (omega (arith, r .before .before .before .before .before .pre)) (not-false _ (c .if1 .left))
@@ -49,7 +45,7 @@ returns-2 : tie.Need-returns-2
 returns-2 c =
     let v = c .before .before in
     let e = v .before .before in
-    claim-refused _ _ (header e) _ _ _ _ (v .claim-header .ensures) (c .enum-told2 .given .1)
+    claim-refused _ _ (header e) _ (v .claim-header .ensures) (c .enum-told2 .given .1)
 
 claim-body-requires : tie.Need-claim-body-requires
 claim-body-requires c κs =
@@ -71,7 +67,7 @@ returns-3 c =
     let v = t .before .before in
     let e = v .before .before in
     let h = header e in
-    claim-passed _ _ h _ _ _ _ (v .claim-header .ensures) (t .enum-told .given .1) (b .claim-body .ensures)
+    claim-passed _ _ h _ (v .claim-header .ensures) (t .enum-told .given .1) (b .claim-body .ensures)
 
 pub read-claim-spec : {M : Type 1} → statement M
 read-claim-spec =

@@ -2,10 +2,9 @@
 -- Assumes nothing.
 use native.Mathlib.Omega.{arith}
 use borrow.Author.Tests.{not-true, not-false}
-use Rattle.scope.specs.Mesh.{meshHeader, meshLayout}
+use Rattle.scope.specs.Mesh.{meshLayout}
 use Rattle.reader.proofs.Whole.{HeaderRead}
-use Rattle.reader.proofs.Told.{mesh-no-header, mesh-header-read, mesh-at, mesh-numbers, mesh-refused, few-lines, mesh-passed}
-use Rattle.rows.specs.LineContracts.{linesGroup}
+use Rattle.reader.proofs.Told.{mesh-no-header, mesh-header-read, mesh-at, mesh-numbers, mesh-refused, mesh-header-there, mesh-passed}
 use borrow.Author.Needs.{needs}
 use Rattle.reader.proofs.read_mesh.Statement.{statement}
 use Rattle.reader.proofs.read_mesh.Tie as tie
@@ -14,19 +13,16 @@ table-requires : tie.Need-table-requires
 table-requires c κs = search needs
 
 read-header-requires : tie.Need-read-header-requires
-unfolding linesGroup meshHeader
 read-header-requires c κs = search needs
 
 same-length : tie.Need-same-length
 same-length c = search needs
 
 returns : tie.Need-returns
-unfolding linesGroup meshHeader
 returns c = mesh-no-header _ _ (c .before .before .before .read-header .ensures) (not-true _ (c .if1 .taken))
 
 -- past the first test a header stands at the front
 header : (c : tie.Else1) → HeaderRead (meshLayout) (c .before .before .before .before .before .before .before .before .args .bytes .now) (c .before .before .before .before .before .before .before .before .args .out .now) (c .before .before .before .read-header .result) (c .before .before .before .read-header .last .1 .1 .1 .0)
-unfolding linesGroup meshHeader
 header c =
     let r = c .before .before .before in
     mesh-header-read _ _ (r .read-header .ensures) (omega (arith, r .before .before .before .before .before .pre)) (not-false _ (c .if1 .left))
@@ -56,7 +52,7 @@ mesh-body-requires c κs =
     let e = v .before .before in
     let r = e .before .before .before in
     let h = header e in
-    (r .before .before .before .table .ensures, (mesh-at _ _ h, (mesh-numbers _ _ h, (few-lines _ _ h (v .mesh-header .ensures) (t .enum-told .given .1), omega arith))))
+    (r .before .before .before .table .ensures, (mesh-at _ _ h, (mesh-numbers _ _ h, (mesh-header-there _ _ h (v .mesh-header .ensures) (t .enum-told .given .1), omega arith))))
 
 same-length-3 : tie.Need-same-length-3
 same-length-3 c = search needs

@@ -8,7 +8,7 @@ use lib.Signed.{leZ}
 use borrow.Author.Tests.{not-true, not-false}
 use Rattle.scope.specs.Checks.{allBelow}
 use Rattle.rows.specs.RowContracts.{sideSlack}
-use Rattle.rows.proofs.Loops.{all-more, all-fails, all-done}
+use Rattle.lines.proofs.Loops.{all-more, all-fails, all-done}
 use Rattle.rows.proofs.strength_rows.sides_hold.Statement.{statement}
 use Rattle.rows.proofs.strength_rows.sides_hold.Tie as tie
 

@@ -1,0 +1,93 @@
+-- `mesh_header` meets its contract: each return by the law of the check that it stands for.
+use mathlib.Core.Path.{_∙_}
+use native.Mathlib.Omega.{arith}
+use denote.Ref.{now}
+use Rattle.scope.specs.Layout.{rulesHold}
+use Rattle.scope.specs.Mesh.{meshLayout, meshHeader}
+use Rattle.lines.specs.LineContracts.{ranges}
+use Rattle.lines.proofs.LineLaws.{line-short, line-outside, line-by-rules, mesh-header-line, mesh-header-limits, first-fails, second-fails, both-hold, sides-read, so, not-so}
+use borrow.Author.Needs.{needs}
+use Rattle.lines.proofs.line_checks.mesh_header.Statement.{statement}
+use Rattle.lines.proofs.line_checks.mesh_header.Tie as tie
+
+refused-requires : tie.Need-refused-requires
+refused-requires c κs = search needs
+
+returns : tie.Need-returns
+unfolding meshHeader meshLayout
+returns c =
+    let m = now (c .before .before .args .m) in
+    c .refused .ensures ∙ line-short meshLayout meshHeader m _ (c .before .if1 .taken) ∙ mesh-header-line m
+
+sub-limits-hold : tie.Need-sub-limits-hold
+sub-limits-hold c = search needs
+
+part-limits-hold-start : tie.Need-part-limits-hold-start
+part-limits-hold-start c = search needs
+
+part-limits-hold-end : tie.Need-part-limits-hold-end
+part-limits-hold-end c = search needs
+
+slice-aggregate-limits-hold : tie.Need-slice-aggregate-limits-hold
+slice-aggregate-limits-hold c = search needs
+
+slice-aggregate-limits-hold-2 : tie.Need-slice-aggregate-limits-hold-2
+slice-aggregate-limits-hold-2 c = search needs
+
+limits-hold-requires : tie.Need-limits-hold-requires
+limits-hold-requires c κs = search needs
+
+refused-requires-2 : tie.Need-refused-requires-2
+refused-requires-2 c κs = search needs
+
+returns-2 : tie.Need-returns-2
+unfolding meshHeader meshLayout ranges
+returns-2 c =
+    let m = now (c .before .before .before .before .before .before .before .args .m) in
+    let outside = first-fails _ (mesh-header-limits m (omega arith)) (not-so (c .before .before .limits-hold .ensures) (c .before .if2 .taken)) in
+    c .refused2 .ensures ∙ line-outside meshLayout meshHeader m _ (omega arith) outside ∙ mesh-header-line m
+
+shared-slice-copy-out-is-sides : tie.Need-shared-slice-copy-out-is-sides
+shared-slice-copy-out-is-sides c = search needs
+
+is-sides-requires : tie.Need-is-sides-requires
+is-sides-requires c κs = search needs
+
+refused-requires-3 : tie.Need-refused-requires-3
+refused-requires-3 c κs = search needs
+
+returns-3 : tie.Need-returns-3
+unfolding meshHeader meshLayout ranges
+returns-3 c =
+    let m = now (c .before .before .before .before .before .before .before .before .before .before .args .m) in
+    let sides = sides-read (record { sfits = c .before .before .before .is-sides-arg .given }) ∙ not-so (c .before .before .is-sides .ensures) (c .before .if3 .taken) in
+    let outside = second-fails (mesh-header-limits m (omega arith)) (so (c .before .before .before .before .before .limits-hold .ensures) (c .before .before .before .before .if2 .left)) sides in
+    c .refused3 .ensures ∙ line-outside meshLayout meshHeader m _ (omega arith) outside ∙ mesh-header-line m
+
+returns-4 : tie.Need-returns-4
+unfolding meshHeader meshLayout ranges rulesHold
+returns-4 c =
+    let m = now (c .before .before .before .before .before .before .before .before .before .args .m) in
+    let sides = sides-read (record { sfits = c .before .before .is-sides-arg .given }) ∙ so (c .before .is-sides .ensures) (c .if3 .left) in
+    let hold = both-hold (mesh-header-limits m (omega arith)) (so (c .before .before .before .before .limits-hold .ensures) (c .before .before .before .if2 .left)) sides in
+    line-by-rules meshLayout meshHeader m _ (omega arith) hold ∙ mesh-header-line m
+
+pub mesh-header-spec : {M : Type 1} → statement M
+mesh-header-spec =
+    tie.close
+    (tie.spec
+    refused-requires
+    returns
+    sub-limits-hold
+    part-limits-hold-start
+    part-limits-hold-end
+    slice-aggregate-limits-hold
+    slice-aggregate-limits-hold-2
+    limits-hold-requires
+    refused-requires-2
+    returns-2
+    shared-slice-copy-out-is-sides
+    is-sides-requires
+    refused-requires-3
+    returns-3
+    returns-4)

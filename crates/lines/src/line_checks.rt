@@ -1,0 +1,259 @@
+// The checks of the lines of a mesh and of a claim: refusals 1 to 4, and 11 to 13. They take any numbers, and any count of them.
+use crate::layout::Group;
+use crate::layout::Kind;
+use crate::layout::Rule;
+use crate::layout::claim_groups;
+use crate::layout::has_part;
+use crate::layout::mesh_groups;
+use crate::line_tests::is_within;
+use crate::line_tests::limits_hold;
+use crate::line_tests::line_at;
+use crate::line_tests::refused;
+use mesh::sizes::Sizes;
+use mesh::sizes::header_sizes;
+use scope::Outcome;
+use scope::Place;
+ghost use mathlib.Core.Path.{_≡_};
+ghost use mathlib.Core.List.{List, [], _∷_, map};
+ghost use Prim.Native.Nat.{min, _/_, _<_, _≤_};
+ghost use lib.ListN.{length, take, drop};
+ghost use lib.IntN.{ℤ, pos};
+ghost use Rattle.scope.specs.Checks.{allBelow};
+ghost use Rattle.scope.specs.Columns.{at, between, within, isOneOf, parts, ruleTest};
+ghost use Rattle.scope.specs.Layout.{width, lineCheck, lineAt, linesCheck};
+ghost use Rattle.scope.specs.Mesh.{meshLayout};
+ghost use Rattle.scope.specs.Claim.{claimHeader, claimLayout};
+ghost use Rattle.mesh.specs.MeshContracts.{FewThings, SizesAre};
+ghost use Rattle.lines.specs.Table.{evenLines, ruledLines, meant, Good, Table};
+ghost use Rattle.lines.specs.SearchContracts.{firstFailing};
+ghost use Rattle.lines.specs.LineContracts.{groupCheck, groupsCheck, numbered, FewLines, FewColumns};
+
+// The limits of a mesh's header before its sides, and of a claim's header.
+const MESH_LEAST: [i64; 4] = [4, 1, 1, 0];
+
+const MESH_MOST: [i64; 4] = [100, 100, 16, 60];
+
+const CLAIM_LEAST: [i64; 4] = [0, 0, 0, -100000000];
+
+const CLAIM_MOST: [i64; 4] = [1, 1, 100000, 100000000];
+
+// Each number of a list is from lo to hi.
+fn all_within(s: &[i64], lo: i64, hi: i64) -> bool
+    ensures { λ r. ⌜ r ≡ allBelow (λ k. within (between lo hi) (at (now (s .entry)) k)) (length (now (s .entry))) ⌝ }
+{
+    let mut k: usize = 0;
+    while k < s.len() {
+        if !is_within(s[k], lo, hi) {
+            return false;
+        }
+        k += 1;
+    }
+    true
+}
+
+// The first of so many numbers of a list that is not from lo to hi; where each is, their count.
+pub fn first_outside(s: &[i64], lo: i64, hi: i64, count: usize) -> usize
+    requires { ⌜ count ≤ length (now s) ⌝ }
+    ensures { λ r. ⌜ r ≡ firstFailing (λ k. within (between lo hi) (at (now (s .entry)) k)) count ⌝ ∗ ⌜ r ≤ count ⌝ }
+{
+    let mut k: usize = 0;
+    while k < count {
+        if !is_within(s[k], lo, hi) {
+            return k;
+        }
+        k += 1;
+    }
+    count
+}
+
+// How many lines of some columns a number of numbers has, but at most count.
+fn whole_lines(numbers: usize, columns: usize, count: usize) -> usize
+    requires { ⌜ 0 < columns ⌝ }
+    ensures { λ r. ⌜ r ≡ min (numbers / columns) count ⌝ }
+{
+    let whole = numbers / columns;
+    if whole < count {
+        return whole;
+    }
+    count
+}
+
+// The lines that stand at the front of a list, where every column has the limits lo and hi: the numbers of the whole lines are looked at in one go.
+// For speed a loop with nothing else in it asks whether one is outside, and the search only which.
+fn even_check(
+    s: &[i64],
+    count: usize,
+    columns: usize,
+    lo: i64,
+    hi: i64,
+    form: u32,
+    line: usize,
+) -> Outcome
+    requires { ⌜ FewColumns count columns form line ⌝ }
+    ensures { λ r. ⌜ r ≡ groupCheck (numbered form) (evenLines count columns (between lo hi)) (now (s .entry)) line ⌝ }
+{
+    let whole = whole_lines(s.len(), columns, count);
+    let end = whole * columns;
+    if !all_within(&s[..end], lo, hi) {
+        let run = first_outside(s, lo, hi, end);
+        return refused(form + 1, line + run / columns);
+    }
+    if whole < count {
+        return refused(form, line + whole);
+    }
+    Outcome::Passed
+}
+
+// The lines of a group with rules of their own, at the front of a list.
+fn ruled_check(
+    rule: Rule,
+    s: &[i64],
+    count: usize,
+    columns: usize,
+    sizes: Sizes,
+    form: u32,
+    line: usize,
+) -> Outcome
+    requires { ⌜ FewLines sizes count columns form line × (columns ≡ width (ruledLines rule sizes 0)) ⌝ }
+    ensures { λ r. ⌜ r ≡ groupCheck (numbered form) (ruledLines rule sizes count) (now (s .entry)) line ⌝ }
+{
+    let mut k: usize = 0;
+    while k < count {
+        let outcome = line_at(rule, s, columns, sizes, form, line, k);
+        if let Outcome::Refused { .. } = outcome {
+            return outcome;
+        }
+        k += 1;
+    }
+    Outcome::Passed
+}
+
+// What stands after the first numbers of a list.
+fn rest(s: &[i64], from: usize) -> &[i64]
+    requires { ⌜ from ≤ length (now s) ⌝ }
+    ensures { λ r. ⌜ now r ≡ drop from (now (s .entry)) ⌝ }
+{
+    &s[from..]
+}
+
+// The number of sides is one of those that a polygon has.
+fn is_sides(z: i64) -> bool
+    ensures { λ r. ⌜ r ≡ isOneOf (pos 12 ∷ pos 20 ∷ pos 36 ∷ []) z ⌝ }
+{
+    if z == 12 {
+        return true;
+    }
+    if z == 20 {
+        return true;
+    }
+    z == 36
+}
+
+// The header of a mesh.
+pub fn mesh_header(m: &[i64]) -> Outcome
+    ensures { λ r. ⌜ r ≡ lineAt meshLayout (now (m .entry)) 0 ⌝ }
+{
+    if m.len() < 5 {
+        return refused(1, 1);
+    }
+    if !limits_hold(&m[0..4], &MESH_LEAST, &MESH_MOST) {
+        return refused(2, 1);
+    }
+    if !is_sides(m[4]) {
+        return refused(2, 1);
+    }
+    Outcome::Passed
+}
+
+// A claim has a part; with a field n is not 0, and without one n and l are 0.
+fn parts_fit(field: i64, multipliers: i64, n: i64, l: i64) -> bool
+    ensures { λ r. ⌜ r ≡ ruleTest parts (field ∷ multipliers ∷ n ∷ l ∷ []) ⌝ }
+{
+    if field == 1 {
+        return n != 0;
+    }
+    if multipliers != 1 {
+        return false;
+    }
+    if n != 0 {
+        return false;
+    }
+    l == 0
+}
+
+// The header of a claim.
+pub fn claim_header(c: &[i64]) -> Outcome
+    ensures { λ r. ⌜ r ≡ lineCheck (claimLayout []) claimHeader (take 4 (now (c .entry))) (Place.Line 1) ⌝ }
+{
+    if c.len() < 4 {
+        return refused(11, 1);
+    }
+    if !limits_hold(&c[0..4], &CLAIM_LEAST, &CLAIM_MOST) {
+        return refused(12, 1);
+    }
+    if !parts_fit(c[0], c[1], c[2], c[3]) {
+        return refused(13, 1);
+    }
+    Outcome::Passed
+}
+
+// The lines of a group at the front of a list, the first of them in line `line` of the file.
+fn group_check(s: &[i64], g: Group, sizes: Sizes, form: u32, line: usize) -> Outcome
+    requires { ⌜ Good sizes g ⌝ ∗ ⌜ FewThings sizes ⌝ ∗ ⌜ form ≤ 100 ⌝ ∗ ⌜ line ≤ 1000 ⌝ }
+    ensures { λ r. ⌜ r ≡ groupCheck (numbered form) (meant sizes g) (now (s .entry)) line ⌝ }
+{
+    let kind = g.kind;
+    match kind {
+        Kind::Ruled(rule) => ruled_check(rule, s, g.lines, g.columns, sizes, form, line),
+        Kind::Even { lo, hi } => even_check(s, g.lines, g.columns, lo, hi, form, line),
+    }
+}
+
+// The lines of a file after its header, which have its refusals from the number `form` on: all groups of the table, one after another, and no number left over.
+fn groups_check(s: &[i64], groups: [Group; 4], sizes: Sizes, form: u32) -> Outcome
+    requires { ⌜ Table sizes groups ⌝ ∗ ⌜ FewThings sizes ⌝ ∗ ⌜ form ≤ 100 ⌝ }
+    ensures { λ r. ⌜ r ≡ groupsCheck (numbered form) (map (meant sizes) groups) (now (s .entry)) 2 ⌝ }
+{
+    let mut from: usize = 0;
+    let mut line: usize = 2;
+    let mut i: usize = 0;
+    while i < 4 {
+        let g = groups[i];
+        let outcome = group_check(rest(s, from), g, sizes, form, line);
+        if let Outcome::Refused { .. } = outcome {
+            return outcome;
+        }
+        from += g.lines * g.columns;
+        line += g.lines;
+        i += 1;
+    }
+    if from < s.len() {
+        return refused(form, line);
+    }
+    Outcome::Passed
+}
+
+// The lines of a mesh: refusals 1 to 4.
+pub fn mesh_lines(m: &[i64]) -> Outcome
+    ensures { λ r. ⌜ r ≡ linesCheck meshLayout (now (m .entry)) ⌝ }
+{
+    let header = mesh_header(m);
+    if let Outcome::Refused { .. } = header {
+        return header;
+    }
+    let s = header_sizes(m);
+    groups_check(rest(m, 5), mesh_groups(s), s, 1)
+}
+
+// The lines of a claim on a mesh with these sizes: refusals 11 to 13.
+pub fn claim_lines(c: &[i64], s: Sizes) -> Outcome
+    requires { ⌜ FewThings s ⌝ }
+    ensures { λ r. ⌜ ((m : List ℤ) → SizesAre m s → r ≡ linesCheck (claimLayout m) (now (c .entry))) ⌝ }
+{
+    let header = claim_header(c);
+    if let Outcome::Refused { .. } = header {
+        return header;
+    }
+    let groups = claim_groups(s, has_part(c, 0), has_part(c, 1));
+    groups_check(rest(c, 4), groups, s, 11)
+}

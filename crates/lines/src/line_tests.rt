@@ -1,0 +1,153 @@
+// One line at a time: the limits of its columns, and the lines of a mesh that have rules of their own.
+use crate::layout::Rule;
+use mesh::sizes::Sizes;
+use scope::Outcome;
+use scope::Place;
+ghost use mathlib.Core.Path.{_≡_};
+ghost use Prim.Native.Nat.{_<_, _≤_, _^_};
+ghost use lib.ListN.{take};
+ghost use lib.IntN.{_+ℤ_, _*ℤ_};
+ghost use Rattle.integer.specs.Bounds.{Within};
+ghost use Rattle.integer.specs.Tests.{eqZ};
+ghost use Rattle.scope.specs.Columns.{between, within, allWithin};
+ghost use Rattle.scope.specs.Layout.{width, lineCheck};
+ghost use Rattle.scope.specs.Mesh.{soilLines, elementLines, edgeLines};
+ghost use Rattle.mesh.specs.MeshContracts.{FewThings};
+ghost use Rattle.lines.specs.Table.{ruledLines};
+ghost use Rattle.lines.specs.LineContracts.{ranges, AsMany, numbered, lineStep, FewLines};
+
+// The limits of a soil's columns, and of an edge's after its two nodes.
+const SOIL_LEAST: [i64; 8] = [0, 1, 1, 0, -1000, -1000, -1000, -1000];
+
+const SOIL_MOST: [i64; 8] = [1000, 1000, 1000, 10000, 1000, 1000, 1000, 1000];
+
+const EDGE_LEAST: [i64; 5] = [1, -10000, -10000, -10000, -10000];
+
+const EDGE_MOST: [i64; 5] = [3, 10000, 10000, 10000, 10000];
+
+// z is from lo to hi.
+pub fn is_within(z: i64, lo: i64, hi: i64) -> bool
+    ensures { λ r. ⌜ r ≡ within (between lo hi) z ⌝ }
+{
+    if z < lo {
+        return false;
+    }
+    z <= hi
+}
+
+// Number k of a list is from number k of lo to number k of hi, for each k.
+pub fn limits_hold(s: &[i64], lo: &[i64], hi: &[i64]) -> bool
+    requires { ⌜ AsMany (now lo) (now hi) (now s) ⌝ }
+    ensures { λ r. ⌜ r ≡ allWithin (ranges (now (lo .entry)) (now (hi .entry))) (now (s .entry)) ⌝ }
+{
+    let mut k: usize = 0;
+    while k < s.len() {
+        if !is_within(s[k], lo[k], hi[k]) {
+            return false;
+        }
+        k += 1;
+    }
+    true
+}
+
+// A refusal at a line.
+pub fn refused(number: u32, line: usize) -> Outcome
+    requires { ⌜ line < 2 ^ 32 ⌝ }
+    ensures { λ r. ⌜ r ≡ Outcome.Refused number (Place.Line line) ⌝ }
+{
+    Outcome::Refused {
+        number,
+        place: Place::Line(line as u32),
+    }
+}
+
+// p² + q² is h².
+fn right_angle(p: i64, q: i64, h: i64) -> bool
+    requires { ⌜ Within 1000 p ⌝ ∗ ⌜ Within 1000 q ⌝ ∗ ⌜ Within 1000 h ⌝ }
+    ensures { λ r. ⌜ r ≡ eqZ (p *ℤ p +ℤ q *ℤ q) (h *ℤ h) ⌝ }
+{
+    p * p + q * q == h * h
+}
+
+// The soil that stands at the front of a list.
+fn soil_line(s: &[i64], form: u32, line: usize) -> Outcome
+    requires { ⌜ line < 2 ^ 32 ⌝ ∗ ⌜ form ≤ 100 ⌝ }
+    ensures { λ r. ⌜ r ≡ lineCheck (numbered form) (soilLines 0) (take 8 (now (s .entry))) (Place.Line line) ⌝ }
+{
+    if s.len() < 8 {
+        return refused(form, line);
+    }
+    if !limits_hold(&s[0..8], &SOIL_LEAST, &SOIL_MOST) {
+        return refused(form + 1, line);
+    }
+    if !right_angle(s[0], s[1], s[2]) {
+        return refused(3, line);
+    }
+    Outcome::Passed
+}
+
+// The element that stands at the front of a list.
+fn element_line(s: &[i64], nodes: usize, soils: usize, form: u32, line: usize) -> Outcome
+    requires { ⌜ nodes ≤ 100 ⌝ ∗ ⌜ soils ≤ 100 ⌝ ∗ ⌜ line < 2 ^ 32 ⌝ }
+    ensures { λ r. ⌜ r ≡ lineCheck (numbered form) (elementLines 0 nodes soils) (take 5 (now (s .entry))) (Place.Line line) ⌝ }
+{
+    if s.len() < 5 {
+        return refused(form, line);
+    }
+    let n = nodes as i64;
+    let most = [n, n, n, n, soils as i64];
+    if !limits_hold(&s[0..5], &[1; 5], &most) {
+        return refused(4, line);
+    }
+    Outcome::Passed
+}
+
+// The edge that stands at the front of a list.
+fn edge_line(s: &[i64], nodes: usize, form: u32, line: usize) -> Outcome
+    requires { ⌜ nodes ≤ 100 ⌝ ∗ ⌜ line < 2 ^ 32 ⌝ ∗ ⌜ form ≤ 100 ⌝ }
+    ensures { λ r. ⌜ r ≡ lineCheck (numbered form) (edgeLines 0 nodes) (take 7 (now (s .entry))) (Place.Line line) ⌝ }
+{
+    if s.len() < 7 {
+        return refused(form, line);
+    }
+    if !limits_hold(&s[2..7], &EDGE_LEAST, &EDGE_MOST) {
+        return refused(form + 1, line);
+    }
+    let n = nodes as i64;
+    if !limits_hold(&s[0..2], &[1; 2], &[n; 2]) {
+        return refused(4, line);
+    }
+    Outcome::Passed
+}
+
+// The line that stands at the front of a list.
+fn line_check(rule: Rule, s: &[i64], sizes: Sizes, form: u32, line: usize) -> Outcome
+    requires { ⌜ FewThings sizes ⌝ ∗ ⌜ line < 2 ^ 32 ⌝ ∗ ⌜ form ≤ 100 ⌝ }
+    ensures { λ r. ⌜ r ≡ lineCheck (numbered form) (ruledLines rule sizes 0) (take (width (ruledLines rule sizes 0)) (now (s .entry))) (Place.Line line) ⌝ }
+{
+    match rule {
+        Rule::Soil => soil_line(s, form, line),
+        Rule::Element => element_line(s, sizes.nodes, sizes.soils, form, line),
+        Rule::Edge => edge_line(s, sizes.nodes, form, line),
+    }
+}
+
+// Line k of some lines of one kind at the front of a list, the first of them in line `line` of the file.
+pub fn line_at(
+    rule: Rule,
+    s: &[i64],
+    columns: usize,
+    sizes: Sizes,
+    form: u32,
+    line: usize,
+    k: usize,
+) -> Outcome
+    requires { ⌜ FewLines sizes k columns form line × (columns ≡ width (ruledLines rule sizes 0)) ⌝ }
+    ensures { λ r. ⌜ r ≡ lineStep (numbered form) (ruledLines rule sizes 0) (now (s .entry)) line k ⌝ }
+{
+    let from = k * columns;
+    if s.len() < from {
+        return refused(form, line + k);
+    }
+    line_check(rule, &s[from..], sizes, form, line + k)
+}

@@ -1,0 +1,3 @@
+// mesh
+
+pub mod sizes;

@@ -1,0 +1,187 @@
+// The counts of a mesh whose lines have passed, where its groups begin, and its numbers by what they are.
+ghost use mathlib.Core.Path.{_≡_};
+ghost use mathlib.Core.List.{List};
+ghost use Prim.Native.Nat.{_+_, _*_, _-_, _<_, _≤_};
+ghost use lib.IntN.{ℤ, pos, _-ℤ_};
+ghost use lib.Signed.{_≤ℤ_};
+ghost use lib.ListN.{length};
+ghost use Rattle.integer.specs.Machine.{Is};
+ghost use Rattle.scope.specs.Columns.{at};
+ghost use Rattle.scope.specs.Layout.{count};
+ghost use Rattle.scope.specs.Mesh.{nodes, elements, soils, edges, x, y, corner, elementSoil, soilEntry, edgeEntry, fromNode, toNode, equalityCount};
+ghost use Rattle.scope.specs.Facts.{MeshFacts};
+ghost use Rattle.mesh.specs.MeshContracts.{Sized, SizesAre, HeaderThere, FewThings, nodesFrom, elementsFrom, edgesFrom};
+
+// The counts of the header.
+pub struct Sizes {
+    pub nodes: usize,
+    pub elements: usize,
+    pub soils: usize,
+    pub edges: usize,
+    pub sides: usize,
+}
+
+// Number k of a list.
+pub fn number_at(ns: &[i64], k: usize) -> i64
+    requires { ⌜ k < length (now ns) ⌝ }
+    ensures { λ r. ⌜ r ≡ at (now (ns .entry)) k ⌝ }
+{
+    ns[k]
+}
+
+// Number k of a list, where it is a count.
+pub fn count_at(ns: &[i64], k: usize) -> usize
+    requires { ⌜ (k < length (now ns)) × (pos 0 ≤ℤ at (now ns) k) ⌝ }
+    ensures { λ r. ⌜ r ≡ count (at (now (ns .entry)) k) ⌝ }
+{
+    ns[k] as usize
+}
+
+// The counts of a mesh's header: requires what a passed check of the header shows.
+pub fn header_sizes(m: &[i64]) -> Sizes
+    requires { ⌜ HeaderThere (now m) ⌝ }
+    ensures { λ r. ⌜ SizesAre (now (m .entry)) r ⌝ }
+{
+    let nodes = count_at(m, 0);
+    let elements = count_at(m, 1);
+    let soils = count_at(m, 2);
+    let edges = count_at(m, 3);
+    let sides = count_at(m, 4);
+    Sizes {
+        nodes,
+        elements,
+        soils,
+        edges,
+        sides,
+    }
+}
+
+// The sizes of a mesh: requires what a passed check of its lines shows.
+pub fn sizes_of(m: &[i64]) -> Sizes
+    requires { ⌜ MeshFacts (now m) ⌝ }
+    ensures { λ r. ⌜ Sized (now (m .entry)) r ⌝ }
+{
+    header_sizes(m)
+}
+
+// How many equality rows a mesh has: two for each element, then four for each edge.
+pub fn equality_count(s: Sizes) -> usize
+    requires { ⌜ FewThings s ⌝ }
+    ensures { λ r. ⌜ ((m : List ℤ) → Sized m s → r ≡ equalityCount m) × (r ≤ 440) ⌝ }
+{
+    s.elements * 2 + s.edges * 4
+}
+
+// The place of the first number of the nodes, of the elements and of the edges. For speed it is worked out where it is asked, so that fewer numbers are handed around.
+fn nodes_from(s: Sizes) -> usize
+    requires { ⌜ FewThings s ⌝ }
+    ensures { λ r. ⌜ r ≡ nodesFrom s ⌝ }
+{
+    5 + s.soils * 8
+}
+
+fn elements_from(s: Sizes) -> usize
+    requires { ⌜ FewThings s ⌝ }
+    ensures { λ r. ⌜ r ≡ elementsFrom s ⌝ }
+{
+    5 + s.soils * 8 + s.nodes * 2
+}
+
+fn edges_from(s: Sizes) -> usize
+    requires { ⌜ FewThings s ⌝ }
+    ensures { λ r. ⌜ r ≡ edgesFrom s ⌝ }
+{
+    5 + s.soils * 8 + s.nodes * 2 + s.elements * 5
+}
+
+// Column c of line i of a group with this width, whose first number has the place `from`.
+fn number_in(m: &[i64], from: usize, i: usize, width: usize, c: usize) -> i64
+    requires { ⌜ from + i * width + c < length (now m) ⌝ }
+    ensures { λ r. ⌜ r ≡ at (now (m .entry)) (from + i * width + c) ⌝ }
+{
+    number_at(m, from + i * width + c)
+}
+
+// The same, where it is the number of a thing: things are counted from 1 there, and from 0 here.
+fn thing_in(m: &[i64], from: usize, i: usize, width: usize, c: usize) -> usize
+    requires { ⌜ (from + i * width + c < length (now m)) × (pos 1 ≤ℤ at (now m) (from + i * width + c)) ⌝ }
+    ensures { λ r. ⌜ r ≡ count (at (now (m .entry)) (from + i * width + c)) - 1 ⌝ }
+{
+    count_at(m, from + i * width + c) - 1
+}
+
+// The coordinates of node v.
+fn node_x(m: &[i64], s: Sizes, v: usize) -> i64
+    requires { ⌜ Sized (now m) s × (v < nodes (now m)) ⌝ }
+    ensures { λ r. ⌜ Is r (x (now (m .entry)) v) 1000 ⌝ }
+{
+    number_in(m, nodes_from(s), v, 2, 0)
+}
+
+fn node_y(m: &[i64], s: Sizes, v: usize) -> i64
+    requires { ⌜ Sized (now m) s × (v < nodes (now m)) ⌝ }
+    ensures { λ r. ⌜ Is r (y (now (m .entry)) v) 1000 ⌝ }
+{
+    number_in(m, nodes_from(s), v, 2, 1)
+}
+
+// The difference of two nodes' coordinates: x of a minus x of b, and y of a minus y of b.
+pub fn run_between(m: &[i64], s: Sizes, a: usize, b: usize) -> i64
+    requires { ⌜ Sized (now m) s × (a < nodes (now m)) × (b < nodes (now m)) ⌝ }
+    ensures { λ r. ⌜ Is r (x (now (m .entry)) a -ℤ x (now (m .entry)) b) 1000 ⌝ }
+{
+    node_x(m, s, a) - node_x(m, s, b)
+}
+
+pub fn rise_between(m: &[i64], s: Sizes, a: usize, b: usize) -> i64
+    requires { ⌜ Sized (now m) s × (a < nodes (now m)) × (b < nodes (now m)) ⌝ }
+    ensures { λ r. ⌜ Is r (y (now (m .entry)) a -ℤ y (now (m .entry)) b) 1000 ⌝ }
+{
+    node_y(m, s, a) - node_y(m, s, b)
+}
+
+// The node at corner i of element e, and the element's soil.
+pub fn corner_of(m: &[i64], s: Sizes, e: usize, i: usize) -> usize
+    requires { ⌜ Sized (now m) s × (e < elements (now m)) × (i < 4) ⌝ }
+    ensures { λ r. ⌜ r ≡ corner (now (m .entry)) e i ⌝ }
+{
+    thing_in(m, elements_from(s), e, 5, i)
+}
+
+pub fn element_soil(m: &[i64], s: Sizes, e: usize) -> usize
+    requires { ⌜ Sized (now m) s × (e < elements (now m)) ⌝ }
+    ensures { λ r. ⌜ r ≡ elementSoil (now (m .entry)) e ⌝ }
+{
+    thing_in(m, elements_from(s), e, 5, 4)
+}
+
+// Column c of a soil: p, q, h, cohesion, dead force x and y, live force x and y.
+pub fn soil_entry(m: &[i64], s: Sizes, soil: usize, c: usize) -> i64
+    requires { ⌜ Sized (now m) s × (soil < soils (now m)) × (c < 8) ⌝ }
+    ensures { λ r. ⌜ Is r (soilEntry (now (m .entry)) soil c) 10000 ⌝ }
+{
+    number_in(m, 5, soil, 8, c)
+}
+
+// Column c of edge g, from what is fixed on: what is fixed, dead normal, dead shear, live normal, live shear.
+pub fn edge_entry(m: &[i64], s: Sizes, g: usize, c: usize) -> i64
+    requires { ⌜ Sized (now m) s × (g < edges (now m)) × (2 ≤ c) × (c < 7) ⌝ }
+    ensures { λ r. ⌜ Is r (edgeEntry (now (m .entry)) g c) 10000 ⌝ }
+{
+    number_in(m, edges_from(s), g, 7, c)
+}
+
+// The nodes of edge g.
+pub fn edge_from(m: &[i64], s: Sizes, g: usize) -> usize
+    requires { ⌜ Sized (now m) s × (g < edges (now m)) ⌝ }
+    ensures { λ r. ⌜ r ≡ fromNode (now (m .entry)) g ⌝ }
+{
+    thing_in(m, edges_from(s), g, 7, 0)
+}
+
+pub fn edge_to(m: &[i64], s: Sizes, g: usize) -> usize
+    requires { ⌜ Sized (now m) s × (g < edges (now m)) ⌝ }
+    ensures { λ r. ⌜ r ≡ toNode (now (m .entry)) g ⌝ }
+{
+    thing_in(m, edges_from(s), g, 7, 1)
+}

@@ -1,0 +1,4 @@
+-- laws
+pub mod AnswerLaws
+pub mod Promises
+pub mod PromisesApplied

@@ -1,0 +1,182 @@
+-- Each promise of the call on numbers applied to document 01's sheet or a neighbour: antt computes the answer, and the promise says the rest.
+use mathlib.Core.Path.{_≡_, refl}
+use mathlib.Core.Logic.{inr}
+use mathlib.Core.List.{List, [], _∷_, _++_}
+use Prim.Native.Nat.{ℕ, suc}
+use native.Mathlib.Omega.{arith}
+use lib.Dec.{lt→ltb}
+use lib.IntN.{ℤ, pos, negsuc, _*ℤ_}
+use lib.Signed.{ltZ-yes}
+use lib.ListN.{length}
+use Rattle.integer.specs.Ring.{ring, terms}
+use Rattle.integer.specs.Fraction.{_over_, _≈ᶠ_, _≤ᶠ_}
+use Rattle.scope.specs.declared.Place.the-variants.{Column}
+use Rattle.scope.specs.Rows.{nodeSoil, rowsOf}
+use Rattle.scope.specs.Sums.{liveSum, limitSum}
+use Rattle.scope.specs.Claim.{stress, multiplier}
+use Rattle.scope.specs.Verdict.{rowAt}
+use Rattle.scope.specs.Answer.{placeFor}
+use Rattle.scope.specs.Computed.{computed}
+use Rattle.scope.specs.Refusals.{Refusal}
+use Rattle.scope.specs.Accepted.{FieldAccepted, MultipliersAccepted, ClaimAccepted}
+use Rattle.scope.specs.Printed.{MeetsPrinted}
+use Rattle.scope.specs.AcceptedField.{MeetsCriterion}
+use Rattle.scope.specs.Bracket.{Open, NoneOpen}
+use Rattle.scope.specs.Fractions.{Fraction, FractionField, fieldOver}
+use Rattle.scope.specs.AcceptedFractions.{MeetsMesh}
+use Rattle.scope.specs.Parts.{SameRows, NumberOf, PartsBracket}
+use Rattle.scope.specs.Worked.{zeros, workedMesh, workedStresses, workedMultipliers, workedClaim, multipliersAlone, sheet, sheet19, sheet29, freeShear}
+use Rattle.scope.proofs.Printed.{field-printed}
+use Rattle.scope.proofs.Applied.{free-field, free-rows}
+use Rattle.numbers.specs.declared.numbers_answer.NumbersAnswer.{NumbersAnswer}
+use Rattle.numbers.specs.Promises.{Answers, TellsField, FieldInFractions}
+use Rattle.numbers.proofs.Promises.{returned, returns-zero-exactly, refuses-exactly, field-exactly, multipliers-exactly, criterion-at-each-node, field-reported, multipliers-reported, open-rows-reported, field-in-fractions, calls-bracket, call-bracket, accepted-parts, fractions-bracket}
+
+-- ---- what is answered
+
+-- the sheet: 20 carried, 600/30 allowed, no row open
+abbrev pub sheetAnswer : NumbersAnswer
+sheetAnswer = record { number = 0; place = 0; field = 1; multipliers = 1; l = pos 20; n = pos 1; w = pos 600; m = pos 30; «open_rows» = 0 }
+
+pub sheet-answered : Answers workedMesh sheet sheetAnswer
+unfolding computed zeros workedMesh workedStresses workedMultipliers workedClaim sheet
+sheet-answered = refl
+
+-- l 19, sy -19: two open rows
+abbrev pub answer19 : NumbersAnswer
+answer19 = record { number = 0; place = 0; field = 1; multipliers = 1; l = pos 19; n = pos 1; w = pos 600; m = pos 30; «open_rows» = 2 }
+
+pub nineteen-answered : Answers workedMesh sheet19 answer19
+unfolding computed zeros workedMesh workedStresses workedMultipliers workedClaim sheet19
+nineteen-answered = refl
+
+-- that with the -30 as -29: 32, column 7
+abbrev pub answer29 : NumbersAnswer
+answer29 = record { number = 32; place = 7; field = 0; multipliers = 0; l = pos 0; n = pos 0; w = pos 0; m = pos 0; «open_rows» = 0 }
+
+pub refused-answered : Answers workedMesh sheet29 answer29
+unfolding computed zeros workedMesh workedStresses workedMultipliers workedClaim sheet29
+refused-answered = refl
+
+-- the multipliers alone, on a mesh that has one soil more, which no element has: the same rows
+unfoldable pub secondSoil : List ℤ
+secondSoil =
+    (pos 4 ∷ pos 1 ∷ pos 2 ∷ pos 3 ∷ pos 12 ∷ [])
+    ++ (pos 0 ∷ pos 1 ∷ pos 1 ∷ pos 10 ∷ zeros 4)
+    ++ (pos 3 ∷ pos 4 ∷ pos 5 ∷ pos 7 ∷ zeros 4)
+    ++ (pos 0 ∷ pos 0 ∷ pos 1 ∷ pos 0 ∷ pos 1 ∷ pos 1 ∷ pos 0 ∷ pos 1 ∷ [])
+    ++ (pos 1 ∷ pos 2 ∷ pos 3 ∷ pos 4 ∷ pos 1 ∷ [])
+    ++ (pos 3 ∷ pos 4 ∷ pos 3 ∷ pos 0 ∷ pos 0 ∷ negsuc 0 ∷ pos 0 ∷ [])
+    ++ (pos 2 ∷ pos 3 ∷ pos 3 ∷ zeros 4)
+    ++ (pos 4 ∷ pos 1 ∷ pos 3 ∷ zeros 4)
+
+abbrev pub aloneAnswer : NumbersAnswer
+aloneAnswer = record { number = 0; place = 0; field = 0; multipliers = 1; l = pos 0; n = pos 0; w = pos 600; m = pos 30; «open_rows» = 0 }
+
+pub alone-answered : Answers secondSoil multipliersAlone aloneAnswer
+unfolding computed zeros workedStresses workedMultipliers multipliersAlone secondSoil
+alone-answered = refl
+
+pub same-rows : SameRows workedMesh secondSoil
+unfolding computed zeros workedMesh secondSoil
+same-rows = refl
+
+-- ---- demand 2
+
+pub sheet-accepted : ClaimAccepted workedMesh sheet
+sheet-accepted = returns-zero-exactly workedMesh sheet 0 0 (returned sheet-answered) .exactly .0 refl
+
+pub refused-column-7 : Refusal workedMesh sheet29 32 (Column 7)
+unfolding placeFor
+refused-column-7 = refuses-exactly workedMesh sheet29 32 7 (returned refused-answered) .exactly 32 7 (λ e. omega arith) .0 (refl, refl)
+
+-- the field of the refused claim
+tells-field : TellsField sheet29 32
+unfolding computed zeros workedStresses workedMultipliers workedClaim sheet29
+tells-field = (refl, inr (omega arith, omega arith))
+
+pub field-of-refused : FieldAccepted workedMesh sheet29
+field-of-refused = field-exactly workedMesh sheet29 32 7 (returned refused-answered) .told .1 tells-field
+
+pub alone-accepted : MultipliersAccepted secondSoil multipliersAlone
+unfolding computed zeros workedStresses workedMultipliers multipliersAlone
+alone-accepted = multipliers-exactly secondSoil multipliersAlone 0 0 (returned alone-answered) .told .0 (refl, refl) .0
+
+pub sheet-carried : MeetsPrinted workedMesh (stress workedMesh sheet) (pos 20) (pos 1)
+sheet-carried = field-reported workedMesh sheet sheetAnswer sheet-answered .carried refl
+
+-- m = 30, W = 600
+pub sheet-limit : (pos 600 ≡ limitSum (multiplier workedMesh sheet) (rowsOf workedMesh)) × (pos 30 ≡ liveSum (multiplier workedMesh sheet) (rowsOf workedMesh))
+sheet-limit = multipliers-reported workedMesh sheet sheetAnswer sheet-answered .limit refl
+
+pub criterion-at-node-3 : MeetsCriterion workedMesh sheet29 (record { at = 2; soil = nodeSoil workedMesh 2 })
+unfolding computed zeros workedMesh
+criterion-at-node-3 = criterion-at-each-node workedMesh sheet29 32 7 (returned refused-answered) tells-field 2 (omega arith)
+
+-- ---- demand 3
+
+-- one claim: 20/1 and 600/30 are equal, since no row is open
+pub sheet-closed : pos 20 over pos 1 ≈ᶠ pos 600 over pos 30
+sheet-closed = open-rows-reported workedMesh sheet sheetAnswer sheet-answered .closed refl refl .0 refl
+
+pub sheet-none-open : NoneOpen (stress workedMesh sheet) (pos 20) (pos 1) (multiplier workedMesh sheet) (rowsOf workedMesh)
+sheet-none-open = call-bracket sheet-answered refl refl .equal .0 sheet-closed
+
+-- the two open rows of l 19
+pub nineteen-open : NumberOf (λ k. Open (stress workedMesh sheet19) (pos 19) (pos 1) (multiplier workedMesh sheet19 k) (rowAt (rowsOf workedMesh) k)) (length (rowsOf workedMesh)) 2
+nineteen-open = open-rows-reported workedMesh sheet19 answer19 nineteen-answered .count refl refl
+
+-- two claims on two meshes with the same rows
+pub nineteen-alone : pos 19 over pos 1 ≤ᶠ pos 600 over pos 30
+nineteen-alone = calls-bracket nineteen-answered alone-answered same-rows refl refl .at-most
+
+-- the field of the refused claim against them
+pub refused-alone : PartsBracket workedMesh sheet29 secondSoil multipliersAlone
+refused-alone = accepted-parts refused-answered same-rows tells-field alone-accepted
+
+-- the field of l 19 in fractions, over another denominator in each column: 1 to 12
+unfoldable pub fraction : ℤ → ℕ → Fraction
+fraction a d = record { value = a over pos (suc d); proper = record { positive = record { lt = lt→ltb 0 (suc d) (omega arith) } } }
+
+unfoldable pub fractions : FractionField
+fractions = record { stress = λ j. fraction (stress workedMesh sheet19 j *ℤ pos (suc j)) j; load = fraction (pos 38) 1 }
+
+pub fractions-meet : MeetsMesh workedMesh fractions
+unfolding fraction fractions
+fractions-meet = record {
+  denominator = pos 1;
+  numerators = stress workedMesh sheet19;
+  numerator = pos 19;
+  written = record {
+    above-0 = ltZ-yes tt;
+    stresses = λ j b. record { cross-≡ = ring (stress workedMesh sheet19 j ∷ pos (suc j) ∷ []) (search terms depth 100) refl };
+    load = record { cross-≡ = refl };
+  };
+  meets = field-printed workedMesh (stress workedMesh sheet19) (pos 19) (pos 1) .1 (field-reported workedMesh sheet19 answer19 nineteen-answered .carried refl);
+}
+
+pub fractions-at-most : pos 38 over pos 2 ≤ᶠ pos 600 over pos 30
+unfolding fraction fractions
+fractions-at-most = fractions-bracket alone-answered refl workedMesh (sheet-accepted .mesh) same-rows .at-most fractions fractions-meet
+
+-- the field of the sheet itself is one
+pub sheet-in-fractions : FieldInFractions workedMesh sheet sheetAnswer
+sheet-in-fractions = field-in-fractions workedMesh sheet sheetAnswer sheet-answered refl
+
+-- two meshes that differ in a number of an unfixed part: the field of l 19 on the one, the sheet's multipliers on the other
+pub free-nineteen : Answers (freeShear (pos 0)) sheet19 answer19
+unfolding computed zeros freeShear workedStresses workedMultipliers workedClaim sheet19
+free-nineteen = refl
+
+pub free-sheet : Answers (freeShear (pos 5)) sheet sheetAnswer
+unfolding computed zeros freeShear workedStresses workedMultipliers workedClaim sheet
+free-sheet = refl
+
+pub free-calls : pos 19 over pos 1 ≤ᶠ pos 600 over pos 30
+free-calls = calls-bracket free-nineteen free-sheet free-rows refl refl .at-most
+
+-- the same field in fractions
+pub free-fractions : pos 19 over pos 1 ≤ᶠ pos 600 over pos 30
+free-fractions =
+    let field = field-in-fractions (freeShear (pos 0)) sheet19 answer19 free-nineteen refl in
+    fractions-bracket free-sheet refl (freeShear (pos 0)) (free-field .mesh) free-rows .at-most (fieldOver (pos 1) (field .above-0) (stress (freeShear (pos 0)) sheet19) (pos 19)) (field .meets)

@@ -1,0 +1,3 @@
+-- contracts
+pub mod NumbersAnswer
+pub mod Promises

@@ -1,0 +1,141 @@
+-- What a caller that hands over numbers may rely on: demands 2 and 3 for `pechuvo_check_numbers`, each promise a plain statement about the answer r to the numbers m of a mesh and c of a claim.
+-- Each is proved of every answer (`proofs/Promises.antt`) and applied to document 01's sheet (`proofs/PromisesApplied.antt`). Those about the number and the place alone serve the check of two files too.
+use mathlib.Core.Path.{_≡_}
+use mathlib.Core.Logic.{_↔_, _⊎_, _≢_}
+use mathlib.Core.List.{List}
+use Prim.Native.Nat.{ℕ, _*_, _≤_, _<_}
+use lib.IntN.{ℤ, pos}
+use lib.Signed.{_<ℤ_}
+use lib.ListN.{length}
+use Rattle.integer.specs.Fraction.{Frac, _over_, _≈ᶠ_, _≤ᶠ_}
+use Rattle.scope.specs.Columns.{n, l}
+use Rattle.scope.specs.Mesh.{nodes}
+use Rattle.scope.specs.Rows.{nodeSoil, rowsOf}
+use Rattle.scope.specs.Sums.{liveSum, limitSum}
+use Rattle.scope.specs.Claim.{claimLayout, stress, multiplier}
+use Rattle.scope.specs.Verdict.{rowAt, verdict}
+use Rattle.scope.specs.Answer.{placeFor, numberOf, placeOf}
+use Rattle.scope.specs.AnsweredMesh.{MeshExactly}
+use Rattle.scope.specs.Sound.{LinesSound, MeshSound}
+use Rattle.scope.specs.Refusals.{HasField, HasMultipliers, Refusal}
+use Rattle.scope.specs.Accepted.{FieldAccepted, MultipliersAccepted, ClaimAccepted}
+use Rattle.scope.specs.Printed.{MeetsPrinted}
+use Rattle.scope.specs.RefusedRows.{EqualityFails, StrengthFails}
+use Rattle.scope.specs.PrintedColumns.{MultipliersPrinted, printedLive, printedLimit}
+use Rattle.scope.specs.AcceptedField.{MeetsCriterion}
+use Rattle.scope.specs.Bracket.{Open, NoneOpen}
+use Rattle.scope.specs.Fractions.{FractionField, WrittenOver, FractionLaws, fieldOver}
+use Rattle.scope.specs.AcceptedFractions.{MeetsMesh}
+use Rattle.scope.specs.Parts.{SameRows, PartsBracket, NumberOf}
+use Rattle.verdict.specs.declared.MeshAnswer.{MeshAnswer}
+use Rattle.verdict.specs.JudgeContracts.{MeshAnswered}
+use Rattle.numbers.specs.declared.numbers_answer.NumbersAnswer.{NumbersAnswer}
+use Rattle.numbers.specs.NumbersAnswer.{answerOf}
+
+-- the contract of `pechuvo_check_numbers`
+abbrev pub Answers : List ℤ → List ℤ → NumbersAnswer → Type 0
+Answers m c r = r ≡ answerOf (verdict m c)
+
+-- the verdict's number and place: every answer returns them, and so does the check of two files
+pub record Returned (m c : List ℤ) (number place : ℕ) : Type 0 where
+  pub numberIs : number ≡ numberOf (verdict m c)
+  pub placeIs : place ≡ placeOf (verdict m c)
+
+-- ==== Demand 2: what is accepted, and what is refused
+
+-- "Accepted returns 0, place 0": 0 exactly when the mesh passes 1 to 8, the claim passes 11 to 13, a field that is there meets every row, and multipliers that are there are zero on every unfixed row, make all 3·nodes columns 0 and have m above 0
+pub record ReturnsZero (m c : List ℤ) (number place : ℕ) : Type 0 where
+  pub exactly : (number ≡ 0) ↔ ClaimAccepted m c
+  pub place-zero : number ≡ 0 → place ≡ 0
+
+-- "Refused: number, place": a number and a place are returned exactly when the table, with its order, has them
+pub record RefusesExactly (m c : List ℤ) (number place : ℕ) : Type 0 where
+  pub exactly : (k j : ℕ) → k ≢ 0 → ((number ≡ k) × (place ≡ j)) ↔ Refusal m c k (placeFor k j)
+
+-- the place of 21 and of 22 is the number of a row that, as document 01 prints it, the field does not meet
+pub record RowsRefused (m c : List ℤ) (number place : ℕ) : Type 0 where
+  pub equality : number ≡ 21 → EqualityFails m c place
+  pub strength : number ≡ 22 → StrengthFails m c place
+
+-- the number tells of a field that is there that it is accepted: no refusal before 31 came
+abbrev pub TellsField : List ℤ → ℕ → Type 0
+TellsField c number = HasField c × ((number ≡ 0) ⊎ ((31 ≤ number) × (number ≤ 33)))
+
+-- "A part is accepted when its own checks pass (21 and 22 for a field ..; mesh and claim have passed all before 21)": the field meets each row as document 01 prints it
+pub record FieldExactly (m c : List ℤ) (number : ℕ) : Type 0 where
+  pub exactly : FieldAccepted m c ↔ (MeshSound m × LinesSound (claimLayout m) c × HasField c × MeetsPrinted m (stress m c) (l c) (n c))
+  pub told : FieldAccepted m c ↔ TellsField c number
+
+-- "(.. 31 to 33 for multipliers ..)": in the terms of the rows as document 01 prints them; the number tells it where each other part that is there is accepted too
+pub record MultipliersExactly (m c : List ℤ) (number : ℕ) : Type 0 where
+  pub exactly : MultipliersAccepted m c ↔ (MeshSound m × LinesSound (claimLayout m) c × HasMultipliers c × MultipliersPrinted m (multiplier m c))
+  pub told : (HasMultipliers c × (number ≡ 0)) ↔ (MultipliersAccepted m c × (HasField c → FieldAccepted m c))
+
+-- the answer has a field exactly when the claim has one and is accepted; then l/n is the claim's load, and the field carries it
+pub record FieldReported (m c : List ℤ) (r : NumbersAnswer) : Type 0 where
+  pub exactly : (r .field ≡ 1) ↔ (HasField c × (r .number ≡ 0))
+  pub load : r .field ≡ 1 → (r .l ≡ l c) × (r .n ≡ n c)
+  pub n-above-0 : r .field ≡ 1 → pos 0 <ℤ r .n
+  pub carried : r .field ≡ 1 → MeetsPrinted m (stress m c) (r .l) (r .n)
+  pub none : r .field ≢ 1 → (r .field ≡ 0) × (r .l ≡ pos 0) × (r .n ≡ pos 0)
+
+-- and so for multipliers, with W/m
+pub record MultipliersReported (m c : List ℤ) (r : NumbersAnswer) : Type 0 where
+  pub exactly : (r .multipliers ≡ 1) ↔ (HasMultipliers c × (r .number ≡ 0))
+  pub limit : r .multipliers ≡ 1 → (r .w ≡ limitSum (multiplier m c) (rowsOf m)) × (r .m ≡ liveSum (multiplier m c) (rowsOf m))
+  -- these are the sums over the printed rows
+  pub printed : r .multipliers ≡ 1 → (r .w ≡ printedLimit m (multiplier m c)) × (r .m ≡ printedLive m (multiplier m c))
+  pub m-above-0 : r .multipliers ≡ 1 → pos 0 <ℤ r .m
+  pub none : r .multipliers ≢ 1 → (r .multipliers ≡ 0) × (r .w ≡ pos 0) × (r .m ≡ pos 0)
+
+-- the Mohr-Coulomb criterion (001, eq. 12) at each node, with the strength of the node's soil
+abbrev pub CriterionAtEachNode : List ℤ → List ℤ → Type 0
+CriterionAtEachNode m c = (v : ℕ) → v < nodes m → MeetsCriterion m c (record { at = v; soil = nodeSoil m v })
+
+-- ==== Demand 3: loads compared
+
+-- "A claim's field carries l/n and its multipliers allow W/m, both as exact fractions": the field of one call, answered r, and the multipliers of one, answered s
+pub record CallsBracket (m c d k : List ℤ) (r s : NumbersAnswer) : Type 0 where
+  pub n-above-0 : pos 0 <ℤ r .n
+  pub m-above-0 : pos 0 <ℤ s .m
+  pub at-most : r .l over r .n ≤ᶠ s .w over s .m
+  -- equal exactly when no strength row has both a multiplier above 0 and strength to spare
+  pub equal : (r .l over r .n ≈ᶠ s .w over s .m) ↔ NoneOpen (stress m c) (r .l) (r .n) (multiplier d k) (rowsOf d)
+
+-- of two calls, or of one twice, on meshes with the same rows
+abbrev pub TwoAnswers : (m c d k : List ℤ) (r s : NumbersAnswer) → Type 0
+TwoAnswers m c d k r s = Answers m c r → Answers d k s → SameRows m d → r .field ≡ 1 → s .multipliers ≡ 1 → CallsBracket m c d k r s
+
+-- of a field that a call tells to be accepted, and accepted multipliers of any claim: either claim may be refused for its other part
+abbrev pub AnswerAndMultipliers : (m c d k : List ℤ) (r : NumbersAnswer) → Type 0
+AnswerAndMultipliers m c d k r = Answers m c r → SameRows m d → TellsField c (r .number) → MultipliersAccepted d k → PartsBracket m c d k
+
+-- "the open rows (strength rows with multiplier above 0 and left side below right)": their number where both parts are there, else 0
+pub record OpenRowsReported (m c : List ℤ) (r : NumbersAnswer) : Type 0 where
+  pub count : r .field ≡ 1 → r .multipliers ≡ 1 → NumberOf (λ k. Open (stress m c) (r .l) (r .n) (multiplier m c k) (rowAt (rowsOf m) k)) (length (rowsOf m)) (r .«open_rows»)
+  pub closed : r .field ≡ 1 → r .multipliers ≡ 1 → (r .«open_rows» ≡ 0) ↔ (r .l over r .n ≈ᶠ r .w over r .m)
+  pub one-part : (r .field ≢ 1) ⊎ (r .multipliers ≢ 1) → r .«open_rows» ≡ 0
+
+-- "A field in fractions has any fractions as each node's sx, sy and t and as its load": on a mesh m that passes, against the limit W/m of accepted multipliers of a claim k on a mesh d with the same rows
+pub record FractionsBracket (m d k : List ℤ) (limit : Frac) : Type 0 where
+  -- each can be written over one denominator, and whether it meets the rows is the same for every one
+  pub laws : FractionLaws (3 * nodes m) (rowsOf m)
+  -- none that meets the rows carries more than the multipliers allow
+  pub at-most : (f : FractionField) → MeetsMesh m f → f .load .value ≤ᶠ limit
+  -- equal exactly when no strength row is open, over any denominator that it is written over
+  pub equal : (f : FractionField) → MeetsMesh m f → (e : ℤ) (t : ℕ → ℤ) (j : ℤ) → WrittenOver (3 * nodes m) f e t j → (f .load .value ≈ᶠ limit) ↔ NoneOpen t j e (multiplier d k) (rowsOf d)
+
+-- against the multipliers that a call reports
+abbrev pub FractionsAndAnswer : (d k : List ℤ) (s : NumbersAnswer) → Type 0
+FractionsAndAnswer d k s = Answers d k s → s .multipliers ≡ 1 → (m : List ℤ) → MeshSound m → SameRows m d → FractionsBracket m d k (s .w over s .m)
+
+-- the field that a claim carries, over its n, is such a field
+pub record FieldInFractions (m c : List ℤ) (r : NumbersAnswer) : Type 0 where
+  pub above-0 : pos 0 <ℤ r .n
+  pub meets : MeetsMesh m (fieldOver (r .n) above-0 (stress m c) (r .l))
+
+-- ==== A mesh alone
+
+-- the answer of `judge_mesh`, by document 01's number and place for each case of its outcome
+abbrev pub MeshAnsweredExactly : (m : List ℤ) (r : MeshAnswer) → Type 0
+MeshAnsweredExactly m r = MeshAnswered m r → MeshExactly m (r .outcome)

@@ -1,0 +1,88 @@
+-- The row of a refusal by its number, as it is printed: the phase's row, the row of that number, and the printed row are one.
+use mathlib.Core.Path.{_≡_, refl, sym, _∙_, ap, subst}
+use mathlib.Core.Logic.{_⊎_, inl, inr}
+use mathlib.Core.List.{List, _++_}
+use Prim.Native.Nat.{ℕ, suc, _+_, _*_, _-_, _<_}
+use native.Mathlib.Omega.{arith}
+use lib.IntN.{ℤ}
+use Rattle.scope.specs.declared.Place.{Place}
+use Rattle.scope.specs.declared.Place.the-variants.{Row}
+use Rattle.scope.specs.Answer.{placeNumber}
+use Rattle.scope.specs.Columns.{n, l}
+use Rattle.scope.specs.Mesh.{nodes, elements, edges, sides, fromNode, toNode}
+use Rattle.scope.specs.Polygon.{polygonOf}
+use Rattle.scope.specs.Claim.{stress}
+use Rattle.scope.specs.Rows as R
+use Rattle.scope.specs.Rows.{equalityRows, strengthRows}
+use Rattle.scope.specs.Verdict.{rowAt}
+use Rattle.scope.specs.Meets.{RowMet}
+use Rattle.scope.specs.Refusals.{EqualityMet, StrengthMet, meshPhases, claimPhases, Refusal}
+use Rattle.scope.specs.RowNumbers.{rowNumbered, sideNumbered, pairOf, RowNumbers}
+use Rattle.scope.specs.RefusedRows.{EqualityFails, StrengthFails}
+use Rattle.scope.proofs.Phases.{EachIn, each-refusal}
+use Rattle.scope.proofs.Exactly.{own-number, each-number, refused-on-mesh}
+use Rattle.scope.proofs.Facts.{mesh-facts}
+use Rattle.scope.proofs.Printed.{balance-x, balance-y, normal, shear, strength}
+use Rattle.scope.proofs.RowNumbers.{row-numbers}
+
+module _ (m c : List ℤ) where
+  met : R.Row → Type 0
+  met r = RowMet (stress m c) (l c) (n c) r
+
+  -- a refused row isn't met
+  Q : ℕ → Place → Type 0
+  Q k p = (k ≡ 21 → ¬ met (rowNumbered (equalityRows m) (placeNumber p))) × (k ≡ 22 → ¬ met (rowNumbered (strengthRows m) (placeNumber p)))
+
+  here : (rs : List R.Row) (k : ℕ) {number i : ℕ} → ((¬ met (rowAt rs k)) × (number ≡ i)) ⊎ (met (rowAt rs k) × ⊥) → ¬ met (rowNumbered rs (suc k))
+  here rs k (inl h) f = h .0 (subst (λ i. met (rowAt rs i)) (omega arith) f)
+  here rs k (inr h) f = h .1
+
+  all : EachIn Q (meshPhases m ++ claimPhases m c)
+  unfolding Q met
+  all =
+      each-number Q m c (λ k p e. (λ z. absurd (omega (arith, e .1)), λ z. absurd (omega (arith, e .1)))) (
+        λ k i h b r. (λ z. here (equalityRows m) k r, λ z. absurd (omega (arith, own-number {k = 21} refl r))),
+        λ e. (λ k i h b r. (λ z. absurd (omega (arith, own-number {k = 22} refl r)), λ z. here (strengthRows m) k r), λ i. tt),
+      )
+      (λ a b d. (
+        λ k i h b r. (λ z. absurd (omega (arith, own-number {k = 31} refl r)), λ z. absurd (omega (arith, own-number {k = 31} refl r))),
+        λ e. (
+          λ k i h b r. (λ z. absurd (omega (arith, own-number {k = 32} refl r)), λ z. absurd (omega (arith, own-number {k = 32} refl r))),
+          λ e. (λ k i h b r. (λ z. absurd (omega (arith, own-number {k = 33} refl r)), λ z. absurd (omega (arith, own-number {k = 33} refl r))), λ i. tt),
+        ),
+      ))
+
+  refused : {k : ℕ} {p : Place} → Refusal m c k p → Q k p
+  refused r = each-refusal Q (meshPhases m ++ claimPhases m c) all (r .by)
+
+  -- the row of a number is not met, so no row that it equals is
+  row-fails : (rs : List R.Row) (place i : ℕ) {r : R.Row} → ¬ met (rowNumbered rs place) → rowNumbered rs i ≡ r → place ≡ i → ¬ met r
+  row-fails rs place i f e d h = f (subst (λ j. met (rowNumbered rs j)) (sym d) (subst met (sym e) h))
+
+  module _ (place : ℕ) where
+    -- a mesh whose claim's rows are looked at has 12, 20 or 36 sides
+    numbers : {k : ℕ} → Refusal m c k (Row place) → 13 < k → RowNumbers m
+    numbers r h = row-numbers m (mesh-facts m (refused-on-mesh r h .lines) .counts .sidesListed)
+
+    pub equality-fails : Refusal m c 21 (Row place) → EqualityFails m c place
+    unfolding Q met
+    equality-fails r =
+        let f = refused r .0 refl in
+        let by = numbers r (omega arith) in
+        record {
+          balance-x = λ e h d g. row-fails (equalityRows m) place (2 * suc e - 1) f (by .balance-x e h) d (balance-x m (stress m c) (l c) (n c) e .1 g);
+          balance-y = λ e h d g. row-fails (equalityRows m) place (2 * suc e) f (by .balance-y e h) d (balance-y m (stress m c) (l c) (n c) e .1 g);
+          normal-from = λ i h d g. row-fails (equalityRows m) place (2 * elements m + 4 * i + 1) f (by .normal-from i h) d (normal m (stress m c) (l c) (n c) i (fromNode m i) .1 g);
+          shear-from = λ i h d g. row-fails (equalityRows m) place (2 * elements m + 4 * i + 2) f (by .shear-from i h) d (shear m (stress m c) (l c) (n c) i (fromNode m i) .1 g);
+          normal-to = λ i h d g. row-fails (equalityRows m) place (2 * elements m + 4 * i + 3) f (by .normal-to i h) d (normal m (stress m c) (l c) (n c) i (toNode m i) .1 g);
+          shear-to = λ i h d g. row-fails (equalityRows m) place (2 * elements m + 4 * i + 4) f (by .shear-to i h) d (shear m (stress m c) (l c) (n c) i (toNode m i) .1 g);
+        }
+
+    pub strength-fails : Refusal m c 22 (Row place) → StrengthFails m c place
+    unfolding Q met
+    strength-fails r =
+        let f = refused r .1 refl in
+        let by = numbers r (omega arith) in
+        record {
+          strength = λ v k h j d g. row-fails (strengthRows m) place (v * sides m + suc k) f (by .strength v k h j) d (strength m (stress m c) (l c) (n c) (polygonOf (sides m) .radius) (pairOf m v) (sideNumbered (polygonOf (sides m)) (suc k)) .1 g);
+        }

@@ -1,0 +1,102 @@
+-- The columns (document 01, 'Rows', Columns) from the rows as it prints them, with l and n on the side where it has them; and what accepted multipliers are in these terms.
+-- Multipliers w are numbered as the rows are; a field is its stresses s by column, with l and n.
+use mathlib.Core.Path.{_≡_}
+use mathlib.Core.Logic.{_↔_}
+use mathlib.Core.List.{List}
+use Prim.Native.Nat.{ℕ, zero, suc, _+_, _*_, _<_}
+use lib.IntN.{ℤ, pos, _+ℤ_, _-ℤ_, _*ℤ_, negℤ}
+use lib.Signed.{_<ℤ_}
+use Rattle.scope.specs.Mesh.{nodes, elements, edges, sides, p, q, h, cohesion, deadX, deadY, liveX, liveY, x, y, corner, elementSoil, edgeEntry, fromNode, toNode}
+use Rattle.scope.specs.Polygon.{Side, polygonOf}
+use Rattle.scope.specs.Rows.{sx, sy, t, twiceArea, stepX, stepY, Pair, balanceX, balanceY, normalRow, shearRow, rowsOf}
+use Rattle.scope.specs.Sums.{leftSide, rightSide, unit, columnSum, liveSum, limitSum}
+use Rattle.scope.specs.RowNumbers.{sideAt, pairRow, pairOf}
+use Rattle.scope.specs.Printed.{forceX, forceY, bodyForce, normalForce, shearForce, edgeForce, FixesNormal, FixesShear, deviator, resistance}
+
+-- ---- a printed row in a field: its left side minus its right side
+
+module _ (m : List ℤ) (s : ℕ → ℤ) (l n : ℤ) where
+  abbrev pub lessX : ℕ → ℤ
+  lessX e =
+      forceX (λ i. x m (corner m e i)) (λ i. y m (corner m e i)) (λ i. s (sx (corner m e i))) (λ i. s (t (corner m e i)))
+      -ℤ bodyForce (twiceArea m e) (deadX m (elementSoil m e)) (liveX m (elementSoil m e)) n l
+
+  abbrev pub lessY : ℕ → ℤ
+  lessY e =
+      forceY (λ i. x m (corner m e i)) (λ i. y m (corner m e i)) (λ i. s (sy (corner m e i))) (λ i. s (t (corner m e i)))
+      -ℤ bodyForce (twiceArea m e) (deadY m (elementSoil m e)) (liveY m (elementSoil m e)) n l
+
+  abbrev pub lessNormal : ℕ → ℕ → ℤ
+  lessNormal g v = normalForce (stepX m g) (stepY m g) (s (sx v)) (s (sy v)) (s (t v)) -ℤ edgeForce (stepX m g) (stepY m g) (edgeEntry m g 3) (edgeEntry m g 5) n l
+
+  abbrev pub lessShear : ℕ → ℕ → ℤ
+  lessShear g v = shearForce (stepX m g) (stepY m g) (s (sx v)) (s (sy v)) (s (t v)) -ℤ edgeForce (stepX m g) (stepY m g) (edgeEntry m g 4) (edgeEntry m g 6) n l
+
+  abbrev pub lessStrength : Pair → Side → ℤ
+  lessStrength a d =
+      deviator (polygonOf (sides m) .radius) d (h m (a .soil)) (s (sx (a .at))) (s (sy (a .at))) (s (t (a .at)))
+      -ℤ resistance d (p m (a .soil)) (q m (a .soil)) (cohesion m (a .soil)) n (s (sx (a .at))) (s (sy (a .at)))
+
+  -- each row's data is the printed row itself, and no multiple of it: left minus right is the same in every field
+  pub record RowsPrinted : Type 0 where
+    pub balance-x : (e : ℕ) → leftSide s l (balanceX m e) -ℤ rightSide n (balanceX m e) ≡ lessX e
+    pub balance-y : (e : ℕ) → leftSide s l (balanceY m e) -ℤ rightSide n (balanceY m e) ≡ lessY e
+    pub normal : (g v : ℕ) → leftSide s l (normalRow m g v) -ℤ rightSide n (normalRow m g v) ≡ lessNormal g v
+    pub shear : (g v : ℕ) → leftSide s l (shearRow m g v) -ℤ rightSide n (shearRow m g v) ≡ lessShear g v
+    pub strength : (a : Pair) (d : Side) → leftSide s l (pairRow m a d) -ℤ rightSide n (pairRow m a d) ≡ lessStrength a d
+
+-- ---- the columns
+
+-- f 0 + f 1 + .. + f (n - 1)
+unfoldable pub sumBelow : (ℕ → ℤ) → ℕ → ℤ
+sumBelow f zero = pos 0
+sumBelow f (suc n) = sumBelow f n +ℤ f n
+
+-- "for each element 2, for each edge 4 ..; then for each node a line of as many as there are sides"
+module _ (m : List ℤ) (w : ℕ → ℤ) where
+  abbrev pub ofElement : ℕ → ℕ → ℤ
+  ofElement e i = w (e * 2 + i)
+
+  abbrev pub ofEdge : ℕ → ℕ → ℤ
+  ofEdge g i = w (elements m * 2 + (g * 4 + i))
+
+  abbrev pub ofNode : ℕ → ℕ → ℤ
+  ofNode v k = w (elements m * 2 + edges m * 4 + (v * sides m + k))
+
+  -- multiplier times left minus right, summed over all rows: elements, edges, nodes
+  unfoldable pub weighedRows : (ℕ → ℤ) → ℤ → ℤ → ℤ
+  weighedRows s l n =
+      sumBelow (λ e. ofElement e 0 *ℤ lessX m s l n e +ℤ ofElement e 1 *ℤ lessY m s l n e) (elements m)
+      +ℤ sumBelow
+      (λ g.
+      ofEdge g 0 *ℤ lessNormal m s l n g (fromNode m g)
+      +ℤ ofEdge g 1 *ℤ lessShear m s l n g (fromNode m g)
+      +ℤ ofEdge g 2 *ℤ lessNormal m s l n g (toNode m g)
+      +ℤ ofEdge g 3 *ℤ lessShear m s l n g (toNode m g))
+      (edges m)
+      +ℤ sumBelow (λ v. sumBelow (λ k. ofNode v k *ℤ lessStrength m s l n (pairOf m v) (sideAt (polygonOf (sides m)) k)) (sides m)) (nodes m)
+
+  -- "For each node and stress, multiplier times coefficient, summed over all rows": a row's coefficient is left minus right where this stress is 1 and all else is 0
+  abbrev pub printedColumn : ℕ → ℤ
+  printedColumn j = weighedRows (unit j) (pos 0) (pos 0)
+
+  -- "For l that sum is m"
+  abbrev pub printedLive : ℤ
+  printedLive = weighedRows (λ j. pos 0) (pos 1) (pos 0)
+
+  -- "W is multiplier times right side, summed over all rows", "set n = 1 to read its right side"
+  abbrev pub printedLimit : ℤ
+  printedLimit = negℤ (weighedRows (λ j. pos 0) (pos 0) (pos 1))
+
+  -- the sums that are defined over the rows' data are these
+  pub record ColumnsPrinted : Type 0 where
+    pub column : (j : ℕ) → columnSum w (rowsOf m) j ≡ printedColumn j
+    pub live : liveSum w (rowsOf m) ≡ printedLive
+    pub limit : limitSum w (rowsOf m) ≡ printedLimit
+
+  -- what document 01 asks of multipliers: none on an unfixed row, for each node and stress a sum of 0, and m above 0
+  pub record MultipliersPrinted : Type 0 where
+    pub normal-unfixed : (g : ℕ) → g < edges m → ¬ FixesNormal (edgeEntry m g 2) → (ofEdge g 0 ≡ pos 0) × (ofEdge g 2 ≡ pos 0)
+    pub shear-unfixed : (g : ℕ) → g < edges m → ¬ FixesShear (edgeEntry m g 2) → (ofEdge g 1 ≡ pos 0) × (ofEdge g 3 ≡ pos 0)
+    pub columns : (v : ℕ) → v < nodes m → (printedColumn (sx v) ≡ pos 0) × (printedColumn (sy v) ≡ pos 0) × (printedColumn (t v) ≡ pos 0)
+    pub live : pos 0 <ℤ printedLive

@@ -1,0 +1,28 @@
+-- What the place of 21 and of 22 says (document 01, 'Rows'): the row of that number, as it is printed, is the one that the field does not meet.
+use mathlib.Core.Path.{_≡_}
+use mathlib.Core.List.{List}
+use Prim.Native.Nat.{ℕ, suc, _+_, _*_, _-_, _<_}
+use lib.IntN.{ℤ}
+use Rattle.scope.specs.declared.Place.{Place}
+use Rattle.scope.specs.declared.Place.the-variants.{Row}
+use Rattle.scope.specs.Columns.{n, l}
+use Rattle.scope.specs.Mesh.{nodes, elements, edges, sides, fromNode, toNode}
+use Rattle.scope.specs.Polygon.{polygonOf}
+use Rattle.scope.specs.Claim.{stress}
+use Rattle.scope.specs.RowNumbers.{sideNumbered, pairOf}
+use Rattle.scope.specs.Printed.{BalanceXAt, BalanceYAt, NormalAt, ShearAt, StrengthAt}
+
+-- elements, edges and nodes are counted from 0 here
+module _ (m c : List ℤ) (place : ℕ) where
+  -- refusal 21
+  pub record EqualityFails : Type 0 where
+    pub balance-x : (e : ℕ) → e < elements m → place ≡ 2 * suc e - 1 → ¬ BalanceXAt m (stress m c) (l c) (n c) e
+    pub balance-y : (e : ℕ) → e < elements m → place ≡ 2 * suc e → ¬ BalanceYAt m (stress m c) (l c) (n c) e
+    pub normal-from : (g : ℕ) → g < edges m → place ≡ 2 * elements m + 4 * g + 1 → ¬ NormalAt m (stress m c) (l c) (n c) g (fromNode m g)
+    pub shear-from : (g : ℕ) → g < edges m → place ≡ 2 * elements m + 4 * g + 2 → ¬ ShearAt m (stress m c) (l c) (n c) g (fromNode m g)
+    pub normal-to : (g : ℕ) → g < edges m → place ≡ 2 * elements m + 4 * g + 3 → ¬ NormalAt m (stress m c) (l c) (n c) g (toNode m g)
+    pub shear-to : (g : ℕ) → g < edges m → place ≡ 2 * elements m + 4 * g + 4 → ¬ ShearAt m (stress m c) (l c) (n c) g (toNode m g)
+
+  -- refusal 22
+  pub record StrengthFails : Type 0 where
+    pub strength : (v k : ℕ) → v < nodes m → k < sides m → place ≡ v * sides m + suc k → ¬ StrengthAt m (stress m c) (l c) (n c) (polygonOf (sides m) .radius) (pairOf m v) (sideNumbered (polygonOf (sides m)) (suc k))

@@ -1,0 +1,5 @@
+-- laws
+pub mod MeshLaws
+pub mod ByteTables
+pub mod SoilTables
+pub mod SideTables

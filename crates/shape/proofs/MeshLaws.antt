@@ -1,0 +1,69 @@
+-- What the machine has of a mesh's elements and edges is what the checks of its shape ask: corners, turns, lines, outer edges.
+use mathlib.Core.Path.{_≡_, refl, sym, _∙_, ap, ap₂}
+use mathlib.Core.Bool.{Bool}
+use mathlib.Core.List.{List}
+use Prim.Native.Nat.{ℕ, suc, _+_, _*_, _%_, _≤_, _<_}
+use native.Mathlib.Omega.{arith}
+use lib.IntN.{ℤ, pos, _-ℤ_, _*ℤ_}
+use lib.Signed.{ltZ}
+use Rattle.integer.specs.Machine.{Is}
+use Rattle.scope.specs.declared.Outcome.{Outcome}
+use Rattle.mesh.specs.declared.sizes.Sizes.{Sizes}
+use Rattle.scope.specs.Checks.{_then_}
+use Rattle.scope.specs.Layout.{groups, linesBefore}
+use Rattle.scope.specs.Mesh.{meshHeader, soilLines, nodeLines, elementLines, edgeLines, meshLayout, meshGroups, nodes, elements, soils, edges, corner, fromNode, toNode, edgeLine}
+use Rattle.scope.specs.Rows.{node}
+use Rattle.scope.specs.Verdict.{turn, leftTurnAt, turnsCheck, sidesCheck, nodesCheck, edgesCheck, shapeCheck}
+use Rattle.mesh.specs.MeshContracts.{Sized}
+use Rattle.scope.proofs.Checks.{then-assoc}
+
+-- the checks of a shape in two parts
+pub shape-parts : (m : List ℤ) → turnsCheck m then (sidesCheck m then nodesCheck m then edgesCheck m) ≡ shapeCheck m
+unfolding shapeCheck
+shape-parts m =
+    sym (then-assoc (turnsCheck m) (sidesCheck m then nodesCheck m) (edgesCheck m))
+    ∙ ap (λ (o : Outcome). o then edgesCheck m) (sym (then-assoc (turnsCheck m) (sidesCheck m) (nodesCheck m)))
+
+-- ---- the corners of an element
+
+pub node-corner : (m : List ℤ) (e i : ℕ) → corner m e (i % 4) ≡ node m e i
+unfolding node
+node-corner m e i = refl
+
+pub node-there : {m : List ℤ} {s : Sizes} → Sized m s → {e : ℕ} → e < elements m → (i : ℕ) → node m e i < nodes m
+unfolding node
+node-there k {e} l i = k .facts .element e l .cornerThere (i % 4) (omega arith)
+
+pub corner-below : {m : List ℤ} {s : Sizes} → Sized m s → {a e i : ℕ} → e < elements m → i < 4 → a ≡ corner m e i → a < 100
+corner-below k {e = e} {i = i} l j d = omega (arith, k .facts .element e l .cornerThere i j, k .facts .counts .nodesMost)
+
+-- the place of a side in a table
+pub side-fits : {m : List ℤ} {s : Sizes} → Sized m s → {a b e n : ℕ} → e < elements m → (i : ℕ) → nodes m * 100 ≤ n → a ≡ node m e i → b ≡ node m e (i + 1) → a * 100 + b < n
+side-fits k l i r d f = omega (arith, node-there k l i, node-there k l (i + 1), k .facts .counts .nodesMost)
+
+-- a cross product of numbers that the machine has
+pub cross-from : {ux uy vx vy p q r s : ℤ} {A B C D : ℕ} → Is ux p A → Is uy q B → Is vx r C → Is vy s D → ux *ℤ vy -ℤ vx *ℤ uy ≡ p *ℤ s -ℤ r *ℤ q
+cross-from d e f g = ap₂ _-ℤ_ (ap₂ _*ℤ_ (d .same) (g .same)) (ap₂ _*ℤ_ (f .same) (e .same))
+
+pub left-turn-from : (m : List ℤ) (e i : ℕ) {r : Bool} {a b c : ℕ} → a ≡ node m e (i + 3) → b ≡ node m e i → c ≡ node m e (i + 1) → r ≡ ltZ (pos 0) (turn m a b c) → r ≡ leftTurnAt m e i
+unfolding leftTurnAt
+left-turn-from m e i d f g h = h ∙ ap (ltZ (pos 0)) (ap₃ d f g)
+  where
+    ap₃ : {a b c a′ b′ c′ : ℕ} → a ≡ a′ → b ≡ b′ → c ≡ c′ → turn m a b c ≡ turn m a′ b′ c′
+    ap₃ d f g = λ k. turn m (d k) (f k) (g k)
+
+-- ---- edges
+
+module _ (m : List ℤ) where
+  -- the place of an edge's side in a table, and of the reverse
+  pub edge-fits : {s : Sizes} → Sized m s → {g a b n : ℕ} → g < edges m → nodes m * 100 ≤ n → a ≡ fromNode m g → b ≡ toNode m g → (a * 100 + b < n) × (b * 100 + a < n)
+  edge-fits k {g} l r d e =
+      let f = k .facts .edge g l in
+      (omega (arith, f .fromThere, f .toThere, k .facts .counts .nodesMost), omega (arith, f .fromThere, f .toThere, k .facts .counts .nodesMost))
+
+  pub edge-line : {s : Sizes} → Sized m s → (g : ℕ) {r : ℕ} → r ≡ s .soils + s .nodes + s .elements + g + 2 → r ≡ suc (edgeLine m g)
+  unfolding edgeLine linesBefore meshGroups groups meshLayout meshHeader soilLines nodeLines elementLines edgeLines
+  edge-line k g e = omega (arith, k .soilsAre, k .nodesAre, k .elementsAre)
+
+  pub edge-line-fits : {s : Sizes} → Sized m s → {g : ℕ} → g < s .edges → s .soils + s .nodes + s .elements + g < 1000
+  edge-line-fits k l = let c = k .facts .counts in omega (arith, k .soilsAre, k .nodesAre, k .elementsAre, k .edgesAre, c .soilsMost, c .nodesMost, c .elementsMost, c .edgesMost)

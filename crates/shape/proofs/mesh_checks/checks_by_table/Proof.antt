@@ -1,0 +1,76 @@
+-- `checks_by_table` meets its contract: the checks in their order, each after the one before has passed.
+use mathlib.Core.Path.{sym, _∙_}
+use borrow.Author.Needs.{needs}
+use Rattle.lines.proofs.Loops.{then-refuses, then-goes-on}
+use Rattle.shape.proofs.mesh_checks.checks_by_table.Statement.{statement}
+use Rattle.shape.proofs.mesh_checks.checks_by_table.Tie as tie
+
+side-table-requires : tie.Need-side-table-requires
+side-table-requires c κs = search needs
+
+sides-check-requires : tie.Need-sides-check-requires
+sides-check-requires c κs = search needs
+
+enum-known-sides : tie.Need-enum-known-sides
+enum-known-sides c = search needs
+
+enum-told : tie.Need-enum-told
+enum-told c = search needs
+
+nodes-check-requires : tie.Need-nodes-check-requires
+nodes-check-requires c κs = search needs
+
+enum-known-nodes : tie.Need-enum-known-nodes
+enum-known-nodes c = search needs
+
+enum-told-2 : tie.Need-enum-told-2
+enum-told-2 c = search needs
+
+take-sides-requires : tie.Need-take-sides-requires
+take-sides-requires c κs = search needs
+
+edges-check-requires : tie.Need-edges-check-requires
+edges-check-requires c κs = search needs
+
+same-length : tie.Need-same-length
+same-length c = search needs
+
+returns : tie.Need-returns
+returns c = then-refuses _ (sym (then-refuses _ (sym (c .before .before .before .sides-check .ensures) ∙ c .before .sides .given .1)))
+
+same-length-2 : tie.Need-same-length-2
+same-length-2 c = search needs
+
+returns-2 : tie.Need-returns-2
+returns-2 c =
+    let passed = sym (c .before .before .before .before .before .before .sides-check .ensures) ∙ c .before .before .before .before .enum-told .given .1 in
+    then-refuses _ (sym (then-goes-on passed (sym (c .before .nodes .given .1) ∙ c .before .before .before .nodes-check .ensures)))
+
+same-length-3 : tie.Need-same-length-3
+same-length-3 c = search needs
+
+returns-3 : tie.Need-returns-3
+returns-3 c =
+    let asked = c .before .before .before .before .before .before .before .before in
+    let passed = sym (asked .before .before .before .sides-check .ensures) ∙ asked .before .enum-told .given .1 in
+    then-goes-on (sym (then-goes-on passed (sym (c .before .before .before .before .before .before .enum-told2 .given .1) ∙ asked .nodes-check .ensures))) (c .edges-check .ensures)
+
+pub checks-by-table-spec : {M : Type 1} → statement M
+checks-by-table-spec =
+    tie.close
+    (tie.spec
+    side-table-requires
+    sides-check-requires
+    enum-known-sides
+    enum-told
+    nodes-check-requires
+    enum-known-nodes
+    enum-told-2
+    take-sides-requires
+    edges-check-requires
+    same-length
+    returns
+    same-length-2
+    returns-2
+    same-length-3
+    returns-3)

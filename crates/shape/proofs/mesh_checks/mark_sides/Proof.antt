@@ -1,0 +1,57 @@
+-- `mark_sides` meets its contract. The invariant: the sides passed have the number of an element up to e.
+use mathlib.Core.Path.{_≡_, refl}
+use Prim.Native.Nat.{_≤_, _-_}
+use native.Mathlib.Omega.{arith}
+use lib.ListN.{length}
+use Rattle.shape.specs.ShapeContracts.{SideBytes}
+use Rattle.shape.proofs.SideTables.{sidesSoFar, no-side-yet, side-more, all-sides}
+use Rattle.shape.proofs.mesh_checks.mark_sides.Statement.{statement}
+use Rattle.shape.proofs.mesh_checks.mark_sides.Tie as tie
+
+abbrev Inv-loop : tie.InvT-loop
+Inv-loop m s e t₀ i₀ t i = (i ≤ 4) × (length t ≡ length t₀) × SideBytes m (sidesSoFar m e i) t
+
+abbrev μ-loop : tie.MeasureT-loop
+μ-loop m s e t₀ i₀ t i = 4 - i
+
+loop-holds : tie.Need-loop-holds Inv-loop μ-loop
+loop-holds c = (omega arith, refl, no-side-yet _ _ (c .before .pre .2))
+
+mark-side-requires : tie.Need-mark-side-requires Inv-loop μ-loop
+mark-side-requires c κs =
+    let p = c .before .before .before .before .pre in
+    (p .0, p .1, c .before .loop-test .taken, c .before .before .loop .inv .2 .room)
+
+add-i : tie.Need-add-i Inv-loop μ-loop
+add-i c = omega arith
+
+loop-less : tie.Need-loop-less Inv-loop μ-loop
+loop-less c = omega arith
+
+loop-again : tie.Need-loop-again Inv-loop μ-loop
+loop-again c =
+    let l = c .before .before .before .before .before in
+    let p = l .before .before .pre in
+    (omega arith, omega arith, side-more _ (p .0) (p .1) (l .loop .i) (l .loop .inv .2) (c .before .before .mark-side .ensures))
+
+same-length : tie.Need-same-length Inv-loop μ-loop
+same-length c = c .before .loop .inv .1
+
+returns : tie.Need-returns Inv-loop μ-loop
+returns c =
+    let p = c .before .before .before .pre in
+    all-sides _ (p .0) (p .1) (c .before .loop .inv .2) (omega arith) (omega arith)
+
+pub mark-sides-spec : {M : Type 1} → statement M
+mark-sides-spec =
+    tie.close
+    (tie.spec
+    Inv-loop
+    μ-loop
+    loop-holds
+    mark-side-requires
+    add-i
+    loop-less
+    loop-again
+    same-length
+    returns)

@@ -1,0 +1,40 @@
+-- `own_side` meets its contract: the byte of the side is that of the lowest element that has it.
+use native.Mathlib.Omega.{arith}
+use borrow.Author.Needs.{needs}
+use Rattle.shape.proofs.MeshLaws.{side-fits}
+use Rattle.shape.proofs.SideTables.{own-side-is}
+use Rattle.shape.proofs.mesh_checks.own_side.Statement.{statement}
+use Rattle.shape.proofs.mesh_checks.own_side.Tie as tie
+
+node-of-requires : tie.Need-node-of-requires
+node-of-requires c κs = search needs
+
+add-node-of : tie.Need-add-node-of
+add-node-of c = search needs
+
+node-of-requires-2 : tie.Need-node-of-requires-2
+node-of-requires-2 c κs = search needs
+
+side-byte-requires : tie.Need-side-byte-requires
+side-byte-requires c κs =
+    let p = c .before .before .before .pre in
+    side-fits (p .0) (p .1) (c .before .before .before .args .i) (p .3 .room) (c .before .node-of .ensures) (c .node-of2 .ensures)
+
+cast-result : tie.Need-cast-result
+cast-result c = omega (arith, c .before .before .before .before .pre .0 .facts .counts .elementsMost)
+
+returns : tie.Need-returns
+returns c =
+    let p = c .before .before .before .before .pre in
+    own-side-is _ (p .0) (p .1) (p .2) (p .3) (c .before .before .node-of .ensures) (c .before .node-of2 .ensures) (c .side-byte .ensures)
+
+pub own-side-spec : {M : Type 1} → statement M
+own-side-spec =
+    tie.close
+    (tie.spec
+    node-of-requires
+    add-node-of
+    node-of-requires-2
+    side-byte-requires
+    cast-result
+    returns)

@@ -1,0 +1,56 @@
+-- `own_sides` meets its contract. The invariant: the sides passed are no lower element's.
+use mathlib.Core.Path.{_≡_, refl, sym, _∙_}
+use mathlib.Core.Bool.{true}
+use Prim.Native.Nat.{_≤_, _-_}
+use native.Mathlib.Omega.{arith}
+use borrow.Author.Tests.{not-true, not-false}
+use Rattle.scope.specs.Checks.{allBelow}
+use Rattle.shape.specs.ShapeContracts.{ownSideAt}
+use Rattle.lines.proofs.Loops.{all-more, all-fails, all-done}
+use Rattle.shape.proofs.SideTables.{own-sides-are}
+use Rattle.shape.proofs.mesh_checks.own_sides.Statement.{statement}
+use Rattle.shape.proofs.mesh_checks.own_sides.Tie as tie
+
+abbrev Inv-loop : tie.InvT-loop
+Inv-loop m s e t i₀ i = (i ≤ 4) × (allBelow (ownSideAt m e) i ≡ true)
+
+abbrev μ-loop : tie.MeasureT-loop
+μ-loop m s e t i₀ i = 4 - i
+
+loop-holds : tie.Need-loop-holds Inv-loop μ-loop
+unfolding allBelow
+loop-holds c = (omega arith, refl)
+
+own-side-requires : tie.Need-own-side-requires Inv-loop μ-loop
+own-side-requires c κs =
+    let p = c .before .before .before .pre in
+    (p .0, p .1, c .loop-test .taken, p .2)
+
+returns : tie.Need-returns Inv-loop μ-loop
+returns c = sym (all-fails (ownSideAt _ _) 4 (c .before .before .loop-test .taken) (sym (c .before .own-side .ensures) ∙ not-true _ (c .if1 .taken))) ∙ own-sides-are _ _
+
+add-i : tie.Need-add-i Inv-loop μ-loop
+add-i c = omega arith
+
+loop-less : tie.Need-loop-less Inv-loop μ-loop
+loop-less c = omega arith
+
+loop-again : tie.Need-loop-again Inv-loop μ-loop
+loop-again c = (omega arith, all-more (ownSideAt _ _) (c .before .before .before .loop .inv .1) (sym (c .before .own-side .ensures) ∙ not-false _ (c .if1 .left)))
+
+returns-2 : tie.Need-returns-2 Inv-loop μ-loop
+returns-2 c = all-done (ownSideAt _ _) 4 (c .before .loop .inv .1) (omega arith) (omega arith) ∙ own-sides-are _ _
+
+pub own-sides-spec : {M : Type 1} → statement M
+own-sides-spec =
+    tie.close
+    (tie.spec
+    Inv-loop
+    μ-loop
+    loop-holds
+    own-side-requires
+    returns
+    add-i
+    loop-less
+    loop-again
+    returns-2)

@@ -1,0 +1,35 @@
+-- `sides_nodes_edges` meets its contract: either table has room for the sides of all nodes.
+use native.Mathlib.Omega.{arith}
+use borrow.Author.Needs.{needs}
+use Rattle.shape.proofs.SideTables.{no-sides}
+use Rattle.shape.proofs.mesh_checks.sides_nodes_edges.Statement.{statement}
+use Rattle.shape.proofs.mesh_checks.sides_nodes_edges.Tie as tie
+
+slice-aggregate-checks-by-table : tie.Need-slice-aggregate-checks-by-table
+slice-aggregate-checks-by-table c = search needs
+
+checks-by-table-requires : tie.Need-checks-by-table-requires
+checks-by-table-requires c κs = let k = c .before .before .before .before .pre in (k .0, k .1, no-sides _ 1600 (omega (arith, k .0 .nodesAre)))
+
+returns : tie.Need-returns
+returns c = search needs
+
+slice-aggregate-checks-by-table-2 : tie.Need-slice-aggregate-checks-by-table-2
+slice-aggregate-checks-by-table-2 c = search needs
+
+checks-by-table-requires-2 : tie.Need-checks-by-table-requires-2
+checks-by-table-requires-2 c κs = let k = c .before .before .before .before .pre in (k .0, k .1, no-sides _ 10000 (omega (arith, k .0 .facts .counts .nodesMost)))
+
+returns-2 : tie.Need-returns-2
+returns-2 c = search needs
+
+pub sides-nodes-edges-spec : {M : Type 1} → statement M
+sides-nodes-edges-spec =
+    tie.close
+    (tie.spec
+    slice-aggregate-checks-by-table
+    checks-by-table-requires
+    returns
+    slice-aggregate-checks-by-table-2
+    checks-by-table-requires-2
+    returns-2)

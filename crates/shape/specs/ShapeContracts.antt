@@ -1,0 +1,92 @@
+-- What contracts say of what the code hands around: the sizes of a mesh, tables of soils, tables of sides, a judged mesh.
+use mathlib.Core.Path.{_≡_}
+use mathlib.Core.Bool.{Bool, cond, not, _&&_}
+use mathlib.Core.List.{List, _++_, map}
+use Prim.Native.Nat.{ℕ, _+_, _-_, _*_, _/_, _%_, _≤_, _<_}
+use lib.IntN.{ℤ}
+use lib.Dec.{eqb}
+use lib.ListN.{length, getD, set, replicate}
+use Rattle.scope.specs.declared.Outcome.{Outcome}
+use Rattle.scope.specs.declared.Outcome.the-variants.{Passed, Refused}
+use Rattle.scope.specs.Mesh.{nodes, elements, soils, edges, sides, elementSoil, fromNode, toNode}
+use Rattle.scope.specs.Checks.{someBelow}
+use Rattle.scope.specs.Rows.{countFrom, firstWhere, node, hasCorner, nodeSoil}
+use Rattle.scope.specs.Verdict.{hasSide, meshCheck}
+use Rattle.scope.specs.Facts.{MeshFacts}
+use Rattle.mesh.specs.MeshContracts.{Sized}
+
+-- ---- tables of bytes: 255 where a place has none yet
+
+-- a table of n bytes holds f
+pub record Holds (n : ℕ) (f : ℕ → ℕ) (t : List ℕ) : Type 0 where
+  pub size : length t ≡ n
+  pub says : (v : ℕ) → v < n → getD t v 0 ≡ f v
+
+-- a byte goes to place v where the byte there is free
+unfoldable pub put : (ℕ → Bool) → List ℕ → ℕ → ℕ → List ℕ
+put free t v byte = cond (free (getD t v 0)) (set t v byte) t
+
+-- a place with no byte yet is free: each keeps the first that it is given
+abbrev pub isNone : ℕ → Bool
+isNone byte = eqb byte 255
+
+abbrev pub keepFirst : List ℕ → ℕ → ℕ → List ℕ
+keepFirst t v byte = put isNone t v byte
+
+-- the byte of the lowest k below n that passes a test, or another where none does
+unfoldable pub byteBelow : ℕ → (ℕ → Bool) → (ℕ → ℕ) → ℕ → ℕ
+byteBelow none has value n =
+    let k : ℕ = firstWhere has n in
+    cond (eqb k n) none (value k)
+
+-- ---- tables of soils: a byte for each node
+
+-- the soil of node v among the elements below e
+abbrev pub soilBelow : List ℤ → ℕ → ℕ → ℕ
+soilBelow m e v = byteBelow 255 (hasCorner m v) (elementSoil m) e
+
+abbrev pub SoilTable : List ℤ → ℕ → List ℕ → Type 0
+SoilTable m e t = Holds 100 (soilBelow m e) t
+
+-- ---- tables of sides: 100 bytes for each node, and the byte of the side a to b stands at a·100 + b
+
+abbrev pub byteAt : List ℕ → ℕ → ℕ → ℕ
+byteAt t a b = getD t (a * 100 + b) 0
+
+-- what f says of the side whose byte stands at v
+abbrev pub atPlace : (ℕ → ℕ → ℕ) → ℕ → ℕ
+atPlace f v = f (v / 100) (v % 100)
+
+-- a table with room for the sides of all nodes holds f
+pub record SideBytes (m : List ℤ) (f : ℕ → ℕ → ℕ) (t : List ℕ) : Type 0 where
+  pub room : nodes m * 100 ≤ length t
+  pub bytes : Holds (length t) (atPlace f) t
+
+-- the lowest element below e that has the side a to b
+abbrev pub sideByte : List ℤ → ℕ → ℕ → ℕ → ℕ
+sideByte m e a b = byteBelow 255 (hasSide m a b) (λ k. k) e
+
+abbrev pub SideTable : List ℤ → ℕ → List ℕ → Type 0
+SideTable m e t = SideBytes m (sideByte m e) t
+
+-- side i of element e is no lower element's
+unfoldable pub ownSideAt : List ℤ → ℕ → ℕ → Bool
+ownSideAt m e i = not (someBelow (hasSide m (node m e i) (node m e (i + 1))) e)
+
+-- edge k goes from a to b
+unfoldable pub hasEnds : List ℤ → ℕ → ℕ → ℕ → Bool
+hasEnds m a b k = eqb (fromNode m k) a && eqb (toNode m k) b
+
+-- 255 where a to b is no element's side, 100 + k where k is the lowest edge below g that has it, and else the lowest element that has it
+unfoldable pub edgeByte : List ℤ → ℕ → ℕ → ℕ → ℕ
+edgeByte m g a b =
+    let side : ℕ = sideByte m (elements m) a b in
+    cond (isNone side) 255 (byteBelow side (hasEnds m a b) (λ k. 100 + k) g)
+
+abbrev pub EdgeTable : List ℤ → ℕ → List ℕ → Type 0
+EdgeTable m g t = SideBytes m (edgeByte m g) t
+
+-- the soil of each node where the mesh passes, and 255 after the last of them; where it is refused, 255 throughout
+unfoldable pub soilBytes : Outcome → List ℤ → List ℕ
+soilBytes Passed m = map (nodeSoil m) (countFrom 0 (nodes m)) ++ replicate (100 - nodes m) 255
+soilBytes (Refused c p) m = replicate 100 255

@@ -1,0 +1,3 @@
+// shape
+
+pub mod mesh_checks;

@@ -1,0 +1,4 @@
+-- contracts
+pub mod MultiplierContracts
+pub mod LimitContracts
+pub mod OpenContracts

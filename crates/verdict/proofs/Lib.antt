@@ -1,0 +1,4 @@
+-- laws
+pub mod FieldLaws
+pub mod PartLaws
+pub mod VerdictLaws

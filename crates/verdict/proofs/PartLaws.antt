@@ -1,0 +1,118 @@
+-- The parts of a claim put together: one law for each way out, by whether a part is there and what its check says.
+use mathlib.Core.Path.{_≡_, refl, sym, _∙_, ap, ap₂, subst}
+use mathlib.Core.Bool.{Bool, true, false, cond, _&&_, and-false}
+use mathlib.Core.List.{List}
+use Prim.Native.Nat.{ℕ, _*_}
+use native.Mathlib.Omega.{arith}
+use lib.Ieee.Bits.{is-false}
+use lib.Dec.{T}
+use lib.IntN.{ℤ, pos}
+use Rattle.integer.specs.Tests.{eqZ, eqZ-yes, no-eqZ}
+use Rattle.scope.specs.declared.Place.{Place}
+use Rattle.scope.specs.declared.Outcome.{Outcome}
+use Rattle.scope.specs.declared.Outcome.the-variants.{Passed, Refused as Fails}
+use Rattle.scope.specs.declared.Load.{Load}
+use Rattle.scope.specs.declared.Load.the-variants.{Absent, Exact}
+use Rattle.scope.specs.declared.OpenRows.{OpenRows}
+use Rattle.scope.specs.declared.OpenRows.the-variants.{Absent as NoCount, Count}
+use Rattle.scope.specs.declared.Verdict.{Verdict}
+use Rattle.scope.specs.declared.Verdict.the-variants.{Accepted, Refused}
+use Rattle.scope.specs.Columns.{at, hasField, hasMultipliers, n, l}
+use Rattle.scope.specs.Claim.{stress, multiplier}
+use Rattle.scope.specs.Mesh.{nodes}
+use Rattle.scope.specs.Rows.{equalityRows, strengthRows, rowsOf}
+use Rattle.scope.specs.Sums.{liveSum, limitSum, openRows}
+use Rattle.scope.specs.Verdict.{fieldCheck, multipliersCheck, ifPart, partsCheck, lowerLoad, upperLoad, openCount, answer}
+use Rattle.sums.specs.declared.multiplier_checks.Limit.the-variants as L
+use Rattle.sums.specs.LimitContracts.{limitOf}
+
+-- ---- the field
+
+pub load-there : (c : List ℤ) {a b : ℤ} → at c 0 ≡ pos 1 → a ≡ at c 3 → b ≡ at c 2 → Exact a b ≡ lowerLoad c
+unfolding lowerLoad hasField l n
+load-there c e f g = ap₂ Exact f g ∙ sym (rw e)
+
+pub no-load : (c : List ℤ) → ¬ (at c 0 ≡ pos 1) → Absent ≡ lowerLoad c
+unfolding lowerLoad hasField
+no-load c h = let e : eqZ (at c 0) (pos 1) ≡ false = is-false _ (no-eqZ h) in sym (rw e)
+
+pub part-there : (c : List ℤ) (o : Outcome) → at c 0 ≡ pos 1 → o ≡ ifPart (hasField c) o
+unfolding ifPart hasField
+part-there c o e = sym (rw e)
+
+pub no-part : (c : List ℤ) (o : Outcome) → ¬ (at c 0 ≡ pos 1) → Passed ≡ ifPart (hasField c) o
+unfolding ifPart hasField
+no-part c o h = let e : eqZ (at c 0) (pos 1) ≡ false = is-false _ (no-eqZ h) in sym (rw e)
+
+-- ---- what the limit says of the check of multipliers
+
+-- the check passes, and the upper load is u
+record Limits (o : Outcome) (a u : Load) : Type 0 where
+  passes : o ≡ Passed
+  load : a ≡ u
+
+refused : (o : Outcome) (u : Load) {k : ℕ} {p : Place} → limitOf o u ≡ L.Refused k p → o ≡ Fails k p
+refused Passed Absent e = let z : _≡_ {A = ℕ} 0 1 = cc in absurd (omega arith)
+refused Passed (Exact a b) e = let z : _≡_ {A = ℕ} 0 1 = cc in absurd (omega arith)
+refused (Fails j q) u e = cc
+
+absent : (o : Outcome) (u : Load) → limitOf o u ≡ L.Absent → Limits o u Absent
+absent Passed Absent e = record { passes = refl; load = refl }
+absent Passed (Exact a b) e = let z : _≡_ {A = ℕ} 0 1 = cc in absurd (omega arith)
+absent (Fails j q) u e = let z : _≡_ {A = ℕ} 0 1 = cc in absurd (omega arith)
+
+exactly : (o : Outcome) (u : Load) {x y : ℤ} → limitOf o u ≡ L.Exact x y → Limits o u (Exact x y)
+exactly Passed Absent e = let z : _≡_ {A = ℕ} 0 1 = cc in absurd (omega arith)
+exactly Passed (Exact a b) e = record { passes = refl; load = cc }
+exactly (Fails j q) u e = let z : _≡_ {A = ℕ} 0 1 = cc in absurd (omega arith)
+
+-- no upper load: no multipliers, and so no count of open rows
+no-count : (m c : List ℤ) → upperLoad m c ≡ Absent → openCount m c ≡ NoCount
+unfolding upperLoad openCount
+no-count m c e = by (hasMultipliers c) e
+  where
+    by : (b : Bool) → cond b (Exact (limitSum (multiplier m c) (rowsOf m)) (liveSum (multiplier m c) (rowsOf m))) Absent ≡ Absent
+        → cond (hasField c && b) (Count (openRows (stress m c) (l c) (n c) (multiplier m c) (rowsOf m))) NoCount ≡ NoCount
+    by true e = let z : _≡_ {A = ℕ} 0 1 = cc in absurd (omega arith)
+    by false e = ap (λ b. cond b (Count (openRows (stress m c) (l c) (n c) (multiplier m c) (rowsOf m))) NoCount) (and-false (hasField c))
+
+-- ---- both parts
+
+module _ (m c : List ℤ) where
+  abbrev fieldPart : Outcome
+  fieldPart = ifPart (hasField c) (fieldCheck (equalityRows m) (strengthRows m) (stress m c) (l c) (n c))
+
+  abbrev multipliersPart : Outcome
+  multipliersPart = ifPart (hasMultipliers c) (multipliersCheck (equalityRows m) (rowsOf m) (3 * nodes m) (multiplier m c))
+
+  abbrev partsVerdict : Verdict
+  partsVerdict = answer (partsCheck m c) (Accepted (openCount m c) (lowerLoad c) (upperLoad m c))
+
+  -- an upper load: the multipliers are there
+  pub multipliers-are : {x y : ℤ} → limitOf multipliersPart (upperLoad m c) ≡ L.Exact x y → at c 1 ≡ pos 1
+  unfolding upperLoad hasMultipliers
+  multipliers-are e = by (eqZ (at c 1) (pos 1)) refl (exactly multipliersPart (upperLoad m c) e .load)
+    where
+      by : {x y : ℤ} (b : Bool) → eqZ (at c 1) (pos 1) ≡ b → cond b (Exact (limitSum (multiplier m c) (rowsOf m)) (liveSum (multiplier m c) (rowsOf m))) Absent ≡ Exact x y → at c 1 ≡ pos 1
+      by true h e = eqZ-yes (subst T (sym h) tt)
+      by false h e = let z : _≡_ {A = ℕ} 0 1 = cc in absurd (omega arith)
+
+  pub field-refused : {k : ℕ} {p : Place} → fieldPart ≡ Fails k p → Refused k p ≡ partsVerdict
+  unfolding partsCheck answer
+  field-refused e = sym (rw e)
+
+  pub limit-refused : {k : ℕ} {p : Place} → fieldPart ≡ Passed → limitOf multipliersPart (upperLoad m c) ≡ L.Refused k p → Refused k p ≡ partsVerdict
+  unfolding partsCheck answer
+  limit-refused e f = let g = refused multipliersPart (upperLoad m c) f in sym (rw (e, g))
+
+  pub limit-absent : {a : Load} → fieldPart ≡ Passed → limitOf multipliersPart (upperLoad m c) ≡ L.Absent → a ≡ lowerLoad c → Accepted NoCount a Absent ≡ partsVerdict
+  unfolding partsCheck answer
+  limit-absent e f g =
+      let h = absent multipliersPart (upperLoad m c) f in
+      sym (rw (e, h .passes, no-count m c (h .load), h .load, g))
+
+  pub limit-exact : {o : OpenRows} {a : Load} {x y x′ y′ : ℤ} → fieldPart ≡ Passed → limitOf multipliersPart (upperLoad m c) ≡ L.Exact x y → o ≡ openCount m c → a ≡ lowerLoad c → x′ ≡ x → y′ ≡ y → Accepted o a (Exact x′ y′) ≡ partsVerdict
+  unfolding partsCheck answer
+  limit-exact e f o g ex ey =
+      let h = exactly multipliersPart (upperLoad m c) f in
+      sym (rw (e, h .passes, h .load, o, g, ex, ey))

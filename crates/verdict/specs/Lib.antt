@@ -1,0 +1,2 @@
+-- contracts
+pub mod JudgeContracts
