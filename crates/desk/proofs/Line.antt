@@ -4,7 +4,8 @@ use mathlib.Core.List.{List, _++_, append-nil}
 use Prim.Native.Nat.{ℕ}
 use native.Mathlib.Omega.{arith}
 use lib.ListN.{length, drop-of-length-le}
-use Rattle.judge.specs.Judge.{fileWidth, filesVerdict}
+use Rattle.reader.specs.File.{fileWidth}
+use Rattle.judge.specs.Judge.{filesVerdict}
 use Rattle.report.specs.Report.{reportLine, decimals}
 use Rattle.pechuvo.specs.Check.{reportBytes, check}
 use Rattle.pechuvo.specs.Answers.{Answers}

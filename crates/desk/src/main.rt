@@ -4,7 +4,8 @@ use libc::STDOUT_FILENO;
 use pechuvo::pechuvo_check;
 ghost use mathlib.Core.Path.{_≡_};
 ghost use Rattle.io.specs.Counts.{Counts};
-ghost use Rattle.judge.specs.Judge.{fileWidth, filesVerdict};
+ghost use Rattle.reader.specs.File.{fileWidth};
+ghost use Rattle.judge.specs.Judge.{filesVerdict};
 ghost use Rattle.report.specs.Report.{reportLine, decimals};
 
 // Reads the file that argument i names, as far as `bytes` goes, and answers how many bytes it has. "A file that can't be opened counts as empty"; so does a missing argument, whose name is empty.

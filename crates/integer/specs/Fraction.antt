@@ -1,14 +1,7 @@
--- Fractions with positive denominators, compared by cross products: `a over m ≤ᶠ b over n` is a·n ≤ b·m, and so for `<ᶠ` and for `≈ᶠ`, which says that two fractions are equal.
--- `≤ᶠ` is reflexive, total, decidable, transitive between positive denominators, and two fractions are each at most the other exactly when their cross products are equal.
--- Example (`example-third-below`, checked after `≤ᶠ-trans`): f ≤ 2/5, from p : f has a denominator above 0 and h : f ≤ 1/3, where literals are compared by `leZ-yes tt`:
---     ≤ᶠ-trans p (record { positive = ltZ-yes tt }) (record { positive = ltZ-yes tt }) h (record { cross-≤ = leZ-yes tt })
-use mathlib.Core.Path.{_≡_, refl, sym}
-use mathlib.Core.List.{[], _∷_}
-use mathlib.Core.Logic.{_⊎_, inl, inr, ⊎-elim}
+-- Fractions, compared by cross products. The comparisons mean what they say where denominators are above 0 (`Positive`).
+use mathlib.Core.Path.{_≡_}
 use lib.IntN.{ℤ, pos, _*ℤ_}
-use lib.Signed.{_≤ℤ_, _<ℤ_, ≤ℤ-refl, <ℤ-irrefl, <ℤ-≤ℤ-trans, leZ-yes, ltZ-yes}
-use Rattle.integer.specs.Ring.{ring, terms}
-use Rattle.integer.specs.Order.{≤ℤ-antisym, ≤ℤ-total, <ℤ-or-≤ℤ, ≡→≤ℤ, <ℤ→≤ℤ, by-nn, nn-diff, +ℤ-mono, *ℤ-mono, *ℤ-cancel-≤}
+use lib.Signed.{_≤ℤ_, _<ℤ_}
 
 pub record Frac : Type 0 where
   pub num : ℤ
@@ -18,6 +11,7 @@ infix 60 _over_
 abbrev pub _over_ : ℤ → ℤ → Frac
 a over m = record { num = a; den = m }
 
+-- a/m ≤ b/n is a·n ≤ b·m
 infix 50 _≤ᶠ_ _<ᶠ_ _≈ᶠ_
 pub record _≤ᶠ_ (f g : Frac) : Type 0 where
   pub cross-≤ : (f .num *ℤ g .den) ≤ℤ (g .num *ℤ f .den)
@@ -25,54 +19,10 @@ pub record _≤ᶠ_ (f g : Frac) : Type 0 where
 pub record _<ᶠ_ (f g : Frac) : Type 0 where
   pub cross-< : (f .num *ℤ g .den) <ℤ (g .num *ℤ f .den)
 
+-- two fractions are equal
 pub record _≈ᶠ_ (f g : Frac) : Type 0 where
   pub cross-≡ : f .num *ℤ g .den ≡ g .num *ℤ f .den
 
+-- the denominator is above 0
 pub record Positive (f : Frac) : Type 0 where
   pub positive : pos 0 <ℤ f .den
-
--- ---- the order
-
-pub ≤ᶠ-refl : (f : Frac) → f ≤ᶠ f
-≤ᶠ-refl f = record { cross-≤ = ≤ℤ-refl (f .num *ℤ f .den) }
-
-pub ≤ᶠ-total : (f g : Frac) → (f ≤ᶠ g) ⊎ (g ≤ᶠ f)
-≤ᶠ-total f g = ⊎-elim (λ h. inl (record { cross-≤ = h })) (λ h. inr (record { cross-≤ = h })) (≤ℤ-total (f .num *ℤ g .den) (g .num *ℤ f .den))
-
-pub <ᶠ-or-≤ᶠ : (f g : Frac) → (f <ᶠ g) ⊎ (g ≤ᶠ f)
-<ᶠ-or-≤ᶠ f g = ⊎-elim (λ h. inl (record { cross-< = h })) (λ h. inr (record { cross-≤ = h })) (<ℤ-or-≤ℤ (f .num *ℤ g .den) (g .num *ℤ f .den))
-
-pub <ᶠ-not-≤ᶠ : {f g : Frac} → f <ᶠ g → ¬ (g ≤ᶠ f)
-<ᶠ-not-≤ᶠ h k = <ℤ-irrefl (<ℤ-≤ℤ-trans (h .cross-<) (k .cross-≤))
-
-pub ≤ᶠ-trans : {f g h : Frac} → Positive f → Positive g → Positive h → f ≤ᶠ g → g ≤ᶠ h → f ≤ᶠ h
-≤ᶠ-trans {f} {g} {h} pf pg ph p q =
-    let u = *ℤ-mono (p .cross-≤) (<ℤ→≤ℤ (ph .positive)) in
-    let v = *ℤ-mono (q .cross-≤) (<ℤ→≤ℤ (pf .positive)) in
-    record {
-      cross-≤ = *ℤ-cancel-≤ (pg .positive)
-          (by-nn (+ℤ-mono (nn-diff u) (nn-diff v)) (ring (f .num ∷ f .den ∷ g .num ∷ g .den ∷ h .num ∷ h .den ∷ []) (search terms depth 100) refl));
-    }
-
--- example: a chain of comparisons
-example-third-below : (f : Frac) → Positive f → f ≤ᶠ pos 1 over pos 3 → f ≤ᶠ pos 2 over pos 5
-example-third-below f p h = ≤ᶠ-trans p (record { positive = ltZ-yes tt }) (record { positive = ltZ-yes tt }) h (record { cross-≤ = leZ-yes tt })
-
--- ---- equal fractions
-
-pub ≤ᶠ-antisym : {f g : Frac} → f ≤ᶠ g → g ≤ᶠ f → f ≈ᶠ g
-≤ᶠ-antisym p q = record { cross-≡ = ≤ℤ-antisym (p .cross-≤) (q .cross-≤) }
-
-pub ≈ᶠ→≤ᶠ : {f g : Frac} → f ≈ᶠ g → f ≤ᶠ g
-≈ᶠ→≤ᶠ e = record { cross-≤ = ≡→≤ℤ (e .cross-≡) }
-
-pub ≈ᶠ-sym : {f g : Frac} → f ≈ᶠ g → g ≈ᶠ f
-≈ᶠ-sym e = record { cross-≡ = sym (e .cross-≡) }
-
-pub ≈ᶠ-trans : {f g h : Frac} → Positive f → Positive g → Positive h → f ≈ᶠ g → g ≈ᶠ h → f ≈ᶠ h
-≈ᶠ-trans pf pg ph d e =
-    ≤ᶠ-antisym (≤ᶠ-trans pf pg ph (≈ᶠ→≤ᶠ d) (≈ᶠ→≤ᶠ e)) (≤ᶠ-trans ph pg pf (≈ᶠ→≤ᶠ (≈ᶠ-sym e)) (≈ᶠ→≤ᶠ (≈ᶠ-sym d)))
-
--- a fraction does not change when both its parts are multiplied
-pub ≈ᶠ-scale : (k a m : ℤ) → (k *ℤ a) over (k *ℤ m) ≈ᶠ a over m
-≈ᶠ-scale k a m = record { cross-≡ = ring (k ∷ a ∷ m ∷ []) (search terms depth 100) refl }

@@ -8,16 +8,15 @@ use lib.IntN.{ℤ}
 use Rattle.scope.specs.declared.Place.the-variants.{Line}
 use Rattle.scope.specs.declared.Outcome.the-variants.{Refused as Fails}
 use Rattle.scope.specs.declared.Verdict.the-variants.{Refused}
-use Rattle.scope.specs.Layout.{linesCheck}
 use Rattle.scope.specs.Mesh.{meshLayout}
 use Rattle.scope.specs.Claim.{claimLayout}
-use Rattle.scope.specs.Sound.{MeshSound}
+use Rattle.scope.specs.Statements.{MeshSound}
 use Rattle.scope.specs.Refusals.{LineRefusal, Refusal}
 use Rattle.scope.proofs.Decides.{Refuses}
-use Rattle.scope.proofs.Sound.{lines-passed}
-use Rattle.scope.proofs.Refusals.{lines-refusal}
+use Rattle.scope.proofs.Refusals.{lines-refusal, lines-passed}
 use Rattle.scope.proofs.LineRefusals.{line-of-mesh, line-of-claim, ByLines, by-lines, other-number}
 use Rattle.scope.proofs.Exactly.{refused-exactly}
+use Rattle.scope.specs.Verdict.{linesCheck}
 use Rattle.reader.specs.WellFormed.{FormFails}
 use Rattle.reader.proofs.Regular.{mesh-regular, claim-regular, mesh-number, claim-number}
 use Rattle.reader.proofs.Form.{form-refused}

@@ -1,35 +1,50 @@
 -- What is read into a list that is lent, and judged there: the front of the list is the file's numbers.
 use mathlib.Core.Path.{_≡_, sym, ap, _∙_, subst}
-use mathlib.Core.Bool.{true}
-use mathlib.Core.List.{List, [], _∷_}
-use Prim.Native.Nat.{ℕ, _+_, _*_, _≤_}
-use native.Mathlib.Nat.{mul-le-mul}
+use mathlib.Core.List.{List}
+use Prim.Native.Nat.{ℕ, _≤_}
 use native.Mathlib.Omega.{arith}
-use lib.IntN.{ℤ, pos}
+use lib.IntN.{ℤ}
 use lib.ListN.{length, take, drop, length-append}
 use lib.Seq.{take-at}
 use Rattle.scope.specs.declared.Outcome.the-variants.{Passed, Refused as Fails}
 use Rattle.scope.specs.declared.Place.{Place}
 use Rattle.scope.specs.declared.Verdict.{Verdict}
 use Rattle.scope.specs.declared.Verdict.the-variants.{Refused}
-use Rattle.scope.specs.Columns.{at, hasField, hasMultipliers}
-use Rattle.scope.specs.Layout.{Group, groups, numberCount}
 use Rattle.scope.specs.Mesh.{meshLayout}
-use Rattle.scope.specs.Claim.{claimLayout, claimHeader, ifThere}
+use Rattle.scope.specs.Claim.{claimLayout}
 use Rattle.scope.specs.Verdict.{claimVerdict, answer, verdict}
 use Rattle.verdict.specs.declared.MeshAnswer.{MeshAnswer}
 use Rattle.mesh.specs.declared.sizes.Sizes.{Sizes}
 use Rattle.mesh.specs.MeshContracts.{Sized}
 use Rattle.verdict.specs.JudgeContracts.{MeshAnswered, SoundMesh}
-use Rattle.mesh.proofs.Places.{few-things, as-sizes}
-use Rattle.lines.proofs.GroupLaws.{claim-body}
-use Rattle.reader.proofs.Told.{claim-count}
+use Rattle.mesh.proofs.Places.{as-sizes}
+use Rattle.reader.proofs.Most.{numbers-by-length, mesh-most, claim-most}
+use Rattle.scope.specs.NumberRanges.{Counts}
 use Rattle.verdict.proofs.VerdictLaws.{sound-mesh}
-use Rattle.reader.specs.File.{numbersOf}
-use Rattle.reader.specs.Listed.{Listed, ClaimListed, claimRoom}
+use Rattle.reader.specs.File.{fileWidth, numbersOf}
+use Rattle.reader.specs.Listed.{Listed, ClaimListed}
+use Rattle.reader.specs.Most.{mostNumbers, meshRoom, claimRoom}
 use Rattle.judge.specs.declared.JudgedMesh.{JudgedMesh}
-use Rattle.judge.specs.Judge.{meshNumbers, claimNumbers, fileWidth, filesVerdict}
-use Rattle.judge.specs.Judged.{MeshJudged, roomOn}
+use Rattle.judge.specs.Judge.{meshNumbers, claimNumbers, filesVerdict}
+use Rattle.judge.specs.Judged.{MeshJudged}
+
+-- ---- room
+
+pub mesh-by-length : (mesh : List ℕ) → length (meshNumbers fileWidth mesh) ≤ mostNumbers (length mesh)
+unfolding meshNumbers
+mesh-by-length mesh = numbers-by-length meshLayout mesh
+
+pub mesh-fits : (mesh : List ℕ) → length (meshNumbers fileWidth mesh) ≤ meshRoom
+unfolding meshNumbers
+mesh-fits mesh = mesh-most mesh
+
+pub claim-by-length : (m : List ℤ) (claim : List ℕ) → length (claimNumbers fileWidth m claim) ≤ mostNumbers (length claim)
+unfolding claimNumbers
+claim-by-length m claim = numbers-by-length (claimLayout m) claim
+
+pub claim-fits : {m : List ℤ} → Counts m → (claim : List ℕ) → length (claimNumbers fileWidth m claim) ≤ claimRoom
+unfolding claimNumbers
+claim-fits k claim = claim-most k claim
 
 -- ---- a list with numbers at its front
 
@@ -45,8 +60,8 @@ module _ {zs before after : List ℤ} {r : ℕ} (l : Listed zs before r after) w
 
 -- ---- a mesh
 
-pub mesh-judged : {mesh : List ℕ} {before after : List ℤ} {r : ℕ} {a : MeshAnswer} → Listed (numbersOf 12 meshLayout mesh) before r after → MeshAnswered (take r after) a → MeshJudged mesh before (record { count = r; answer = a }) after
-unfolding meshNumbers fileWidth
+pub mesh-judged : {mesh : List ℕ} {before after : List ℤ} {r : ℕ} {a : MeshAnswer} → Listed (numbersOf fileWidth meshLayout mesh) before r after → MeshAnswered (take r after) a → MeshJudged mesh before (record { count = r; answer = a }) after
+unfolding meshNumbers
 mesh-judged {a = a} l e = record { count = l .count; numbers = l .list; answer = subst (λ (m : List ℤ). MeshAnswered m a) (front l) e }
 
 pub judged-listed : {mesh : List ℕ} {before after : List ℤ} {r : JudgedMesh} → MeshJudged mesh before r after → Listed (meshNumbers fileWidth mesh) before (r .count) after
@@ -54,20 +69,8 @@ judged-listed j = record { count = j .count; list = j .numbers }
 
 -- ---- a claim
 
--- the room that the sizes of a mesh tell, and the most that it can be
-pub room-is : {m : List ℤ} {s : Sizes} → Sized m s → claimRoom s ≡ roomOn m
-unfolding roomOn groups claimLayout claimHeader numberCount hasField hasMultipliers at
-room-is z = ap (λ (gs : List Group). 4 + numberCount gs + 1) (claim-body (as-sizes z) (pos 1 ∷ pos 1 ∷ []))
-
-pub room-most : {m : List ℤ} {s : Sizes} → Sized m s → roomOn m ≤ 4345
-unfolding ifThere
-room-most {s = s} z =
-    let k = few-things z in
-    let n : s .nodes * s .sides ≤ 100 * 36 = mul-le-mul {n₂ = 100} {m₂ = 36} (k .fewNodes) (k .fewSides) in
-    omega (arith, room-is z, claim-count s true true, k .fewNodes, k .fewElements, k .fewEdges)
-
 pub claim-listed : {m before after : List ℤ} {s : Sizes} {claim : List ℕ} {r : ℕ} → Sized m s → ClaimListed claim s before r after → Listed (claimNumbers fileWidth m claim) before r after
-unfolding claimNumbers fileWidth
+unfolding claimNumbers
 claim-listed {m} z l = l .against m (as-sizes z)
 
 -- ---- two files

@@ -8,12 +8,11 @@ use Rattle.scope.specs.declared.Place.{Place}
 use Rattle.scope.specs.declared.Outcome.{Outcome}
 use Rattle.scope.specs.declared.Outcome.the-variants.{Passed, Refused as Fails}
 use Rattle.scope.specs.declared.Verdict.the-variants.{Refused}
-use Rattle.scope.specs.Layout.{linesCheck}
 use Rattle.scope.specs.Mesh.{meshLayout, sides}
 use Rattle.scope.specs.Claim.{claimLayout}
-use Rattle.scope.specs.Verdict.{meshCheck, claimCheck, claimVerdict, answer, verdict}
-use Rattle.scope.proofs.Sound.{lines-passed}
-use Rattle.scope.proofs.Facts.{some-sides, counts}
+use Rattle.scope.specs.Verdict.{meshCheck, claimVerdict, answer, verdict, linesCheck}
+use Rattle.scope.proofs.NumberRanges.{some-sides, counts}
+use Rattle.scope.proofs.Refusals.{lines-passed, mesh-checked, claim-checked}
 use Rattle.reader.specs.File.{numbersOf, fileOf}
 use Rattle.reader.specs.WellFormed.{Fit}
 use Rattle.reader.proofs.Regular.{mesh-regular, claim-regular}
@@ -21,12 +20,12 @@ use Rattle.reader.proofs.Written.{wide-enough, written-checked, written-passed}
 use Rattle.judge.specs.Judge.{meshNumbers, claimNumbers, filesVerdict}
 
 pub mesh-lines-refused : (m c : List ℤ) (k : ℕ) (p : Place) → linesCheck meshLayout m ≡ Fails k p → verdict m c ≡ Refused k p
-unfolding verdict meshCheck answer
-mesh-lines-refused m c k p e = rw e
+unfolding verdict answer
+mesh-lines-refused m c k p e = rw (mesh-checked m, e)
 
 claim-lines-refused : (m c : List ℤ) (k : ℕ) (p : Place) → linesCheck (claimLayout m) c ≡ Fails k p → verdict m c ≡ answer (meshCheck m) (Refused k p)
-unfolding verdict claimVerdict claimCheck answer
-claim-lines-refused m c k p e = rw e
+unfolding verdict claimVerdict answer
+claim-lines-refused m c k p e = rw (claim-checked m c, e)
 
 pub some-side : (m : List ℤ) → linesCheck meshLayout m ≡ Passed → 0 < sides m
 some-side m e = some-sides (counts m (lines-passed meshLayout m .says e))

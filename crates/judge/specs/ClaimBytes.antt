@@ -4,9 +4,8 @@ use Prim.Native.Nat.{ℕ, _+_}
 use lib.IntN.{ℤ}
 use Rattle.scope.specs.Layout.{width}
 use Rattle.scope.specs.Claim.{claimLayout}
-use Rattle.reader.specs.File.{lineBytes, widths}
+use Rattle.reader.specs.File.{fileWidth, lineBytes, widths}
 use Rattle.reader.specs.WellFormed.{bytesOf}
-use Rattle.judge.specs.Judge.{fileWidth}
 
 -- the bytes of a claim on the mesh with the numbers m: the header's line, and the lines that the layout gives for a claim that begins with these numbers
 unfoldable pub claimBytes : List ℤ → List ℤ → ℕ

@@ -4,7 +4,8 @@ use Prim.Native.Nat.{ℕ}
 use lib.IntN.{ℤ}
 use Rattle.scope.specs.Accepted.{FieldAccepted, MultipliersAccepted}
 use Rattle.scope.specs.Parts.{SameRows, PartsBracket}
-use Rattle.judge.specs.Judge.{meshNumbers, claimNumbers, fileWidth}
+use Rattle.reader.specs.File.{fileWidth}
+use Rattle.judge.specs.Judge.{meshNumbers, claimNumbers}
 
 -- a mesh and a claim: two files, or two lists of numbers
 pub data Handed : Type 0 where

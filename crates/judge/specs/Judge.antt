@@ -16,10 +16,6 @@ meshNumbers w mesh = numbersOf w meshLayout mesh
 unfoldable pub claimNumbers : ℕ → List ℤ → List ℕ → List ℤ
 claimNumbers w m claim = numbersOf w (claimLayout m) claim
 
--- "Every number is .. in a column of 12 characters"
-unfoldable pub fileWidth : ℕ
-fileWidth = 12
-
 -- the verdict on two files with columns of w bytes
 unfoldable pub filesVerdict : ℕ → List ℕ → List ℕ → Verdict
 filesVerdict w mesh claim = verdict (meshNumbers w mesh) (claimNumbers w (meshNumbers w mesh) claim)

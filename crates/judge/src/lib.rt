@@ -2,9 +2,12 @@
 
 use lines::layout::claim_groups;
 use lines::layout::has_part;
-use lines::layout::total_of;
 use mesh::sizes::sizes_of;
-use reader::claim_room;
+use reader::CLAIM_HEADER_BYTES;
+use reader::CLAIM_ROOM;
+use reader::MESH_ROOM;
+use reader::body_bytes;
+use reader::most_numbers;
 use reader::read_claim;
 use reader::read_mesh;
 use scope::Outcome;
@@ -17,9 +20,10 @@ ghost use Prim.Native.Nat.{_≤_};
 ghost use lib.ListN.{length};
 ghost use Rattle.scope.specs.Verdict.{meshCheck, claimVerdict};
 ghost use Rattle.verdict.specs.JudgeContracts.{SoundMesh};
-ghost use Rattle.judge.specs.Judge.{claimNumbers, fileWidth, filesVerdict};
+ghost use Rattle.reader.specs.File.{fileWidth};
+ghost use Rattle.judge.specs.Judge.{meshNumbers, claimNumbers, filesVerdict};
 ghost use Rattle.judge.specs.ClaimBytes.{claimBytes};
-ghost use Rattle.judge.specs.Judged.{MeshJudged, roomOn};
+ghost use Rattle.judge.specs.Judged.{MeshJudged};
 
 // How many numbers a mesh file has, and what is said of them.
 pub struct JudgedMesh {
@@ -27,9 +31,16 @@ pub struct JudgedMesh {
     pub answer: MeshAnswer,
 }
 
-// A mesh file judged: its numbers stand at the front of the list that is lent.
+// Rooms for the numbers of a file. An array is filled with zeros before it is used, and for small files that is a large part of the time: so the room is chosen by the bytes.
+const SMALL_ROOM: usize = 256;
+
+const MIDDLE_MESH: usize = 512;
+
+const MIDDLE_CLAIM: usize = 1024;
+
+// A mesh file judged: its numbers stand at the front of the list that is lent, which has room for them.
 pub fn judge_mesh_file(mesh: &[u8], numbers: &mut [i64]) -> JudgedMesh
-    requires { ⌜ 1254 ≤ length (now numbers) ⌝ }
+    requires { ⌜ length (meshNumbers fileWidth (now mesh)) ≤ length (now numbers) ⌝ }
     ensures { λ r. ⌜ MeshJudged (now (mesh .entry)) (now (numbers .entry)) r (now (numbers .exit)) ⌝ }
 {
     let count = read_mesh(mesh, numbers);
@@ -39,7 +50,7 @@ pub fn judge_mesh_file(mesh: &[u8], numbers: &mut [i64]) -> JudgedMesh
 
 // The verdict on a claim file on a judged mesh with the numbers m, with room for the claim's numbers.
 fn judge_claim_in(m: &[i64], soils: &[u8], claim: &[u8], numbers: &mut [i64]) -> Verdict
-    requires { ⌜ SoundMesh (now m) (now soils) ⌝ ∗ ⌜ roomOn (now m) ≤ length (now numbers) ⌝ }
+    requires { ⌜ SoundMesh (now m) (now soils) ⌝ ∗ ⌜ length (claimNumbers fileWidth (now m) (now claim)) ≤ length (now numbers) ⌝ }
     ensures { λ r. ⌜ r ≡ claimVerdict (now (m .entry)) (claimNumbers fileWidth (now (m .entry)) (now (claim .entry))) ⌝ }
 {
     let s = sizes_of(m);
@@ -47,31 +58,30 @@ fn judge_claim_in(m: &[i64], soils: &[u8], claim: &[u8], numbers: &mut [i64]) ->
     judge_claim(m, soils, &numbers[..count])
 }
 
-// The same. An array is filled with zeros before it is used, and for a small claim that is a large part of the time: so there are three sizes.
+// The verdict on a claim file on a judged mesh with the numbers m.
 pub fn judge_claim_file(m: &[i64], soils: &[u8], claim: &[u8]) -> Verdict
     requires { ⌜ SoundMesh (now m) (now soils) ⌝ }
     ensures { λ r. ⌜ r ≡ claimVerdict (now (m .entry)) (claimNumbers fileWidth (now (m .entry)) (now (claim .entry))) ⌝ }
 {
-    let s = sizes_of(m);
-    let room = claim_room(s);
-    if room <= 256 {
-        let mut small = [0i64; 256];
+    let room = most_numbers(claim.len());
+    if room <= SMALL_ROOM {
+        let mut small = [0i64; SMALL_ROOM];
         return judge_claim_in(m, soils, claim, &mut small);
     }
-    if room <= 1024 {
-        let mut middle = [0i64; 1024];
+    if room <= MIDDLE_CLAIM {
+        let mut middle = [0i64; MIDDLE_CLAIM];
         return judge_claim_in(m, soils, claim, &mut middle);
     }
-    let mut large = [0i64; 4345];
+    let mut large = [0i64; CLAIM_ROOM];
     judge_claim_in(m, soils, claim, &mut large)
 }
 
-// The verdict on a mesh file and a claim file.
-pub fn judge_files(mesh: &[u8], claim: &[u8]) -> Verdict
+// The verdict on a mesh file and a claim file, with room for the mesh's numbers.
+fn judge_files_in(mesh: &[u8], claim: &[u8], numbers: &mut [i64]) -> Verdict
+    requires { ⌜ length (meshNumbers fileWidth (now mesh)) ≤ length (now numbers) ⌝ }
     ensures { λ r. ⌜ r ≡ filesVerdict fileWidth (now (mesh .entry)) (now (claim .entry)) ⌝ }
 {
-    let mut numbers = [0i64; 1254];
-    let judged = judge_mesh_file(mesh, &mut numbers);
+    let judged = judge_mesh_file(mesh, numbers);
     let count = judged.count;
     let answer = judged.answer;
     let outcome = answer.outcome;
@@ -84,11 +94,28 @@ pub fn judge_files(mesh: &[u8], claim: &[u8]) -> Verdict
     }
 }
 
-// The bytes of a claim file that begins with these numbers, on a judged mesh with the numbers m: a column takes 12, and a line 1 more.
+// The verdict on a mesh file and a claim file.
+pub fn judge_files(mesh: &[u8], claim: &[u8]) -> Verdict
+    ensures { λ r. ⌜ r ≡ filesVerdict fileWidth (now (mesh .entry)) (now (claim .entry)) ⌝ }
+{
+    let room = most_numbers(mesh.len());
+    if room <= SMALL_ROOM {
+        let mut small = [0i64; SMALL_ROOM];
+        return judge_files_in(mesh, claim, &mut small);
+    }
+    if room <= MIDDLE_MESH {
+        let mut middle = [0i64; MIDDLE_MESH];
+        return judge_files_in(mesh, claim, &mut middle);
+    }
+    let mut large = [0i64; MESH_ROOM];
+    judge_files_in(mesh, claim, &mut large)
+}
+
+// The bytes of a claim file that begins with these numbers, on a judged mesh with the numbers m.
 pub fn claim_bytes(m: &[i64], header: &[i64]) -> usize
     requires { ⌜ meshCheck (now m) ≡ Outcome.Passed ⌝ }
     ensures { λ r. ⌜ r ≡ claimBytes (now (m .entry)) (now (header .entry)) ⌝ }
 {
     let groups = claim_groups(sizes_of(m), has_part(header, 0), has_part(header, 1));
-    49 + total_of(groups, 12, 1)
+    CLAIM_HEADER_BYTES + body_bytes(groups)
 }

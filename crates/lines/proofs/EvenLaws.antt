@@ -17,11 +17,12 @@ use Rattle.scope.specs.declared.Place.the-variants.{Line}
 use Rattle.scope.specs.declared.Outcome.the-variants.{Passed, Refused}
 use Rattle.scope.specs.Checks.{demand, _then_, allBelow}
 use Rattle.scope.specs.Columns.{Limit, between, within, allWithin, at}
-use Rattle.scope.specs.Layout.{Layout, rulesHold, lineCheck}
-use Rattle.lines.specs.Table.{evenLines}
+use Rattle.scope.specs.Layout.{Layout}
+use Rattle.scope.specs.Verdict.{lineCheck, rulesHold}
+use Rattle.lines.specs.Table.{mostLines, mostColumns, evenLines}
 use Rattle.lines.specs.LineContracts.{lineStep, groupCheck, NumberedFrom}
 use Rattle.lines.specs.SearchContracts.{firstFailing}
-use Rattle.scope.proofs.Checks.{then-Passed, all-lowest, first-refused}
+use Rattle.scope.proofs.Checks.{demand-then, all-lowest, first-refused}
 use Rattle.lines.proofs.LineLaws.{read, read-limit}
 use Rattle.lines.proofs.Loops.{each-below, all-of-each, all-cong, holds-before, fails-there}
 
@@ -49,7 +50,11 @@ one-outside (suc w) a (z ∷ s) (suc j) h l e = by (within a z) (one-outside w a
 -- its line k: form, then limits
 even-line : (f : Layout) (n w : ℕ) (a : Limit) (s : List ℤ) (line k : ℕ) → lineStep f (evenLines n w a) s line k ≡ demand (eqb (length (take w (drop (k * w) s))) w) (f .formNumber) (Line (line + k)) then demand (allWithin (replicate w a) (take w (drop (k * w) s))) (f .limitNumber) (Line (line + k))
 unfolding lineCheck rulesHold evenLines
-even-line f n w a s line k = rw (length-replicate w a) (then-Passed _)
+even-line f n w a s line k =
+    let numbers = take w (drop (k * w) s) in
+    let place = Line (line + k) in
+    rw (length-replicate w a)
+    (sym (demand-then (eqb (length numbers) w) (f .formNumber) place (demand (allWithin (replicate w a) numbers) (f .limitNumber) place)))
 
 -- the whole lines of a list, at most n, and how many of their numbers are within the limit before the first that is not
 pub record EvenRun (s : List ℤ) (n w : ℕ) (a : Limit) (whole run : ℕ) : Type 0 where
@@ -117,8 +122,8 @@ module _ {s : List ℤ} {n w : ℕ} {a : Limit} {whole run : ℕ} (h : EvenRun s
   even-passed l b = sym (all-lowest (lineStep f (evenLines n w a) s line) n (λ k d. passes k (omega arith) (omega (arith, lines-apart whole k (omega arith)))))
 
 -- the numbers that are looked at in one go are few
-pub few-numbers : (s : List ℤ) (n w whole : ℕ) → n ≤ 100 → w ≤ 36 → whole ≡ min (length s / w) n → whole * w ≤ 3600
-few-numbers s n w whole a b e = mul-le-mul {n₂ = 100} {m₂ = 36} (omega arith) b
+pub few-numbers : (s : List ℤ) (n w whole : ℕ) → n ≤ mostLines → w ≤ mostColumns → whole ≡ min (length s / w) n → whole * w ≤ mostLines * mostColumns
+few-numbers s n w whole a b e = mul-le-mul {n₂ = mostLines} {m₂ = mostColumns} (omega arith) b
 
 -- number k is within the limits as the machine reads them
 abbrev pub inside : ℤ → ℤ → List ℤ → ℕ → Bool

@@ -22,16 +22,17 @@ use Rattle.lines.specs.declared.layout.Rule.{Rule}
 use Rattle.lines.specs.declared.layout.Rule.the-variants.{Soil, Element, Edge}
 use Rattle.scope.specs.Checks.{demand, _then_, lowest}
 use Rattle.scope.specs.Columns.{hasField, hasMultipliers}
-use Rattle.scope.specs.Layout.{Group, Layout, Placed, width, groups, lineCount, numberCount, lineOf, lineNumbers, lineCheck, lineAt, linesCheck}
-use Rattle.scope.specs.Mesh.{meshHeader, meshLayout, soilLines, elementLines, edgeLines}
-use Rattle.scope.specs.Claim.{claimHeader, claimLayout, ifThere}
+use Rattle.scope.specs.Layout.{Group, Layout, Placed, width, groups, lineCount, numberCount, lineOf, lineNumbers}
+use Rattle.scope.specs.Verdict.{lineCheck, lineAt, linesCheck}
+use Rattle.scope.specs.Mesh.{meshHeaderColumns, meshHeader, meshLayout, soilLines, elementLines, edgeLines}
+use Rattle.scope.specs.Claim.{claimHeaderColumns, claimHeader, claimLayout, ifThere}
 use Rattle.mesh.specs.MeshContracts.{SizesAre, HeaderThere}
 use Rattle.lines.specs.Table.{ruledLines, meshBody, claimBody}
 use Rattle.lines.specs.LineContracts.{lineStep, groupCheck, groupsCheck, numbered, NumberedFrom}
 use Rattle.scope.proofs.Checks.{then-assoc, lowest-all, all-lowest, first-refused, below-suc, lowest-add, lowest-cong}
 use Rattle.scope.proofs.Lines.{line-here, line-after}
-use Rattle.scope.proofs.Sound.{line-passed}
-use Rattle.scope.proofs.Facts.{header-counts as sound-header}
+use Rattle.scope.proofs.NumberRanges.{header-counts as sound-header}
+use Rattle.scope.proofs.Refusals.{line-passed, lines-checked}
 use Rattle.lines.proofs.LineLaws.{line-short, passed-whole, mesh-header-line}
 
 -- ---- the lines of a group, one after another
@@ -128,10 +129,11 @@ by-groups f (g ∷ gs) ns from line =
     ∙ ap (λ (s : List ℤ). groupsCheck f gs s (line + g .lines)) (sym (drop-drop (g .lines * width g) from ns)))
 
 lines-by-groups : (f : Layout) (ns : List ℤ) → linesCheck f ns ≡ groupsCheck f (groups f ns) ns 1
-unfolding linesCheck lineAt
+unfolding lineAt
 lines-by-groups f ns =
     let gs : List Group = groups f ns in
-    ap₂ _then_
+    lines-checked f ns
+    ∙ ap₂ _then_
     (lowest-cong _ _ (lineCount gs) (λ k h. ap (λ (j : ℕ). placedCheck f ns j (lineOf 0 gs k)) (sym (one-add k))))
     (ap₂ (λ (a k : ℕ). demand (leb (length ns) a) (f .formNumber) (Line k)) (sym (zero-add (numberCount gs))) (sym (one-add (lineCount gs))))
     ∙ by-groups f gs ns 0 1
@@ -216,7 +218,7 @@ pub claim-starts : (m c : List ℤ) → Reached (linesCheck (claimLayout m) c) (
 unfolding groups groupsCheck groupCheck lineCheck claimLayout numbered
 claim-starts m c = record { same = lines-by-groups (claimLayout m) c }
 
-pub claim-header-group : (c : List ℤ) → lineCheck (claimLayout []) claimHeader (take 4 c) (Line 1) ≡ groupCheck (numbered 11) claimHeader c 1
+pub claim-header-group : (c : List ℤ) → lineCheck (claimLayout []) claimHeader (take claimHeaderColumns c) (Line 1) ≡ groupCheck (numbered 11) claimHeader c 1
 unfolding groupCheck lowest lineCheck claimHeader claimLayout numbered
 claim-header-group c = refl
 
@@ -225,13 +227,13 @@ claim-header-group c = refl
 pub header-counts : (m : List ℤ) → lineAt meshLayout m 0 ≡ Passed → HeaderThere m
 unfolding meshHeader
 header-counts m e =
-    let p : lineCheck meshLayout meshHeader (take 5 m) (Line 1) ≡ Passed = mesh-header-line m ∙ e in
+    let p : lineCheck meshLayout meshHeader (take meshHeaderColumns m) (Line 1) ≡ Passed = mesh-header-line m ∙ e in
     record {
-      there = omega (arith, length-take 5 m, passed-whole meshLayout meshHeader (take 5 m) (Line 1) p);
+      there = omega (arith, length-take meshHeaderColumns m, passed-whole meshLayout meshHeader (take meshHeaderColumns m) (Line 1) p);
       counts = sound-header m (line-passed meshLayout m 0 .says e);
     }
 
 -- a claim whose header has passed has its four numbers
-pub claim-header-there : (c : List ℤ) → lineCheck (claimLayout []) claimHeader (take 4 c) (Line 1) ≡ Passed → 4 ≤ length c
+pub claim-header-there : (c : List ℤ) → lineCheck (claimLayout []) claimHeader (take claimHeaderColumns c) (Line 1) ≡ Passed → claimHeaderColumns ≤ length c
 unfolding claimHeader
-claim-header-there c e = omega (arith, length-take 4 c, passed-whole (claimLayout []) claimHeader (take 4 c) (Line 1) e)
+claim-header-there c e = omega (arith, length-take claimHeaderColumns c, passed-whole (claimLayout []) claimHeader (take claimHeaderColumns c) (Line 1) e)

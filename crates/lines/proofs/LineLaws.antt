@@ -7,7 +7,7 @@ use native.Mathlib.Omega.{arith}
 use native.Mathlib.Numerals.{add-one}
 use lib.IntN.{ℤ, pos, negsuc, _+ℤ_, _*ℤ_}
 use lib.Signed.{_≤ℤ_, _<ℤ_, leZ, leZ-yes}
-use lib.Dec.{T, eqb, eqb→eq}
+use lib.Dec.{T, eqb}
 use lib.Ieee.Bits.{is-true, is-false}
 use lib.ListN.{length, getD, take, drop, replicate, length-take, drop-of-length-le}
 use lib.Seq.{drop-cons, length-take-le}
@@ -16,19 +16,22 @@ use mir.Syntax.{w64}
 use mir.Val.{SFits, toZ, ofZ}
 use mir.Facts.{toZ-ofZ, toZ-pos}
 use Rattle.integer.specs.Bounds.{Within}
-use Rattle.integer.specs.Machine.{Within-SFits}
-use Rattle.integer.specs.Order.{≤ℤ-pos}
-use Rattle.integer.specs.Tests.{eqZ, no-eqZ, yes-leZ, no-leZ}
+use Rattle.integer.proofs.Machine.{Within-SFits}
+use Rattle.integer.proofs.Order.{≤ℤ-pos}
+use Rattle.integer.specs.Tests.{eqZ}
+use Rattle.integer.proofs.TestLaws.{no-eqZ, yes-leZ, no-leZ}
 use Rattle.scope.specs.declared.Place.{Place}
 use Rattle.scope.specs.declared.Place.the-variants.{Line}
 use Rattle.scope.specs.declared.Outcome.the-variants.{Passed, Refused}
-use Rattle.scope.specs.Checks.{demand, _then_}
 use Rattle.scope.specs.Columns as C
 use Rattle.scope.specs.Columns.{Limit, between, free, within, isOneOf, allWithin, Rule, rightAngle, naming, parts, hasField, hasMultipliers, names, allNamed, ruleNumber, ruleTest, at}
-use Rattle.scope.specs.Layout.{Group, Layout, width, groups, lineOf, lineNumbers, rulesHold, lineCheck, lineAt}
-use Rattle.scope.specs.Mesh.{meshLayout, meshHeader, soilLines, edgeLines}
+use Rattle.scope.specs.Claim.{claimHeaderColumns}
+use Rattle.scope.specs.Layout.{Group, Layout, width, groups, lineOf, lineNumbers}
+use Rattle.scope.specs.Verdict.{lineCheck, lineAt, rulesHold}
+use Rattle.scope.specs.Mesh.{mostNodes, mostElements, mostSoils, mostEdges, mostSides, meshHeaderColumns, soilColumns, elementColumns, edgeColumns, meshLayout, meshHeader, soilLines, edgeLines}
 use Rattle.lines.specs.LineContracts.{ranges, AsMany}
-use Rattle.scope.proofs.Checks.{demand-passed, then-passed}
+use Rattle.scope.proofs.Statements.{all-within}
+use Rattle.scope.proofs.Refusals.{line-check-passed}
 
 -- ---- a number and a limit
 
@@ -102,7 +105,7 @@ module _ (f : Layout) (g : Group) (s : List ℤ) (p : Place) where
   line-outside h e = rw (length-front (width g) s h, e)
 
   pub line-by-rules : width g ≤ length s → allWithin (g .limits) (take (width g) s) ≡ true → rulesHold (g .rules) (take (width g) s) p ≡ lineCheck f g (take (width g) s) p
-  unfolding lineCheck
+  unfolding lineCheck rulesHold
   line-by-rules h e = rw (length-front (width g) s h, e)
 
 -- a line with one rule, which fails or holds
@@ -116,18 +119,11 @@ one-rule-holds r line p e = rw e
 
 -- a line that has passed is whole, and within its limits
 module _ (f : Layout) (g : Group) (line : List ℤ) (p : Place) (e : lineCheck f g line p ≡ Passed) where
-  form-and-limits : (demand (eqb (length line) (width g)) (f .formNumber) p ≡ Passed) × (demand (allWithin (g .limits) line) (f .limitNumber) p ≡ Passed)
-  unfolding lineCheck
-  form-and-limits =
-      let form = demand (eqb (length line) (width g)) (f .formNumber) p in
-      let limits = demand (allWithin (g .limits) line) (f .limitNumber) p in
-      then-passed form limits .0 (then-passed (form then limits) (rulesHold (g .rules) line p) .0 e .0)
-
   pub passed-whole : length line ≡ width g
-  passed-whole = eqb→eq (length line) (width g) (demand-passed (eqb (length line) (width g)) (f .formNumber) p .0 (form-and-limits .0))
+  passed-whole = line-check-passed f g line p .says e .0
 
   pub passed-within : allWithin (g .limits) line ≡ true
-  passed-within = is-true (allWithin (g .limits) line) (demand-passed (allWithin (g .limits) line) (f .limitNumber) p .0 (form-and-limits .1))
+  passed-within = is-true (allWithin (g .limits) line) (all-within (g .limits) line .passes (line-check-passed f g line p .says e .1))
 
 -- ---- a soil
 
@@ -146,7 +142,7 @@ pub record SmallAngle (s : List ℤ) : Type 0 where
   pub q : Within 1000 (getD s 1 (pos 0))
   pub h : Within 1000 (getD s 2 (pos 0))
 
-pub small-angle : (s : List ℤ) → 8 ≤ length s → allWithin (soilLines 0 .limits) (take 8 s) ≡ true → SmallAngle s
+pub small-angle : (s : List ℤ) → soilColumns ≤ length s → allWithin (soilLines 0 .limits) (take soilColumns s) ≡ true → SmallAngle s
 unfolding soilLines allWithin
 small-angle [] l e = absurd (omega arith)
 small-angle (p ∷ []) l e = absurd (omega arith)
@@ -158,7 +154,7 @@ small-angle (p ∷ q ∷ h ∷ s) l e =
     record { p = small 0 1000 p (a .0); q = small 1 1000 q (b .0); h = small 1 1000 h (d .0) }
 
 -- the rule of a soil, of the numbers as the machine reads them
-pub angle-read : (s : List ℤ) → 8 ≤ length s → SmallAngle s → ruleTest rightAngle (take 8 s) ≡ eqZ (read (getD s 0 (pos 0)) *ℤ read (getD s 0 (pos 0)) +ℤ read (getD s 1 (pos 0)) *ℤ read (getD s 1 (pos 0))) (read (getD s 2 (pos 0)) *ℤ read (getD s 2 (pos 0)))
+pub angle-read : (s : List ℤ) → soilColumns ≤ length s → SmallAngle s → ruleTest rightAngle (take soilColumns s) ≡ eqZ (read (getD s 0 (pos 0)) *ℤ read (getD s 0 (pos 0)) +ℤ read (getD s 1 (pos 0)) *ℤ read (getD s 1 (pos 0))) (read (getD s 2 (pos 0)) *ℤ read (getD s 2 (pos 0)))
 unfolding ruleTest at
 angle-read [] l a = absurd (omega arith)
 angle-read (p ∷ []) l a = absurd (omega arith)
@@ -174,26 +170,26 @@ all-free (suc k) [] = refl
 all-free (suc k) (z ∷ s) = all-free k s
 
 -- a count as the machine casts it
-cast-count : (n : ℕ) → n ≤ 100 → toZ w64 n ≡ pos n
+cast-count : (n : ℕ) → n ≤ mostNodes → toZ w64 n ≡ pos n
 cast-count n h = toZ-pos w64 (omega arith)
 
 -- numbers that name things are within limits of their own
-pub element-names : (ns ss : ℕ) → ns ≤ 100 → ss ≤ 100 → (s : List ℤ) → 5 ≤ length s → ruleTest (naming ((0, ns) ∷ (1, ns) ∷ (2, ns) ∷ (3, ns) ∷ (4, ss) ∷ [])) (take 5 s) ≡ allWithin (ranges (replicate 5 (pos 1)) (toZ w64 ns ∷ toZ w64 ns ∷ toZ w64 ns ∷ toZ w64 ns ∷ toZ w64 ss ∷ [])) (take 5 s)
+pub element-names : (ns ss : ℕ) → ns ≤ mostNodes → ss ≤ mostSoils → (s : List ℤ) → elementColumns ≤ length s → ruleTest (naming ((0, ns) ∷ (1, ns) ∷ (2, ns) ∷ (3, ns) ∷ (4, ss) ∷ [])) (take elementColumns s) ≡ allWithin (ranges (replicate elementColumns (pos 1)) (toZ w64 ns ∷ toZ w64 ns ∷ toZ w64 ns ∷ toZ w64 ns ∷ toZ w64 ss ∷ [])) (take elementColumns s)
 unfolding ruleTest allNamed names at allWithin within ranges
 element-names ns ss f g [] l = absurd (omega arith)
 element-names ns ss f g (a ∷ []) l = absurd (omega arith)
 element-names ns ss f g (a ∷ b ∷ []) l = absurd (omega arith)
 element-names ns ss f g (a ∷ b ∷ d ∷ []) l = absurd (omega arith)
 element-names ns ss f g (a ∷ b ∷ d ∷ e ∷ []) l = absurd (omega arith)
-element-names ns ss f g (a ∷ b ∷ d ∷ e ∷ z ∷ s) l = rw (cast-count ns f, cast-count ss g)
+element-names ns ss f g (a ∷ b ∷ d ∷ e ∷ z ∷ s) l = rw (cast-count ns f, cast-count ss (omega arith))
 
-pub edge-names : (ns : ℕ) → ns ≤ 100 → (s : List ℤ) → 7 ≤ length s → ruleTest (naming ((0, ns) ∷ (1, ns) ∷ [])) (take 7 s) ≡ allWithin (ranges (replicate 2 (pos 1)) (replicate 2 (toZ w64 ns))) (take 2 s)
+pub edge-names : (ns : ℕ) → ns ≤ mostNodes → (s : List ℤ) → edgeColumns ≤ length s → ruleTest (naming ((0, ns) ∷ (1, ns) ∷ [])) (take edgeColumns s) ≡ allWithin (ranges (replicate 2 (pos 1)) (replicate 2 (toZ w64 ns))) (take 2 s)
 unfolding ruleTest allNamed names at allWithin within ranges
 edge-names ns f [] l = absurd (omega arith)
 edge-names ns f (a ∷ []) l = absurd (omega arith)
 edge-names ns f (a ∷ b ∷ s) l = rw (cast-count ns f)
 
-pub edge-limits : (ns : ℕ) (s : List ℤ) → 7 ≤ length s → allWithin (edgeLines 0 ns .limits) (take 7 s) ≡ allWithin (drop 2 (edgeLines 0 ns .limits)) (take 5 (drop 2 s))
+pub edge-limits : (ns : ℕ) (s : List ℤ) → edgeColumns ≤ length s → allWithin (edgeLines 0 ns .limits) (take edgeColumns s) ≡ allWithin (drop 2 (edgeLines 0 ns .limits)) (take 5 (drop 2 s))
 unfolding edgeLines allWithin within
 edge-limits ns [] l = absurd (omega arith)
 edge-limits ns (a ∷ []) l = absurd (omega arith)
@@ -201,21 +197,21 @@ edge-limits ns (a ∷ b ∷ s) l = refl
 
 -- ---- the header of a mesh
 
-pub mesh-header-line : (m : List ℤ) → lineCheck meshLayout meshHeader (take 5 m) (Line 1) ≡ lineAt meshLayout m 0
+pub mesh-header-line : (m : List ℤ) → lineCheck meshLayout meshHeader (take meshHeaderColumns m) (Line 1) ≡ lineAt meshLayout m 0
 unfolding lineAt lineOf groups lineNumbers meshLayout meshHeader
 mesh-header-line m = refl
 
 -- the last of the listed numbers, where it is none before
-pub last-sides : {z : ℤ} → ¬ (z ≡ pos 12) → ¬ (z ≡ pos 20) → eqZ z (pos 36) ≡ isOneOf (pos 12 ∷ pos 20 ∷ pos 36 ∷ []) z
+pub last-sides : {z : ℤ} → ¬ (z ≡ pos 12) → ¬ (z ≡ pos 20) → eqZ z (pos mostSides) ≡ isOneOf (pos 12 ∷ pos 20 ∷ pos mostSides ∷ []) z
 unfolding isOneOf
-last-sides {z} f g = rw (is-false (eqZ z (pos 12)) (no-eqZ f), is-false (eqZ z (pos 20)) (no-eqZ g)) (alone (eqZ z (pos 36)))
+last-sides {z} f g = rw (is-false (eqZ z (pos 12)) (no-eqZ f), is-false (eqZ z (pos 20)) (no-eqZ g)) (alone (eqZ z (pos mostSides)))
   where
     alone : (b : Bool) → b ≡ b || false
     alone true = refl
     alone false = refl
 
-pub sides-read : {z : ℤ} → SFits w64 z → isOneOf (pos 12 ∷ pos 20 ∷ pos 36 ∷ []) z ≡ isOneOf (pos 12 ∷ pos 20 ∷ pos 36 ∷ []) (read z)
-sides-read f = ap (isOneOf (pos 12 ∷ pos 20 ∷ pos 36 ∷ [])) (sym (toZ-ofZ f))
+pub sides-read : {z : ℤ} → SFits w64 z → isOneOf (pos 12 ∷ pos 20 ∷ pos mostSides ∷ []) z ≡ isOneOf (pos 12 ∷ pos 20 ∷ pos mostSides ∷ []) (read z)
+sides-read f = ap (isOneOf (pos 12 ∷ pos 20 ∷ pos mostSides ∷ [])) (sym (toZ-ofZ f))
 
 four-and-one : (a b d e z : Bool) → a && (b && (d && (e && (z && true)))) ≡ (a && (b && (d && (e && true)))) && z
 four-and-one false b d e z = refl
@@ -226,14 +222,17 @@ four-and-one true true true true true = refl
 four-and-one true true true true false = refl
 
 -- the limits of the counts, and then the number of sides
-pub mesh-header-limits : (m : List ℤ) → 5 ≤ length m → allWithin (meshHeader .limits) (take 5 m) ≡ allWithin (take 4 (meshHeader .limits)) (take 4 m) && isOneOf (pos 12 ∷ pos 20 ∷ pos 36 ∷ []) (getD m 4 (pos 0))
+pub mesh-header-limits : (m : List ℤ) → meshHeaderColumns ≤ length m → allWithin (meshHeader .limits) (take meshHeaderColumns m) ≡ allWithin (take 4 (meshHeader .limits)) (take 4 m) && isOneOf (pos 12 ∷ pos 20 ∷ pos mostSides ∷ []) (getD m 4 (pos 0))
 unfolding meshHeader allWithin within
 mesh-header-limits [] l = absurd (omega arith)
 mesh-header-limits (a ∷ []) l = absurd (omega arith)
 mesh-header-limits (a ∷ b ∷ []) l = absurd (omega arith)
 mesh-header-limits (a ∷ b ∷ d ∷ []) l = absurd (omega arith)
 mesh-header-limits (a ∷ b ∷ d ∷ e ∷ []) l = absurd (omega arith)
-mesh-header-limits (a ∷ b ∷ d ∷ e ∷ z ∷ m) l = four-and-one (within (between (pos 4) (pos 100)) a) (within (between (pos 1) (pos 100)) b) (within (between (pos 1) (pos 16)) d) (within (between (pos 0) (pos 60)) e) (isOneOf (pos 12 ∷ pos 20 ∷ pos 36 ∷ []) z)
+mesh-header-limits (a ∷ b ∷ d ∷ e ∷ z ∷ m) l =
+    four-and-one (within (between (pos 4) (pos mostNodes)) a) (within (between (pos 1) (pos mostElements)) b)
+    (within (between (pos 1) (pos mostSoils)) d) (within (between (pos 0) (pos mostEdges)) e)
+    (isOneOf (pos 12 ∷ pos 20 ∷ pos mostSides ∷ []) z)
 
 pub both-hold : {a b d : Bool} → d ≡ a && b → a ≡ true → b ≡ true → d ≡ true
 both-hold e f g = e ∙ rw (f, g)
@@ -265,7 +264,7 @@ module _ (f g n l : ℤ) where
   no-field a b d = rw (is-false (eqZ f (pos 1)) (no-eqZ a), b, d)
 
 -- the rule of the numbers as the machine reads them
-pub parts-read : (c : List ℤ) → 4 ≤ length c → SFits w64 (getD c 0 (pos 0)) → SFits w64 (getD c 1 (pos 0)) → SFits w64 (getD c 2 (pos 0)) → SFits w64 (getD c 3 (pos 0)) → ruleTest parts (take 4 c) ≡ ruleTest parts (read (getD c 0 (pos 0)) ∷ read (getD c 1 (pos 0)) ∷ read (getD c 2 (pos 0)) ∷ read (getD c 3 (pos 0)) ∷ [])
+pub parts-read : (c : List ℤ) → claimHeaderColumns ≤ length c → SFits w64 (getD c 0 (pos 0)) → SFits w64 (getD c 1 (pos 0)) → SFits w64 (getD c 2 (pos 0)) → SFits w64 (getD c 3 (pos 0)) → ruleTest parts (take claimHeaderColumns c) ≡ ruleTest parts (read (getD c 0 (pos 0)) ∷ read (getD c 1 (pos 0)) ∷ read (getD c 2 (pos 0)) ∷ read (getD c 3 (pos 0)) ∷ [])
 parts-read [] l f g h i = absurd (omega arith)
 parts-read (a ∷ []) l f g h i = absurd (omega arith)
 parts-read (a ∷ b ∷ []) l f g h i = absurd (omega arith)

@@ -15,7 +15,7 @@ use Rattle.scope.specs.Checks.{demand, _then_, lowest, allBelow}
 use Rattle.scope.specs.Rows.{firstWhere}
 use Rattle.scope.proofs.Checks.{passed-is-not-refused, below-suc, lowest-all, all-lowest, first-refused}
 use Rattle.scope.proofs.Decides.{First, first-where}
-use Rattle.lines.specs.SearchContracts.{isPassed, firstFailing}
+use Rattle.lines.specs.SearchContracts.{firstFailing}
 
 -- ---- tests in a row
 
@@ -128,22 +128,6 @@ module _ (holds : ℕ → Bool) (c : ℕ) (p : ℕ → Place) (n : ℕ) where
       demanded : (t : Bool) → demand t c (p i) ≡ Passed → t ≡ true
       demanded true e = refl
       demanded false e = passed-is-not-refused (sym e)
-
--- checks of any kind: the first that does not pass
-module _ (f : ℕ → Outcome) (n : ℕ) {r : ℕ} (e : r ≡ firstFailing (λ k. isPassed (f k)) n) where
-  passes : (o : Outcome) → isPassed o ≡ true → o ≡ Passed
-  passes Passed h = refl
-  passes (Refused c p) h = absurd (subst T (sym h) tt)
-
-  pub first-outcome : {o : Outcome} → r < n → o ≡ f r → o ≡ lowest f n
-  first-outcome {o} l d = d ∙ by (f r) refl (fails-there (λ k. isPassed (f k)) n e l)
-    where
-      by : (q : Outcome) → f r ≡ q → isPassed q ≡ false → q ≡ lowest f n
-      by Passed g h = absurd (subst T h tt)
-      by (Refused c p) g h = sym (first-refused f n c p r (l, λ k j. passes (f k) (holds-before (λ k. isPassed (f k)) n e k j), g))
-
-  pub no-outcome : n ≤ r → Passed ≡ lowest f n
-  no-outcome l = sym (all-lowest f n (λ k j. passes (f k) (holds-before (λ k. isPassed (f k)) n e k (omega arith))))
 
 -- ---- one row of checks after another: the first refuses, or passes
 

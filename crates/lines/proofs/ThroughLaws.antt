@@ -16,7 +16,7 @@ use Rattle.mesh.specs.declared.sizes.Sizes.{Sizes}
 use Rattle.lines.specs.declared.layout.Rule.the-variants.{Soil}
 use Rattle.lines.specs.declared.layout.Kind.the-variants.{Ruled}
 use Rattle.lines.specs.declared.layout.Group as Code
-use Rattle.lines.specs.Table.{meant, Good, Table}
+use Rattle.lines.specs.Table.{groupCount, mostLines, mostColumns, meant, Good, Table}
 use Rattle.lines.specs.LineContracts.{groupCheck, groupsCheck}
 use Rattle.lines.proofs.TableLaws.{good-at, from-place, few-in, lines-meant}
 use Rattle.lines.proofs.GroupLaws.{Reached, reached, stop-here, pass-on, passed-there}
@@ -27,17 +27,17 @@ noGroup = record { kind = Ruled Soil; lines = 0; columns = 0 }
 
 -- the groups before group i have passed: the next one begins with number `from` of s, in line `line` of the file
 pub record Through (all : Outcome) (f : Layout) (z : Sizes) (gs : List Code.Group) (s : List ℤ) (from line i : ℕ) : Type 0 where
-  pub most : i ≤ 4
+  pub most : i ≤ groupCount
   pub there : from ≤ length s
-  pub fewNumbers : from ≤ i * 3600
-  pub fewLines : line ≤ 2 + i * 100
+  pub fewNumbers : from ≤ i * (mostLines * mostColumns)
+  pub fewLines : line ≤ 2 + i * mostLines
   pub still : Reached all f (map (meant z) (drop i gs)) (drop from s) line
 
 pub through-start : (f : Layout) (z : Sizes) (gs : List Code.Group) (s : List ℤ) → Through (groupsCheck f (map (meant z) gs) s 2) f z gs s 0 2 0
 through-start f z gs s = record { most = omega arith; there = omega arith; fewNumbers = omega arith; fewLines = omega arith; still = reached f (map (meant z) gs) s 2 }
 
 module _ {all : Outcome} {f : Layout} {z : Sizes} {gs : List Code.Group} {s : List ℤ} {from line i : ℕ} (t : Table z gs) (h : Through all f z gs s from line i) where
-  module _ (d : Code.Group) (l : i < 4) where
+  module _ (d : Code.Group) (l : i < groupCount) where
     abbrev g : Code.Group
     g = getD gs i d
 
@@ -69,7 +69,7 @@ module _ {all : Outcome} {f : Layout} {z : Sizes} {gs : List Code.Group} {s : Li
           }
 
   -- after the last group numbers are left over, or none
-  module _ (l : 4 ≤ i) where
+  module _ (l : groupCount ≤ i) where
     none-after : drop i gs ≡ []
     none-after = drop-of-length-le gs {i = i} (omega (arith, t .size))
 

@@ -10,9 +10,11 @@ use Rattle.scope.specs.declared.Outcome.{Outcome}
 use Rattle.mesh.specs.declared.sizes.Sizes.{Sizes}
 use Rattle.scope.specs.Checks.{demand, _then_, lowest}
 use Rattle.scope.specs.Columns.{Limit, between}
-use Rattle.scope.specs.Layout.{Group, Layout, width, lineCheck}
+use Rattle.scope.specs.Layout.{Group, Layout, width}
 use Rattle.scope.specs.Mesh.{meshHeader}
+use Rattle.scope.specs.Verdict.{lineCheck}
 use Rattle.mesh.specs.MeshContracts.{FewThings}
+use Rattle.lines.specs.Table.{groupCount, mostLines, mostColumns}
 
 -- the limits whose least and whose most numbers are listed
 unfoldable pub ranges : List ℤ → List ℤ → List Limit
@@ -49,13 +51,21 @@ pub record NumberedFrom (f : Layout) (form : ℕ) : Type 0 where
   pub formIs : f .formNumber ≡ form
   pub limitIs : f .limitNumber ≡ form + 1
 
+-- a refusal for form is 1 in a mesh and 11 in a claim
+abbrev pub mostForm : ℕ
+mostForm = 11
+
+-- the line after the last, where each group has as many lines as it can
+abbrev pub mostLine : ℕ
+mostLine = 2 + groupCount * mostLines
+
 -- counts and line numbers are small, so that no sum of them overflows
 pub record FewColumns (count columns form line : ℕ) : Type 0 where
-  pub fewLines : count ≤ 100
+  pub fewLines : count ≤ mostLines
   pub someColumn : 0 < columns
-  pub fewColumns : columns ≤ 36
-  pub formMost : form ≤ 100
-  pub lineMost : line ≤ 1000
+  pub fewColumns : columns ≤ mostColumns
+  pub formMost : form ≤ mostForm
+  pub lineMost : line ≤ mostLine
 
 pub record FewLines (s : Sizes) (count columns form line : ℕ) : Type 0 where
   pub things : FewThings s

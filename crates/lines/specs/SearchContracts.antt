@@ -1,13 +1,7 @@
 -- The search for the lowest place that fails (document 01, 'Verdict and report': "lowest place first").
-use mathlib.Core.Bool.{Bool, true, false, not}
+use mathlib.Core.Bool.{Bool, not}
 use Prim.Native.Nat.{ℕ}
-use Rattle.scope.specs.declared.Outcome.{Outcome}
-use Rattle.scope.specs.declared.Outcome.the-variants.{Passed, Refused}
 use Rattle.scope.specs.Rows.{firstWhere}
-
-abbrev pub isPassed : Outcome → Bool
-isPassed Passed = true
-isPassed (Refused c p) = false
 
 -- the lowest place below n at which a test fails, or n where it holds at all of them
 abbrev pub firstFailing : (ℕ → Bool) → ℕ → ℕ

@@ -2,7 +2,7 @@
 use mathlib.Core.Path.{_≡_}
 use mathlib.Core.Bool.{Bool}
 use mathlib.Core.List.{List, [], _∷_, _++_, map}
-use Prim.Native.Nat.{ℕ, _+_, _*_, _≤_, _<_}
+use Prim.Native.Nat.{ℕ, _≤_, _<_}
 use lib.ListN.{length, replicate}
 use Rattle.mesh.specs.declared.sizes.Sizes.{Sizes}
 use Rattle.lines.specs.declared.layout.Rule.{Rule}
@@ -12,8 +12,18 @@ use Rattle.lines.specs.declared.layout.Kind.the-variants.{Ruled, Even}
 use Rattle.lines.specs.declared.layout.Group as Code
 use Rattle.scope.specs.Columns.{Limit, between}
 use Rattle.scope.specs.Layout.{Group, width}
-use Rattle.scope.specs.Mesh.{soilLines, nodeLines, elementLines, edgeLines}
+use Rattle.scope.specs.Mesh.{mostNodes, mostSides, soilLines, nodeLines, elementLines, edgeLines}
 use Rattle.scope.specs.Claim.{ifThere, stressLines, elementMultipliers, edgeMultipliers, strengthMultipliers}
+
+-- how many groups a file has after its header; the most lines of a group, which are a node's or an element's, and the most columns of a line, which are a polygon's sides
+abbrev pub groupCount : ℕ
+groupCount = 4
+
+abbrev pub mostLines : ℕ
+mostLines = mostNodes
+
+abbrev pub mostColumns : ℕ
+mostColumns = mostSides
 
 -- lines whose columns all have one limit
 unfoldable pub evenLines : ℕ → ℕ → Limit → Group
@@ -36,9 +46,9 @@ meant s g = kindLines (g .kind) s (g .lines) (g .columns)
 -- its columns are those of the definitions, and it is so small that no sum of its counts overflows
 pub record Good (s : Sizes) (g : Code.Group) : Type 0 where
   pub wide : g .columns ≡ width (meant s g)
-  pub fewLines : g .lines ≤ 100
+  pub fewLines : g .lines ≤ mostLines
   pub someColumn : 0 < g .columns
-  pub fewColumns : g .columns ≤ 36
+  pub fewColumns : g .columns ≤ mostColumns
 
 abbrev pub AllGood : Sizes → List Code.Group → Type 0
 AllGood s [] = Unit {0}
@@ -46,7 +56,7 @@ AllGood s (g ∷ gs) = Good s g × AllGood s gs
 
 -- the groups of a file, each of them good
 pub record Table (s : Sizes) (gs : List Code.Group) : Type 0 where
-  pub size : length gs ≡ 4
+  pub size : length gs ≡ groupCount
   pub good : AllGood s gs
 
 -- such groups on some mesh
@@ -83,12 +93,3 @@ claimBody s field multipliers =
 unfoldable pub lineWidths : List Code.Group → List ℕ
 lineWidths [] = []
 lineWidths (g ∷ gs) = replicate (g .lines) (g .columns) ++ lineWidths gs
-
--- what they take, where a column takes `column` and a line `line` more
-unfoldable pub totalOf : ℕ → ℕ → List Code.Group → ℕ
-totalOf column line [] = 0
-totalOf column line (g ∷ gs) = g .lines * (g .columns * column + line) + totalOf column line gs
-
--- the numbers
-abbrev pub numbersIn : List Code.Group → ℕ
-numbersIn gs = totalOf 1 0 gs

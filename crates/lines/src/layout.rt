@@ -1,15 +1,69 @@
-// The lines after the header of a mesh and of a claim, as one table: groups of lines, and of each its kind, how many lines it has and how many columns each. Whatever goes through a file's lines goes through this table: the reader, the checks of lines, the room and the bytes of a claim.
+// The lines of a mesh and of a claim, as one table: the limits of the headers, then groups of lines, and of each its kind, how many lines it has and how many columns each.
+// Whatever goes through a file's lines goes through this table: the reader, the checks of lines, the bytes of a claim.
+use mesh::sizes::EDGE_COLUMNS;
+use mesh::sizes::EDGE_ROWS;
+use mesh::sizes::ELEMENT_COLUMNS;
+use mesh::sizes::ELEMENT_ROWS;
+use mesh::sizes::MESH_HEADER;
+use mesh::sizes::MOST_EDGES;
+use mesh::sizes::MOST_ELEMENTS;
+use mesh::sizes::MOST_NODES;
+use mesh::sizes::MOST_SIDES;
+use mesh::sizes::MOST_SOILS;
+use mesh::sizes::NODE_COLUMNS;
+use mesh::sizes::SOIL_COLUMNS;
 use mesh::sizes::Sizes;
 ghost use mathlib.Core.Path.{_≡_};
-ghost use Prim.Native.Nat.{_≤_};
 ghost use lib.IntN.{pos};
 ghost use Rattle.integer.specs.Tests.{eqZ};
 ghost use Rattle.scope.specs.Columns.{at};
 ghost use Rattle.scope.specs.Claim.{ifThere};
 ghost use Rattle.mesh.specs.MeshContracts.{FewThings};
-ghost use Rattle.lines.specs.Table.{Tabled, Known, meshBody, claimBody, totalOf};
+ghost use Rattle.lines.specs.Table.{Tabled, meshBody, claimBody};
 
-// The lines that have rules of their own.
+// The groups of lines after a header: in a mesh soils, nodes, elements, edges; in a claim stresses, and multipliers of elements, of edges and of nodes.
+pub const GROUPS: usize = 4;
+
+// The columns of a claim's header, and of a node's stresses.
+pub const CLAIM_HEADER: usize = 4;
+
+pub const STRESS_COLUMNS: usize = 3;
+
+// The limits of the counts of a mesh's header, which stand before its sides.
+pub const COUNTS: usize = MESH_HEADER - 1;
+
+pub const MESH_LEAST: [i64; COUNTS] = [4, 1, 1, 0];
+
+pub const MESH_MOST: [i64; COUNTS] = [
+    MOST_NODES as i64,
+    MOST_ELEMENTS as i64,
+    MOST_SOILS as i64,
+    MOST_EDGES as i64,
+];
+
+// The most sides, as a number of the header.
+pub const SIDES_MOST: i64 = MOST_SIDES as i64;
+
+// The limits of a claim's header.
+pub const CLAIM_LEAST: [i64; CLAIM_HEADER] = [0, 0, 0, -100000000];
+
+pub const CLAIM_MOST: [i64; CLAIM_HEADER] = [1, 1, 100000, 100000000];
+
+// The limits of a soil's columns.
+pub const SOIL_LEAST: [i64; SOIL_COLUMNS] = [0, 1, 1, 0, -1000, -1000, -1000, -1000];
+
+pub const SOIL_MOST: [i64; SOIL_COLUMNS] = [1000, 1000, 1000, 10000, 1000, 1000, 1000, 1000];
+
+// The nodes that an edge names, and the limits of its columns after them.
+pub const EDGE_ENDS: usize = 2;
+
+pub const EDGE_LIMITS: usize = EDGE_COLUMNS - EDGE_ENDS;
+
+pub const EDGE_LEAST: [i64; EDGE_LIMITS] = [1, -10000, -10000, -10000, -10000];
+
+pub const EDGE_MOST: [i64; EDGE_LIMITS] = [3, 10000, 10000, 10000, 10000];
+
+// The lines that have rules of their own: a soil its limits and a right angle, an element the names of its nodes and its soil, an edge its limits and the names of its nodes.
 pub enum Rule {
     Soil,
     Element,
@@ -30,7 +84,7 @@ pub struct Group {
 }
 
 // The groups of a mesh with these sizes.
-pub fn mesh_groups(s: Sizes) -> [Group; 4]
+pub fn mesh_groups(s: Sizes) -> [Group; GROUPS]
     requires { ⌜ FewThings s ⌝ }
     ensures { λ r. ⌜ Tabled s r (meshBody s) ⌝ }
 {
@@ -38,22 +92,22 @@ pub fn mesh_groups(s: Sizes) -> [Group; 4]
         Group {
             kind: Kind::Ruled(Rule::Soil),
             lines: s.soils,
-            columns: 8,
+            columns: SOIL_COLUMNS,
         },
         Group {
             kind: Kind::Even { lo: 0, hi: 1000 },
             lines: s.nodes,
-            columns: 2,
+            columns: NODE_COLUMNS,
         },
         Group {
             kind: Kind::Ruled(Rule::Element),
             lines: s.elements,
-            columns: 5,
+            columns: ELEMENT_COLUMNS,
         },
         Group {
             kind: Kind::Ruled(Rule::Edge),
             lines: s.edges,
-            columns: 7,
+            columns: EDGE_COLUMNS,
         },
     ]
 }
@@ -82,7 +136,7 @@ pub fn if_there(there: bool, k: usize) -> usize
 }
 
 // The groups of a claim on a mesh with these sizes, with a field and with multipliers or without.
-pub fn claim_groups(s: Sizes, field: bool, multipliers: bool) -> [Group; 4]
+pub fn claim_groups(s: Sizes, field: bool, multipliers: bool) -> [Group; GROUPS]
     requires { ⌜ FewThings s ⌝ }
     ensures { λ r. ⌜ Tabled s r (claimBody s field multipliers) ⌝ }
 {
@@ -93,7 +147,7 @@ pub fn claim_groups(s: Sizes, field: bool, multipliers: bool) -> [Group; 4]
                 hi: 1000000000,
             },
             lines: if_there(field, s.nodes),
-            columns: 3,
+            columns: STRESS_COLUMNS,
         },
         Group {
             kind: Kind::Even {
@@ -101,7 +155,7 @@ pub fn claim_groups(s: Sizes, field: bool, multipliers: bool) -> [Group; 4]
                 hi: 100000,
             },
             lines: if_there(multipliers, s.elements),
-            columns: 2,
+            columns: ELEMENT_ROWS,
         },
         Group {
             kind: Kind::Even {
@@ -109,7 +163,7 @@ pub fn claim_groups(s: Sizes, field: bool, multipliers: bool) -> [Group; 4]
                 hi: 100000,
             },
             lines: if_there(multipliers, s.edges),
-            columns: 4,
+            columns: EDGE_ROWS,
         },
         Group {
             kind: Kind::Even { lo: 0, hi: 10000 },
@@ -117,19 +171,4 @@ pub fn claim_groups(s: Sizes, field: bool, multipliers: bool) -> [Group; 4]
             columns: s.sides,
         },
     ]
-}
-
-// What all lines of some groups take, where a column takes `column` and a line `line` more: the numbers of a file where a column takes 1, its bytes where a column takes 12 and a line 1.
-pub fn total_of(groups: [Group; 4], column: usize, line: usize) -> usize
-    requires { ⌜ Known groups ⌝ ∗ ⌜ column ≤ 12 ⌝ ∗ ⌜ line ≤ 1 ⌝ }
-    ensures { λ r. ⌜ r ≡ totalOf column line groups ⌝ ∗ ⌜ r ≤ 173200 ⌝ }
-{
-    let mut sum: usize = 0;
-    let mut i: usize = 0;
-    while i < 4 {
-        let g = groups[i];
-        sum += g.lines * (g.columns * column + line);
-        i += 1;
-    }
-    sum
 }

@@ -1,7 +1,15 @@
 // The checks of the lines of a mesh and of a claim: refusals 1 to 4, and 11 to 13. They take any numbers, and any count of them.
+use crate::layout::CLAIM_HEADER;
+use crate::layout::CLAIM_LEAST;
+use crate::layout::CLAIM_MOST;
+use crate::layout::COUNTS;
+use crate::layout::GROUPS;
 use crate::layout::Group;
 use crate::layout::Kind;
+use crate::layout::MESH_LEAST;
+use crate::layout::MESH_MOST;
 use crate::layout::Rule;
+use crate::layout::SIDES_MOST;
 use crate::layout::claim_groups;
 use crate::layout::has_part;
 use crate::layout::mesh_groups;
@@ -9,6 +17,7 @@ use crate::line_tests::is_within;
 use crate::line_tests::limits_hold;
 use crate::line_tests::line_at;
 use crate::line_tests::refused;
+use mesh::sizes::MESH_HEADER;
 use mesh::sizes::Sizes;
 use mesh::sizes::header_sizes;
 use scope::Outcome;
@@ -20,22 +29,14 @@ ghost use lib.ListN.{length, take, drop};
 ghost use lib.IntN.{ℤ, pos};
 ghost use Rattle.scope.specs.Checks.{allBelow};
 ghost use Rattle.scope.specs.Columns.{at, between, within, isOneOf, parts, ruleTest};
-ghost use Rattle.scope.specs.Layout.{width, lineCheck, lineAt, linesCheck};
-ghost use Rattle.scope.specs.Mesh.{meshLayout};
-ghost use Rattle.scope.specs.Claim.{claimHeader, claimLayout};
+ghost use Rattle.scope.specs.Layout.{width};
+ghost use Rattle.scope.specs.Verdict.{lineCheck, lineAt, linesCheck};
+ghost use Rattle.scope.specs.Mesh.{mostSides, meshLayout};
+ghost use Rattle.scope.specs.Claim.{claimHeaderColumns, claimHeader, claimLayout};
 ghost use Rattle.mesh.specs.MeshContracts.{FewThings, SizesAre};
 ghost use Rattle.lines.specs.Table.{evenLines, ruledLines, meant, Good, Table};
 ghost use Rattle.lines.specs.SearchContracts.{firstFailing};
-ghost use Rattle.lines.specs.LineContracts.{groupCheck, groupsCheck, numbered, FewLines, FewColumns};
-
-// The limits of a mesh's header before its sides, and of a claim's header.
-const MESH_LEAST: [i64; 4] = [4, 1, 1, 0];
-
-const MESH_MOST: [i64; 4] = [100, 100, 16, 60];
-
-const CLAIM_LEAST: [i64; 4] = [0, 0, 0, -100000000];
-
-const CLAIM_MOST: [i64; 4] = [1, 1, 100000, 100000000];
+ghost use Rattle.lines.specs.LineContracts.{groupCheck, groupsCheck, numbered, mostForm, mostLine, FewLines, FewColumns};
 
 // Each number of a list is from lo to hi.
 fn all_within(s: &[i64], lo: i64, hi: i64) -> bool
@@ -138,7 +139,7 @@ fn rest(s: &[i64], from: usize) -> &[i64]
 
 // The number of sides is one of those that a polygon has.
 fn is_sides(z: i64) -> bool
-    ensures { λ r. ⌜ r ≡ isOneOf (pos 12 ∷ pos 20 ∷ pos 36 ∷ []) z ⌝ }
+    ensures { λ r. ⌜ r ≡ isOneOf (pos 12 ∷ pos 20 ∷ pos mostSides ∷ []) z ⌝ }
 {
     if z == 12 {
         return true;
@@ -146,20 +147,20 @@ fn is_sides(z: i64) -> bool
     if z == 20 {
         return true;
     }
-    z == 36
+    z == SIDES_MOST
 }
 
 // The header of a mesh.
 pub fn mesh_header(m: &[i64]) -> Outcome
     ensures { λ r. ⌜ r ≡ lineAt meshLayout (now (m .entry)) 0 ⌝ }
 {
-    if m.len() < 5 {
+    if m.len() < MESH_HEADER {
         return refused(1, 1);
     }
-    if !limits_hold(&m[0..4], &MESH_LEAST, &MESH_MOST) {
+    if !limits_hold(&m[0..COUNTS], &MESH_LEAST, &MESH_MOST) {
         return refused(2, 1);
     }
-    if !is_sides(m[4]) {
+    if !is_sides(m[COUNTS]) {
         return refused(2, 1);
     }
     Outcome::Passed
@@ -183,12 +184,12 @@ fn parts_fit(field: i64, multipliers: i64, n: i64, l: i64) -> bool
 
 // The header of a claim.
 pub fn claim_header(c: &[i64]) -> Outcome
-    ensures { λ r. ⌜ r ≡ lineCheck (claimLayout []) claimHeader (take 4 (now (c .entry))) (Place.Line 1) ⌝ }
+    ensures { λ r. ⌜ r ≡ lineCheck (claimLayout []) claimHeader (take claimHeaderColumns (now (c .entry))) (Place.Line 1) ⌝ }
 {
-    if c.len() < 4 {
+    if c.len() < CLAIM_HEADER {
         return refused(11, 1);
     }
-    if !limits_hold(&c[0..4], &CLAIM_LEAST, &CLAIM_MOST) {
+    if !limits_hold(&c[0..CLAIM_HEADER], &CLAIM_LEAST, &CLAIM_MOST) {
         return refused(12, 1);
     }
     if !parts_fit(c[0], c[1], c[2], c[3]) {
@@ -199,7 +200,7 @@ pub fn claim_header(c: &[i64]) -> Outcome
 
 // The lines of a group at the front of a list, the first of them in line `line` of the file.
 fn group_check(s: &[i64], g: Group, sizes: Sizes, form: u32, line: usize) -> Outcome
-    requires { ⌜ Good sizes g ⌝ ∗ ⌜ FewThings sizes ⌝ ∗ ⌜ form ≤ 100 ⌝ ∗ ⌜ line ≤ 1000 ⌝ }
+    requires { ⌜ Good sizes g ⌝ ∗ ⌜ FewThings sizes ⌝ ∗ ⌜ form ≤ mostForm ⌝ ∗ ⌜ line ≤ mostLine ⌝ }
     ensures { λ r. ⌜ r ≡ groupCheck (numbered form) (meant sizes g) (now (s .entry)) line ⌝ }
 {
     let kind = g.kind;
@@ -210,14 +211,14 @@ fn group_check(s: &[i64], g: Group, sizes: Sizes, form: u32, line: usize) -> Out
 }
 
 // The lines of a file after its header, which have its refusals from the number `form` on: all groups of the table, one after another, and no number left over.
-fn groups_check(s: &[i64], groups: [Group; 4], sizes: Sizes, form: u32) -> Outcome
-    requires { ⌜ Table sizes groups ⌝ ∗ ⌜ FewThings sizes ⌝ ∗ ⌜ form ≤ 100 ⌝ }
+fn groups_check(s: &[i64], groups: [Group; GROUPS], sizes: Sizes, form: u32) -> Outcome
+    requires { ⌜ Table sizes groups ⌝ ∗ ⌜ FewThings sizes ⌝ ∗ ⌜ form ≤ mostForm ⌝ }
     ensures { λ r. ⌜ r ≡ groupsCheck (numbered form) (map (meant sizes) groups) (now (s .entry)) 2 ⌝ }
 {
     let mut from: usize = 0;
     let mut line: usize = 2;
     let mut i: usize = 0;
-    while i < 4 {
+    while i < GROUPS {
         let g = groups[i];
         let outcome = group_check(rest(s, from), g, sizes, form, line);
         if let Outcome::Refused { .. } = outcome {
@@ -242,7 +243,7 @@ pub fn mesh_lines(m: &[i64]) -> Outcome
         return header;
     }
     let s = header_sizes(m);
-    groups_check(rest(m, 5), mesh_groups(s), s, 1)
+    groups_check(rest(m, MESH_HEADER), mesh_groups(s), s, 1)
 }
 
 // The lines of a claim on a mesh with these sizes: refusals 11 to 13.
@@ -255,5 +256,5 @@ pub fn claim_lines(c: &[i64], s: Sizes) -> Outcome
         return header;
     }
     let groups = claim_groups(s, has_part(c, 0), has_part(c, 1));
-    groups_check(rest(c, 4), groups, s, 11)
+    groups_check(rest(c, CLAIM_HEADER), groups, s, 11)
 }

@@ -1,5 +1,13 @@
 // One line at a time: the limits of its columns, and the lines of a mesh that have rules of their own.
+use crate::layout::EDGE_ENDS;
+use crate::layout::EDGE_LEAST;
+use crate::layout::EDGE_MOST;
 use crate::layout::Rule;
+use crate::layout::SOIL_LEAST;
+use crate::layout::SOIL_MOST;
+use mesh::sizes::EDGE_COLUMNS;
+use mesh::sizes::ELEMENT_COLUMNS;
+use mesh::sizes::SOIL_COLUMNS;
 use mesh::sizes::Sizes;
 use scope::Outcome;
 use scope::Place;
@@ -10,20 +18,12 @@ ghost use lib.IntN.{_+ℤ_, _*ℤ_};
 ghost use Rattle.integer.specs.Bounds.{Within};
 ghost use Rattle.integer.specs.Tests.{eqZ};
 ghost use Rattle.scope.specs.Columns.{between, within, allWithin};
-ghost use Rattle.scope.specs.Layout.{width, lineCheck};
-ghost use Rattle.scope.specs.Mesh.{soilLines, elementLines, edgeLines};
+ghost use Rattle.scope.specs.Layout.{width};
+ghost use Rattle.scope.specs.Verdict.{lineCheck};
+ghost use Rattle.scope.specs.Mesh.{soilColumns, elementColumns, edgeColumns, soilLines, elementLines, edgeLines};
 ghost use Rattle.mesh.specs.MeshContracts.{FewThings};
 ghost use Rattle.lines.specs.Table.{ruledLines};
-ghost use Rattle.lines.specs.LineContracts.{ranges, AsMany, numbered, lineStep, FewLines};
-
-// The limits of a soil's columns, and of an edge's after its two nodes.
-const SOIL_LEAST: [i64; 8] = [0, 1, 1, 0, -1000, -1000, -1000, -1000];
-
-const SOIL_MOST: [i64; 8] = [1000, 1000, 1000, 10000, 1000, 1000, 1000, 1000];
-
-const EDGE_LEAST: [i64; 5] = [1, -10000, -10000, -10000, -10000];
-
-const EDGE_MOST: [i64; 5] = [3, 10000, 10000, 10000, 10000];
+ghost use Rattle.lines.specs.LineContracts.{ranges, AsMany, numbered, lineStep, mostForm, FewLines};
 
 // z is from lo to hi.
 pub fn is_within(z: i64, lo: i64, hi: i64) -> bool
@@ -70,14 +70,14 @@ fn right_angle(p: i64, q: i64, h: i64) -> bool
 }
 
 // The soil that stands at the front of a list.
-fn soil_line(s: &[i64], form: u32, line: usize) -> Outcome
-    requires { ⌜ line < 2 ^ 32 ⌝ ∗ ⌜ form ≤ 100 ⌝ }
-    ensures { λ r. ⌜ r ≡ lineCheck (numbered form) (soilLines 0) (take 8 (now (s .entry))) (Place.Line line) ⌝ }
+fn check_soil(s: &[i64], form: u32, line: usize) -> Outcome
+    requires { ⌜ line < 2 ^ 32 ⌝ ∗ ⌜ form ≤ mostForm ⌝ }
+    ensures { λ r. ⌜ r ≡ lineCheck (numbered form) (soilLines 0) (take soilColumns (now (s .entry))) (Place.Line line) ⌝ }
 {
-    if s.len() < 8 {
+    if s.len() < SOIL_COLUMNS {
         return refused(form, line);
     }
-    if !limits_hold(&s[0..8], &SOIL_LEAST, &SOIL_MOST) {
+    if !limits_hold(&s[0..SOIL_COLUMNS], &SOIL_LEAST, &SOIL_MOST) {
         return refused(form + 1, line);
     }
     if !right_angle(s[0], s[1], s[2]) {
@@ -87,34 +87,35 @@ fn soil_line(s: &[i64], form: u32, line: usize) -> Outcome
 }
 
 // The element that stands at the front of a list.
-fn element_line(s: &[i64], nodes: usize, soils: usize, form: u32, line: usize) -> Outcome
-    requires { ⌜ nodes ≤ 100 ⌝ ∗ ⌜ soils ≤ 100 ⌝ ∗ ⌜ line < 2 ^ 32 ⌝ }
-    ensures { λ r. ⌜ r ≡ lineCheck (numbered form) (elementLines 0 nodes soils) (take 5 (now (s .entry))) (Place.Line line) ⌝ }
+fn check_element(s: &[i64], sizes: Sizes, form: u32, line: usize) -> Outcome
+    requires { ⌜ FewThings sizes ⌝ ∗ ⌜ line < 2 ^ 32 ⌝ }
+    ensures { λ r. ⌜ r ≡ lineCheck (numbered form) (elementLines 0 (sizes .nodes) (sizes .soils)) (take elementColumns (now (s .entry))) (Place.Line line) ⌝ }
 {
-    if s.len() < 5 {
+    if s.len() < ELEMENT_COLUMNS {
         return refused(form, line);
     }
-    let n = nodes as i64;
-    let most = [n, n, n, n, soils as i64];
-    if !limits_hold(&s[0..5], &[1; 5], &most) {
+    let n = sizes.nodes as i64;
+    let soils = sizes.soils as i64;
+    let most = [n, n, n, n, soils];
+    if !limits_hold(&s[0..ELEMENT_COLUMNS], &[1; ELEMENT_COLUMNS], &most) {
         return refused(4, line);
     }
     Outcome::Passed
 }
 
 // The edge that stands at the front of a list.
-fn edge_line(s: &[i64], nodes: usize, form: u32, line: usize) -> Outcome
-    requires { ⌜ nodes ≤ 100 ⌝ ∗ ⌜ line < 2 ^ 32 ⌝ ∗ ⌜ form ≤ 100 ⌝ }
-    ensures { λ r. ⌜ r ≡ lineCheck (numbered form) (edgeLines 0 nodes) (take 7 (now (s .entry))) (Place.Line line) ⌝ }
+fn check_edge(s: &[i64], sizes: Sizes, form: u32, line: usize) -> Outcome
+    requires { ⌜ FewThings sizes ⌝ ∗ ⌜ line < 2 ^ 32 ⌝ ∗ ⌜ form ≤ mostForm ⌝ }
+    ensures { λ r. ⌜ r ≡ lineCheck (numbered form) (edgeLines 0 (sizes .nodes)) (take edgeColumns (now (s .entry))) (Place.Line line) ⌝ }
 {
-    if s.len() < 7 {
+    if s.len() < EDGE_COLUMNS {
         return refused(form, line);
     }
-    if !limits_hold(&s[2..7], &EDGE_LEAST, &EDGE_MOST) {
+    if !limits_hold(&s[EDGE_ENDS..EDGE_COLUMNS], &EDGE_LEAST, &EDGE_MOST) {
         return refused(form + 1, line);
     }
-    let n = nodes as i64;
-    if !limits_hold(&s[0..2], &[1; 2], &[n; 2]) {
+    let n = sizes.nodes as i64;
+    if !limits_hold(&s[0..EDGE_ENDS], &[1; EDGE_ENDS], &[n; EDGE_ENDS]) {
         return refused(4, line);
     }
     Outcome::Passed
@@ -122,13 +123,13 @@ fn edge_line(s: &[i64], nodes: usize, form: u32, line: usize) -> Outcome
 
 // The line that stands at the front of a list.
 fn line_check(rule: Rule, s: &[i64], sizes: Sizes, form: u32, line: usize) -> Outcome
-    requires { ⌜ FewThings sizes ⌝ ∗ ⌜ line < 2 ^ 32 ⌝ ∗ ⌜ form ≤ 100 ⌝ }
+    requires { ⌜ FewThings sizes ⌝ ∗ ⌜ line < 2 ^ 32 ⌝ ∗ ⌜ form ≤ mostForm ⌝ }
     ensures { λ r. ⌜ r ≡ lineCheck (numbered form) (ruledLines rule sizes 0) (take (width (ruledLines rule sizes 0)) (now (s .entry))) (Place.Line line) ⌝ }
 {
     match rule {
-        Rule::Soil => soil_line(s, form, line),
-        Rule::Element => element_line(s, sizes.nodes, sizes.soils, form, line),
-        Rule::Edge => edge_line(s, sizes.nodes, form, line),
+        Rule::Soil => check_soil(s, form, line),
+        Rule::Element => check_element(s, sizes, form, line),
+        Rule::Edge => check_edge(s, sizes, form, line),
     }
 }
 

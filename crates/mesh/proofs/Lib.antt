@@ -1,2 +1,2 @@
--- laws
+-- Where each number of a mesh stands, and its bounds.
 pub mod Places

@@ -7,16 +7,16 @@ use native.Mathlib.Omega.{arith}
 use lib.IntN.{ℤ, pos, negsuc, natAbs, negℤ, _-ℤ_}
 use lib.ListN.{length}
 use lib.Signed.{_≤ℤ_}
-use Rattle.integer.specs.Bounds.{Within, bounds}
-use Rattle.integer.specs.Linear.{linear, facts, _&_, nothing}
-use Rattle.integer.specs.Machine.{Is}
-use Rattle.integer.specs.Order.{≤ℤ-pos}
+use Rattle.integer.specs.Bounds.{Within, Is}
+use Rattle.integer.proofs.BoundLaws.{bounds}
+use Rattle.integer.proofs.Linear.{linear, facts, _&_, nothing}
+use Rattle.integer.proofs.Order.{≤ℤ-pos}
 use Rattle.mesh.specs.declared.sizes.Sizes.{Sizes}
 use Rattle.scope.specs.Columns.{at}
 use Rattle.scope.specs.Layout.{groups, numbersBefore, count, entry}
-use Rattle.scope.specs.Mesh.{meshHeader, soilLines, nodeLines, elementLines, edgeLines, meshLayout, meshGroups, nodes, elements, soils, edges, sides, p, q, h, cohesion, soilEntry, x, y, corner, elementSoil, edgeEntry, fromNode, toNode}
-use Rattle.scope.specs.Facts.{Between, MeshFacts, SoilFacts, EdgeFacts}
-use Rattle.mesh.specs.MeshContracts.{Sized, SizesAre, HeaderThere, FewThings, nodesFrom, elementsFrom, edgesFrom}
+use Rattle.scope.specs.Mesh.{mostSides, meshHeaderColumns, soilColumns, nodeColumns, elementColumns, edgeColumns, meshHeader, soilLines, nodeLines, elementLines, edgeLines, meshLayout, meshGroups, nodes, elements, soils, edges, sides, p, q, h, cohesion, soilEntry, x, y, corner, elementSoil, edgeEntry, fromNode, toNode}
+use Rattle.scope.specs.NumberRanges.{Between, MeshFacts, SoilFacts, EdgeFacts}
+use Rattle.mesh.specs.MeshContracts.{Sized, SizesAre, HeaderThere, FewThings, NodeAt, nodesFrom, elementsFrom, edgesFrom}
 
 -- ---- counts
 
@@ -60,7 +60,7 @@ module _ {m : List ℤ} (f : HeaderThere m) where
   unfolding sides
   sides-there = (omega (arith, f .there), counted (at m 4) (listed (f .counts .sidesListed)))
     where
-      listed : (sides m ≡ 12) ⊎ ((sides m ≡ 20) ⊎ (sides m ≡ 36)) → 0 < count (at m 4)
+      listed : (sides m ≡ 12) ⊎ ((sides m ≡ 20) ⊎ (sides m ≡ mostSides)) → 0 < count (at m 4)
       listed (inl e) = omega arith
       listed (inr (inl e)) = omega arith
       listed (inr (inr e)) = omega arith
@@ -80,8 +80,8 @@ sized f k = record { facts = f; nodesAre = k .nodesAre; elementsAre = k .element
 pub as-sizes : {m : List ℤ} {s : Sizes} → Sized m s → SizesAre m s
 as-sizes k = record { counts = k .facts .counts; nodesAre = k .nodesAre; elementsAre = k .elementsAre; soilsAre = k .soilsAre; edgesAre = k .edgesAre; sidesAre = k .sidesAre }
 
--- a polygon has at least one side, and at most 36
-some-sides : {n : ℕ} → (n ≡ 12) ⊎ ((n ≡ 20) ⊎ (n ≡ 36)) → (0 < n) × (n ≤ 36)
+-- a polygon has at least one side, and no more than the most
+some-sides : {n : ℕ} → (n ≡ 12) ⊎ ((n ≡ 20) ⊎ (n ≡ mostSides)) → (0 < n) × (n ≤ mostSides)
 some-sides (inl e) = (omega arith, omega arith)
 some-sides (inr (inl e)) = (omega arith, omega arith)
 some-sides (inr (inr e)) = (omega arith, omega arith)
@@ -110,7 +110,7 @@ bounded {lo} {hi} {z} B l u b =
     let j : z ≤ℤ hi = b .most in
     linear (l & u & k & j) (search bounds depth 40) (omega arith)
 
-soil-bound : {m : List ℤ} {k : ℕ} → SoilFacts m k → (c : ℕ) → c < 8 → Within 10000 (soilEntry m k c)
+soil-bound : {m : List ℤ} {k : ℕ} → SoilFacts m k → (c : ℕ) → c < soilColumns → Within 10000 (soilEntry m k c)
 unfolding p q h cohesion
 soil-bound f zero l = bounded 10000 (record { le = tt }) (record { le = tt }) (f .pRange)
 soil-bound f (suc zero) l = bounded 10000 (record { le = tt }) (record { le = tt }) (f .qRange)
@@ -120,7 +120,7 @@ soil-bound {m} {k} f (suc (suc (suc (suc c)))) l =
     let e : 4 + c ≡ suc (suc (suc (suc c))) = omega arith in
     subst (λ (i : ℕ). Within 10000 (soilEntry m k i)) e (bounded 10000 (record { le = tt }) (record { le = tt }) (f .forceRange c (omega arith)))
 
-edge-bound : {m : List ℤ} {g : ℕ} → EdgeFacts m g → (c : ℕ) → 2 ≤ c → c < 7 → Within 10000 (edgeEntry m g c)
+edge-bound : {m : List ℤ} {g : ℕ} → EdgeFacts m g → (c : ℕ) → 2 ≤ c → c < edgeColumns → Within 10000 (edgeEntry m g c)
 edge-bound f zero k l = absurd (omega arith)
 edge-bound f (suc zero) k l = absurd (omega arith)
 edge-bound f (suc (suc zero)) k l = bounded 10000 (record { le = tt }) (record { le = tt }) (f .fixedRange)
@@ -131,60 +131,62 @@ edge-bound {m} {g} f (suc (suc (suc c))) k l =
 -- ---- where a group's numbers stand
 
 module _ {m : List ℤ} {s : Sizes} (k : Sized m s) where
-  soil-at : (i c : ℕ) → entry (meshGroups m) m 1 i c ≡ at m (5 + i * 8 + c)
+  soil-at : (i c : ℕ) → entry (meshGroups m) m 1 i c ≡ at m (meshHeaderColumns + i * soilColumns + c)
   unfolding entry numbersBefore meshGroups groups meshLayout meshHeader soilLines nodeLines elementLines edgeLines
   soil-at i c = ap (at m) (omega arith)
 
-  node-at : {from : ℕ} → from ≡ nodesFrom s → (i c : ℕ) → entry (meshGroups m) m 2 i c ≡ at m (from + i * 2 + c)
+  node-at : {from : ℕ} → from ≡ nodesFrom s → (i c : ℕ) → entry (meshGroups m) m 2 i c ≡ at m (from + i * nodeColumns + c)
   unfolding entry numbersBefore meshGroups groups meshLayout meshHeader soilLines nodeLines elementLines edgeLines
   node-at b i c = ap (at m) (omega (arith, k .soilsAre))
 
-  element-at : {from : ℕ} → from ≡ elementsFrom s → (i c : ℕ) → entry (meshGroups m) m 3 i c ≡ at m (from + i * 5 + c)
+  element-at : {from : ℕ} → from ≡ elementsFrom s → (i c : ℕ) → entry (meshGroups m) m 3 i c ≡ at m (from + i * elementColumns + c)
   unfolding entry numbersBefore meshGroups groups meshLayout meshHeader soilLines nodeLines elementLines edgeLines
   element-at b i c = ap (at m) (omega (arith, k .soilsAre, k .nodesAre))
 
-  edge-at : {from : ℕ} → from ≡ edgesFrom s → (i c : ℕ) → entry (meshGroups m) m 4 i c ≡ at m (from + i * 7 + c)
+  edge-at : {from : ℕ} → from ≡ edgesFrom s → (i c : ℕ) → entry (meshGroups m) m 4 i c ≡ at m (from + i * edgeColumns + c)
   unfolding entry numbersBefore meshGroups groups meshLayout meshHeader soilLines nodeLines elementLines edgeLines
   edge-at b i c = ap (at m) (omega (arith, k .soilsAre, k .nodesAre, k .elementsAre))
 
   -- ---- what is read there
 
-  pub soil-read : {r : ℤ} {i c : ℕ} → i < soils m → c < 8 → r ≡ at m (5 + i * 8 + c) → Is r (soilEntry m i c) 10000
+  pub soil-read : {r : ℤ} {i c : ℕ} → i < soils m → c < soilColumns → r ≡ at m (meshHeaderColumns + i * soilColumns + c) → Is r (soilEntry m i c) 10000
   unfolding soilEntry
   soil-read {i = i} {c = c} l j e = record { same = e ∙ sym (soil-at i c); inside = soil-bound (k .facts .soil i l) c j }
 
-  pub x-read : {r : ℤ} {v from : ℕ} → v < nodes m → from ≡ nodesFrom s → r ≡ at m (from + v * 2 + 0) → Is r (x m v) 1000
+  pub x-read : {r : ℤ} {v from : ℕ} → v < nodes m → from ≡ nodesFrom s → r ≡ at m (from + v * nodeColumns + 0) → Is r (x m v) 1000
   unfolding x
   x-read {v = v} l b e = record { same = e ∙ sym (node-at b v 0); inside = bounded 1000 (record { le = tt }) (record { le = tt }) (k .facts .node v l .xRange) }
 
-  pub y-read : {r : ℤ} {v from : ℕ} → v < nodes m → from ≡ nodesFrom s → r ≡ at m (from + v * 2 + 1) → Is r (y m v) 1000
+  pub y-read : {r : ℤ} {v from : ℕ} → v < nodes m → from ≡ nodesFrom s → r ≡ at m (from + v * nodeColumns + 1) → Is r (y m v) 1000
   unfolding y
   y-read {v = v} l b e = record { same = e ∙ sym (node-at b v 1); inside = bounded 1000 (record { le = tt }) (record { le = tt }) (k .facts .node v l .yRange) }
 
-  pub edge-read : {r : ℤ} {g c from : ℕ} → g < edges m → 2 ≤ c → c < 7 → from ≡ edgesFrom s → r ≡ at m (from + g * 7 + c) → Is r (edgeEntry m g c) 10000
+  pub edge-read : {r : ℤ} {g c from : ℕ} → g < edges m → 2 ≤ c → c < edgeColumns → from ≡ edgesFrom s → r ≡ at m (from + g * edgeColumns + c) → Is r (edgeEntry m g c) 10000
   unfolding edgeEntry
   edge-read {g = g} {c = c} l i j b e = record { same = e ∙ sym (edge-at b g c); inside = edge-bound (k .facts .edge g l) c i j }
 
-  pub element-there : {e c from : ℕ} → e < elements m → c < 5 → from ≡ elementsFrom s → There 1 m (from + e * 5 + c)
+  pub element-there : {e c from : ℕ} → e < elements m → c < elementColumns → from ≡ elementsFrom s → There 1 m (from + e * elementColumns + c)
   element-there {e} {c} l i b = (omega (arith, k), subst (λ (z : ℤ). pos 1 ≤ℤ z) (element-at b e c) (k .facts .element e l .fromOne c i))
 
-  pub edge-there : {g c from : ℕ} → g < edges m → c < 2 → from ≡ edgesFrom s → There 1 m (from + g * 7 + c)
+  pub edge-there : {g c from : ℕ} → g < edges m → c < 2 → from ≡ edgesFrom s → There 1 m (from + g * edgeColumns + c)
   unfolding edgeEntry
   edge-there {g} {c} l i b = (omega (arith, k), subst (λ (z : ℤ). pos 1 ≤ℤ z) (edge-at b g c) (k .facts .edge g l .fromOne c i))
 
-  pub corner-read : {r from : ℕ} (e i : ℕ) → from ≡ elementsFrom s → r ≡ count (at m (from + e * 5 + i)) - 1 → r ≡ corner m e i
+  pub corner-read : {r from : ℕ} {e i : ℕ} → e < elements m → i < 4 → from ≡ elementsFrom s → r ≡ count (at m (from + e * elementColumns + i)) - 1 → NodeAt r m (corner m e i)
   unfolding corner
-  corner-read e i b d = rw (element-at b e i) d
+  corner-read {r} {e = e} {i = i} l j b d =
+      let same : r ≡ corner m e i = rw (element-at b e i) d in
+      record { same = same; there = omega (arith, same, k .facts .element e l .cornerThere i j); few = k .facts .counts .nodesMost }
 
-  pub element-soil-read : {r from : ℕ} (e : ℕ) → from ≡ elementsFrom s → r ≡ count (at m (from + e * 5 + 4)) - 1 → r ≡ elementSoil m e
+  pub element-soil-read : {r from : ℕ} (e : ℕ) → from ≡ elementsFrom s → r ≡ count (at m (from + e * elementColumns + 4)) - 1 → r ≡ elementSoil m e
   unfolding elementSoil
   element-soil-read e b d = rw (element-at b e 4) d
 
-  pub from-read : {r from : ℕ} (g : ℕ) → from ≡ edgesFrom s → r ≡ count (at m (from + g * 7 + 0)) - 1 → r ≡ fromNode m g
+  pub from-read : {r from : ℕ} (g : ℕ) → from ≡ edgesFrom s → r ≡ count (at m (from + g * edgeColumns + 0)) - 1 → r ≡ fromNode m g
   unfolding fromNode edgeEntry
   from-read g b d = rw (edge-at b g 0) d
 
-  pub to-read : {r from : ℕ} (g : ℕ) → from ≡ edgesFrom s → r ≡ count (at m (from + g * 7 + 1)) - 1 → r ≡ toNode m g
+  pub to-read : {r from : ℕ} (g : ℕ) → from ≡ edgesFrom s → r ≡ count (at m (from + g * edgeColumns + 1)) - 1 → r ≡ toNode m g
   unfolding toNode edgeEntry
   to-read g b d = rw (edge-at b g 1) d
 

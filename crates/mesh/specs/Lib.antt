@@ -1,2 +1,2 @@
--- contracts
+-- What the contracts of the numbers of a mesh say.
 pub mod MeshContracts

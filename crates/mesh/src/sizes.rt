@@ -1,16 +1,44 @@
 // The counts of a mesh whose lines have passed, where its groups begin, and its numbers by what they are.
+// The limits of its header and the columns of its lines have their names here; whatever follows from them is an expression over these names.
 ghost use mathlib.Core.Path.{_≡_};
 ghost use mathlib.Core.List.{List};
 ghost use Prim.Native.Nat.{_+_, _*_, _-_, _<_, _≤_};
 ghost use lib.IntN.{ℤ, pos, _-ℤ_};
 ghost use lib.Signed.{_≤ℤ_};
 ghost use lib.ListN.{length};
-ghost use Rattle.integer.specs.Machine.{Is};
+ghost use Rattle.integer.specs.Bounds.{Is};
 ghost use Rattle.scope.specs.Columns.{at};
 ghost use Rattle.scope.specs.Layout.{count};
-ghost use Rattle.scope.specs.Mesh.{nodes, elements, soils, edges, x, y, corner, elementSoil, soilEntry, edgeEntry, fromNode, toNode, equalityCount};
-ghost use Rattle.scope.specs.Facts.{MeshFacts};
-ghost use Rattle.mesh.specs.MeshContracts.{Sized, SizesAre, HeaderThere, FewThings, nodesFrom, elementsFrom, edgesFrom};
+ghost use Rattle.scope.specs.Mesh.{soilColumns, edgeColumns, mostEqualityRows, nodes, elements, soils, edges, x, y, corner, elementSoil, soilEntry, edgeEntry, fromNode, toNode, equalityCount};
+ghost use Rattle.scope.specs.NumberRanges.{MeshFacts};
+ghost use Rattle.mesh.specs.MeshContracts.{Sized, SizesAre, HeaderThere, FewThings, NodeAt, nodesFrom, elementsFrom, edgesFrom};
+
+// The most that a header may count.
+pub const MOST_NODES: usize = 100;
+
+pub const MOST_ELEMENTS: usize = 100;
+
+pub const MOST_SOILS: usize = 16;
+
+pub const MOST_EDGES: usize = 60;
+
+pub const MOST_SIDES: usize = 36;
+
+// The columns of each line: of the header, of a soil, of a node, of an element, of an edge.
+pub const MESH_HEADER: usize = 5;
+
+pub const SOIL_COLUMNS: usize = 8;
+
+pub const NODE_COLUMNS: usize = 2;
+
+pub const ELEMENT_COLUMNS: usize = 5;
+
+pub const EDGE_COLUMNS: usize = 7;
+
+// The equality rows of an element, and of an edge.
+pub const ELEMENT_ROWS: usize = 2;
+
+pub const EDGE_ROWS: usize = 4;
 
 // The counts of the header.
 pub struct Sizes {
@@ -67,9 +95,9 @@ pub fn sizes_of(m: &[i64]) -> Sizes
 // How many equality rows a mesh has: two for each element, then four for each edge.
 pub fn equality_count(s: Sizes) -> usize
     requires { ⌜ FewThings s ⌝ }
-    ensures { λ r. ⌜ ((m : List ℤ) → Sized m s → r ≡ equalityCount m) × (r ≤ 440) ⌝ }
+    ensures { λ r. ⌜ ((m : List ℤ) → Sized m s → r ≡ equalityCount m) × (r ≤ mostEqualityRows) ⌝ }
 {
-    s.elements * 2 + s.edges * 4
+    s.elements * ELEMENT_ROWS + s.edges * EDGE_ROWS
 }
 
 // The place of the first number of the nodes, of the elements and of the edges. For speed it is worked out where it is asked, so that fewer numbers are handed around.
@@ -77,21 +105,21 @@ fn nodes_from(s: Sizes) -> usize
     requires { ⌜ FewThings s ⌝ }
     ensures { λ r. ⌜ r ≡ nodesFrom s ⌝ }
 {
-    5 + s.soils * 8
+    MESH_HEADER + s.soils * SOIL_COLUMNS
 }
 
 fn elements_from(s: Sizes) -> usize
     requires { ⌜ FewThings s ⌝ }
     ensures { λ r. ⌜ r ≡ elementsFrom s ⌝ }
 {
-    5 + s.soils * 8 + s.nodes * 2
+    nodes_from(s) + s.nodes * NODE_COLUMNS
 }
 
 fn edges_from(s: Sizes) -> usize
     requires { ⌜ FewThings s ⌝ }
     ensures { λ r. ⌜ r ≡ edgesFrom s ⌝ }
 {
-    5 + s.soils * 8 + s.nodes * 2 + s.elements * 5
+    elements_from(s) + s.elements * ELEMENT_COLUMNS
 }
 
 // Column c of line i of a group with this width, whose first number has the place `from`.
@@ -115,14 +143,14 @@ fn node_x(m: &[i64], s: Sizes, v: usize) -> i64
     requires { ⌜ Sized (now m) s × (v < nodes (now m)) ⌝ }
     ensures { λ r. ⌜ Is r (x (now (m .entry)) v) 1000 ⌝ }
 {
-    number_in(m, nodes_from(s), v, 2, 0)
+    number_in(m, nodes_from(s), v, NODE_COLUMNS, 0)
 }
 
 fn node_y(m: &[i64], s: Sizes, v: usize) -> i64
     requires { ⌜ Sized (now m) s × (v < nodes (now m)) ⌝ }
     ensures { λ r. ⌜ Is r (y (now (m .entry)) v) 1000 ⌝ }
 {
-    number_in(m, nodes_from(s), v, 2, 1)
+    number_in(m, nodes_from(s), v, NODE_COLUMNS, 1)
 }
 
 // The difference of two nodes' coordinates: x of a minus x of b, and y of a minus y of b.
@@ -140,35 +168,35 @@ pub fn rise_between(m: &[i64], s: Sizes, a: usize, b: usize) -> i64
     node_y(m, s, a) - node_y(m, s, b)
 }
 
-// The node at corner i of element e, and the element's soil.
+// The node at corner i of element e, which is there, and the element's soil.
 pub fn corner_of(m: &[i64], s: Sizes, e: usize, i: usize) -> usize
     requires { ⌜ Sized (now m) s × (e < elements (now m)) × (i < 4) ⌝ }
-    ensures { λ r. ⌜ r ≡ corner (now (m .entry)) e i ⌝ }
+    ensures { λ r. ⌜ NodeAt r (now (m .entry)) (corner (now (m .entry)) e i) ⌝ }
 {
-    thing_in(m, elements_from(s), e, 5, i)
+    thing_in(m, elements_from(s), e, ELEMENT_COLUMNS, i)
 }
 
 pub fn element_soil(m: &[i64], s: Sizes, e: usize) -> usize
     requires { ⌜ Sized (now m) s × (e < elements (now m)) ⌝ }
     ensures { λ r. ⌜ r ≡ elementSoil (now (m .entry)) e ⌝ }
 {
-    thing_in(m, elements_from(s), e, 5, 4)
+    thing_in(m, elements_from(s), e, ELEMENT_COLUMNS, 4)
 }
 
 // Column c of a soil: p, q, h, cohesion, dead force x and y, live force x and y.
 pub fn soil_entry(m: &[i64], s: Sizes, soil: usize, c: usize) -> i64
-    requires { ⌜ Sized (now m) s × (soil < soils (now m)) × (c < 8) ⌝ }
+    requires { ⌜ Sized (now m) s × (soil < soils (now m)) × (c < soilColumns) ⌝ }
     ensures { λ r. ⌜ Is r (soilEntry (now (m .entry)) soil c) 10000 ⌝ }
 {
-    number_in(m, 5, soil, 8, c)
+    number_in(m, MESH_HEADER, soil, SOIL_COLUMNS, c)
 }
 
 // Column c of edge g, from what is fixed on: what is fixed, dead normal, dead shear, live normal, live shear.
 pub fn edge_entry(m: &[i64], s: Sizes, g: usize, c: usize) -> i64
-    requires { ⌜ Sized (now m) s × (g < edges (now m)) × (2 ≤ c) × (c < 7) ⌝ }
+    requires { ⌜ Sized (now m) s × (g < edges (now m)) × (2 ≤ c) × (c < edgeColumns) ⌝ }
     ensures { λ r. ⌜ Is r (edgeEntry (now (m .entry)) g c) 10000 ⌝ }
 {
-    number_in(m, edges_from(s), g, 7, c)
+    number_in(m, edges_from(s), g, EDGE_COLUMNS, c)
 }
 
 // The nodes of edge g.
@@ -176,12 +204,12 @@ pub fn edge_from(m: &[i64], s: Sizes, g: usize) -> usize
     requires { ⌜ Sized (now m) s × (g < edges (now m)) ⌝ }
     ensures { λ r. ⌜ r ≡ fromNode (now (m .entry)) g ⌝ }
 {
-    thing_in(m, edges_from(s), g, 7, 0)
+    thing_in(m, edges_from(s), g, EDGE_COLUMNS, 0)
 }
 
 pub fn edge_to(m: &[i64], s: Sizes, g: usize) -> usize
     requires { ⌜ Sized (now m) s × (g < edges (now m)) ⌝ }
     ensures { λ r. ⌜ r ≡ toNode (now (m .entry)) g ⌝ }
 {
-    thing_in(m, edges_from(s), g, 7, 1)
+    thing_in(m, edges_from(s), g, EDGE_COLUMNS, 1)
 }

@@ -1,4 +1,5 @@
--- laws
+-- The answer by the case of the verdict; then the promises, and each applied to document 01's sheet.
 pub mod AnswerLaws
+pub mod NumbersListed
 pub mod Promises
 pub mod PromisesApplied

@@ -2,14 +2,16 @@
 use mathlib.Core.Path.{_≡_, refl, sym, _∙_, ap, subst, subst₂}
 use mathlib.Core.Logic.{_↔_, _⊎_, inl, inr, _≢_}
 use mathlib.Core.Bool.{Bool, true, false, cond}
-use mathlib.Core.List.{List}
+use mathlib.Core.List.{List, List·Memᴰ·head}
 use Prim.Native.Nat.{ℕ, suc, _*_, _≤_}
 use native.Mathlib.Omega.{arith}
 use lib.Dec.{T}
 use lib.IntN.{ℤ, pos}
 use borrow.Table.Steps.{cases}
-use Rattle.integer.specs.Fraction.{_over_, _≈ᶠ_, _≤ᶠ_, Positive, ≤ᶠ-trans, ≈ᶠ→≤ᶠ, ≈ᶠ-sym, ≈ᶠ-trans}
-use Rattle.integer.specs.Tests.{eqZ, eqZ-yes, eqZ-no}
+use Rattle.integer.specs.Fraction.{_over_, _≈ᶠ_, _≤ᶠ_, Positive}
+use Rattle.integer.proofs.FractionLaws.{≤ᶠ-trans, ≈ᶠ→≤ᶠ, ≈ᶠ-sym, ≈ᶠ-trans}
+use Rattle.integer.specs.Tests.{eqZ}
+use Rattle.integer.proofs.TestLaws.{eqZ-yes, eqZ-no}
 use Rattle.scope.specs.declared.Place.{Place}
 use Rattle.scope.specs.declared.Load.{Load}
 use Rattle.scope.specs.declared.Load.the-variants.{Absent, Exact}
@@ -19,13 +21,13 @@ use Rattle.scope.specs.declared.Verdict.the-variants.{Accepted, Refused}
 use Rattle.scope.specs.Answer.{placeNumber, placeFor, numberOf, placeOf}
 use Rattle.scope.specs.Columns.{at, hasField, hasMultipliers, n, l}
 use Rattle.scope.specs.Mesh.{nodes}
-use Rattle.scope.specs.Rows.{nodeSoil, equalityRows, strengthRows, rowsOf}
+use Rattle.scope.specs.Rows.{nodeSoil, rowsOf}
 use Rattle.scope.specs.Sums.{liveSum, limitSum, openRows}
-use Rattle.scope.specs.Claim.{claimLayout, stress, multiplier}
-use Rattle.scope.specs.Verdict.{verdict, rowAt, lowerLoad, upperLoad, openCount}
+use Rattle.scope.specs.Claim.{stress, multiplier}
+use Rattle.scope.specs.Verdict.{verdict, lowerLoad, upperLoad, openCount}
 use Rattle.scope.specs.Meets.{FieldMeets}
-use Rattle.scope.specs.Sound.{MeshSound}
-use Rattle.scope.specs.Refusals.{HasField, HasMultipliers, Refusal}
+use Rattle.scope.specs.Statements.{MeshSound, HasField, HasMultipliers}
+use Rattle.scope.specs.Refusals.{Refusal}
 use Rattle.scope.specs.Accepted.{FieldAccepted, MultipliersAccepted}
 use Rattle.scope.specs.Bracket.{Bracket}
 use Rattle.scope.specs.Parts.{carried, allowed, SameRows, PartsBracket}
@@ -43,9 +45,10 @@ use Rattle.scope.proofs.AcceptedFractions.{mesh-fractions}
 use Rattle.scope.proofs.SameRows.{same-met}
 use Rattle.scope.proofs.AcceptedMultipliers.{sums-printed, multipliers-as-printed}
 use Rattle.verdict.specs.declared.MeshAnswer.{MeshAnswer}
+use Rattle.numbers.proofs.NumbersListed.{refusal-listed}
 use Rattle.numbers.specs.declared.numbers_answer.NumbersAnswer.{NumbersAnswer}
 use Rattle.numbers.specs.NumbersAnswer.{there, numerator, denominator, counted, answerOf}
-use Rattle.numbers.specs.Promises.{Answers, Returned, ReturnsZero, RefusesExactly, RowsRefused, TellsField, FieldExactly, MultipliersExactly, FieldReported, MultipliersReported, CriterionAtEachNode, CallsBracket, TwoAnswers, AnswerAndMultipliers, OpenRowsReported, FractionsBracket, FractionsAndAnswer, FieldInFractions, MeshAnsweredExactly}
+use Rattle.numbers.specs.Promises.{Answers, Returned, ReturnsZero, RefusesExactly, NumbersListed, RowsRefused, TellsField, FieldExactly, MultipliersExactly, FieldReported, MultipliersReported, CriterionAtEachNode, CallsBracket, TwoAnswers, AnswerAndMultipliers, OpenRowsReported, FractionsBracket, FractionsAndAnswer, FieldInFractions, MeshAnsweredExactly}
 
 -- every answer returns the verdict's number and place
 pub returned : {m c : List ℤ} {r : NumbersAnswer} → Answers m c r → Returned m c (r .number) (r .place)
@@ -96,6 +99,18 @@ module _ (m c : List ℤ) (number place : ℕ) (h : Returned m c number place) w
 
       from : {k j : ℕ} → verdict m c ≡ Refused k (placeFor k j) → (number ≡ k) × (place ≡ j)
       from {k} {j} e = (is-refused e .0, is-refused e .1 ∙ place-number k j)
+
+  pub numbers-listed : NumbersListed number place
+  numbers-listed = by (verdict-cases m c)
+    where
+      by : VerdictCases m c → NumbersListed number place
+      by (inl (k, p, e)) =
+          let (there, line-one, column-zero) = refusal-listed (refused-exactly m c k p .0 e) in
+          let (same, at) = is-refused e in
+          record { listed = rw same there; line-one = λ z. at ∙ line-one (sym same ∙ z); column-zero = λ z. at ∙ column-zero (sym same ∙ z) }
+      by (inr e) =
+          let (same, at) = is-zero e in
+          record { listed = rw same (List·Memᴰ·head refl); line-one = λ z. absurd (omega arith); column-zero = λ z. at }
 
   pub rows-refused : RowsRefused m c number place
   unfolding placeFor

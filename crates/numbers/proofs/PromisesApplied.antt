@@ -8,15 +8,15 @@ use lib.Dec.{lt→ltb}
 use lib.IntN.{ℤ, pos, negsuc, _*ℤ_}
 use lib.Signed.{ltZ-yes}
 use lib.ListN.{length}
-use Rattle.integer.specs.Ring.{ring, terms}
+use Rattle.integer.proofs.Ring.{ring, terms}
 use Rattle.integer.specs.Fraction.{_over_, _≈ᶠ_, _≤ᶠ_}
 use Rattle.scope.specs.declared.Place.the-variants.{Column}
+use Rattle.scope.specs.Members.{_∈_}
 use Rattle.scope.specs.Rows.{nodeSoil, rowsOf}
 use Rattle.scope.specs.Sums.{liveSum, limitSum}
 use Rattle.scope.specs.Claim.{stress, multiplier}
-use Rattle.scope.specs.Verdict.{rowAt}
 use Rattle.scope.specs.Answer.{placeFor}
-use Rattle.scope.specs.Computed.{computed}
+use Rattle.scope.proofs.Computed.{computed}
 use Rattle.scope.specs.Refusals.{Refusal}
 use Rattle.scope.specs.Accepted.{FieldAccepted, MultipliersAccepted, ClaimAccepted}
 use Rattle.scope.specs.Printed.{MeetsPrinted}
@@ -28,9 +28,10 @@ use Rattle.scope.specs.Parts.{SameRows, NumberOf, PartsBracket}
 use Rattle.scope.specs.Worked.{zeros, workedMesh, workedStresses, workedMultipliers, workedClaim, multipliersAlone, sheet, sheet19, sheet29, freeShear}
 use Rattle.scope.proofs.Printed.{field-printed}
 use Rattle.scope.proofs.Applied.{free-field, free-rows}
+use Rattle.scope.specs.Tests.{rowAt}
 use Rattle.numbers.specs.declared.numbers_answer.NumbersAnswer.{NumbersAnswer}
-use Rattle.numbers.specs.Promises.{Answers, TellsField, FieldInFractions}
-use Rattle.numbers.proofs.Promises.{returned, returns-zero-exactly, refuses-exactly, field-exactly, multipliers-exactly, criterion-at-each-node, field-reported, multipliers-reported, open-rows-reported, field-in-fractions, calls-bracket, call-bracket, accepted-parts, fractions-bracket}
+use Rattle.numbers.specs.Promises.{Answers, returnedNumbers, TellsField, FieldInFractions}
+use Rattle.numbers.proofs.Promises.{returned, returns-zero-exactly, refuses-exactly, numbers-listed, field-exactly, multipliers-exactly, criterion-at-each-node, field-reported, multipliers-reported, open-rows-reported, field-in-fractions, calls-bracket, call-bracket, accepted-parts, fractions-bracket}
 
 -- ---- what is answered
 
@@ -89,6 +90,9 @@ sheet-accepted = returns-zero-exactly workedMesh sheet 0 0 (returned sheet-answe
 pub refused-column-7 : Refusal workedMesh sheet29 32 (Column 7)
 unfolding placeFor
 refused-column-7 = refuses-exactly workedMesh sheet29 32 7 (returned refused-answered) .exactly 32 7 (λ e. omega arith) .0 (refl, refl)
+
+pub listed-32 : 32 ∈ returnedNumbers
+listed-32 = numbers-listed workedMesh sheet29 32 7 (returned refused-answered) .listed
 
 -- the field of the refused claim
 tells-field : TellsField sheet29 32

@@ -1,23 +1,24 @@
--- What a caller that hands over numbers may rely on: demands 2 and 3 for `pechuvo_check_numbers`, each promise a plain statement about the answer r to the numbers m of a mesh and c of a claim.
+-- What a caller that hands over numbers may rely on: demands 2 and 3 for `check`, which C calls as `pechuvo_check_numbers`, each promise a plain statement about the answer r to the numbers m of a mesh and c of a claim.
 -- Each is proved of every answer (`proofs/Promises.antt`) and applied to document 01's sheet (`proofs/PromisesApplied.antt`). Those about the number and the place alone serve the check of two files too.
 use mathlib.Core.Path.{_≡_}
 use mathlib.Core.Logic.{_↔_, _⊎_, _≢_}
-use mathlib.Core.List.{List}
+use mathlib.Core.List.{List, [], _∷_}
 use Prim.Native.Nat.{ℕ, _*_, _≤_, _<_}
 use lib.IntN.{ℤ, pos}
 use lib.Signed.{_<ℤ_}
 use lib.ListN.{length}
 use Rattle.integer.specs.Fraction.{Frac, _over_, _≈ᶠ_, _≤ᶠ_}
+use Rattle.scope.specs.Members.{_∈_}
 use Rattle.scope.specs.Columns.{n, l}
 use Rattle.scope.specs.Mesh.{nodes}
 use Rattle.scope.specs.Rows.{nodeSoil, rowsOf}
 use Rattle.scope.specs.Sums.{liveSum, limitSum}
 use Rattle.scope.specs.Claim.{claimLayout, stress, multiplier}
-use Rattle.scope.specs.Verdict.{rowAt, verdict}
+use Rattle.scope.specs.Verdict.{verdict}
 use Rattle.scope.specs.Answer.{placeFor, numberOf, placeOf}
 use Rattle.scope.specs.AnsweredMesh.{MeshExactly}
-use Rattle.scope.specs.Sound.{LinesSound, MeshSound}
-use Rattle.scope.specs.Refusals.{HasField, HasMultipliers, Refusal}
+use Rattle.scope.specs.Statements.{LinesSound, MeshSound, HasField, HasMultipliers}
+use Rattle.scope.specs.Refusals.{Refusal}
 use Rattle.scope.specs.Accepted.{FieldAccepted, MultipliersAccepted, ClaimAccepted}
 use Rattle.scope.specs.Printed.{MeetsPrinted}
 use Rattle.scope.specs.RefusedRows.{EqualityFails, StrengthFails}
@@ -27,12 +28,13 @@ use Rattle.scope.specs.Bracket.{Open, NoneOpen}
 use Rattle.scope.specs.Fractions.{FractionField, WrittenOver, FractionLaws, fieldOver}
 use Rattle.scope.specs.AcceptedFractions.{MeetsMesh}
 use Rattle.scope.specs.Parts.{SameRows, PartsBracket, NumberOf}
+use Rattle.scope.specs.Tests.{rowAt}
 use Rattle.verdict.specs.declared.MeshAnswer.{MeshAnswer}
 use Rattle.verdict.specs.JudgeContracts.{MeshAnswered}
 use Rattle.numbers.specs.declared.numbers_answer.NumbersAnswer.{NumbersAnswer}
 use Rattle.numbers.specs.NumbersAnswer.{answerOf}
 
--- the contract of `pechuvo_check_numbers`
+-- the contract of `check`, and of `pechuvo_check_numbers`
 abbrev pub Answers : List ℤ → List ℤ → NumbersAnswer → Type 0
 Answers m c r = r ≡ answerOf (verdict m c)
 
@@ -51,6 +53,16 @@ pub record ReturnsZero (m c : List ℤ) (number place : ℕ) : Type 0 where
 -- "Refused: number, place": a number and a place are returned exactly when the table, with its order, has them
 pub record RefusesExactly (m c : List ℤ) (number place : ℕ) : Type 0 where
   pub exactly : (k j : ℕ) → k ≢ 0 → ((number ≡ k) × (place ≡ j)) ↔ Refusal m c k (placeFor k j)
+
+-- the numbers of the table that numbers handed over can get, and 0; a file can get 41 too
+abbrev pub returnedNumbers : List ℕ
+returnedNumbers = 0 ∷ 1 ∷ 2 ∷ 3 ∷ 4 ∷ 5 ∷ 6 ∷ 7 ∷ 8 ∷ 11 ∷ 12 ∷ 13 ∷ 21 ∷ 22 ∷ 31 ∷ 32 ∷ 33 ∷ []
+
+-- no other number is returned; "13, line 1"; "33, column 0"
+pub record NumbersListed (number place : ℕ) : Type 0 where
+  pub listed : number ∈ returnedNumbers
+  pub line-one : number ≡ 13 → place ≡ 1
+  pub column-zero : number ≡ 33 → place ≡ 0
 
 -- the place of 21 and of 22 is the number of a row that, as document 01 prints it, the field does not meet
 pub record RowsRefused (m c : List ℤ) (number place : ℕ) : Type 0 where

@@ -6,7 +6,8 @@ use lib.Dec.{ltb}
 use lib.ListN.{length}
 use borrow.Table.Steps.{cases}
 use Rattle.scope.specs.declared.Verdict.{Verdict}
-use Rattle.judge.specs.Judge.{fileWidth, filesVerdict}
+use Rattle.reader.specs.File.{fileWidth}
+use Rattle.judge.specs.Judge.{filesVerdict}
 use Rattle.report.specs.declared.Reported.{Reported}
 use Rattle.report.specs.Report.{decimals}
 use Rattle.report.specs.Buffer.{afterReport, reported, reportedNumber, reportedPlace, Reports}

@@ -14,25 +14,23 @@ use Rattle.scope.specs.declared.Place.the-variants.{Line}
 use Rattle.scope.specs.declared.Outcome.{Outcome}
 use Rattle.scope.specs.declared.Outcome.the-variants.{Passed, Refused as Fails}
 use Rattle.scope.specs.Columns.{free, at, hasField, hasMultipliers}
-use Rattle.integer.specs.Order.{≤ℤ-pos}
-use Rattle.scope.specs.Layout.{width, count, lineCheck, linesCheck}
+use Rattle.integer.proofs.Order.{≤ℤ-pos}
+use Rattle.scope.specs.Layout.{width, count}
 use Rattle.scope.specs.Mesh.{meshLayout, meshHeader, soilLines, nodeLines, elementLines, edgeLines, nodes, elements, soils, edges, sides}
 use Rattle.scope.specs.Claim.{claimLayout, ifThere}
-use Rattle.scope.specs.Sound.{Within}
-use Rattle.scope.specs.Facts.{Counts}
+use Rattle.scope.specs.Statements.{Within}
+use Rattle.scope.specs.NumberRanges.{Counts}
 use Rattle.scope.specs.Answer.{numberOf}
-use Rattle.scope.specs.Verdict.{verdict}
-use Rattle.scope.proofs.Sound.{lines-passed}
-use Rattle.scope.proofs.Exactly.{returns-zero}
-use Rattle.scope.proofs.Facts.{counts}
+use Rattle.scope.specs.Verdict.{verdict, lineCheck, linesCheck}
+use Rattle.scope.proofs.Refusals.{lines-passed, line-check-passed}
+use Rattle.scope.proofs.Exactly.{returns-zero, there-most}
+use Rattle.scope.proofs.NumberRanges.{counts}
 use Rattle.scope.proofs.Lines.{within-at}
-use Rattle.scope.proofs.InOrder.{line-check-passed}
-use Rattle.scope.proofs.Exactly.{there-most}
 use Rattle.reader.specs.File.{lineBytes, widths, numbersOf}
 use Rattle.reader.specs.WellFormed.{bytesOf}
 use Rattle.reader.proofs.Regular.{mesh-regular, claim-regular}
 use Rattle.reader.proofs.Cut.{numbers-cut, passed-length, group-bytes, no-bytes}
-use Rattle.judge.specs.Judge.{fileWidth, meshNumbers, claimNumbers, filesVerdict}
+use Rattle.judge.specs.Judge.{meshNumbers, claimNumbers, filesVerdict}
 use Rattle.judge.specs.ClaimBytes.{claimBytes}
 use Rattle.judge.proofs.Numbers.{mesh-lines-refused, some-side}
 use Rattle.judge.proofs.ClaimBytes.{claim-bytes}
@@ -71,7 +69,7 @@ unfolding meshLayout meshHeader lineBytes
 mesh-header-line = omega arith
 
 claim-short : (m c : List ℤ) → Counts m → lineBytes 12 (width (claimLayout m .header)) + bytesOf 12 (widths (claimLayout m .body c)) < 65536
-unfolding claimBytes fileWidth
+unfolding claimBytes
 claim-short m c k =
     let ns = k .nodesMost in
     let es = k .elementsMost in
@@ -110,7 +108,7 @@ files-cut mesh claim = by (linesCheck meshLayout m) refl
 
 -- the check of two files is the check of each file cut to 65,536 bytes
 pub check-cut : (mesh claim buffer : List ℕ) → check mesh claim buffer ≡ check (take 65536 mesh) (take 65536 claim) buffer
-unfolding check fileWidth
+unfolding check
 check-cut mesh claim buffer =
     cases (ltb (length buffer) reportBytes)
     (λ t. rw (t, check))
@@ -134,7 +132,7 @@ accepted-short mesh claim e =
 
 -- "a longer file is too long for any mesh or claim": it is never accepted
 pub longer-refused : (mesh claim buffer : List ℕ) → (65536 < length mesh) ⊎ (65536 < length claim) → check mesh claim buffer .number ≢ 0
-unfolding check fileWidth
+unfolding check
 longer-refused mesh claim buffer l e =
     cases (ltb (length buffer) reportBytes)
     (λ t. let z : _≡_ {A = ℕ} 41 0 = rw (t, check) at e in omega arith)

@@ -8,7 +8,7 @@ use native.Mathlib.Omega.{arith}
 use lib.Dec.{T}
 use lib.IntN.{ℤ, natAbs}
 use lib.ListN.{length, length-append}
-use Rattle.integer.specs.Tests.{eqZ-yes}
+use Rattle.integer.proofs.TestLaws.{eqZ-yes}
 use Rattle.scope.specs.declared.Place.{Place}
 use Rattle.scope.specs.declared.Load.the-variants.{Absent, Exact}
 use Rattle.scope.specs.declared.OpenRows.the-variants.{Absent as NoCount, Count}
@@ -19,10 +19,10 @@ use Rattle.scope.specs.Sums.{weighed, limitSum, liveSum, howMany, isOpen, openR
 use Rattle.scope.specs.Claim.{stress, multiplier}
 use Rattle.scope.specs.Verdict.{verdict, lowerLoad, upperLoad, openCount}
 use Rattle.scope.specs.Accepted.{ClaimAccepted}
-use Rattle.scope.specs.Facts.{MeshFacts, ClaimFacts}
+use Rattle.scope.specs.NumberRanges.{MeshFacts, ClaimFacts}
 use Rattle.scope.proofs.Exactly.{verdict-cases, accepted-exactly, refused-exactly}
-use Rattle.scope.proofs.Facts.{mesh-facts}
-use Rattle.scope.proofs.ClaimFacts.{claim-facts}
+use Rattle.scope.proofs.NumberRanges.{mesh-facts}
+use Rattle.scope.proofs.ClaimNumberRanges.{claim-facts}
 use Rattle.scope.proofs.RowCounts.{equality-count}
 use Rattle.scope.proofs.SumBounds.{between, limit-bound}
 use Rattle.scope.proofs.AnswerBounds.{few-strengths, refusal-bounds}

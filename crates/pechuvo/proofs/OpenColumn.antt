@@ -14,10 +14,10 @@ use Rattle.scope.specs.Rows.{rowsOf}
 use Rattle.scope.specs.Sums.{openRows}
 use Rattle.scope.specs.Claim.{stress, multiplier}
 use Rattle.scope.specs.Verdict.{verdict, lowerLoad, upperLoad}
-use Rattle.scope.specs.Refusals.{HasField, HasMultipliers}
 use Rattle.scope.specs.Accepted.{ClaimAccepted}
 use Rattle.scope.proofs.Exactly.{accepted-exactly, claim-by-parts}
 use Rattle.scope.proofs.Parts.{open-rows-count}
+use Rattle.scope.specs.Statements.{HasField, HasMultipliers}
 use Rattle.report.specs.Text.{Said, number, said}
 use Rattle.report.specs.Report.{reportLine}
 use Rattle.report.specs.Says.{columnOf, RowsSay, rows, Says, says-accepted}

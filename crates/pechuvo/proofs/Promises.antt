@@ -16,7 +16,8 @@ use borrow.Author.Tests.{ltb-true, ltb-false}
 use borrow.Table.Steps.{cases}
 use Rattle.integer.specs.Fraction.{_over_, _≤ᶠ_, _<ᶠ_}
 use Rattle.integer.specs.Round.{Floor, Ceil}
-use Rattle.integer.specs.Tests.{eqZ, yes-eqZ}
+use Rattle.integer.specs.Tests.{eqZ}
+use Rattle.integer.proofs.TestLaws.{yes-eqZ}
 use Rattle.scope.specs.declared.Place.{Place}
 use Rattle.scope.specs.declared.Place.the-variants.{Line}
 use Rattle.scope.specs.declared.Load.{Load}
@@ -32,24 +33,24 @@ use Rattle.scope.specs.Rows.{rowsOf}
 use Rattle.scope.specs.Sums.{openRows, liveSum, limitSum}
 use Rattle.scope.specs.Claim.{claimLayout, stress, multiplier}
 use Rattle.scope.specs.Verdict.{verdict, lowerLoad, upperLoad, openCount}
-use Rattle.scope.specs.Refusals.{HasField, HasMultipliers}
-use Rattle.scope.specs.Sound.{MeshSound}
+use Rattle.scope.specs.Statements.{HasField, HasMultipliers}
 use Rattle.scope.specs.Accepted.{FieldAccepted, MultipliersAccepted, ClaimAccepted}
 use Rattle.scope.specs.Parts.{carried, allowed}
 use Rattle.scope.proofs.Exactly.{accepted-exactly, refused-exactly, verdict-cases, returns-zero, claim-by-parts}
-use Rattle.scope.proofs.Sound.{lines-passed}
 use Rattle.scope.proofs.AnswerBounds.{refusal-bounds}
 use Rattle.scope.proofs.Parts.{field-n, open-rows-count}
+use Rattle.scope.proofs.Refusals.{lines-passed}
 use Rattle.numbers.specs.declared.numbers_answer.NumbersAnswer.{NumbersAnswer}
 use Rattle.numbers.specs.NumbersAnswer.{answerOf}
 use Rattle.numbers.specs.Promises as Handed-over
 use Rattle.numbers.specs.Promises.{Returned, TellsField}
-use Rattle.numbers.proofs.Promises.{returned, returns-zero-exactly, refuses-exactly, rows-refused, field-exactly, multipliers-exactly, criterion-at-each-node, fractions-allowed}
+use Rattle.numbers.proofs.Promises.{returned, returns-zero-exactly, refuses-exactly, numbers-listed, rows-refused, field-exactly, multipliers-exactly, criterion-at-each-node, fractions-allowed}
 use Rattle.report.specs.Text.{Said, number as shows}
 use Rattle.report.specs.Report.{reportLine, decimals}
 use Rattle.report.specs.Says.{LoadSays, no-load, rounded, Says, says-accepted, says-refused, LineSays}
 use Rattle.report.proofs.Line.{line-says, lower-within, upper-within}
-use Rattle.judge.specs.Judge.{meshNumbers, claimNumbers, fileWidth, filesVerdict}
+use Rattle.reader.specs.File.{fileWidth}
+use Rattle.judge.specs.Judge.{meshNumbers, claimNumbers, filesVerdict}
 use Rattle.reader.proofs.Regular.{mesh-regular, claim-regular}
 use Rattle.reader.proofs.WrittenBack.{written-back}
 use Rattle.judge.specs.Handed.{Handed, meshOf, claimOf}
@@ -259,6 +260,7 @@ module _ (mesh claim before : List ℕ) (number place : ℕ) (after : List ℕ) 
       record {
         returns-zero = returns-zero-exactly (meshIn mesh) (claimIn mesh claim) number place r;
         refuses = refuses-exactly (meshIn mesh) (claimIn mesh claim) number place r;
+        listed = numbers-listed (meshIn mesh) (claimIn mesh claim) number place r;
         rows = rows-refused (meshIn mesh) (claimIn mesh claim) number place r;
         field = field-exactly (meshIn mesh) (claimIn mesh claim) number place r;
         multipliers = multipliers-exactly (meshIn mesh) (claimIn mesh claim) number place r;

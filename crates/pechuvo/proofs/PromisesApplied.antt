@@ -9,29 +9,29 @@ use lib.IntN.{ℤ, pos}
 use lib.ListN.{length, take, drop, replicate, getD, length-replicate}
 use Rattle.integer.specs.Fraction.{_over_, _≈ᶠ_, _≤ᶠ_}
 use Rattle.scope.specs.declared.Place.the-variants.{Column}
-use Rattle.scope.specs.Computed.{computed}
+use Rattle.scope.proofs.Computed.{computed}
 use Rattle.scope.specs.Members.{_∈_}
 use Rattle.scope.specs.Columns.{n, l}
 use Rattle.scope.specs.Mesh.{meshLayout, nodes, elements, edges, fromNode}
 use Rattle.scope.specs.Rows.{nodeSoil, equalityRows, rowsOf, judged}
 use Rattle.scope.specs.Claim.{claimLayout, stress, multiplier}
-use Rattle.scope.specs.Sound.{MeshSound}
+use Rattle.scope.specs.Statements.{MeshSound, HasField, HasMultipliers}
 use Rattle.scope.specs.Answer.{placeFor}
-use Rattle.scope.specs.Refusals.{HasField, HasMultipliers, Refusal}
+use Rattle.scope.specs.Refusals.{Refusal}
 use Rattle.scope.specs.Accepted.{FieldAccepted, MultipliersAccepted, ClaimAccepted}
 use Rattle.scope.specs.Printed.{NormalAt}
 use Rattle.scope.specs.AcceptedField.{MeetsCriterion}
 use Rattle.scope.specs.Parts.{carried, allowed, SameRows}
+use Rattle.scope.proofs.Refusals.{mesh-passed, lines-passed, multipliers-passed}
 use Rattle.scope.specs.Worked as Numbers
-use Rattle.scope.proofs.Sound.{mesh-passed, lines-passed, multipliers-passed}
 use Rattle.numbers.specs.Promises.{Returned, TellsField}
 use Rattle.numbers.proofs.PromisesApplied.{secondSoil, answer19, aloneAnswer, nineteen-answered, alone-answered, sheet-accepted, same-rows, fraction, fractions, fractions-meet}
-use Rattle.reader.specs.File.{fileOf}
+use Rattle.reader.specs.File.{fileOf, fileWidth}
 use Rattle.reader.specs.WellFormed.{FormFails}
 use Rattle.report.specs.Text.{word, number as shows, beforePoint, afterPoint, decimal, saidNumber, belowZero, saidMinus, andSaid, signedDecimal, isNone, said}
 use Rattle.report.specs.Report.{reportLine, decimals}
 use Rattle.report.specs.Says.{columnOf, LineSays}
-use Rattle.judge.specs.Judge.{fileWidth, filesVerdict}
+use Rattle.judge.specs.Judge.{filesVerdict}
 use Rattle.judge.specs.Handed.{files, numbers, meshOf, claimOf, HasAcceptedMultipliers, HandedBracket}
 use Rattle.pechuvo.specs.Check.{check}
 use Rattle.pechuvo.specs.Sheets.{Sheet, sheet, starred}

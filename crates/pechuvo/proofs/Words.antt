@@ -10,7 +10,8 @@ use native.Mathlib.Omega.{arith}
 use lib.Dec.{T}
 use lib.IntN.{ℤ, pos}
 use lib.Signed.{_<ℤ_, <ℤ-irrefl, <ℤ-≤ℤ-trans}
-use Rattle.integer.specs.Tests.{eqZ, eqZ-yes, eqZ-no, no-eqZ}
+use Rattle.integer.specs.Tests.{eqZ}
+use Rattle.integer.proofs.TestLaws.{eqZ-yes, eqZ-no, no-eqZ}
 use Rattle.scope.specs.declared.Load.the-variants.{Absent, Exact}
 use Rattle.scope.specs.declared.OpenRows.the-variants.{Absent as NoCount, Count}
 use Rattle.scope.specs.declared.Verdict.{Verdict}
@@ -20,11 +21,11 @@ use Rattle.scope.specs.Columns.{at, hasField, hasMultipliers, n, l}
 use Rattle.scope.specs.Claim.{stress, multiplier}
 use Rattle.scope.specs.Rows.{rowsOf}
 use Rattle.scope.specs.Sums.{liveSum, limitSum, openRows}
-use Rattle.scope.specs.Refusals.{HasField, HasMultipliers}
 use Rattle.scope.specs.Accepted.{ClaimAccepted}
 use Rattle.scope.specs.Verdict.{verdict, lowerLoad, upperLoad, openCount}
 use Rattle.scope.proofs.Exactly.{accepted-exactly, claim-by-parts, returns-zero}
 use Rattle.scope.proofs.Parts.{field-n}
+use Rattle.scope.specs.Statements.{HasField, HasMultipliers}
 use Rattle.report.specs.Text.{said, word}
 use Rattle.report.specs.Report.{reportLine}
 use Rattle.report.specs.Says.{columnOf, Held, NoLoad, NoLower, NoUpper}

@@ -5,7 +5,8 @@ use Prim.Native.Nat.{ℕ}
 use lib.Dec.{ltb}
 use lib.ListN.{length, drop}
 use Rattle.scope.specs.Answer.{numberOf, placeOf}
-use Rattle.judge.specs.Judge.{fileWidth, filesVerdict}
+use Rattle.reader.specs.File.{fileWidth}
+use Rattle.judge.specs.Judge.{filesVerdict}
 use Rattle.report.specs.Report.{reportLine, decimals}
 
 -- "The report is 113 bytes"

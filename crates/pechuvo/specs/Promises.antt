@@ -12,21 +12,20 @@ use Rattle.scope.specs.Columns.{n, l}
 use Rattle.scope.specs.Mesh.{meshLayout}
 use Rattle.scope.specs.Rows.{rowsOf}
 use Rattle.scope.specs.Claim.{claimLayout, stress, multiplier}
-use Rattle.scope.specs.Verdict.{rowAt}
-use Rattle.scope.specs.Sound.{MeshSound}
-use Rattle.scope.specs.Refusals.{HasField, HasMultipliers}
+use Rattle.scope.specs.Statements.{MeshSound, HasField, HasMultipliers}
 use Rattle.scope.specs.Bracket.{Open}
 use Rattle.scope.specs.Parts.{carried, allowed, SameRows, NumberOf}
+use Rattle.scope.specs.Tests.{rowAt}
 use Rattle.numbers.specs.declared.numbers_answer.NumbersAnswer.{NumbersAnswer}
 use Rattle.numbers.specs.Promises as Handed-over
-use Rattle.numbers.specs.Promises.{Returned, ReturnsZero, RefusesExactly, TellsField, RowsRefused, FieldExactly, MultipliersExactly, CriterionAtEachNode, FractionsBracket}
+use Rattle.numbers.specs.Promises.{Returned, ReturnsZero, RefusesExactly, NumbersListed, TellsField, RowsRefused, FieldExactly, MultipliersExactly, CriterionAtEachNode, FractionsBracket}
 use Rattle.numbers.specs.NumbersAnswer.{answerOf}
-use Rattle.reader.specs.File.{fileOf}
+use Rattle.reader.specs.File.{fileOf, fileWidth}
 use Rattle.reader.specs.WellFormed.{Fit, FormFails}
 use Rattle.report.specs.Text.{word, number as shows, said}
 use Rattle.report.specs.Report.{reportLine, decimals}
 use Rattle.report.specs.Says.{columnOf, LineSays}
-use Rattle.judge.specs.Judge.{meshNumbers, claimNumbers, fileWidth, filesVerdict}
+use Rattle.judge.specs.Judge.{meshNumbers, claimNumbers, filesVerdict}
 use Rattle.judge.specs.Handed.{Handed, files, numbers, meshOf, claimOf, HasAcceptedMultipliers, OnTheSameMesh, HandedBracket}
 use Rattle.pechuvo.specs.Answers.{Answers}
 use Rattle.pechuvo.specs.Sheets.{Sheet}
@@ -59,10 +58,11 @@ pub record LongFiles (mesh claim before : List ℕ) (number place : ℕ) (after 
 
 -- ==== Demand 2: what is accepted, what is refused, what is printed; where the buffer has 113 bytes
 
--- 0 exactly when, each refusal with its place exactly when, each part accepted exactly when, and the criterion at each node
+-- 0 exactly when, each refusal with its place exactly when, no number but those of the table, each part accepted exactly when, and the criterion at each node
 pub record OnFiles (mesh claim : List ℕ) (number place : ℕ) : Type 0 where
   pub returns-zero : ReturnsZero (meshIn mesh) (claimIn mesh claim) number place
   pub refuses : RefusesExactly (meshIn mesh) (claimIn mesh claim) number place
+  pub listed : NumbersListed number place
   pub rows : RowsRefused (meshIn mesh) (claimIn mesh claim) number place
   pub field : FieldExactly (meshIn mesh) (claimIn mesh claim) number
   pub multipliers : MultipliersExactly (meshIn mesh) (claimIn mesh claim) number

@@ -13,9 +13,10 @@ use borrow.Table.Steps.{cases}
 use Rattle.scope.specs.declared.Place.the-variants.{Line}
 use Rattle.scope.specs.declared.Outcome.{Outcome}
 use Rattle.scope.specs.declared.Outcome.the-variants.{Passed, Refused}
-use Rattle.scope.specs.Layout.{Group, Layout, width, groups, lineCheck, linesCheck}
+use Rattle.scope.specs.Layout.{Group, Layout, width, groups}
 use Rattle.scope.proofs.Checks.{passed-is-not-refused, then-passed}
 use Rattle.scope.proofs.InOrder.{checkFrom, same-test}
+use Rattle.scope.specs.Verdict.{lineCheck, linesCheck}
 use Rattle.reader.specs.File.{lineBytes, columns, readColumns, readLine, widths, readLines, hasPassed, headerPasses, numbersOf}
 use Rattle.reader.specs.WellFormed.{SomeColumns, Regular, bytesOf}
 use Rattle.reader.proofs.Line.{columns-length, line-means}

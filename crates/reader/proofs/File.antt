@@ -10,8 +10,9 @@ use Rattle.scope.specs.declared.Place.the-variants.{Line}
 use Rattle.scope.specs.declared.Outcome.{Outcome}
 use Rattle.scope.specs.declared.Outcome.the-variants.{Passed, Refused}
 use Rattle.scope.specs.Checks.{_then_}
-use Rattle.scope.specs.Layout.{Group, Layout, width, groups, lineCheck, linesCheck}
+use Rattle.scope.specs.Layout.{Group, Layout, width, groups}
 use Rattle.scope.proofs.InOrder.{linesOf, checkFrom, lines-in-order, check-line, check-short}
+use Rattle.scope.specs.Verdict.{lineCheck, linesCheck}
 use Rattle.reader.specs.File.{lineBytes, readLine, readLines, widths, hasPassed, headerPasses, numbersOf}
 use Rattle.reader.specs.WellFormed.{SomeColumns, Regular}
 use Rattle.reader.proofs.Line.{line-means}

@@ -14,11 +14,12 @@ use Rattle.scope.specs.declared.Outcome.{Outcome}
 use Rattle.scope.specs.declared.Outcome.the-variants.{Passed, Refused}
 use Rattle.scope.specs.Checks.{_then_}
 use Rattle.scope.specs.Columns.{Rule, ruleNumber}
-use Rattle.scope.specs.Layout.{Group, Layout, width, groups, lineCount, lineCheck, linesCheck}
-use Rattle.scope.specs.Sound.{groupAt}
+use Rattle.scope.specs.Layout.{Group, Layout, width, groups, lineCount, groupAt}
 use Rattle.scope.proofs.Checks.{passed-is-not-refused, then-refused}
 use Rattle.scope.proofs.Lines.{group}
-use Rattle.scope.proofs.InOrder.{checkFrom, lines-length, group-by-number, line-check-passed, line-check-other}
+use Rattle.scope.proofs.InOrder.{checkFrom, lines-length, group-by-number, line-check-other}
+use Rattle.scope.specs.Verdict.{lineCheck, linesCheck}
+use Rattle.scope.proofs.Refusals.{line-check-passed}
 use Rattle.reader.specs.File.{lineBytes, readLine, readLines, numbersOf}
 use Rattle.reader.specs.WellFormed.{GoodLine, IllFormed, SomeColumns, Regular, bytesOf, lineStart, FormFails}
 use Rattle.reader.proofs.Line.{line-means}
@@ -178,7 +179,6 @@ unfolding headerOf
 header-is w f bs h o = rw (o, headerOf)
 
 group-at : (f : Layout) (h : List ℤ) (k : ℕ) → k < lineCount (groups f h) → groupAt f h k ≡ group (fileLines f h) k
-unfolding groupAt
 group-at f h k l = group-by-number (groups f h) k l
 
 start-at : (w : ℕ) (f : Layout) (h : List ℤ) (k : ℕ) → lineStart w f h k ≡ start w (fileLines f h) k

@@ -14,7 +14,7 @@ use lib.Seq.{take-take, drop-drop, drop-cons, take-suc-set, append-snoc}
 use borrow.Author.Tests.{le-leb, lt-leb}
 use Rattle.reader.specs.declared.column.Reading.the-variants.{Number, Malformed}
 use Rattle.reader.specs.Spelling.{readColumn}
-use Rattle.reader.specs.File.{lineBytes, readColumns, readLine}
+use Rattle.reader.specs.File.{fileWidth, lineBytes, readColumns, readLine}
 use Rattle.reader.specs.OnePass.{readingOf}
 use Rattle.reader.proofs.Cut.{drop-take}
 
@@ -22,30 +22,30 @@ use Rattle.reader.proofs.Cut.{drop-take}
 
 -- what a line of k columns at the place `from` is, where its bytes are there
 pub columnsAt : List ℕ → ℕ → ℕ → Option (List ℤ)
-columnsAt bs from k = readColumns 12 k (take (lineBytes 12 k) (drop from bs))
+columnsAt bs from k = readColumns fileWidth k (take (lineBytes fileWidth k) (drop from bs))
 
 module _ (bs : List ℕ) (at k : ℕ) where
-  pub line-short : length bs - at < k * 12 + 1 → readLine 12 k (drop at bs) ≡ none
+  pub line-short : length bs - at < k * fileWidth + 1 → readLine fileWidth k (drop at bs) ≡ none
   unfolding readLine lineBytes
-  line-short h = rw (lt-leb (k * 12 + 1) (length (drop at bs)) (omega (arith, length-drop at bs)), readLine)
+  line-short h = rw (lt-leb (k * fileWidth + 1) (length (drop at bs)) (omega (arith, length-drop at bs)), readLine)
 
-  pub line-there : k * 12 + 1 ≤ length bs - at → readLine 12 k (drop at bs) ≡ columnsAt bs at k
+  pub line-there : k * fileWidth + 1 ≤ length bs - at → readLine fileWidth k (drop at bs) ≡ columnsAt bs at k
   unfolding readLine lineBytes columnsAt
-  line-there h = rw (le-leb (k * 12 + 1) (length (drop at bs)) (omega (arith, length-drop at bs)), readLine)
+  line-there h = rw (le-leb (k * fileWidth + 1) (length (drop at bs)) (omega (arith, length-drop at bs)), readLine)
 
 -- a column, and then the columns after it
 then-columns : Option ℤ → Option (List ℤ) → Option (List ℤ)
 then-columns o r = elim o [ none ↦ none | some z ↦ Option·map (λ zs. z ∷ zs) r ]
 
 module _ (bs : List ℕ) (from : ℕ) where
-  next-column : (k : ℕ) → columnsAt bs from (suc k) ≡ then-columns (readColumn (take 12 (drop from bs))) (columnsAt bs (from + 12) k)
+  next-column : (k : ℕ) → columnsAt bs from (suc k) ≡ then-columns (readColumn (take fileWidth (drop from bs))) (columnsAt bs (from + fileWidth) k)
   unfolding columnsAt readColumns lineBytes then-columns
   next-column k =
-      let n : suc k * 12 + 1 ≡ 12 + (k * 12 + 1) = omega arith in
-      let first : take 12 (take (suc k * 12 + 1) (drop from bs)) ≡ take 12 (drop from bs) = take-take 12 (suc k * 12 + 1) (drop from bs) (omega arith) in
-      let rest : drop 12 (take (suc k * 12 + 1) (drop from bs)) ≡ take (k * 12 + 1) (drop (from + 12) bs) =
-      rw (n, drop-take 12 (k * 12 + 1) (drop from bs), drop-drop 12 from bs) in
-      ap₂ (λ x y. then-columns (readColumn x) (readColumns 12 k y)) first rest
+      let n : suc k * fileWidth + 1 ≡ fileWidth + (k * fileWidth + 1) = omega arith in
+      let first : take fileWidth (take (suc k * fileWidth + 1) (drop from bs)) ≡ take fileWidth (drop from bs) = take-take fileWidth (suc k * fileWidth + 1) (drop from bs) (omega arith) in
+      let rest : drop fileWidth (take (suc k * fileWidth + 1) (drop from bs)) ≡ take (k * fileWidth + 1) (drop (from + fileWidth) bs) =
+      rw (n, drop-take fileWidth (k * fileWidth + 1) (drop from bs), drop-drop fileWidth from bs) in
+      ap₂ (λ x y. then-columns (readColumn x) (readColumns fileWidth k y)) first rest
 
   last-byte : from < length bs → columnsAt bs from 0 ≡ cond (eqb (getD bs from 0) 10) (some []) none
   unfolding columnsAt readColumns lineBytes
@@ -55,7 +55,7 @@ module _ (bs : List ℕ) (from : ℕ) where
 
 pub record InLine (bs : List ℕ) (at columns : ℕ) (before line : List ℤ) (from j : ℕ) : Type 0 where
   pub most : j ≤ columns
-  pub place : from ≡ at + j * 12
+  pub place : from ≡ at + j * fileWidth
   pub size : length line ≡ length before
   pub same : columnsAt bs at columns ≡ Option·map (λ zs. take j line ++ zs) (columnsAt bs from (columns - j))
 
@@ -87,14 +87,14 @@ module _ (bs : List ℕ) (at columns : ℕ) (before : List ℤ) where
 
   module _ {line : List ℤ} {from j : ℕ} (h : InLine bs at columns before line from j) where
     -- what is left begins with a column
-    left : j < columns → columnsAt bs from (columns - j) ≡ then-columns (readColumn (take 12 (drop from bs))) (columnsAt bs (from + 12) (columns - (j + 1)))
+    left : j < columns → columnsAt bs from (columns - j) ≡ then-columns (readColumn (take fileWidth (drop from bs))) (columnsAt bs (from + fileWidth) (columns - (j + 1)))
     left l = let e : columns - j ≡ suc (columns - (j + 1)) = omega arith in rw e (next-column bs from (columns - (j + 1)))
 
-    pub line-next : {z : ℤ} → j < columns → j < length line → Number z ≡ readingOf (readColumn (take 12 (drop from bs))) → InLine bs at columns before (set line j z) (from + 12) (j + 1)
+    pub line-next : {z : ℤ} → j < columns → j < length line → Number z ≡ readingOf (readColumn (take fileWidth (drop from bs))) → InLine bs at columns before (set line j z) (from + fileWidth) (j + 1)
     unfolding then-columns
     line-next {z} l n e =
-        let r = reading-some (readColumn (take 12 (drop from bs))) z e in
-        let rest : Option (List ℤ) = columnsAt bs (from + 12) (columns - (j + 1)) in
+        let r = reading-some (readColumn (take fileWidth (drop from bs))) z e in
+        let rest : Option (List ℤ) = columnsAt bs (from + fileWidth) (columns - (j + 1)) in
         let front : take (j + 1) (set line j z) ≡ take j line ++ (z ∷ []) = rw (add-one j) (take-suc-set line j z n) in
         record {
           most = omega arith;
@@ -103,10 +103,10 @@ module _ (bs : List ℕ) (at columns : ℕ) (before : List ℤ) where
           same = h .same ∙ rw (left l, r, front) (map-next (take j line) z rest);
         }
 
-    pub line-stops : j < columns → Malformed ≡ readingOf (readColumn (take 12 (drop from bs))) → columnsAt bs at columns ≡ none
+    pub line-stops : j < columns → Malformed ≡ readingOf (readColumn (take fileWidth (drop from bs))) → columnsAt bs at columns ≡ none
     unfolding then-columns
     line-stops l e =
-        let r = reading-none (readColumn (take 12 (drop from bs))) e in
+        let r = reading-none (readColumn (take fileWidth (drop from bs))) e in
         h .same ∙ rw (left l, r)
 
     pub line-ends : columns ≤ j → from < length bs → columnsAt bs at columns ≡ cond (eqb (getD bs from 0) 10) (some (take columns line)) none

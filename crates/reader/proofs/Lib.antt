@@ -13,3 +13,5 @@ pub mod Taken
 pub mod InLine
 pub mod Whole
 pub mod Told
+pub mod Most
+pub mod TableBytes

@@ -11,7 +11,7 @@ use lib.ListN.{length, take, drop, length-append, length-take, length-drop, take
 use lib.Seq.{take-at, drop-at}
 use borrow.Author.Tests.{eqb-true, leb-false}
 use borrow.Table.Steps.{cases}
-use Rattle.integer.specs.DecimalLaws.{rightJustified-length}
+use Rattle.integer.proofs.DecimalLaws.{rightJustified-length}
 use Rattle.reader.specs.Spelling.{spelling, column, readColumn}
 use Rattle.reader.specs.File.{lineBytes, columns, readColumns, readLine}
 use Rattle.reader.specs.WellFormed.{Fit, WellFormedLine}

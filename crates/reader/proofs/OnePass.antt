@@ -14,7 +14,7 @@ use lib.Seq.{take-suc, getD-drop}
 use borrow.Author.Tests.{eqb-true, eqb-false, leb-true, le-leb}
 use borrow.Table.Steps.{cases}
 use Rattle.integer.specs.Decimal.{isDigit, allDigits, valueAfter, properDigits}
-use Rattle.integer.specs.DecimalLaws.{digit-bounds}
+use Rattle.integer.proofs.DecimalLaws.{digit-bounds}
 use Rattle.reader.specs.declared.column.Kept.{Kept}
 use Rattle.reader.specs.declared.column.Reading.{Reading}
 use Rattle.reader.specs.declared.column.Reading.the-variants.{Number, Malformed}

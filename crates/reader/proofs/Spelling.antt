@@ -12,7 +12,7 @@ use lib.ListN.{length, replicate}
 use borrow.Author.Tests.{eqb-true, ne-eqb}
 use borrow.Table.Steps.{cases}
 use Rattle.integer.specs.Decimal.{digits, rightJustified, valueAfter, properDigits}
-use Rattle.integer.specs.DecimalLaws.{digits-value, value-digits, digits-proper, proper-all, first-digit}
+use Rattle.integer.proofs.DecimalLaws.{digits-value, value-digits, digits-proper, proper-all, first-digit}
 use Rattle.reader.specs.Spelling.{spelling, column, unsigned, negated, signed, readColumn}
 
 -- ---- what is written is read

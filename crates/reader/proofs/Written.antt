@@ -12,14 +12,15 @@ use lib.ListN.{length, take, drop, length-append, take-append-drop}
 use lib.Seq.{take-at, drop-at, take-all, length-take-le}
 use borrow.Author.Tests.{leb-true, leb-false, lt-leb, le-leb}
 use borrow.Table.Steps.{cases}
-use Rattle.integer.specs.DecimalLaws.{digits-some}
+use Rattle.integer.proofs.DecimalLaws.{digits-some}
 use Rattle.scope.specs.declared.Place.{Place}
 use Rattle.scope.specs.declared.Place.the-variants.{Line}
 use Rattle.scope.specs.declared.Outcome.{Outcome}
 use Rattle.scope.specs.declared.Outcome.the-variants.{Passed, Refused}
-use Rattle.scope.specs.Layout.{Group, Layout, width, groups, lineCheck, linesCheck}
+use Rattle.scope.specs.Layout.{Group, Layout, width, groups}
 use Rattle.scope.proofs.Checks.{passed-is-not-refused, then-passed}
 use Rattle.scope.proofs.InOrder.{linesOf, checkFrom, lines-in-order, check-line, check-short}
+use Rattle.scope.specs.Verdict.{lineCheck, linesCheck}
 use Rattle.reader.specs.Spelling.{spelling}
 use Rattle.reader.specs.File.{lineBytes, widths, columns, readLine, readLines, writeLines, numbersOf, fileOf}
 use Rattle.reader.specs.WellFormed.{Fit, SomeColumns, Regular}

@@ -13,14 +13,15 @@ use borrow.Author.Tests.{le-leb}
 use Rattle.scope.specs.declared.Place.the-variants.{Line}
 use Rattle.scope.specs.declared.Outcome.the-variants.{Passed, Refused}
 use Rattle.scope.specs.Checks.{_then_}
-use Rattle.scope.specs.Layout.{Group, Layout, width, groups, lineCheck, linesCheck}
+use Rattle.scope.specs.Layout.{Group, Layout, width, groups}
 use Rattle.scope.proofs.Checks.{passed-is-not-refused, then-passed}
 use Rattle.scope.proofs.InOrder.{linesOf, checkFrom}
+use Rattle.scope.specs.Verdict.{lineCheck}
 use Rattle.reader.specs.File.{lineBytes, readLine, readLines, widths, numbersOf, columns, writeLines, fileOf}
 use Rattle.reader.specs.WellFormed.{SomeColumns, Regular}
 use Rattle.reader.specs.WrittenBack.{WrittenBack}
 use Rattle.reader.proofs.Line.{line-means}
-use Rattle.reader.proofs.File.{widths-of, columns-of, lines-header, readAll, read-none, read-some, fileLines, same-groups, header-column, header-passed, file-in-order}
+use Rattle.reader.proofs.File.{widths-of, columns-of, lines-header, readAll, read-none, read-some, fileLines, header-column, header-passed, file-in-order}
 
 -- one line written, and others after it
 write-line : (w k : ℕ) (ks : List ℕ) (zs rest : List ℤ) → length zs ≡ k → writeLines w (k ∷ ks) (zs ++ rest) ≡ (columns w zs ++ (10 ∷ [])) ++ writeLines w ks rest

@@ -1,5 +1,5 @@
 -- The bytes of a file and its numbers (document 01, 'The two files'): "A line is its columns and one byte 10."
--- The column's width w is a parameter: 12 in a file.
+-- The column's width w is a parameter: `fileWidth` in a file.
 use mathlib.Core.Bool.{Bool, true, false, cond}
 use mathlib.Core.List.{List, [], _∷_, _++_}
 use mathlib.Core.Option.{Option, none, some, Option·map}
@@ -10,8 +10,13 @@ use lib.ListN.{length, take, drop, replicate}
 use Rattle.scope.specs.declared.Place.the-variants.{Line}
 use Rattle.scope.specs.declared.Outcome.{Outcome}
 use Rattle.scope.specs.declared.Outcome.the-variants.{Passed, Refused}
-use Rattle.scope.specs.Layout.{Group, Layout, width, lineCheck}
+use Rattle.scope.specs.Layout.{Group, Layout, width}
+use Rattle.scope.specs.Verdict.{lineCheck}
 use Rattle.reader.specs.Spelling.{column, readColumn}
+
+-- "Every number is .. in a column of 12 characters"
+abbrev pub fileWidth : ℕ
+fileWidth = 12
 
 -- the bytes of a line of k columns
 unfoldable pub lineBytes : ℕ → ℕ → ℕ

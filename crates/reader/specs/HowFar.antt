@@ -3,13 +3,12 @@ use mathlib.Core.Path.{_≡_}
 use mathlib.Core.Bool.{true, false, cond}
 use mathlib.Core.List.{List, [], _∷_, _++_}
 use mathlib.Core.Option.{Option, none, some}
-use Prim.Native.Nat.{ℕ, _+_, _*_, _≤_, _<_}
+use Prim.Native.Nat.{ℕ, _+_, _≤_}
 use lib.IntN.{ℤ}
 use lib.ListN.{length, take, drop, replicate}
 use Rattle.reader.specs.declared.file_lines.Progress.{Progress}
 use Rattle.lines.specs.declared.layout.Group.{Group}
-use Rattle.lines.specs.Table.{Known, numbersIn}
-use Rattle.reader.specs.File.{lineBytes, readLine, readLines}
+use Rattle.reader.specs.File.{fileWidth, lineBytes, readLine, readLines}
 
 -- nothing is read
 unfoldable pub start : Progress
@@ -20,7 +19,7 @@ start = record { going = true; at = 0; numbers = 0 }
 -- how far a file is read after a line of k columns, which is well formed where it is `some`
 unfoldable pub past : ℕ → Progress → Option (List ℤ) → Progress
 past k p none = record { going = false; at = p .at; numbers = p .numbers }
-past k p (some zs) = record { going = true; at = p .at + lineBytes 12 k; numbers = p .numbers + k }
+past k p (some zs) = record { going = true; at = p .at + lineBytes fileWidth k; numbers = p .numbers + k }
 
 -- the numbers of such a line stand in the list `out`, from number n on
 unfoldable pub written : ℕ → ℕ → Option (List ℤ) → List ℤ → List ℤ
@@ -29,8 +28,14 @@ written k n (some zs) out = take n out ++ zs ++ drop (n + k) out
 
 -- a line of k columns is read: from p and the list `out` to r and `after`
 pub record LineTaken (bs : List ℕ) (k : ℕ) (p : Progress) (out : List ℤ) (r : Progress) (after : List ℤ) : Type 0 where
-  pub progress : r ≡ past k p (readLine 12 k (drop (p .at) bs))
-  pub numbers : after ≡ written k (p .numbers) (readLine 12 k (drop (p .at) bs)) out
+  pub progress : r ≡ past k p (readLine fileWidth k (drop (p .at) bs))
+  pub numbers : after ≡ written k (p .numbers) (readLine fileWidth k (drop (p .at) bs)) out
+
+-- the line that begins at p has room in the list `out`: where it is well formed, its numbers fit
+pub record LineRoom (bs : List ℕ) (k : ℕ) (p : Progress) (out : List ℤ) : Type 0 where
+  pub within : p .at ≤ length bs
+  pub front : p .numbers ≤ length out
+  pub fits : (zs : List ℤ) → readLine fileWidth k (drop (p .at) bs) ≡ some zs → p .numbers + k ≤ length out
 
 -- ---- lines
 
@@ -40,22 +45,23 @@ linesOf g = replicate (g .lines) (g .columns)
 
 -- all numbers of a file, where those in the list `out` are read and lines with these many columns are still to be read
 unfoldable pub allNumbers : List ℕ → List ℕ → Progress → List ℤ → List ℤ
-allNumbers bs ks p out = take (p .numbers) out ++ cond (p .going) (readLines 12 ks (drop (p .at) bs)) []
-
--- the columns of some lines
-unfoldable pub total : List ℕ → ℕ
-total [] = 0
-total (k ∷ ks) = k + total ks
+allNumbers bs ks p out = take (p .numbers) out ++ cond (p .going) (readLines fileWidth ks (drop (p .at) bs)) []
 
 -- lines with these many columns are read: from p and the list `out` to r and `after`
 pub record LinesTaken (bs ks : List ℕ) (p : Progress) (out : List ℤ) (r : Progress) (after : List ℤ) : Type 0 where
   pub same : (rest : List ℕ) → allNumbers bs (ks ++ rest) p out ≡ allNumbers bs rest r after
   pub more : p .numbers ≤ r .numbers
-  pub most : r .numbers ≤ p .numbers + total ks
+  pub there : r .numbers ≤ length after
   pub within : r .at ≤ length bs
   pub others : drop (r .numbers) after ≡ drop (r .numbers) out
 
--- the groups of a table fit a list of n numbers after those that are read, with one number more for bytes left over
-pub record Room (p : Progress) (gs : List Group) (n : ℕ) : Type 0 where
-  pub known : Known gs
-  pub fits : p .numbers + numbersIn gs < n
+-- the list `out` has room for all numbers of such a file
+pub record Room (bs ks : List ℕ) (p : Progress) (out : List ℤ) : Type 0 where
+  pub within : p .at ≤ length bs
+  pub front : p .numbers ≤ length out
+  pub fits : length (allNumbers bs ks p out) ≤ length out
+
+-- the same, where other lines may follow these
+pub record RoomBefore (bs ks : List ℕ) (p : Progress) (out : List ℤ) : Type 0 where
+  pub after : List ℕ
+  pub room : Room bs (ks ++ after) p out

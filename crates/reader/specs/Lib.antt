@@ -6,3 +6,5 @@ pub mod WrittenBack
 pub mod Listed
 pub mod OnePass
 pub mod HowFar
+pub mod Most
+pub mod TableBytes

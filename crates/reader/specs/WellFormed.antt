@@ -1,5 +1,5 @@
 -- Well-formed lines and files, said of the bytes (document 01, 'The two files'): "Every number is decimal, right-justified in a column of 12 characters, filled with spaces", "A line is its columns and one byte 10."
--- The column's width w is a parameter: 12 in a file. Lines are counted from 0 here; a place counts from 1.
+-- The column's width w is a parameter: `fileWidth` in a file. Lines are counted from 0 here; a place counts from 1.
 use mathlib.Core.Path.{_≡_}
 use mathlib.Core.Logic.{_⊎_, _≢_}
 use mathlib.Core.List.{List, [], _∷_, _++_}
@@ -7,8 +7,8 @@ use Prim.Native.Nat.{ℕ, _+_, _≤_, _<_}
 use lib.IntN.{ℤ}
 use lib.ListN.{length, take, drop}
 use Rattle.scope.specs.Columns.{Rule, ruleNumber}
-use Rattle.scope.specs.Layout.{Group, Layout, width, groups, lineCount}
-use Rattle.scope.specs.Sound.{AllWithin, AllSay, groupAt}
+use Rattle.scope.specs.Layout.{Group, Layout, width, groups, lineCount, groupAt}
+use Rattle.scope.specs.Statements.{AllWithin, AllSay}
 use Rattle.reader.specs.Spelling.{spelling}
 use Rattle.reader.specs.File.{lineBytes, widths, columns}
 

@@ -3,7 +3,8 @@ use mathlib.Core.Path.{_≡_}
 use mathlib.Core.List.{List}
 use Prim.Native.Nat.{ℕ}
 use Rattle.scope.specs.declared.Outcome.the-variants.{Passed}
-use Rattle.scope.specs.Layout.{Layout, linesCheck}
+use Rattle.scope.specs.Layout.{Layout}
+use Rattle.scope.specs.Verdict.{linesCheck}
 use Rattle.reader.specs.File.{numbersOf, fileOf}
 
 abbrev pub WrittenBack : ℕ → Layout → List ℕ → Type 0

@@ -3,7 +3,11 @@ ghost use mathlib.Core.Path.{_≡_};
 ghost use Prim.Native.Nat.{_+_, _≤_, _<_};
 ghost use lib.ListN.{length, take, drop};
 ghost use Rattle.reader.specs.Spelling.{readColumn};
+ghost use Rattle.reader.specs.File.{fileWidth};
 ghost use Rattle.reader.specs.OnePass.{Table, Stepped, Said, Partway, OnlySpaces, Joined, FourBytes, FourStepped, readingOf};
+
+// The bytes of a column.
+pub const COLUMN_BYTES: usize = 12;
 
 // What is kept of the bytes so far: the phase, which says what they spell, and the value of their digits.
 struct Kept {
@@ -112,12 +116,12 @@ fn said(c: Kept) -> Reading
 
 // What the rest of a column says, from its byte `from` on, after the state c.
 fn rest_of(table: &[u64; 256], bytes: &[u8], at: usize, from: usize, c: Kept) -> Reading
-    requires { ⌜ Table (now table) ⌝ ∗ ⌜ at + 12 ≤ length (now bytes) ⌝ ∗ ⌜ Partway (now bytes) at from c ⌝ }
-    ensures { λ r. ⌜ r ≡ readingOf (readColumn (take 12 (drop at (now (bytes .entry))))) ⌝ }
+    requires { ⌜ Table (now table) ⌝ ∗ ⌜ at + fileWidth ≤ length (now bytes) ⌝ ∗ ⌜ Partway (now bytes) at from c ⌝ }
+    ensures { λ r. ⌜ r ≡ readingOf (readColumn (take fileWidth (drop at (now (bytes .entry))))) ⌝ }
 {
     let mut kept = c;
     let mut i = from;
-    while i < 12 {
+    while i < COLUMN_BYTES {
         kept = step(table, kept, bytes[at + i]);
         i += 1;
     }
@@ -152,8 +156,8 @@ fn four_steps(table: &[u64; 256], c: Kept, four: u64) -> Kept
 
 // A column of which the first eight bytes are taken, as two numbers.
 fn wide(table: &[u64; 256], bytes: &[u8], at: usize, first: u64, second: u64) -> Reading
-    requires { ⌜ Table (now table) ⌝ ∗ ⌜ at + 12 ≤ length (now bytes) ⌝ ∗ ⌜ FourBytes (now bytes) at first ⌝ ∗ ⌜ FourBytes (now bytes) (at + 4) second ⌝ }
-    ensures { λ r. ⌜ r ≡ readingOf (readColumn (take 12 (drop at (now (bytes .entry))))) ⌝ }
+    requires { ⌜ Table (now table) ⌝ ∗ ⌜ at + fileWidth ≤ length (now bytes) ⌝ ∗ ⌜ FourBytes (now bytes) at first ⌝ ∗ ⌜ FourBytes (now bytes) (at + 4) second ⌝ }
+    ensures { λ r. ⌜ r ≡ readingOf (readColumn (take fileWidth (drop at (now (bytes .entry))))) ⌝ }
 {
     let blank = Kept {
         phase: BLANK,
@@ -166,11 +170,11 @@ fn wide(table: &[u64; 256], bytes: &[u8], at: usize, first: u64, second: u64) ->
 
 // A column of which the first eight bytes are spaces. Spaces leave the state as it is, so for speed the others are passed over too.
 fn narrow(table: &[u64; 256], bytes: &[u8], at: usize) -> Reading
-    requires { ⌜ Table (now table) ⌝ ∗ ⌜ at + 12 ≤ length (now bytes) ⌝ ∗ ⌜ OnlySpaces (now bytes) at 8 ⌝ }
-    ensures { λ r. ⌜ r ≡ readingOf (readColumn (take 12 (drop at (now (bytes .entry))))) ⌝ }
+    requires { ⌜ Table (now table) ⌝ ∗ ⌜ at + fileWidth ≤ length (now bytes) ⌝ ∗ ⌜ OnlySpaces (now bytes) at 8 ⌝ }
+    ensures { λ r. ⌜ r ≡ readingOf (readColumn (take fileWidth (drop at (now (bytes .entry))))) ⌝ }
 {
     let mut i: usize = 8;
-    while i < 12 {
+    while i < COLUMN_BYTES {
         let b = bytes[at + i];
         if b != 32 {
             let blank = Kept {
@@ -187,8 +191,8 @@ fn narrow(table: &[u64; 256], bytes: &[u8], at: usize) -> Reading
 
 // The column whose first byte has the place `at`. Most bytes of a large claim are spaces, so for speed eight are taken at once.
 pub fn column(table: &[u64; 256], bytes: &[u8], at: usize) -> Reading
-    requires { ⌜ Table (now table) ⌝ ∗ ⌜ at + 12 ≤ length (now bytes) ⌝ }
-    ensures { λ r. ⌜ r ≡ readingOf (readColumn (take 12 (drop at (now (bytes .entry))))) ⌝ }
+    requires { ⌜ Table (now table) ⌝ ∗ ⌜ at + fileWidth ≤ length (now bytes) ⌝ }
+    ensures { λ r. ⌜ r ≡ readingOf (readColumn (take fileWidth (drop at (now (bytes .entry))))) ⌝ }
 {
     let first = four_bytes(bytes, at);
     let second = four_bytes(bytes, at + 4);

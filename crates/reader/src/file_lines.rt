@@ -1,17 +1,20 @@
 // Lines of columns into numbers: a line's numbers are written where the whole line is well formed.
+use crate::column::COLUMN_BYTES;
 use crate::column::Reading;
 use crate::column::column;
+use lines::layout::GROUPS;
 use lines::layout::Group;
+use mesh::sizes::MOST_SIDES;
 ghost use mathlib.Core.Path.{_≡_};
 ghost use mathlib.Core.Bool.{cond};
 ghost use mathlib.Core.List.{[], _++_};
 ghost use mathlib.Core.Option.{none, some};
-ghost use Prim.Native.Nat.{_+_, _*_, _≤_, _<_};
+ghost use Prim.Native.Nat.{_+_, _≤_};
 ghost use lib.ListN.{length, take, drop};
-ghost use Rattle.lines.specs.Table.{lineWidths};
+ghost use Rattle.lines.specs.Table.{mostColumns, Known, lineWidths};
 ghost use Rattle.reader.specs.OnePass.{Table};
-ghost use Rattle.reader.specs.File.{readLine};
-ghost use Rattle.reader.specs.HowFar.{start, LineTaken, linesOf, LinesTaken, allNumbers, Room};
+ghost use Rattle.reader.specs.File.{fileWidth, readLine};
+ghost use Rattle.reader.specs.HowFar.{start, LineTaken, LineRoom, linesOf, LinesTaken, allNumbers, Room, RoomBefore};
 ghost use Rattle.reader.specs.Listed.{Listed};
 
 // How far a file is read: whether its lines so far are all well formed, the place of its next byte, and how many numbers it has so far.
@@ -23,10 +26,10 @@ pub struct Progress {
 
 // The line of some columns whose first byte has the place `at`: whether it is well formed, and its numbers.
 fn read_line(table: &[u64; 256], bytes: &[u8], at: usize, columns: usize, line: &mut [i64]) -> bool
-    requires { ⌜ Table (now table) ⌝ ∗ ⌜ at ≤ length (now bytes) ⌝ ∗ ⌜ columns ≤ length (now line) ⌝ ∗ ⌜ columns ≤ 36 ⌝ }
-    ensures { λ r. ⌜ readLine 12 columns (drop at (now (bytes .entry))) ≡ cond r (some (take columns (now (line .exit)))) none ⌝ }
+    requires { ⌜ Table (now table) ⌝ ∗ ⌜ at ≤ length (now bytes) ⌝ ∗ ⌜ columns ≤ length (now line) ⌝ ∗ ⌜ columns ≤ mostColumns ⌝ }
+    ensures { λ r. ⌜ readLine fileWidth columns (drop at (now (bytes .entry))) ≡ cond r (some (take columns (now (line .exit)))) none ⌝ }
 {
-    if bytes.len() - at < columns * 12 + 1 {
+    if bytes.len() - at < columns * COLUMN_BYTES + 1 {
         return false;
     }
     let mut from = at;
@@ -37,7 +40,7 @@ fn read_line(table: &[u64; 256], bytes: &[u8], at: usize, columns: usize, line: 
             return false;
         };
         line[j] = z;
-        from += 12;
+        from += COLUMN_BYTES;
         j += 1;
     }
     bytes[from] == 10
@@ -64,7 +67,7 @@ fn next_line(
     line: &mut [i64],
     out: &mut [i64],
 ) -> Progress
-    requires { ⌜ Table (now table) ⌝ ∗ ⌜ p .at ≤ length (now bytes) ⌝ ∗ ⌜ columns ≤ 36 ⌝ ∗ ⌜ columns ≤ length (now line) ⌝ ∗ ⌜ p .numbers + columns ≤ length (now out) ⌝ }
+    requires { ⌜ Table (now table) ⌝ ∗ ⌜ columns ≤ mostColumns ⌝ ∗ ⌜ columns ≤ length (now line) ⌝ ∗ ⌜ LineRoom (now bytes) columns p (now out) ⌝ }
     ensures { λ r. ⌜ LineTaken (now (bytes .entry)) columns p (now (out .entry)) r (now (out .exit)) ⌝ }
 {
     let at = p.at;
@@ -79,7 +82,7 @@ fn next_line(
     copy(line, columns, out, numbers);
     Progress {
         going: true,
-        at: at + columns * 12 + 1,
+        at: at + columns * COLUMN_BYTES + 1,
         numbers: numbers + columns,
     }
 }
@@ -93,7 +96,7 @@ fn read_group(
     line: &mut [i64],
     out: &mut [i64],
 ) -> Progress
-    requires { ⌜ Table (now table) ⌝ ∗ ⌜ p .at ≤ length (now bytes) ⌝ ∗ ⌜ g .columns ≤ 36 ⌝ ∗ ⌜ 36 ≤ length (now line) ⌝ ∗ ⌜ p .numbers + g .lines * g .columns ≤ length (now out) ⌝ }
+    requires { ⌜ Table (now table) ⌝ ∗ ⌜ g .columns ≤ mostColumns ⌝ ∗ ⌜ mostColumns ≤ length (now line) ⌝ ∗ ⌜ RoomBefore (now bytes) (linesOf g) p (now out) ⌝ }
     ensures { λ r. ⌜ LinesTaken (now (bytes .entry)) (linesOf g) p (now (out .entry)) r (now (out .exit)) ⌝ }
 {
     let lines = g.lines;
@@ -112,7 +115,7 @@ fn read_group(
 
 // After the last line: bytes left over add one number more.
 fn finish(bytes: &[u8], p: Progress, out: &mut [i64]) -> usize
-    requires { ⌜ p .numbers < length (now out) ⌝ }
+    requires { ⌜ Room (now bytes) [] p (now out) ⌝ }
     ensures { λ r. ⌜ Listed (allNumbers (now (bytes .entry)) [] p (now (out .entry))) (now (out .entry)) r (now (out .exit)) ⌝ }
 {
     let numbers = p.numbers;
@@ -129,7 +132,7 @@ fn finish(bytes: &[u8], p: Progress, out: &mut [i64]) -> usize
 
 // The header, which is the first line, of so many columns.
 pub fn read_header(table: &[u64; 256], bytes: &[u8], columns: usize, out: &mut [i64]) -> Progress
-    requires { ⌜ Table (now table) ⌝ ∗ ⌜ columns ≤ 36 ⌝ ∗ ⌜ columns ≤ length (now out) ⌝ }
+    requires { ⌜ Table (now table) ⌝ ∗ ⌜ columns ≤ mostColumns ⌝ ∗ ⌜ LineRoom (now bytes) columns start (now out) ⌝ }
     ensures { λ r. ⌜ LineTaken (now (bytes .entry)) columns start (now (out .entry)) r (now (out .exit)) ⌝ }
 {
     let start = Progress {
@@ -137,7 +140,7 @@ pub fn read_header(table: &[u64; 256], bytes: &[u8], columns: usize, out: &mut [
         at: 0,
         numbers: 0,
     };
-    let mut line = [0; 36];
+    let mut line = [0; MOST_SIDES];
     next_line(table, bytes, start, columns, &mut line, out)
 }
 
@@ -146,16 +149,16 @@ fn read_all(
     table: &[u64; 256],
     bytes: &[u8],
     p: Progress,
-    groups: [Group; 4],
+    groups: [Group; GROUPS],
     line: &mut [i64],
     out: &mut [i64],
 ) -> Progress
-    requires { ⌜ Table (now table) ⌝ ∗ ⌜ p .at ≤ length (now bytes) ⌝ ∗ ⌜ 36 ≤ length (now line) ⌝ ∗ ⌜ Room p groups (length (now out)) ⌝ }
+    requires { ⌜ Table (now table) ⌝ ∗ ⌜ mostColumns ≤ length (now line) ⌝ ∗ ⌜ Known groups ⌝ ∗ ⌜ Room (now bytes) (lineWidths groups) p (now out) ⌝ }
     ensures { λ r. ⌜ LinesTaken (now (bytes .entry)) (lineWidths groups) p (now (out .entry)) r (now (out .exit)) ⌝ }
 {
     let mut q = p;
     let mut k: usize = 0;
-    while k < 4 {
+    while k < GROUPS {
         q = read_group(table, bytes, q, groups[k], line, out);
         k += 1;
     }
@@ -167,13 +170,13 @@ pub fn read_groups(
     table: &[u64; 256],
     bytes: &[u8],
     p: Progress,
-    groups: [Group; 4],
+    groups: [Group; GROUPS],
     out: &mut [i64],
 ) -> usize
-    requires { ⌜ Table (now table) ⌝ ∗ ⌜ p .at ≤ length (now bytes) ⌝ ∗ ⌜ Room p groups (length (now out)) ⌝ }
+    requires { ⌜ Table (now table) ⌝ ∗ ⌜ Known groups ⌝ ∗ ⌜ Room (now bytes) (lineWidths groups) p (now out) ⌝ }
     ensures { λ r. ⌜ Listed (allNumbers (now (bytes .entry)) (lineWidths groups) p (now (out .entry))) (now (out .entry)) r (now (out .exit)) ⌝ }
 {
-    let mut line = [0; 36];
+    let mut line = [0; MOST_SIDES];
     let q = read_all(table, bytes, p, groups, &mut line, out);
     finish(bytes, q, out)
 }

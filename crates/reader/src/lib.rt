@@ -2,16 +2,32 @@
 mod column;
 mod file_lines;
 
+use crate::column::COLUMN_BYTES;
 use crate::column::table;
 use crate::file_lines::Progress;
 use crate::file_lines::read_groups;
 use crate::file_lines::read_header;
+use lines::layout::CLAIM_HEADER;
+use lines::layout::GROUPS;
+use lines::layout::Group;
+use lines::layout::STRESS_COLUMNS;
 use lines::layout::claim_groups;
 use lines::layout::has_part;
 use lines::layout::mesh_groups;
-use lines::layout::total_of;
 use lines::line_checks::claim_header;
 use lines::line_checks::mesh_header;
+use mesh::sizes::EDGE_COLUMNS;
+use mesh::sizes::EDGE_ROWS;
+use mesh::sizes::ELEMENT_COLUMNS;
+use mesh::sizes::ELEMENT_ROWS;
+use mesh::sizes::MESH_HEADER;
+use mesh::sizes::MOST_EDGES;
+use mesh::sizes::MOST_ELEMENTS;
+use mesh::sizes::MOST_NODES;
+use mesh::sizes::MOST_SIDES;
+use mesh::sizes::MOST_SOILS;
+use mesh::sizes::NODE_COLUMNS;
+use mesh::sizes::SOIL_COLUMNS;
 use mesh::sizes::Sizes;
 use mesh::sizes::header_sizes;
 use scope::Outcome;
@@ -21,28 +37,55 @@ ghost use lib.ListN.{length};
 ghost use Rattle.scope.specs.Columns.{hasField, hasMultipliers};
 ghost use Rattle.scope.specs.Mesh.{meshLayout};
 ghost use Rattle.mesh.specs.MeshContracts.{HeaderThere, FewThings};
-ghost use Rattle.lines.specs.Table.{claimBody};
-ghost use Rattle.reader.specs.File.{numbersOf, widths};
+ghost use Rattle.lines.specs.Table.{Known, claimBody};
+ghost use Rattle.reader.specs.File.{fileWidth, numbersOf, widths};
 ghost use Rattle.reader.specs.OnePass.{Table};
-ghost use Rattle.reader.specs.HowFar.{allNumbers};
-ghost use Rattle.reader.specs.Listed.{Listed, claimRoom, ClaimListed};
+ghost use Rattle.reader.specs.HowFar.{allNumbers, Room};
+ghost use Rattle.reader.specs.Listed.{Listed, ClaimRoom, ClaimListed};
+ghost use Rattle.reader.specs.Most.{mostNumbers};
+ghost use Rattle.reader.specs.TableBytes.{mostBytes, bytesIn};
+
+// The most numbers of a mesh file, and of a claim file: their headers, as many lines as there can be, and one for bytes left over.
+pub const MESH_ROOM: usize = MESH_HEADER
+    + MOST_SOILS * SOIL_COLUMNS
+    + MOST_NODES * NODE_COLUMNS
+    + MOST_ELEMENTS * ELEMENT_COLUMNS
+    + MOST_EDGES * EDGE_COLUMNS
+    + 1;
+
+pub const CLAIM_ROOM: usize = CLAIM_HEADER
+    + MOST_NODES * STRESS_COLUMNS
+    + MOST_ELEMENTS * ELEMENT_ROWS
+    + MOST_EDGES * EDGE_ROWS
+    + MOST_NODES * MOST_SIDES
+    + 1;
+
+// The bytes of a claim's header: a column takes `COLUMN_BYTES`, and a line one more.
+pub const CLAIM_HEADER_BYTES: usize = CLAIM_HEADER * COLUMN_BYTES + 1;
+
+// The most numbers of a file of so many bytes: each has a column, and bytes left over add one more.
+pub fn most_numbers(bytes: usize) -> usize
+    ensures { λ r. ⌜ r ≡ mostNumbers bytes ⌝ }
+{
+    bytes / COLUMN_BYTES + 1
+}
 
 // The lines after a mesh's header, which stands at the front of `out`.
 fn mesh_body(table: &[u64; 256], bytes: &[u8], p: Progress, out: &mut [i64]) -> usize
-    requires { ⌜ Table (now table) ⌝ ∗ ⌜ p .at ≤ length (now bytes) ⌝ ∗ ⌜ p .numbers ≡ 5 ⌝ ∗ ⌜ HeaderThere (now out) ⌝ ∗ ⌜ 1254 ≤ length (now out) ⌝ }
+    requires { ⌜ Table (now table) ⌝ ∗ ⌜ HeaderThere (now out) ⌝ ∗ ⌜ Room (now bytes) (widths (meshLayout .body (now out))) p (now out) ⌝ }
     ensures { λ r. ⌜ Listed (allNumbers (now (bytes .entry)) (widths (meshLayout .body (now (out .entry)))) p (now (out .entry))) (now (out .entry)) r (now (out .exit)) ⌝ }
 {
     let groups = mesh_groups(header_sizes(out));
     read_groups(table, bytes, p, groups, out)
 }
 
-// The numbers of a mesh file, and how many they are.
+// The numbers of a mesh file, and how many they are: the list that is lent has room for them.
 pub fn read_mesh(bytes: &[u8], out: &mut [i64]) -> usize
-    requires { ⌜ 1254 ≤ length (now out) ⌝ }
-    ensures { λ r. ⌜ Listed (numbersOf 12 meshLayout (now (bytes .entry))) (now (out .entry)) r (now (out .exit)) ⌝ }
+    requires { ⌜ length (numbersOf fileWidth meshLayout (now bytes)) ≤ length (now out) ⌝ }
+    ensures { λ r. ⌜ Listed (numbersOf fileWidth meshLayout (now (bytes .entry))) (now (out .entry)) r (now (out .exit)) ⌝ }
 {
     let entries = table();
-    let p = read_header(&entries, bytes, 5, out);
+    let p = read_header(&entries, bytes, MESH_HEADER, out);
     if !p.going {
         return 0;
     }
@@ -53,17 +96,9 @@ pub fn read_mesh(bytes: &[u8], out: &mut [i64]) -> usize
     mesh_body(&entries, bytes, p, out)
 }
 
-// Room for the numbers of a claim on a mesh of these sizes: those of a claim with both parts, and one for bytes left over.
-pub fn claim_room(s: Sizes) -> usize
-    requires { ⌜ FewThings s ⌝ }
-    ensures { λ r. ⌜ r ≡ claimRoom s ⌝ }
-{
-    4 + total_of(claim_groups(s, true, true), 1, 0) + 1
-}
-
 // The lines after a claim's header, which stands at the front of `out`.
 fn claim_body(table: &[u64; 256], bytes: &[u8], p: Progress, s: Sizes, out: &mut [i64]) -> usize
-    requires { ⌜ Table (now table) ⌝ ∗ ⌜ p .at ≤ length (now bytes) ⌝ ∗ ⌜ p .numbers ≡ 4 ⌝ ∗ ⌜ FewThings s ⌝ ∗ ⌜ claimRoom s ≤ length (now out) ⌝ }
+    requires { ⌜ Table (now table) ⌝ ∗ ⌜ FewThings s ⌝ ∗ ⌜ Room (now bytes) (widths (claimBody s (hasField (now out)) (hasMultipliers (now out)))) p (now out) ⌝ }
     ensures { λ r. ⌜ Listed (allNumbers (now (bytes .entry)) (widths (claimBody s (hasField (now (out .entry))) (hasMultipliers (now (out .entry))))) p (now (out .entry))) (now (out .entry)) r (now (out .exit)) ⌝ }
 {
     let groups = claim_groups(s, has_part(out, 0), has_part(out, 1));
@@ -72,11 +107,11 @@ fn claim_body(table: &[u64; 256], bytes: &[u8], p: Progress, s: Sizes, out: &mut
 
 // The numbers of a claim file, and how many they are: for every mesh of these sizes.
 pub fn read_claim(bytes: &[u8], s: Sizes, out: &mut [i64]) -> usize
-    requires { ⌜ FewThings s ⌝ ∗ ⌜ claimRoom s ≤ length (now out) ⌝ }
+    requires { ⌜ ClaimRoom (now bytes) s (now out) ⌝ }
     ensures { λ r. ⌜ ClaimListed (now (bytes .entry)) s (now (out .entry)) r (now (out .exit)) ⌝ }
 {
     let entries = table();
-    let p = read_header(&entries, bytes, 4, out);
+    let p = read_header(&entries, bytes, CLAIM_HEADER, out);
     if !p.going {
         return 0;
     }
@@ -85,4 +120,19 @@ pub fn read_claim(bytes: &[u8], s: Sizes, out: &mut [i64]) -> usize
         return p.numbers;
     };
     claim_body(&entries, bytes, p, s, out)
+}
+
+// The bytes of the lines of a table: a column takes `COLUMN_BYTES`, and a line one more.
+pub fn body_bytes(groups: [Group; GROUPS]) -> usize
+    requires { ⌜ Known groups ⌝ }
+    ensures { λ r. ⌜ r ≡ bytesIn groups ⌝ ∗ ⌜ r ≤ mostBytes ⌝ }
+{
+    let mut sum: usize = 0;
+    let mut i: usize = 0;
+    while i < GROUPS {
+        let g = groups[i];
+        sum += g.lines * (g.columns * COLUMN_BYTES + 1);
+        i += 1;
+    }
+    sum
 }

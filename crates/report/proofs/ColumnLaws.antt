@@ -10,7 +10,7 @@ use mir.Syntax.{w64}
 use mir.Val.{Fits}
 use borrow.Author.Fill.{fill-none, fill-more}
 use Rattle.integer.specs.Decimal.{digits, lastDigits, rightJustified}
-use Rattle.integer.specs.DecimalLaws.{digits-one, digits-more}
+use Rattle.integer.proofs.DecimalLaws.{digits-one, digits-more}
 use Rattle.report.specs.Text.{noneText}
 use Rattle.report.specs.Column.{endingAt, Ends}
 use Rattle.report.proofs.Text.{digits-length-64}

@@ -12,8 +12,8 @@ use lib.Signed.{_<ℤ_, clashℤ}
 use mir.Syntax.{w64}
 use mir.Val.{SFits, toZ, ofZ}
 use mir.Facts.{toZ-ofZ}
-use Rattle.integer.specs.Order.{nonneg}
-use Rattle.integer.specs.Linear.{linear, facts, nothing}
+use Rattle.integer.proofs.Order.{nonneg}
+use Rattle.integer.proofs.Linear.{linear, facts, nothing}
 use Rattle.report.specs.declared.division.Digit.{Digit}
 use Rattle.report.specs.declared.division.Parts.{Parts}
 use Rattle.report.specs.declared.division.Quotient.{Quotient}

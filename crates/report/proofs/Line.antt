@@ -10,12 +10,13 @@ use lib.IntN.{ℤ, pos, negsuc, natAbs, negℤ, _*ℤ_, _+ℤ_, _-ℤ_}
 use lib.Signed.{leZ-yes}
 use lib.ListN.{length, take, drop, length-append}
 use lib.Seq.{take-at, drop-append-add}
-use Rattle.integer.specs.Laws.{natAbs-negℤ, natAbs-*ℤ}
-use Rattle.integer.specs.Order.{≤ℤ-pos}
+use Rattle.integer.proofs.RingLaws.{natAbs-negℤ, natAbs-*ℤ}
+use Rattle.integer.proofs.Order.{≤ℤ-pos}
 use Rattle.integer.specs.Fraction.{_over_, _≤ᶠ_, _<ᶠ_}
 use Rattle.integer.specs.Decimal.{digits, rightJustified}
-use Rattle.integer.specs.DecimalLaws.{rightJustified-length}
-use Rattle.integer.specs.Round.{floorDiv, ceilDiv, Floor, Ceil, floorDiv-is, ceilDiv-is}
+use Rattle.integer.proofs.DecimalLaws.{rightJustified-length}
+use Rattle.integer.specs.Round.{floorDiv, ceilDiv, Floor, Ceil}
+use Rattle.integer.proofs.RoundLaws.{floorDiv-is, ceilDiv-is}
 use Rattle.scope.specs.declared.Load.{Load}
 use Rattle.scope.specs.declared.Load.the-variants.{Absent, Exact}
 use Rattle.scope.specs.declared.OpenRows.{OpenRows}

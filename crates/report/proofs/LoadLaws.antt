@@ -15,11 +15,11 @@ use mir.Syntax.{w64}
 use mir.Val.{Fits, SFits}
 use mir.Facts.{toZ-ofZ}
 use borrow.Author.Tests.{lt-ltb}
-use Rattle.integer.specs.Machine.{is-true, is-false}
-use Rattle.integer.specs.Tests.{leZ-no}
-use Rattle.integer.specs.Order.{nonneg, ≤ℤ-pos}
+use Rattle.integer.proofs.Machine.{is-true, is-false}
+use Rattle.integer.proofs.TestLaws.{leZ-no}
+use Rattle.integer.proofs.Order.{nonneg, ≤ℤ-pos}
 use Rattle.integer.specs.Decimal.{digits, lastDigits, rightJustified}
-use Rattle.integer.specs.DecimalLaws.{digits-length, lastDigits-length}
+use Rattle.integer.proofs.DecimalLaws.{digits-length, lastDigits-length}
 use Rattle.integer.specs.Round.{floorDiv, ceilDiv}
 use Rattle.scope.specs.declared.Load.{Load}
 use Rattle.scope.specs.declared.Load.the-variants.{Absent, Exact}

@@ -14,7 +14,7 @@ use lib.ListN.{length, replicate, length-append}
 use borrow.Author.Tests.{ne-eqb}
 use mir.Facts.{and-yes, yes-and}
 use Rattle.integer.specs.Decimal.{digits, lastDigits, rightJustified, properDigits, isDigit, allDigits, valueAfter}
-use Rattle.integer.specs.DecimalLaws.{digits-length, value-digits, digits-proper, digits-some, proper-all, first-digit, lastDigits-length, lastDigits-digits, lastDigits-value}
+use Rattle.integer.proofs.DecimalLaws.{digits-length, value-digits, digits-proper, digits-some, proper-all, first-digit, lastDigits-length, lastDigits-digits, lastDigits-value}
 use Rattle.report.specs.Text.{pointed, fixed, noneText, word, number, MinusSaid, beforePoint, afterPoint, decimal, saidNumber, belowZero, saidMinus, andSaid, signedDecimal, isNone, said}
 
 -- ---- before and after the point

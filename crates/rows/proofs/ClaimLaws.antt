@@ -9,13 +9,15 @@ use native.Mathlib.Omega.{arith}
 use lib.IntN.{ℤ, pos}
 use lib.ListN.{length, getD, take, drop, length-drop}
 use lib.Seq.{getD-drop, take-all}
-use Rattle.integer.specs.Bounds.{Within, Within-le, AllWithin, all-within, AllWithin-drop}
+use Rattle.integer.specs.Bounds.{Within, AllWithin}
+use Rattle.integer.proofs.BoundLaws.{Within-le, all-within, AllWithin-drop}
 use Rattle.integer.specs.Tests.{eqZ}
+use Rattle.scope.specs.Bounds.{mostScale, mostLoad, mostStress, mostMultiplier, strengthMultiplier}
 use Rattle.scope.specs.Columns.{at, hasField, hasMultipliers, n, l}
 use Rattle.scope.specs.Layout.{groups, numbersBefore}
 use Rattle.scope.specs.Mesh.{nodes, elements, edges, sides, equalityCount}
 use Rattle.scope.specs.Claim.{claimHeader, claimLayout, ifThere, stressLines, stress, multiplier}
-use Rattle.scope.specs.Facts.{ClaimFacts}
+use Rattle.scope.specs.NumberRanges.{ClaimFacts}
 use Rattle.scope.proofs.SumBounds.{between, from-0}
 use Rattle.rows.specs.RowContracts.{multipliersFrom}
 
@@ -57,7 +59,7 @@ module _ {m c : List ℤ} (f : ClaimFacts m c) where
   unfolding hasMultipliers
   multipliers-not e k = flagged (f .multipliersFlag) k .1 e
 
-  header-within : (i : ℕ) → i < 4 → Within 1000000000 (at c i)
+  header-within : (i : ℕ) → i < 4 → Within mostStress (at c i)
   unfolding n l
   header-within zero h = Within-le (flag (f .fieldFlag)) (omega arith)
   header-within (suc zero) h = Within-le (flag (f .multipliersFlag)) (omega arith)
@@ -65,7 +67,7 @@ module _ {m c : List ℤ} (f : ClaimFacts m c) where
   header-within (suc (suc (suc zero))) h = Within-le (between (f .lRange)) (omega arith)
   header-within (suc (suc (suc (suc i)))) h = absurd (omega arith)
 
-  pub stress-within : at c 0 ≡ pos 1 → (j : ℕ) → j < nodes m * 3 → Within 1000000000 (at c (4 + j))
+  pub stress-within : at c 0 ≡ pos 1 → (j : ℕ) → j < nodes m * 3 → Within mostStress (at c (4 + j))
   unfolding stress groups claimLayout claimHeader numbersBefore
   stress-within e j h = between (f .stressRange e j h)
 
@@ -73,11 +75,11 @@ module _ {m c : List ℤ} (f : ClaimFacts m c) where
   unfolding multiplier groups claimLayout claimHeader stressLines numbersBefore multipliersFrom
   multiplier-at k = ap (λ n. at c (n + k)) (omega arith)
 
-  pub equality-within : at c 1 ≡ pos 1 → (k : ℕ) → k < equalityCount m → Within 100000 (at c (multipliersFrom m c + k))
-  equality-within e k h = subst (Within 100000) (multiplier-at k) (between (f .equalityRange e k h))
+  pub equality-within : at c 1 ≡ pos 1 → (k : ℕ) → k < equalityCount m → Within mostMultiplier (at c (multipliersFrom m c + k))
+  equality-within e k h = subst (Within mostMultiplier) (multiplier-at k) (between (f .equalityRange e k h))
 
-  pub strength-within : at c 1 ≡ pos 1 → (k : ℕ) → k < nodes m * sides m → Within 10000 (at c (multipliersFrom m c + (equalityCount m + k)))
-  strength-within e k h = subst (Within 10000) (multiplier-at _) (from-0 (f .strengthRange e k h))
+  pub strength-within : at c 1 ≡ pos 1 → (k : ℕ) → k < nodes m * sides m → Within (strengthMultiplier (sides m)) (at c (multipliersFrom m c + (equalityCount m + k)))
+  strength-within e k h = subst (Within (strengthMultiplier (sides m))) (multiplier-at _) (from-0 (f .strengthRange e k h))
 
   -- where the multipliers begin and where the claim ends
   pub with-multipliers : at c 1 ≡ pos 1 → length c ≡ multipliersFrom m c + (equalityCount m) + nodes m * sides m
@@ -88,38 +90,38 @@ module _ {m c : List ℤ} (f : ClaimFacts m c) where
   unfolding multipliersFrom
   without-multipliers e = f .size ∙ rw (multipliers-not e (elements m), multipliers-not e (edges m), multipliers-not e (nodes m)) (omega (arith, zero-mul (sides m)))
 
-  stress-part : (i : ℕ) → 4 ≤ i → i < multipliersFrom m c → Within 1000000000 (at c i)
+  stress-part : (i : ℕ) → 4 ≤ i → i < multipliersFrom m c → Within mostStress (at c i)
   unfolding multipliersFrom
   stress-part i h k = ⊎-elim none some (f .fieldFlag)
     where
-      none : at c 0 ≡ pos 0 → Within 1000000000 (at c i)
+      none : at c 0 ≡ pos 0 → Within mostStress (at c i)
       none e = absurd (omega (arith, field-not e (nodes m)))
 
-      some : at c 0 ≡ pos 1 → Within 1000000000 (at c i)
+      some : at c 0 ≡ pos 1 → Within mostStress (at c i)
       some e =
           let same : 4 + (i - 4) ≡ i = omega arith in
-          subst (λ j. Within 1000000000 (at c j)) same (stress-within e (i - 4) (omega (arith, field-there e (nodes m))))
+          subst (λ j. Within mostStress (at c j)) same (stress-within e (i - 4) (omega (arith, field-there e (nodes m))))
 
-  multiplier-part : (i : ℕ) → multipliersFrom m c ≤ i → i < length c → Within 1000000000 (at c i)
+  multiplier-part : (i : ℕ) → multipliersFrom m c ≤ i → i < length c → Within mostStress (at c i)
   multiplier-part i h k = ⊎-elim none (λ e. some e (decLt (i - multipliersFrom m c) (equalityCount m))) (f .multipliersFlag)
     where
-      none : at c 1 ≡ pos 0 → Within 1000000000 (at c i)
+      none : at c 1 ≡ pos 0 → Within mostStress (at c i)
       none e = absurd (omega (arith, without-multipliers e))
 
-      some : at c 1 ≡ pos 1 → Dec (i - multipliersFrom m c < equalityCount m) → Within 1000000000 (at c i)
+      some : at c 1 ≡ pos 1 → Dec (i - multipliersFrom m c < equalityCount m) → Within mostStress (at c i)
       some e (yes d) =
           let same : multipliersFrom m c + (i - multipliersFrom m c) ≡ i = omega arith in
-          subst (λ j. Within 1000000000 (at c j)) same (Within-le (equality-within e (i - multipliersFrom m c) d) (omega arith))
+          subst (λ j. Within mostStress (at c j)) same (Within-le (equality-within e (i - multipliersFrom m c) d) (omega arith))
       some e (no d) =
           let j : ℕ = i - multipliersFrom m c - (equalityCount m) in
           let same : multipliersFrom m c + (equalityCount m + j) ≡ i = omega arith in
-          subst (λ j. Within 1000000000 (at c j)) same (Within-le (strength-within e j (omega (arith, with-multipliers e))) (omega arith))
+          subst (λ j. Within mostStress (at c j)) same (Within-le (strength-within e j (omega (arith, with-multipliers e))) (omega arith))
 
-  pub claim-within : AllWithin 1000000000 c
+  pub claim-within : AllWithin mostStress c
   unfolding at
   claim-within = all-within c (λ i h. by i h (decLt i 4) (decLt i (multipliersFrom m c)))
     where
-      by : (i : ℕ) → i < length c → Dec (i < 4) → Dec (i < multipliersFrom m c) → Within 1000000000 (getD c i (pos 0))
+      by : (i : ℕ) → i < length c → Dec (i < 4) → Dec (i < multipliersFrom m c) → Within mostStress (getD c i (pos 0))
       by i h (yes a) b = header-within i a
       by i h (no a) (yes b) = stress-part i (omega arith) b
       by i h (no a) (no b) = multiplier-part i (omega arith) h
@@ -136,10 +138,10 @@ pub stress-of : (m c : List ℤ) → stress m c ≡ at (take (length c - 4) (dro
 stress-of m c = stress-is m c ∙ ap at (sym (rest-is 4 c))
 
 module _ {m c : List ℤ} (f : ClaimFacts m c) where
-  pub scale-within : Within 100000 (n c)
+  pub scale-within : Within mostScale (n c)
   scale-within = from-0 (f .nRange)
 
-  pub load-within : Within 100000000 (l c)
+  pub load-within : Within mostLoad (l c)
   load-within = between (f .lRange)
 
   -- the stresses are there

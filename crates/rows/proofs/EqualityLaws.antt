@@ -1,5 +1,5 @@
 -- The equality rows as numbers: each number of a balance row or of a side row is that of the definition, and within its bound.
-use mathlib.Core.Path.{_≡_, refl, sym, _∙_}
+use mathlib.Core.Path.{_≡_, refl, sym, _∙_, subst}
 use mathlib.Core.Bool.{Bool, true, false, not, _||_}
 use mathlib.Core.List.{List, [], _∷_}
 use Prim.Native.Nat.{ℕ, zero, suc, _+_, _*_, _<_, zero-le}
@@ -8,17 +8,23 @@ use native.Mathlib.Omega.{arith}
 use lib.IntN.{ℤ, pos, _+ℤ_, _-ℤ_, _*ℤ_, negℤ}
 use lib.Dec.{T}
 use lib.ListN.{length, getD, replicate}
-use Rattle.integer.specs.Linear.{linear, _&_}
-use Rattle.integer.specs.Bounds.{Within, Within-le, Within-pos, Within-negℤ, Within-+ℤ, Within--ℤ, Within-*ℤ, AllWithin, AllWithin-le, bounds}
-use Rattle.integer.specs.Machine.{Is, Is-Within, within-literal}
+use Rattle.integer.specs.Bounds.{Within, AllWithin, Is}
+use Rattle.integer.proofs.BoundLaws.{Within-le, Within-pos, Within-negℤ, Within--ℤ, Within-*ℤ, AllWithin-le, bounds}
+use Rattle.integer.proofs.Machine.{Is-read, Is-Within, within-literal}
+use mir.Syntax.{w64}
+use mir.Val.{toZ, ofZ}
 use Rattle.integer.specs.Tests.{eqZ}
-use Rattle.rows.specs.declared.row_sums.EqualityRow.{EqualityRow}
-use Rattle.integer.specs.Ring.{ring, terms}
+use Rattle.integer.proofs.RingLaws.{*ℤ-assoc}
+use Rattle.rows.specs.declared.equality_rows.EqualityRow.{EqualityRow}
+use Rattle.rows.specs.declared.equality_rows.Squares.{Squares}
+use Rattle.integer.proofs.Ring.{ring, terms}
 use Rattle.scope.specs.Mesh.{nodes, elements, x, y, corner, elementSoil, soilEntry, liveX, liveY, deadX, deadY, edges, edgeEntry, fromNode, toNode}
-use Rattle.scope.specs.Rows.{Row, equalityRows, joined, countFrom, node, sx, sy, t, riseAcross, runAcross, crossAt, twiceArea, balanceX, balanceY, stepX, stepY, stepSquare, fixedIf, normalRow, shearRow}
-use Rattle.scope.specs.Verdict.{rowAt}
-use Rattle.scope.specs.Facts.{Between, MeshFacts}
-use Rattle.rows.specs.RowContracts.{pairs, rowOf, RowFits, Filled, cornerColumns, balancedOf, normalOf, shearOf}
+use Rattle.scope.specs.Rows.{Row, equalityRows, joined, countFrom, node, sx, sy, t, riseAcross, runAcross, twiceArea, balanceX, balanceY, stepX, stepY, stepSquare, fixedIf, normalRow, shearRow}
+use Rattle.scope.specs.NumberRanges.{MeshFacts}
+use Rattle.rows.specs.RowContracts.{pairs, rowOf, RowFits, Filled, cornerColumns, balancedOf, SquaresAre, SquaresFit, normalOf, shearOf}
+use Rattle.scope.specs.Bounds.{mostCoordinate, mostTraction, mostSquare, mostCoefficient, equalityRight}
+use Rattle.scope.proofs.SumBounds.{area-is}
+use Rattle.scope.specs.Tests.{rowAt}
 use Rattle.rows.proofs.RowLaws.{balance-at, side-at}
 
 -- ---- a balance row
@@ -45,12 +51,6 @@ module _ (m : List ℤ) (e : ℕ) where
   run-next-opposite : runAcross m e 3 ≡ negℤ (runAcross m e 1)
   unfolding runAcross node
   run-next-opposite = ring (x m (corner m e 0) ∷ x m (corner m e 2) ∷ []) (search terms depth 100) refl
-
-  pub area-is : riseAcross m e 0 *ℤ runAcross m e 1 -ℤ riseAcross m e 1 *ℤ runAcross m e 0 ≡ twiceArea m e
-  unfolding riseAcross runAcross twiceArea crossAt node
-  area-is =
-      ring (x m (corner m e 0) ∷ x m (corner m e 1) ∷ x m (corner m e 2) ∷ x m (corner m e 3) ∷ y m (corner m e 0) ∷ y m (corner m e 1) ∷ y m (corner m e 2) ∷ y m (corner m e 3) ∷ [])
-      (search terms depth 100) refl
 
   balanceX-is : (live right : ℤ) → live ≡ twiceArea m e *ℤ liveX m (elementSoil m e) → right ≡ negℤ (twiceArea m e *ℤ deadX m (elementSoil m e))
       → rowOf (balancedOf (riseAcross m e 0) (riseAcross m e 1) (runAcross m e 0) (runAcross m e 1) (cornerColumns m e 0) live right) ≡ balanceX m e
@@ -99,7 +99,7 @@ module _ (m : List ℤ) (facts : MeshFacts m) (e : ℕ) (l : e < elements m) whe
       let c₃ = c 3 (omega arith) in
       below-cons (omega arith) (below-cons (omega arith) (below-cons (omega arith) (below-cons (omega arith) (below-cons (omega arith) (below-cons (omega arith) (below-cons (omega arith) (below-cons (omega arith) below-nil)))))))
 
-  balanced-fits : {a a′ b b′ live right : ℤ} (first : ℕ) → first < 2 → Within 1000 a → Within 1000 a′ → Within 1000 b → Within 1000 b′ → Within 20000000000 live → Within 20000000000 right
+  balanced-fits : {a a′ b b′ live right : ℤ} (first : ℕ) → first < 2 → Within mostCoordinate a → Within mostCoordinate a′ → Within mostCoordinate b → Within mostCoordinate b′ → Within equalityRight live → Within equalityRight right
       → RowFits (balancedOf a a′ b b′ (cornerColumns m e first) live right) (3 * nodes m)
   unfolding balancedOf cornerColumns
   balanced-fits first f ha ha′ hb hb′ hl hr = record {
@@ -118,8 +118,8 @@ module _ (m : List ℤ) (facts : MeshFacts m) (e : ℕ) (l : e < elements m) whe
       eight first = refl
 
   module _ (area : ℤ) {r : EqualityRow} {a a′ b b′ live right : ℤ} {columns : List ℕ} (e₀ : r ≡ balancedOf a a′ b b′ columns live right) where
-    pub balance-x-filled : Is a (riseAcross m e 0) 1000 → Is a′ (riseAcross m e 1) 1000 → Is b (runAcross m e 0) 1000 → Is b′ (runAcross m e 1) 1000 → columns ≡ cornerColumns m e 0 → area ≡ a *ℤ b′ -ℤ a′ *ℤ b
-        → Is live (area *ℤ soilEntry m (elementSoil m e) 6) 20000000000 → Is right (negℤ (area *ℤ soilEntry m (elementSoil m e) 4)) 20000000000 → Filled r (balanceX m e) (3 * nodes m)
+    pub balance-x-filled : Is a (riseAcross m e 0) mostCoordinate → Is a′ (riseAcross m e 1) mostCoordinate → Is b (runAcross m e 0) mostCoordinate → Is b′ (runAcross m e 1) mostCoordinate → columns ≡ cornerColumns m e 0 → area ≡ a *ℤ b′ -ℤ a′ *ℤ b
+        → Is live (area *ℤ soilEntry m (elementSoil m e) 6) equalityRight → Is right (negℤ (area *ℤ soilEntry m (elementSoil m e) 4)) equalityRight → Filled r (balanceX m e) (3 * nodes m)
     unfolding liveX deadX
     balance-x-filled ha ha′ hb hb′ hc he hl hr =
         let same : area ≡ twiceArea m e = he ∙ rw (ha .same, ha′ .same, hb .same, hb′ .same) (area-is m e) in
@@ -129,8 +129,8 @@ module _ (m : List ℤ) (facts : MeshFacts m) (e : ℕ) (l : e < elements m) whe
           fits = balanced-fits 0 (omega arith) (ha .inside) (ha′ .inside) (hb .inside) (hb′ .inside) (Is-Within hl (le-refl _)) (Is-Within hr (le-refl _));
         })
 
-    pub balance-y-filled : Is a (runAcross m e 0) 1000 → Is a′ (runAcross m e 1) 1000 → Is b (riseAcross m e 0) 1000 → Is b′ (riseAcross m e 1) 1000 → columns ≡ cornerColumns m e 1 → area ≡ b *ℤ a′ -ℤ b′ *ℤ a
-        → Is live (area *ℤ soilEntry m (elementSoil m e) 7) 20000000000 → Is right (negℤ (area *ℤ soilEntry m (elementSoil m e) 5)) 20000000000 → Filled r (balanceY m e) (3 * nodes m)
+    pub balance-y-filled : Is a (runAcross m e 0) mostCoordinate → Is a′ (runAcross m e 1) mostCoordinate → Is b (riseAcross m e 0) mostCoordinate → Is b′ (riseAcross m e 1) mostCoordinate → columns ≡ cornerColumns m e 1 → area ≡ b *ℤ a′ -ℤ b′ *ℤ a
+        → Is live (area *ℤ soilEntry m (elementSoil m e) 7) equalityRight → Is right (negℤ (area *ℤ soilEntry m (elementSoil m e) 5)) equalityRight → Filled r (balanceY m e) (3 * nodes m)
     unfolding liveY deadY
     balance-y-filled ha ha′ hb hb′ hc he hl hr =
         let same : area ≡ twiceArea m e = he ∙ rw (ha .same, ha′ .same, hb .same, hb′ .same) (area-is m e) in
@@ -156,16 +156,37 @@ pub as-three : {k₀ k₁ k₂ c₀ c₁ c₂ v w live right : ℤ} (j₀ j₁ j
     (record { coefficients = c₀ ∷ c₁ ∷ c₂ ∷ replicate 5 (pos 0); columns = j₀ ∷ j₁ ∷ j₂ ∷ replicate 5 0; count = 3; live = live; right = right; asked = fixed })
 as-three j₀ j₁ j₂ fixed e₀ e₁ e₂ f g = rw (e₀, e₁, e₂, f, g)
 
-module _ (m : List ℤ) (g v : ℕ) where
-  normal-is : rowOf (normalOf (stepX m g) (stepY m g) (3 * v) (edgeEntry m g 3) (edgeEntry m g 5) (eqZ (edgeEntry m g 2) (pos 1) || eqZ (edgeEntry m g 2) (pos 3))) ≡ normalRow m g v
+-- the products of a step as they are handed on
+pub record SquaresRead (uu uw ww square u w : ℤ) : Type 0 where
+  pub uuIs : Is uu (u *ℤ u) (mostCoordinate * mostCoordinate)
+  pub uwIs : Is uw (u *ℤ w) (mostCoordinate * mostCoordinate)
+  pub wwIs : Is ww (w *ℤ w) (mostCoordinate * mostCoordinate)
+  pub squareIs : Is square (u *ℤ u +ℤ w *ℤ w) mostSquare
+
+module _ (m : List ℤ) (g v : ℕ) {uu uw ww square : ℤ} (h : SquaresRead uu uw ww square (stepX m g) (stepY m g)) where
+  normal-is : rowOf (normalOf uu uw ww square (3 * v) (edgeEntry m g 3) (edgeEntry m g 5) (eqZ (edgeEntry m g 2) (pos 1) || eqZ (edgeEntry m g 2) (pos 3))) ≡ normalRow m g v
   unfolding rowOf normalOf pairs normalRow stepSquare fixedIf sx sy t
-  normal-is = refl
+  normal-is = rw (h .uuIs .same, h .uwIs .same, h .wwIs .same, h .squareIs .same, ← *ℤ-assoc (pos 2) (stepX m g) (stepY m g))
 
-  shear-is : rowOf (shearOf (stepX m g) (stepY m g) (3 * v) (edgeEntry m g 4) (edgeEntry m g 6) (eqZ (edgeEntry m g 2) (pos 2) || eqZ (edgeEntry m g 2) (pos 3))) ≡ shearRow m g v
+  shear-is : rowOf (shearOf uu uw ww square (3 * v) (edgeEntry m g 4) (edgeEntry m g 6) (eqZ (edgeEntry m g 2) (pos 2) || eqZ (edgeEntry m g 2) (pos 3))) ≡ shearRow m g v
   unfolding rowOf shearOf pairs shearRow stepSquare fixedIf sx sy t
-  shear-is = refl
+  shear-is = rw (h .uuIs .same, h .uwIs .same, h .wwIs .same, h .squareIs .same)
 
-zeros : AllWithin 2000000 (replicate 5 (pos 0))
+pub squares-read : {q : Squares} {u w : ℤ} → SquaresAre q u w → SquaresRead (toZ w64 (ofZ w64 (q .uu))) (toZ w64 (ofZ w64 (q .uw))) (toZ w64 (ofZ w64 (q .ww))) (toZ w64 (ofZ w64 (q .square))) u w
+squares-read h = record {
+  uuIs = Is-read (h .uu) (omega arith);
+  uwIs = Is-read (h .uw) (omega arith);
+  wwIs = Is-read (h .ww) (omega arith);
+  squareIs = Is-read (h .square) (omega arith);
+}
+
+pub squares-as : {q : Squares} {u w u′ w′ : ℤ} → u ≡ u′ → w ≡ w′ → SquaresAre q u w → SquaresAre q u′ w′
+squares-as {q} {w = w} {u′ = u′} e f h = subst (λ z. SquaresAre q u′ z) f (subst (λ z. SquaresAre q z w) e h)
+
+pub squares-fit : {uu uw ww square u w : ℤ} → SquaresRead uu uw ww square u w → SquaresFit uu uw ww square
+squares-fit h = record { first = Is-Within (h .uuIs) (le-refl _); mixed = Is-Within (h .uwIs) (le-refl _); second = Is-Within (h .wwIs) (le-refl _); both = Is-Within (h .squareIs) (le-refl _) }
+
+zeros : AllWithin mostCoefficient (replicate 5 (pos 0))
 zeros = let z = within-literal tt in within-cons z (within-cons z (within-cons z (within-cons z (within-cons z within-nil))))
 
 three : (a b c i : ℕ) {n : ℕ} → i < 3 → a < n → b < n → c < n → getD (a ∷ b ∷ c ∷ replicate 5 0) i 0 < n
@@ -175,48 +196,47 @@ three a b c (suc (suc zero)) h ha hb hc = hc
 three a b c (suc (suc (suc i))) h ha hb hc = absurd (omega arith)
 
 -- a row of three entries at node v
-module _ {n v : ℕ} {u w dead live : ℤ} (l : v < n) (hu : Within 1000 u) (hw : Within 1000 w) (hd : Within 10000 dead) (hl : Within 10000 live) where
-  square-within : Within 2000000 (u *ℤ u +ℤ w *ℤ w)
-  square-within = Within-le (Within-+ℤ (Within-*ℤ hu hu) (Within-*ℤ hw hw)) (omega arith)
-
-  normal-fits : (fixed : Bool) → RowFits (normalOf u w (3 * v) dead live fixed) (3 * n)
+module _ {n v : ℕ} {uu uw ww square dead live : ℤ} (l : v < n) (f : SquaresFit uu uw ww square) (hd : Within mostTraction dead) (hl : Within mostTraction live) (fixed : Bool) where
+  normal-fits : RowFits (normalOf uu uw ww square (3 * v) dead live fixed) (3 * n)
   unfolding normalOf
-  normal-fits fixed = record {
+  normal-fits = record {
     entries = record {
       long = refl;
       wide = refl;
       few = omega arith;
-      coefficientsFit = within-cons (Within-le (Within-*ℤ hw hw) (omega arith)) (within-cons (Within-negℤ (Within-le (Within-*ℤ (Within-*ℤ (Within-pos 2) hu) hw) (omega arith))) (within-cons (Within-le (Within-*ℤ hu hu) (omega arith)) zeros));
+      coefficientsFit =
+          within-cons (Within-le (f .second) (omega arith))
+          (within-cons (Within-negℤ (Within-*ℤ (Within-pos 2) (f .mixed))) (within-cons (Within-le (f .first) (omega arith)) zeros));
       columnsFit = λ i h. three (3 * v) (3 * v + 2) (3 * v + 1) i h (omega arith) (omega arith) (omega arith);
     };
-    liveFits = Within-negℤ (Within-le (Within-*ℤ square-within hl) (omega arith));
-    rightFits = Within-le (Within-*ℤ square-within hd) (omega arith);
+    liveFits = Within-negℤ (Within-*ℤ (f .both) hl);
+    rightFits = Within-*ℤ (f .both) hd;
   }
 
-  shear-fits : (fixed : Bool) → RowFits (shearOf u w (3 * v) dead live fixed) (3 * n)
+  shear-fits : RowFits (shearOf uu uw ww square (3 * v) dead live fixed) (3 * n)
   unfolding shearOf
-  shear-fits fixed = record {
+  shear-fits = record {
     entries = record {
       long = refl;
       wide = refl;
       few = omega arith;
-      coefficientsFit = within-cons (Within-le (Within-*ℤ hu hw) (omega arith)) (within-cons (Within-negℤ (Within-le (Within-*ℤ hu hw) (omega arith))) (within-cons (Within-le (Within--ℤ (Within-*ℤ hw hw) (Within-*ℤ hu hu)) (omega arith)) zeros));
+      coefficientsFit =
+          within-cons (Within-le (f .mixed) (omega arith))
+          (within-cons (Within-negℤ (Within-le (f .mixed) (omega arith))) (within-cons (Within-le (Within--ℤ (f .second) (f .first)) (omega arith)) zeros));
       columnsFit = λ i h. three (3 * v) (3 * v + 1) (3 * v + 2) i h (omega arith) (omega arith) (omega arith);
     };
-    liveFits = Within-negℤ (Within-le (Within-*ℤ square-within hl) (omega arith));
-    rightFits = Within-le (Within-*ℤ square-within hd) (omega arith);
+    liveFits = Within-negℤ (Within-*ℤ (f .both) hl);
+    rightFits = Within-*ℤ (f .both) hd;
   }
 
-module _ (m : List ℤ) (g v : ℕ) (l : v < nodes m) {r : EqualityRow} {u w dead live f : ℤ} {fixed : Bool} (hu : Is u (stepX m g) 1000) (hw : Is w (stepY m g) 1000) (hf : f ≡ edgeEntry m g 2) where
-  pub normal-filled : r ≡ normalOf u w (3 * v) dead live fixed → fixed ≡ (eqZ f (pos 1) || eqZ f (pos 3)) → Is dead (edgeEntry m g 3) 10000 → Is live (edgeEntry m g 5) 10000 → Filled r (normalRow m g v) (3 * nodes m)
+module _ (m : List ℤ) (g v : ℕ) (l : v < nodes m) {r : EqualityRow} {uu uw ww square dead live f : ℤ} {fixed : Bool} (h : SquaresRead uu uw ww square (stepX m g) (stepY m g)) (hf : f ≡ edgeEntry m g 2) where
+  pub normal-filled : r ≡ normalOf uu uw ww square (3 * v) dead live fixed → fixed ≡ (eqZ f (pos 1) || eqZ f (pos 3)) → Is dead (edgeEntry m g 3) mostTraction → Is live (edgeEntry m g 5) mostTraction → Filled r (normalRow m g v) (3 * nodes m)
   normal-filled e ef hd hl =
-      rw (e, hu .same, hw .same, hd .same, hl .same, ef, hf)
-      (record { is = normal-is m g v; fits = normal-fits l (hu .inside) (hw .inside) (hd .inside) (hl .inside) _ })
+      rw (e, hd .same, hl .same, ef, hf) (record { is = normal-is m g v h; fits = normal-fits l (squares-fit h) (hd .inside) (hl .inside) _ })
 
-  pub shear-filled : r ≡ shearOf u w (3 * v) dead live fixed → fixed ≡ (eqZ f (pos 2) || eqZ f (pos 3)) → Is dead (edgeEntry m g 4) 10000 → Is live (edgeEntry m g 6) 10000 → Filled r (shearRow m g v) (3 * nodes m)
+  pub shear-filled : r ≡ shearOf uu uw ww square (3 * v) dead live fixed → fixed ≡ (eqZ f (pos 2) || eqZ f (pos 3)) → Is dead (edgeEntry m g 4) mostTraction → Is live (edgeEntry m g 6) mostTraction → Filled r (shearRow m g v) (3 * nodes m)
   shear-filled e ef hd hl =
-      rw (e, hu .same, hw .same, hd .same, hl .same, ef, hf)
-      (record { is = shear-is m g v; fits = shear-fits l (hu .inside) (hw .inside) (hd .inside) (hl .inside) _ })
+      rw (e, hd .same, hl .same, ef, hf) (record { is = shear-is m g v h; fits = shear-fits l (squares-fit h) (hd .inside) (hl .inside) _ })
 
 -- ---- rows by their place
 

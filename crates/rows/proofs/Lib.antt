@@ -1,7 +1,11 @@
--- laws
-pub mod SideLaws
-pub mod RowLaws
+-- Laws that the functions' proofs cite: polygons, equality rows, strength rows, then sums over all rows.
 pub mod SumLaws
-pub mod EqualityLaws
+pub mod RowLaws
+pub mod SideLaws
 pub mod ClaimLaws
+pub mod EqualityLaws
 pub mod StrengthLaws
+pub mod MultiplierLaws
+pub mod NodeLaws
+pub mod LimitLaws
+pub mod OpenLaws

@@ -8,7 +8,7 @@ use lib.ListN.{length}
 use Rattle.scope.specs.Mesh.{nodes, elements, edges, sides, p, q, h, cohesion, fromNode, toNode, equalityCount}
 use Rattle.scope.specs.Polygon.{Side, polygonOf}
 use Rattle.scope.specs.Rows.{Row, balanceX, balanceY, normalRow, shearRow, nodeSoil, strengthRow, strengthRows, equalityRows, rowsOf}
-use Rattle.scope.specs.Verdict.{rowAt}
+use Rattle.scope.specs.Tests.{rowAt}
 use Rattle.scope.specs.RowNumbers as S
 use Rattle.rows.specs.RowContracts.{Listed, sideAt, EntriesFit}
 use Rattle.scope.proofs.RowNumbers as N

@@ -1,25 +1,29 @@
 -- The sides of a polygon and their numbers: by induction on the list of corners, and a store for each number of a side.
 use mathlib.Core.Path.{_≡_, refl, sym, _∙_, ap, subst}
-use mathlib.Core.Bool.{Bool, true, _&&_}
 use mathlib.Core.List.{List, [], _∷_, _++_, List·Memᴰ·head, List·Memᴰ·tail}
 use Prim.Native.Nat.{ℕ, zero, suc, _+_, _*_, _≤_, _<_}
 use mathlib.Core.Logic.{_⊎_, inl, inr, ⊎-elim}
 use native.Mathlib.Decide.{decLt}
+use native.Mathlib.Nat.{le-refl, le-trans}
 use native.Mathlib.Omega.{arith}
 use native.Mathlib.Numerals.{add-one}
 use borrow.Author.Tests.{lt-ltb, le-ltb}
-use lib.Dec.{T, leb, leb→le}
-use mir.Facts.{and-yes}
 use lib.IntN.{ℤ, pos, natAbs}
 use lib.ListN.{length, getD, set, replicate, length-set, length-replicate, List·getD-append}
 use lib.Seq.{getD-set-same, getD-set-other, getD-append-seam}
-use Rattle.integer.specs.Bounds.{Within, all-within}
+use Rattle.integer.specs.Bounds.{Within}
+use Rattle.integer.proofs.BoundLaws.{Within-le, all-within}
+use Rattle.integer.proofs.Machine.{Is-as}
+use Rattle.rows.specs.declared.polygons.Step.{Step}
 use Rattle.scope.specs.Members.{_∈_}
 use Rattle.scope.specs.Columns.{at}
 use Rattle.scope.specs.Polygon.{Point, point, Side, Polygon, sidesTo, polygonSides, quarterTurn, fourQuadrants, twelve, twenty, thirtySix, polygonOf}
-use Rattle.scope.specs.PolygonRule.{PolygonRule}
+use Rattle.scope.specs.Mesh.{mostSides}
+use Rattle.scope.specs.Bounds.{mostRadius}
+use Rattle.scope.specs.PolygonRule.{PolygonFits, ListedPolygon}
 use Rattle.scope.specs.Rows.{cross}
-use Rattle.rows.specs.RowContracts.{Listed, next, coordinates, Table, Steps, tableRun, tableRise, tableCross, StepsUpTo, sideAt, runOf, riseOf, crossOf}
+use Rattle.rows.specs.RowContracts.{Listed, next, coordinates, Table, SideIs, StepIs, Steps, tableRun, tableRise, tableCross, StepsUpTo, sideAt, runOf, riseOf, crossOf}
+use Rattle.scope.proofs.PolygonRule.{legs-within}
 use Rattle.scope.proofs.RowCounts.{side-of-each}
 use Rattle.scope.proofs.Checks.{below-suc}
 
@@ -32,6 +36,15 @@ next-inner n k h = simp (lt-ltb _ _ h)
 pub next-last : (n k : ℕ) → n ≤ k + 1 → 0 ≡ next n k
 unfolding next
 next-last n k h = simp (le-ltb _ _ h)
+
+-- the side between two corners of a table is the table's
+pub step-is : {r : Step} {t : List ℤ} {n k j : ℕ} {a b c d : ℤ} → j ≡ next n k → a ≡ at t (2 * k) → b ≡ at t (2 * k + 1) → c ≡ at t (2 * j) → d ≡ at t (2 * j + 1) → SideIs r a b c d → StepIs r t n k
+unfolding tableRun tableRise tableCross
+step-is e ea eb ec ed h = record {
+  run = Is-as (h .run) (le-refl _) (rw (ea, ec, e));
+  rise = Is-as (h .rise) (le-refl _) (rw (eb, ed, e));
+  cross = Is-as (h .cross) (le-refl _) (rw (ea, eb, ec, ed, e));
+}
 
 -- ---- the numbers of one side more
 
@@ -46,7 +59,7 @@ module _ (r : List ℤ) (k : ℕ) (a b d : ℤ) where
       ∙ getD-set-other (set r (3 * k) a) (3 * k + 1) j b (pos 0) (λ e. omega arith)
       ∙ getD-set-other r (3 * k) j a (pos 0) (λ e. omega arith)
 
-  module _ (size : length r ≡ 108) (l : k < 36) where
+  module _ (size : length r ≡ 3 * mostSides) (l : k < mostSides) where
     first : getD stored (3 * k) (pos 0) ≡ a
     first =
         getD-set-other (set (set r (3 * k) a) (3 * k + 1) b) (3 * k + 2) (3 * k) d (pos 0) (λ e. omega arith)
@@ -61,10 +74,10 @@ module _ (r : List ℤ) (k : ℕ) (a b d : ℤ) where
     third : getD stored (3 * k + 2) (pos 0) ≡ d
     third = getD-set-same (set (set r (3 * k) a) (3 * k + 1) b) (3 * k + 2) d (pos 0) (simp length-set (omega arith))
 
-pub no-steps : (t : List ℤ) (n : ℕ) → StepsUpTo 0 (replicate 108 (pos 0)) t n
-no-steps t n = record { size = length-replicate 108 (pos 0); run = λ i h. absurd (omega arith); rise = λ i h. absurd (omega arith); cross = λ i h. absurd (omega arith) }
+pub no-steps : (t : List ℤ) (n : ℕ) → StepsUpTo 0 (replicate (3 * mostSides) (pos 0)) t n
+no-steps t n = record { size = length-replicate (3 * mostSides) (pos 0); run = λ i h. absurd (omega arith); rise = λ i h. absurd (omega arith); cross = λ i h. absurd (omega arith) }
 
-pub one-step-more : (t : List ℤ) (n k : ℕ) (r : List ℤ) {a b d : ℤ} → n ≤ 36 → k < n → StepsUpTo k r t n
+pub one-step-more : (t : List ℤ) (n k : ℕ) (r : List ℤ) {a b d : ℤ} → n ≤ mostSides → k < n → StepsUpTo k r t n
     → a ≡ tableRun t n k → b ≡ tableRise t n k → d ≡ tableCross t n k → StepsUpTo (k + 1) (stored r k a b d) t n
 one-step-more t n k r {a} {b} {d} most l h ea eb ed = record {
   size = simp length-set (h .size);
@@ -101,6 +114,18 @@ y-of-corner (v ∷ cs) (suc k) =
   where
     odd : (k : ℕ) → 2 * suc k + 1 ≡ suc (suc (2 * k + 1))
     odd k = omega arith
+
+length-coordinates : (cs : List Point) → length (coordinates cs) ≡ 2 * length cs
+unfolding coordinates
+length-coordinates [] = refl
+length-coordinates (v ∷ cs) = omega (arith, length-coordinates cs)
+
+coordinates-within : {B : ℕ} (cs : List Point) → ((v : Point) → v ∈ cs → Within B (v .px) × Within B (v .py)) → (i : ℕ) → i < length (coordinates cs) → Within B (getD (coordinates cs) i (pos 0))
+unfolding coordinates
+coordinates-within [] h i l = absurd (omega arith)
+coordinates-within (v ∷ cs) h zero l = h v (List·Memᴰ·head refl) .0
+coordinates-within (v ∷ cs) h (suc zero) l = h v (List·Memᴰ·head refl) .1
+coordinates-within (v ∷ cs) h (suc (suc i)) l = coordinates-within cs (λ w m. h w (List·Memᴰ·tail m)) i (omega arith)
 
 abbrev between : Point → Point → Side
 between v w = record { from = v; to = w }
@@ -160,56 +185,58 @@ getD-in [] k d h = absurd (omega arith)
 getD-in (a ∷ l) zero d h = List·Memᴰ·head refl
 getD-in (a ∷ l) (suc k) d h = List·Memᴰ·tail (getD-in l k d (omega arith))
 
-module _ (g : Polygon) {n step turn : ℕ} (rule : PolygonRule g n step turn) where
+module _ {g : Polygon} {n radius step product : ℕ} (f : PolygonFits g n radius step product) where
   side-in : (k : ℕ) → k < n → sideAt g k ∈ polygonSides (g .corners)
   unfolding sideAt
-  side-in k l = getD-in (polygonSides (g .corners)) k _ (omega (arith, side-of-each (g .corners), rule .count))
+  side-in k l = getD-in (polygonSides (g .corners)) k _ (omega (arith, side-of-each (g .corners), f .rule .count))
 
-  -- a polygon's numbers, within its largest step and its largest cross product
-  drawn : (r : List ℤ) → step ≤ 16 → turn ≤ 1183 → n ≤ 36 → StepsUpTo n r (coordinates (g .corners)) n → Steps g n r
-  unfolding runOf riseOf crossOf
-  drawn r hs ht hn u = record {
+  -- within its largest step and its largest cross product
+  pub run-within : (k : ℕ) → k < n → Within step (runOf (sideAt g k))
+  unfolding runOf
+  run-within k l = record { within = omega (arith, f .rule .largest-step .bounds (sideAt g k) (side-in k l)) }
+
+  pub rise-within : (k : ℕ) → k < n → Within step (riseOf (sideAt g k))
+  unfolding riseOf
+  rise-within k l = record { within = omega (arith, f .rule .largest-step .bounds (sideAt g k) (side-in k l)) }
+
+  pub cross-within : (k : ℕ) → k < n → Within product (crossOf (sideAt g k))
+  unfolding crossOf
+  cross-within k l = record { within = f .rule .largest-cross .bounds (sideAt g k) (side-in k l) }
+
+  -- a polygon's numbers, from the table of its corners
+  drawn : (r : List ℤ) → StepsUpTo n r (coordinates (g .corners)) n → Steps g n r
+  drawn r u = record {
     size = u .size;
-    most = hn;
-    run = λ k l. record { same = u .run k l ∙ run-is g n (rule .count) k l; inside = record { within = omega (arith, rule .largest-step .bounds (sideAt g k) (side-in k l)) } };
-    rise = λ k l. record { same = u .rise k l ∙ rise-is g n (rule .count) k l; inside = record { within = omega (arith, rule .largest-step .bounds (sideAt g k) (side-in k l)) } };
-    cross = λ k l. record { same = u .cross k l ∙ cross-is g n (rule .count) k l; inside = record { within = omega (arith, rule .largest-cross .bounds (sideAt g k) (side-in k l)) } };
+    most = f .fewSides;
+    run = λ k l. record { same = u .run k l ∙ run-is g n (f .rule .count) k l; inside = Within-le (run-within k l) (f .stepFits) };
+    rise = λ k l. record { same = u .rise k l ∙ rise-is g n (f .rule .count) k l; inside = Within-le (rise-within k l) (f .stepFits) };
+    cross = λ k l. record { same = u .cross k l ∙ cross-is g n (f .rule .count) k l; inside = Within-le (cross-within k l) (f .productFits) };
   }
 
-pub steps-of : (sides n : ℕ) {step turn : ℕ} → PolygonRule (polygonOf n) n step turn → step ≤ 16 → turn ≤ 1183 → n ≤ 36 → sides ≡ n
-    → (r : List ℤ) → StepsUpTo n r (coordinates (polygonOf n .corners)) n → Steps (polygonOf sides) sides r
-steps-of sides n rule hs ht hn e r u = subst (λ k. Steps (polygonOf k) k r) (sym e) (drawn (polygonOf n) rule r hs ht hn u)
+  corner-within : (v : Point) → v ∈ g .corners → Within mostRadius (v .px) × Within mostRadius (v .py)
+  corner-within v i =
+      let h = legs-within (g .radius) v (f .rule .on-circle v i) in
+      let r : natAbs (g .radius) ≤ mostRadius = rw (f .radiusIs) (f .radiusFits) in
+      (record { within = le-trans (h .0) r }, record { within = le-trans (h .1) r })
 
--- a table's bound, by one computed test
-small : ℕ → List ℤ → Bool
-small B [] = true
-small B (z ∷ l) = leb (natAbs z) B && small B l
+  -- the table of its corners: two numbers each, none larger than the radius
+  table-drawn : Table (coordinates (g .corners)) n
+  table-drawn = record {
+    size = length-coordinates (g .corners) ∙ ap (λ k. 2 * k) (f .rule .count);
+    most = f .fewSides;
+    bounds = all-within (coordinates (g .corners)) (coordinates-within (g .corners) corner-within);
+  }
 
-small-at : (B : ℕ) (l : List ℤ) → T (small B l) → (i : ℕ) → i < length l → Within B (getD l i (pos 0))
-unfolding small
-small-at B [] t i h = absurd (omega arith)
-small-at B (z ∷ l) t zero h = record { within = leb→le (natAbs z) B (and-yes (leb (natAbs z) B) (small B l) t .0) }
-small-at B (z ∷ l) t (suc i) h = small-at B l (and-yes (leb (natAbs z) B) (small B l) t .1) i (omega arith)
+pub table-of : {n : ℕ} → ListedPolygon n → Table (coordinates (polygonOf n .corners)) n
+table-of p = table-drawn (p .fits)
 
-table : (t : List ℤ) (n : ℕ) → length t ≡ 2 * n → n ≤ 36 → T (small 65 t) → Table t n
-table t n size most h = record { size = size; most = most; bounds = all-within t (small-at 65 t h) }
+pub steps-of : (sides : ℕ) {n : ℕ} → ListedPolygon n → sides ≡ n → (r : List ℤ) → StepsUpTo n r (coordinates (polygonOf n .corners)) n → Steps (polygonOf sides) sides r
+steps-of sides p e r u = subst (λ k. Steps (polygonOf k) k r) (sym e) (drawn (p .fits) r u)
 
 -- every definition that a table computes with
 unfoldable pub shown : Unit {0}
 unfolding coordinates polygonOf twelve twenty thirtySix fourQuadrants quarterTurn
 shown = tt
-
-pub twelve-table : Table (coordinates (polygonOf 12 .corners)) 12
-unfolding shown small
-twelve-table = table (coordinates (polygonOf 12 .corners)) 12 refl (omega arith) tt
-
-pub twenty-table : Table (coordinates (polygonOf 20 .corners)) 20
-unfolding shown small
-twenty-table = table (coordinates (polygonOf 20 .corners)) 20 refl (omega arith) tt
-
-pub thirty-six-table : Table (coordinates (polygonOf 36 .corners)) 36
-unfolding shown small
-thirty-six-table = table (coordinates (polygonOf 36 .corners)) 36 refl (omega arith) tt
 
 pub last-listed : {n : ℕ} → Listed n → (n ≡ 12 → ⊥) → (n ≡ 20 → ⊥) → n ≡ 36
 last-listed l a b = ⊎-elim (λ e. absurd (a e)) (λ r. ⊎-elim (λ e. absurd (b e)) (λ e. e) r) (l .listed)

@@ -11,17 +11,18 @@ use lib.Dec.{T}
 use lib.ListN.{length}
 use lib.Signed.{leZ, ltZ, _≤ℤ_, _<ℤ_, leZ-yes, ltZ-yes}
 use lib.IntN.{ℤ, pos, _+ℤ_, _-ℤ_, _*ℤ_, negℤ}
-use Rattle.integer.specs.Linear.{linear, facts, _&_}
-use Rattle.integer.specs.Ring.{ring, terms}
-use Rattle.integer.specs.Tests.{same-test, yes-leZ, yes-ltZ}
-use Rattle.scope.proofs.Facts.{some-sides}
+use Rattle.integer.proofs.Linear.{linear, facts, _&_}
+use Rattle.integer.proofs.Ring.{ring, terms}
+use Rattle.integer.proofs.TestLaws.{same-test, yes-leZ, yes-ltZ}
+use Rattle.scope.proofs.NumberRanges.{some-sides}
 use Rattle.scope.proofs.RowCounts.{strength-count}
 use Rattle.scope.proofs.SumBounds.{from-0}
 use Rattle.rows.proofs.RowLaws.{nodeRow, strength-at}
-use Rattle.integer.specs.Bounds.{Within}
-use Rattle.integer.specs.Machine.{Is, Is-as, Is-Within}
-use Rattle.scope.specs.Mesh.{nodes, sides, p, q, h, cohesion}
+use Rattle.integer.specs.Bounds.{Within, Is}
+use Rattle.integer.proofs.Machine.{Is-as, Is-Within}
+use Rattle.scope.specs.Mesh.{nodes, sides, p, q, h, cohesion, mostNodes, mostSides}
 use Rattle.mesh.specs.declared.sizes.Sizes.{Sizes}
+use Rattle.scope.specs.Bounds.{mostFriction, mostCohesion}
 use Rattle.scope.specs.Columns.{at, n, l}
 use Rattle.scope.specs.declared.Place.the-variants as P
 use Rattle.scope.specs.declared.Outcome.the-variants.{Passed, Refused}
@@ -30,10 +31,12 @@ use Rattle.scope.specs.Claim.{stress}
 use Rattle.scope.specs.Polygon.{Side, Polygon, polygonOf}
 use Rattle.scope.specs.Rows.{Row, sx, sy, t, nodeSoil, cross, strengthRow, strengthRows}
 use Rattle.scope.specs.Sums.{weightedSum, leftSide, rightSide, rowHolds, isOpen}
-use Rattle.scope.specs.Verdict.{rowAt}
-use Rattle.scope.specs.Facts.{Counts, SoilFacts}
+use Rattle.scope.specs.NumberRanges.{Counts, SoilFacts}
+use Rattle.scope.specs.Tests.{rowAt}
 use Rattle.mesh.specs.MeshContracts.{Sized}
-use Rattle.rows.specs.RowContracts.{Listed, SoilNumbers, SoilFits, NodeNumbers, NodeFits, NodeState, Steps, MeshSteps, StepsFit, sideAt, runOf, riseOf, crossOf, sideSlack, nodeHolds, strengthsCheck}
+use Rattle.rows.specs.RowContracts.{Listed, SoilNumbers, SoilFits, NodeOf, NodeNumbers, NodeFits, NodeState, Steps, MeshSteps, StepsFit, sideAt, runOf, riseOf, crossOf, sideSlack, nodeHolds}
+use Rattle.scope.specs.Phases.{checkPhase}
+use Rattle.scope.specs.Refusals.{strengthsPhase}
 use Rattle.lines.specs.SearchContracts.{firstFailing}
 use Rattle.lines.proofs.Loops.{each-below, all-of-each, all-cong, holds-before, fails-there, phase-at, phase-all}
 
@@ -43,22 +46,31 @@ being e h = record { same = e; inside = h }
 -- ---- the numbers of a soil
 
 module _ {m : List ℤ} {s : ℕ} (f : SoilFacts m s) where
-  pub p-within : Within 1000 (p m s)
+  pub p-within : Within mostFriction (p m s)
   p-within = from-0 (f .pRange)
 
-  pub q-within : Within 1000 (q m s)
+  pub q-within : Within mostFriction (q m s)
   q-within = from-0 (f .qRange)
 
-  pub h-within : Within 1000 (h m s)
+  pub h-within : Within mostFriction (h m s)
   h-within = from-0 (f .hRange)
 
-  pub cohesion-within : Within 10000 (cohesion m s)
+  pub cohesion-within : Within mostCohesion (cohesion m s)
   cohesion-within = from-0 (f .cohesionRange)
 
 pub soil-fits : {k m : List ℤ} {s : ℕ} {r : ℤ} → SoilNumbers k m s r → SoilFits k
 soil-fits h = record { size = h .size; lever = Is-Within (h .lever) (le-refl _); friction = Is-Within (h .friction) (le-refl _); right = Is-Within (h .right) (le-refl _) }
 
 -- ---- the numbers of a node at a field
+
+pub node-numbered : {d k x : List ℤ} {v : ℕ} {l f c a b z s n : ℤ} → l ≡ at k 0 → f ≡ at k 1 → c ≡ at k 2 → a ≡ at x (3 * v) → b ≡ at x (3 * v + 1) → z ≡ at x (3 * v + 2) → s ≡ n → NodeOf d l f c a b z s → NodeNumbers d k x v n
+node-numbered el ef ec ea eb ez es h = record {
+  size = h .size;
+  lever = Is-as (h .lever) (le-refl _) el;
+  spread = Is-as (h .spread) (le-refl _) (rw (ea, eb));
+  twist = Is-as (h .twist) (le-refl _) (rw ez);
+  reserve = Is-as (h .reserve) (le-refl _) (rw (ec, es, ef, ea, eb));
+}
 
 module _ (m c : List ℤ) (v : ℕ) {d k x : List ℤ} {soil : ℕ} {r n′ : ℤ} where
   pub node-stated : NodeNumbers d k x v n′ → SoilNumbers k m soil r → soil ≡ nodeSoil m v → r ≡ polygonOf (sides m) .radius → n′ ≡ n c → stress m c ≡ at x → NodeState d m c v
@@ -202,8 +214,8 @@ module _ (m c : List ℤ) (counts : Counts m) where
             subst (λ i. strengthTest m c i ≡ true) same
             (row-test steps h state rest (omega (arith, side-there)) ∙ holds-before (sideTest d tab) (sides m) f rest low)
 
-    refused : Refused 22 (P.Row (suc (v * sides m + k))) ≡ strengthsCheck (strengthRows m) (stress m c) (l c) (n c)
-    unfolding strengthsCheck
+    refused : Refused 22 (P.Row (suc (v * sides m + k))) ≡ checkPhase (strengthsPhase (strengthRows m) (stress m c) (l c) (n c))
+    unfolding checkPhase
     refused =
         phase-at (strengthTest m c) 22 (λ i. P.Row (suc i)) (length (strengthRows m)) before
         (omega (arith, strength-count m (counts .sidesListed), mul-le-mul-right (sides m) h, suc-mul v (sides m), side-there))
@@ -213,13 +225,13 @@ module _ (m c : List ℤ) (counts : Counts m) where
   -- the same by the counts of nodes and of sides that the code has
   pub strengths-refused : {tab d : List ℤ} {v k nodeCount sideCount : ℕ} → MeshSteps m tab → nodeCount ≡ nodes m → sideCount ≡ sides m
       → v ≡ firstFailing (nodeHolds m c) nodeCount → v < nodeCount → NodeState d m c v → k ≡ firstFailing (sideTest d tab) sideCount
-      → Refused 22 (P.Row (v * sideCount + k + 1)) ≡ strengthsCheck (strengthRows m) (stress m c) (l c) (n c)
+      → Refused 22 (P.Row (v * sideCount + k + 1)) ≡ checkPhase (strengthsPhase (strengthRows m) (stress m c) (l c) (n c))
   strengths-refused {tab} {d} {v} {k} steps en es e h state f =
       ap (λ i. Refused 22 (P.Row i)) (add-one _ ∙ ap (λ i. suc (v * i + k)) es)
       ∙ refused steps (e ∙ ap (firstFailing (nodeHolds m c)) en) (omega arith) state (f ∙ ap (firstFailing (sideTest d tab)) es)
 
-  pub strengths-passed : {v nodeCount : ℕ} → nodeCount ≡ nodes m → v ≡ firstFailing (nodeHolds m c) nodeCount → nodeCount ≤ v → Passed ≡ strengthsCheck (strengthRows m) (stress m c) (l c) (n c)
-  unfolding strengthsCheck
+  pub strengths-passed : {v nodeCount : ℕ} → nodeCount ≡ nodes m → v ≡ firstFailing (nodeHolds m c) nodeCount → nodeCount ≤ v → Passed ≡ checkPhase (strengthsPhase (strengthRows m) (stress m c) (l c) (n c))
+  unfolding checkPhase
   strengths-passed {nodeCount = nodeCount} en e h =
       phase-all (strengthTest m c) 22 (λ i. P.Row (suc i)) (length (strengthRows m))
       (λ j l. node-rows {v = nodes m} (λ u k. holds-before (nodeHolds m c) nodeCount e u (omega arith)) j (omega (arith, strength-count m (counts .sidesListed))))
@@ -228,5 +240,5 @@ module _ (m c : List ℤ) (counts : Counts m) where
 pub steps-as : {s n : ℕ} {tab : List ℤ} → s ≡ n → Steps (polygonOf s) s tab → Steps (polygonOf n) n tab
 steps-as {tab = tab} e h = subst (λ k. Steps (polygonOf k) k tab) e h
 
-pub first-row : {v n s : ℕ} → v < n → n ≤ 100 → s ≤ 36 → v * s < 10000
-first-row {v} {n} {s} h k l = omega (arith, mul-le-mul {n₁ = v} {m₁ = s} {n₂ = 99} {m₂ = 36} (omega arith) l)
+pub first-row : {v n s : ℕ} → v < n → n ≤ mostNodes → s ≤ mostSides → v * s < mostNodes * mostSides
+first-row {v} {n} {s} h k l = omega (arith, mul-le-mul {n₁ = v} {m₁ = s} {n₂ = mostNodes - 1} {m₂ = mostSides} (omega arith) l)

@@ -10,15 +10,16 @@ use lib.Dec.{T, T-not, eqb, eqb→eq, eqb-refl}
 use lib.IntN.{ℤ, pos, _+ℤ_, _*ℤ_, +ℤ-assoc, +ℤ-idl, +ℤ-idr}
 use lib.ListN.{length, getD, take, set, length-set}
 use lib.Seq.{getD-set-same, getD-set-other}
-use Rattle.integer.specs.Ring.{ring, terms}
-use Rattle.integer.specs.Bounds.{Within, Within-le, Within-+ℤ, Within-*ℤ, AllWithin}
-use Rattle.integer.specs.Machine.{Is, Is-as, Is-Within}
+use Rattle.integer.proofs.Ring.{ring, terms}
+use Rattle.integer.specs.Bounds.{Within, AllWithin, Is}
+use Rattle.integer.proofs.BoundLaws.{Within-le, Within-+ℤ, Within-*ℤ}
+use Rattle.integer.proofs.Machine.{Is-as, Is-Within}
+use Rattle.scope.specs.Bounds.{mostMultiplier, mostEntries, mostCoefficient, equalityColumn, mostColumn}
 use Rattle.scope.specs.Columns.{at}
 use Rattle.scope.specs.Rows.{Row}
 use Rattle.scope.specs.Sums.{weightedSum, weighed, unit, howMany}
-use Rattle.scope.specs.Verdict.{rowAt}
-use Rattle.rows.specs.RowContracts.{pairs, entriesOf, SumsAre}
-use Rattle.rows.specs.RowContracts.{sumBelow, countBelow, rowSum}
+use Rattle.scope.specs.Tests.{rowAt}
+use Rattle.rows.specs.RowContracts.{pairs, entriesOf, SumsAre, sumBelow, countBelow, rowSum}
 
 -- ---- the entries of a row
 
@@ -80,20 +81,24 @@ sums-add s i c l k h = record {
 abbrev addedUpTo : List ℤ → ℤ → List ℤ → List ℕ → ℕ → ℕ → ℤ
 addedUpTo s₀ y cs js i j = at s₀ j +ℤ y *ℤ weightedSum (unit j) (pairs (take i cs) (take i js))
 
+-- what one entry adds at most
+abbrev pub equalityEntry : ℕ
+equalityEntry = mostMultiplier * mostCoefficient
+
 pub record Adding (s₀ : List ℤ) (y : ℤ) (cs : List ℤ) (js : List ℕ) (i : ℕ) (s : List ℤ) : Type 0 where
   pub size : length s ≡ length s₀
-  pub sums : SumsAre (1000000000000000000 + i * 200000000000) s (addedUpTo s₀ y cs js i)
+  pub sums : SumsAre (mostColumn + i * equalityEntry) s (addedUpTo s₀ y cs js i)
 
 module _ (s₀ : List ℤ) (y : ℤ) (cs : List ℤ) (js : List ℕ) where
-  pub none-added : AllWithin 1000000000000000000 s₀ → Adding s₀ y cs js 0 s₀
+  pub none-added : AllWithin mostColumn s₀ → Adding s₀ y cs js 0 s₀
   unfolding weightedSum pairs
   none-added h = record { size = refl; sums = sums-as (sums-of h) (omega arith) (λ j. ring (at s₀ j ∷ y ∷ []) (search terms depth 100) refl) }
 
   pub entry-added : (i : ℕ) (s : List ℤ) {s′ : List ℤ} {c : ℤ} → Adding s₀ y cs js i s → i < length cs → i < length js → getD js i 0 < length s₀
-      → Is c (y *ℤ getD cs i (pos 0)) 200000000000 → s′ ≡ set s (getD js i 0) (at s (getD js i 0) +ℤ c) → Adding s₀ y cs js (i + 1) s′
+      → Is c (y *ℤ getD cs i (pos 0)) equalityEntry → s′ ≡ set s (getD js i 0) (at s (getD js i 0) +ℤ c) → Adding s₀ y cs js (i + 1) s′
   entry-added i s {s′} {c} h l k m e st = record {
     size = ap length st ∙ length-set s (getD js i 0) _ ∙ h .size;
-    sums = subst (λ z. SumsAre (1000000000000000000 + (i + 1) * 200000000000) z (addedUpTo s₀ y cs js (i + 1))) (sym st)
+    sums = subst (λ z. SumsAre (mostColumn + (i + 1) * equalityEntry) z (addedUpTo s₀ y cs js (i + 1))) (sym st)
         (sums-as (sums-add s (getD js i 0) c (omega (arith, h .size)) (Is-Within e (le-refl _)) (h .sums)) (omega arith) same);
   }
     where
@@ -101,7 +106,7 @@ module _ (s₀ : List ℤ) (y : ℤ) (cs : List ℤ) (js : List ℕ) where
       same j = rw (e .same, one-entry-more (unit j) cs js i l k)
           (ring (at s₀ j ∷ y ∷ weightedSum (unit j) (pairs (take i cs) (take i js)) ∷ getD cs i (pos 0) ∷ unit j (getD js i 0) ∷ []) (search terms depth 100) refl)
 
-  pub all-added : (i count : ℕ) {s : List ℤ} → i ≡ count → i ≤ 8 → Adding s₀ y cs js i s → SumsAre 1000001600000000000 s (λ j. at s₀ j +ℤ y *ℤ weightedSum (unit j) (entriesOf cs js count))
+  pub all-added : (i count : ℕ) {s : List ℤ} → i ≡ count → i ≤ mostEntries → Adding s₀ y cs js i s → SumsAre (mostColumn + equalityColumn) s (λ j. at s₀ j +ℤ y *ℤ weightedSum (unit j) (entriesOf cs js count))
   all-added i count e l h = sums-as (h .sums) (omega arith) (λ j. rw e)
 
 -- ---- sums below a number

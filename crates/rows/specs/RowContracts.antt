@@ -7,24 +7,26 @@ use Prim.Native.Nat.{ℕ, zero, suc, _+_, _*_, _≤_, _<_}
 use lib.Dec.{ltb}
 use lib.IntN.{ℤ, pos, _+ℤ_, _-ℤ_, _*ℤ_, negℤ}
 use lib.ListN.{length, getD, take, replicate}
-use Rattle.integer.specs.Bounds.{Within, AllWithin}
-use Rattle.integer.specs.Machine.{Is}
-use Rattle.scope.specs.declared.Outcome.{Outcome}
+use Rattle.integer.specs.Bounds.{Within, AllWithin, Is}
 use Rattle.scope.specs.declared.Place.the-variants as P
 use Rattle.mesh.specs.declared.sizes.Sizes.{Sizes}
+use Rattle.rows.specs.declared.polygons.Corner.{Corner}
 use Rattle.rows.specs.declared.polygons.Step.{Step}
-use Rattle.rows.specs.declared.row_sums.EqualityRow.{EqualityRow}
-use Rattle.rows.specs.declared.row_sums.Span.{Span}
+use Rattle.rows.specs.declared.equality_rows.EqualityRow.{EqualityRow}
+use Rattle.rows.specs.declared.equality_rows.Corners.{Corners}
+use Rattle.rows.specs.declared.equality_rows.Span.{Span}
+use Rattle.rows.specs.declared.equality_rows.Squares.{Squares}
+use Rattle.scope.specs.Mesh.{mostSides, nodes, sides, corner, p, q, h, cohesion}
+use Rattle.scope.specs.Bounds.{mostCoordinate, mostFriction, mostScale, mostLoad, mostStress, mostRadius, mostStep, mostCross, mostSquare, mostEntries, mostCoefficient, equalityRight, mostLever, twiceStrength, mostSpread, mostReserve}
 use Rattle.scope.specs.Columns.{at, hasField, n, l}
 use Rattle.scope.specs.Claim.{ifThere, stress}
-use Rattle.scope.specs.Mesh.{nodes, sides, corner, p, q, h, cohesion}
 use Rattle.scope.specs.Polygon.{Point, point, Side, Polygon, polygonSides, polygonOf}
 use Rattle.scope.specs.Rows.{asked, unfixed, Row, strengthRows, sx, sy, t, nodeSoil, cross, riseAcross, runAcross}
 use Rattle.scope.specs.Sums.{rowHolds}
-use Rattle.scope.specs.Verdict.{rowAt}
-use Rattle.scope.specs.Facts.{ClaimFacts}
-use Rattle.mesh.specs.MeshContracts.{Sized, NodeSoils}
-use Rattle.scope.specs.Checks.{demand, lowest, allBelow}
+use Rattle.scope.specs.NumberRanges.{ClaimFacts}
+use Rattle.mesh.specs.MeshContracts.{Sized, NodeAt, NodeSoils}
+use Rattle.scope.specs.Checks.{allBelow}
+use Rattle.scope.specs.Tests.{rowAt}
 
 -- ---- a polygon's sides
 
@@ -36,11 +38,29 @@ pub record Listed (sides : ℕ) : Type 0 where
 unfoldable pub next : ℕ → ℕ → ℕ
 next n k = cond (ltb (k + 1) n) (k + 1) 0
 
+-- two numbers of a table, and two products of them
+abbrev pub tableStep : ℕ
+tableStep = mostRadius + mostRadius
+
+abbrev pub tableCrosses : ℕ
+tableCrosses = mostRadius * mostRadius + mostRadius * mostRadius
+
 -- a table of n corners: x, y, x, y, ..
 pub record Table (t : List ℤ) (n : ℕ) : Type 0 where
   pub size : length t ≡ 2 * n
-  pub most : n ≤ 36
-  pub bounds : AllWithin 65 t
+  pub most : n ≤ mostSides
+  pub bounds : AllWithin mostRadius t
+
+-- corner k of a table
+pub record CornerIs (r : Corner) (t : List ℤ) (k : ℕ) : Type 0 where
+  pub x : Is (r .x) (at t (2 * k)) mostRadius
+  pub y : Is (r .y) (at t (2 * k + 1)) mostRadius
+
+-- the side from (a, b) to (c, d): c - a, d - b and ad - bc
+pub record SideIs (r : Step) (a b c d : ℤ) : Type 0 where
+  pub run : Is (r .run) (c -ℤ a) tableStep
+  pub rise : Is (r .rise) (d -ℤ b) tableStep
+  pub cross : Is (r .cross) (a *ℤ d -ℤ b *ℤ c) tableCrosses
 
 -- the coordinates of points, one after the other
 unfoldable pub coordinates : List Point → List ℤ
@@ -58,13 +78,13 @@ unfoldable pub tableCross : List ℤ → ℕ → ℕ → ℤ
 tableCross t n k = at t (2 * k) *ℤ at t (2 * next n k + 1) -ℤ at t (2 * k + 1) *ℤ at t (2 * next n k)
 
 pub record StepIs (r : Step) (t : List ℤ) (n k : ℕ) : Type 0 where
-  pub run : Is (r .run) (tableRun t n k) 130
-  pub rise : Is (r .rise) (tableRise t n k) 130
-  pub cross : Is (r .cross) (tableCross t n k) 8450
+  pub run : Is (r .run) (tableRun t n k) tableStep
+  pub rise : Is (r .rise) (tableRise t n k) tableStep
+  pub cross : Is (r .cross) (tableCross t n k) tableCrosses
 
 -- the first k sides of a table of n corners, three numbers each
 pub record StepsUpTo (k : ℕ) (r t : List ℤ) (n : ℕ) : Type 0 where
-  pub size : length r ≡ 108
+  pub size : length r ≡ 3 * mostSides
   pub run : (i : ℕ) → i < k → getD r (3 * i) (pos 0) ≡ tableRun t n i
   pub rise : (i : ℕ) → i < k → getD r (3 * i + 1) (pos 0) ≡ tableRise t n i
   pub cross : (i : ℕ) → i < k → getD r (3 * i + 2) (pos 0) ≡ tableCross t n i
@@ -85,13 +105,13 @@ riseOf s = s .to .py -ℤ s .from .py
 unfoldable pub crossOf : Side → ℤ
 crossOf s = cross (s .from) (s .to)
 
--- the n sides of a polygon, three numbers each, within the largest step and the largest cross product of the three polygons
+-- the n sides of a polygon, three numbers each
 pub record Steps (g : Polygon) (n : ℕ) (t : List ℤ) : Type 0 where
-  pub size : length t ≡ 108
-  pub most : n ≤ 36
-  pub run : (k : ℕ) → k < n → Is (getD t (3 * k) (pos 0)) (runOf (sideAt g k)) 16
-  pub rise : (k : ℕ) → k < n → Is (getD t (3 * k + 1) (pos 0)) (riseOf (sideAt g k)) 16
-  pub cross : (k : ℕ) → k < n → Is (getD t (3 * k + 2) (pos 0)) (crossOf (sideAt g k)) 1183
+  pub size : length t ≡ 3 * mostSides
+  pub most : n ≤ mostSides
+  pub run : (k : ℕ) → k < n → Is (getD t (3 * k) (pos 0)) (runOf (sideAt g k)) mostStep
+  pub rise : (k : ℕ) → k < n → Is (getD t (3 * k + 1) (pos 0)) (riseOf (sideAt g k)) mostStep
+  pub cross : (k : ℕ) → k < n → Is (getD t (3 * k + 2) (pos 0)) (crossOf (sideAt g k)) mostCross
 
 -- the sides of a mesh's polygon
 abbrev pub MeshSteps : List ℤ → List ℤ → Type 0
@@ -120,17 +140,17 @@ rowOf r = record {
 
 -- the entries of a row of a mesh with n columns, by their size
 pub record EntriesFit (coefficients : List ℤ) (columns : List ℕ) (count n : ℕ) : Type 0 where
-  pub long : length coefficients ≡ 8
-  pub wide : length columns ≡ 8
-  pub few : count ≤ 8
-  pub coefficientsFit : AllWithin 2000000 coefficients
+  pub long : length coefficients ≡ mostEntries
+  pub wide : length columns ≡ mostEntries
+  pub few : count ≤ mostEntries
+  pub coefficientsFit : AllWithin mostCoefficient coefficients
   pub columnsFit : (i : ℕ) → i < count → getD columns i 0 < n
 
 -- an equality row of a mesh with so many columns, by its size
 pub record RowFits (r : EqualityRow) (columns : ℕ) : Type 0 where
   pub entries : EntriesFit (r .coefficients) (r .columns) (r .count) columns
-  pub liveFits : Within 20000000000 (r .live)
-  pub rightFits : Within 20000000000 (r .right)
+  pub liveFits : Within equalityRight (r .live)
+  pub rightFits : Within equalityRight (r .right)
 
 -- the numbers are those of a row
 pub record Filled (r : EqualityRow) (row : Row) (columns : ℕ) : Type 0 where
@@ -145,17 +165,18 @@ pub record SumsAre (B : ℕ) (s : List ℤ) (f : ℕ → ℤ) : Type 0 where
 
 -- ---- the numbers of an element's and an edge's rows
 
--- a node of the mesh
-pub record NodeAt (r : ℕ) (m : List ℤ) (v : ℕ) : Type 0 where
-  pub same : r ≡ v
-  pub there : r < nodes m
-  pub few : nodes m ≤ 100
+-- the nodes of element e, in order
+pub record CornersAre (r : Corners) (m : List ℤ) (e : ℕ) : Type 0 where
+  pub a : NodeAt (r .a) m (corner m e 0)
+  pub b : NodeAt (r .b) m (corner m e 1)
+  pub c : NodeAt (r .c) m (corner m e 2)
+  pub d : NodeAt (r .d) m (corner m e 3)
 
 pub record SpanIs (r : Span) (m : List ℤ) (e : ℕ) : Type 0 where
-  pub rise : Is (r .rise) (riseAcross m e 0) 1000
-  pub riseNext : Is (r .«rise_next») (riseAcross m e 1) 1000
-  pub run : Is (r .run) (runAcross m e 0) 1000
-  pub runNext : Is (r .«run_next») (runAcross m e 1) 1000
+  pub rise : Is (r .rise) (riseAcross m e 0) mostCoordinate
+  pub riseNext : Is (r .«rise_next») (riseAcross m e 1) mostCoordinate
+  pub run : Is (r .run) (runAcross m e 0) mostCoordinate
+  pub runNext : Is (r .«run_next») (runAcross m e 1) mostCoordinate
 
 -- at each corner the column `first` of its node, and its t
 unfoldable pub cornerColumns : List ℤ → ℕ → ℕ → List ℕ
@@ -180,24 +201,37 @@ balancedOf a a' b b' columns live right = record {
   asked = true;
 }
 
--- a row of three entries, for the step (u, w) at the node whose sx has this column
-unfoldable pub normalOf : ℤ → ℤ → ℕ → ℤ → ℤ → Bool → EqualityRow
-normalOf u w column dead live fixed = record {
-  coefficients = (w *ℤ w) ∷ negℤ (pos 2 *ℤ u *ℤ w) ∷ (u *ℤ u) ∷ replicate 5 (pos 0);
+-- the products of a step (u, w)
+pub record SquaresAre (r : Squares) (u w : ℤ) : Type 0 where
+  pub uu : Is (r .uu) (u *ℤ u) (mostCoordinate * mostCoordinate)
+  pub uw : Is (r .uw) (u *ℤ w) (mostCoordinate * mostCoordinate)
+  pub ww : Is (r .ww) (w *ℤ w) (mostCoordinate * mostCoordinate)
+  pub square : Is (r .square) (u *ℤ u +ℤ w *ℤ w) mostSquare
+
+pub record SquaresFit (uu uw ww square : ℤ) : Type 0 where
+  pub first : Within (mostCoordinate * mostCoordinate) uu
+  pub mixed : Within (mostCoordinate * mostCoordinate) uw
+  pub second : Within (mostCoordinate * mostCoordinate) ww
+  pub both : Within mostSquare square
+
+-- a row of three entries, from the products of the step, at the node whose sx has this column
+unfoldable pub normalOf : ℤ → ℤ → ℤ → ℤ → ℕ → ℤ → ℤ → Bool → EqualityRow
+normalOf uu uw ww square column dead live fixed = record {
+  coefficients = ww ∷ negℤ (pos 2 *ℤ uw) ∷ uu ∷ replicate 5 (pos 0);
   columns = column ∷ (column + 2) ∷ (column + 1) ∷ replicate 5 0;
   count = 3;
-  live = negℤ ((u *ℤ u +ℤ w *ℤ w) *ℤ live);
-  right = (u *ℤ u +ℤ w *ℤ w) *ℤ dead;
+  live = negℤ (square *ℤ live);
+  right = square *ℤ dead;
   asked = fixed;
 }
 
-unfoldable pub shearOf : ℤ → ℤ → ℕ → ℤ → ℤ → Bool → EqualityRow
-shearOf u w column dead live fixed = record {
-  coefficients = (u *ℤ w) ∷ negℤ (u *ℤ w) ∷ (w *ℤ w -ℤ u *ℤ u) ∷ replicate 5 (pos 0);
+unfoldable pub shearOf : ℤ → ℤ → ℤ → ℤ → ℕ → ℤ → ℤ → Bool → EqualityRow
+shearOf uu uw ww square column dead live fixed = record {
+  coefficients = uw ∷ negℤ (uw) ∷ (ww -ℤ uu) ∷ replicate 5 (pos 0);
   columns = column ∷ (column + 1) ∷ (column + 2) ∷ replicate 5 0;
   count = 3;
-  live = negℤ ((u *ℤ u +ℤ w *ℤ w) *ℤ live);
-  right = (u *ℤ u +ℤ w *ℤ w) *ℤ dead;
+  live = negℤ (square *ℤ live);
+  right = square *ℤ dead;
   asked = fixed;
 }
 
@@ -206,57 +240,58 @@ shearOf u w column dead live fixed = record {
 -- the field x of a mesh with l and n, by the size of its numbers
 pub record FieldFits (m x : List ℤ) (l n : ℤ) : Type 0 where
   pub long : 3 * nodes m ≤ length x
-  pub stresses : AllWithin 1000000000 x
-  pub load : Within 100000000 l
-  pub scale : Within 100000 n
-
--- 21 and 22: the lowest equality row that fails, and the lowest strength row
-unfoldable pub equalitiesCheck : List Row → (ℕ → ℤ) → ℤ → ℤ → Outcome
-equalitiesCheck es s l n = lowest (λ k. demand (rowHolds s l n (rowAt es k)) 21 (P.Row (suc k))) (length es)
-
-unfoldable pub strengthsCheck : List Row → (ℕ → ℤ) → ℤ → ℤ → Outcome
-strengthsCheck ss s l n = lowest (λ k. demand (rowHolds s l n (rowAt ss k)) 22 (P.Row (suc k))) (length ss)
+  pub stresses : AllWithin mostStress x
+  pub load : Within mostLoad l
+  pub scale : Within mostScale n
 
 -- ---- the strength rows of a node
 
 -- r·h, p and 2qC of a soil
 pub record SoilNumbers (k m : List ℤ) (soil : ℕ) (r : ℤ) : Type 0 where
   pub size : length k ≡ 3
-  pub lever : Is (at k 0) (r *ℤ h m soil) 65000
-  pub friction : Is (at k 1) (p m soil) 1000
-  pub right : Is (at k 2) (pos 2 *ℤ q m soil *ℤ cohesion m soil) 20000000
+  pub lever : Is (at k 0) (r *ℤ h m soil) mostLever
+  pub friction : Is (at k 1) (p m soil) mostFriction
+  pub right : Is (at k 2) (pos 2 *ℤ q m soil *ℤ cohesion m soil) twiceStrength
 
 pub record SoilFits (k : List ℤ) : Type 0 where
   pub size : length k ≡ 3
-  pub lever : Within 65000 (at k 0)
-  pub friction : Within 1000 (at k 1)
-  pub right : Within 20000000 (at k 2)
+  pub lever : Within mostLever (at k 0)
+  pub friction : Within mostFriction (at k 1)
+  pub right : Within twiceStrength (at k 2)
 
--- r·h, sx - sy, 2t and 2qCn - p(sx + sy) of a node, from the numbers of its soil
+-- r·h, sx - sy, 2t and 2qCn - p(sx + sy)
+pub record NodeOf (d : List ℤ) (l f c x y z n : ℤ) : Type 0 where
+  pub size : length d ≡ 4
+  pub lever : Is (at d 0) l mostLever
+  pub spread : Is (at d 1) (x -ℤ y) mostSpread
+  pub twist : Is (at d 2) (pos 2 *ℤ z) mostSpread
+  pub reserve : Is (at d 3) (c *ℤ n -ℤ f *ℤ (x +ℤ y)) mostReserve
+
+-- the same of node v, from the numbers of its soil
 pub record NodeNumbers (d k x : List ℤ) (v : ℕ) (n : ℤ) : Type 0 where
   pub size : length d ≡ 4
-  pub lever : Is (at d 0) (at k 0) 65000
-  pub spread : Is (at d 1) (at x (3 * v) -ℤ at x (3 * v + 1)) 2000000000
-  pub twist : Is (at d 2) (pos 2 *ℤ at x (3 * v + 2)) 2000000000
-  pub reserve : Is (at d 3) (at k 2 *ℤ n -ℤ at k 1 *ℤ (at x (3 * v) +ℤ at x (3 * v + 1))) 4000000000000
+  pub lever : Is (at d 0) (at k 0) mostLever
+  pub spread : Is (at d 1) (at x (3 * v) -ℤ at x (3 * v + 1)) mostSpread
+  pub twist : Is (at d 2) (pos 2 *ℤ at x (3 * v + 2)) mostSpread
+  pub reserve : Is (at d 3) (at k 2 *ℤ n -ℤ at k 1 *ℤ (at x (3 * v) +ℤ at x (3 * v + 1))) mostReserve
 
 pub record NodeFits (d : List ℤ) : Type 0 where
   pub size : length d ≡ 4
-  pub lever : Within 65000 (at d 0)
-  pub spread : Within 2000000000 (at d 1)
-  pub twist : Within 2000000000 (at d 2)
-  pub reserve : Within 4000000000000 (at d 3)
+  pub lever : Within mostLever (at d 0)
+  pub spread : Within mostSpread (at d 1)
+  pub twist : Within mostSpread (at d 2)
+  pub reserve : Within mostReserve (at d 3)
 
 -- the numbers of side k
 pub record StepFits (t : List ℤ) (k : ℕ) : Type 0 where
-  pub size : length t ≡ 108
-  pub below : k < 36
-  pub run : Within 16 (at t (3 * k))
-  pub rise : Within 16 (at t (3 * k + 1))
-  pub cross : Within 1183 (at t (3 * k + 2))
+  pub size : length t ≡ 3 * mostSides
+  pub below : k < mostSides
+  pub run : Within mostStep (at t (3 * k))
+  pub rise : Within mostStep (at t (3 * k + 1))
+  pub cross : Within mostCross (at t (3 * k + 2))
 
 pub record StepsFit (t : List ℤ) (n : ℕ) : Type 0 where
-  pub most : n ≤ 36
+  pub most : n ≤ mostSides
   pub each : (k : ℕ) → k < n → StepFits t k
 
 -- "r·h·[(d-b)(sx-sy) - 2(c-a)t] ≤ (ad-bc)·[2qCn - p(sx+sy)]": the right side less the left, from the numbers of a node and of side k
@@ -270,18 +305,18 @@ unfoldable pub multipliersFrom : List ℤ → List ℤ → ℕ
 multipliersFrom m c = 4 + ifThere (hasField c) (nodes m) * 3
 
 -- what the check of a part requires: a mesh and a claim whose lines have passed, and the soil of each node
-pub record Judged (m c : List ℤ) (s : Sizes) (soils : List ℕ) : Type 0 where
+pub record Judged (m c : List ℤ) (s : Sizes) (t : List ℕ) : Type 0 where
   pub sized : Sized m s
   pub claim : ClaimFacts m c
-  pub nodeSoils : NodeSoils m soils
+  pub nodeSoils : NodeSoils m t
 
 -- the numbers of node v at the claim's field
 pub record NodeState (d m c : List ℤ) (v : ℕ) : Type 0 where
   pub size : length d ≡ 4
-  pub lever : Is (at d 0) (polygonOf (sides m) .radius *ℤ h m (nodeSoil m v)) 65000
-  pub spread : Is (at d 1) (stress m c (sx v) -ℤ stress m c (sy v)) 2000000000
-  pub twist : Is (at d 2) (pos 2 *ℤ stress m c (t v)) 2000000000
-  pub reserve : Is (at d 3) (pos 2 *ℤ q m (nodeSoil m v) *ℤ cohesion m (nodeSoil m v) *ℤ n c -ℤ p m (nodeSoil m v) *ℤ (stress m c (sx v) +ℤ stress m c (sy v))) 4000000000000
+  pub lever : Is (at d 0) (polygonOf (sides m) .radius *ℤ h m (nodeSoil m v)) mostLever
+  pub spread : Is (at d 1) (stress m c (sx v) -ℤ stress m c (sy v)) mostSpread
+  pub twist : Is (at d 2) (pos 2 *ℤ stress m c (t v)) mostSpread
+  pub reserve : Is (at d 3) (pos 2 *ℤ q m (nodeSoil m v) *ℤ cohesion m (nodeSoil m v) *ℤ n c -ℤ p m (nodeSoil m v) *ℤ (stress m c (sx v) +ℤ stress m c (sy v))) mostReserve
 
 -- each strength row of node v holds at the claim's field
 unfoldable pub nodeHolds : List ℤ → List ℤ → ℕ → Bool

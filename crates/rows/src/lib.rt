@@ -1,5 +1,9 @@
-// rows
+// The rows of a mesh and the sums over them, for files and for a solver alike: equality rows, strength rows, open rows,
+// and the limit of multipliers.
 
+pub mod equality_rows;
+pub mod multiplier_checks;
+pub mod multiplier_sums;
+pub mod open_rows;
 pub mod polygons;
-pub mod row_sums;
 pub mod strength_rows;

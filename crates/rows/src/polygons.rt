@@ -1,9 +1,12 @@
 // The three polygons: their corners as constant tables, and what a strength row reads of each side.
 ghost use mathlib.Core.Path.{_≡_};
-ghost use Prim.Native.Nat.{_*_, _<_};
-ghost use Rattle.integer.specs.Machine.{Is};
+ghost use Prim.Native.Nat.{_+_, _*_, _<_};
+ghost use lib.ListN.{length};
+ghost use Rattle.integer.specs.Bounds.{Within, AllWithin, Is};
 ghost use Rattle.scope.specs.Polygon.{polygonOf};
-ghost use Rattle.rows.specs.RowContracts.{Listed, next, Table, StepIs, StepsFrom, Steps};
+ghost use Rattle.scope.specs.Bounds.{mostRadius};
+ghost use Rattle.rows.specs.RowContracts.{Listed, next, Table, CornerIs, SideIs, StepIs, StepsFrom, Steps};
+use mesh::sizes::number_at;
 
 // "counterclockwise from (r, 0)": x, y, x, y, ..
 const TWELVE: [i64; 24] = [
@@ -151,11 +154,42 @@ const THIRTY_SIX: [i64; 72] = [
     -16,
 ];
 
+// Three numbers for each side of the largest polygon.
+const STEP_NUMBERS: usize = 3 * 36;
+
+// A corner of a polygon.
+struct Corner {
+    x: i64,
+    y: i64,
+}
+
 // A side by what its strength row reads: the step (c - a, d - b), and ad - bc.
 struct Step {
     run: i64,
     rise: i64,
     cross: i64,
+}
+
+// Corner k of a table.
+fn corner_at(table: &[i64], k: usize) -> Corner
+    requires { ⌜ 2 * k + 1 < length (now table) ⌝ ∗ ⌜ AllWithin mostRadius (now table) ⌝ }
+    ensures { λ r. ⌜ CornerIs r (now (table .entry)) k ⌝ }
+{
+    let x = number_at(table, 2 * k);
+    let y = number_at(table, 2 * k + 1);
+    Corner { x, y }
+}
+
+// The side from corner (a, b) to corner (c, d).
+fn side_from(a: i64, b: i64, c: i64, d: i64) -> Step
+    requires { ⌜ Within mostRadius a ⌝ ∗ ⌜ Within mostRadius b ⌝ ∗ ⌜ Within mostRadius c ⌝ ∗ ⌜ Within mostRadius d ⌝ }
+    ensures { λ r. ⌜ SideIs r a b c d ⌝ }
+{
+    Step {
+        run: c - a,
+        rise: d - b,
+        cross: a * d - b * c,
+    }
 }
 
 // The corner after corner k: after the last comes the first.
@@ -175,23 +209,17 @@ fn step_of(table: &[i64], sides: usize, k: usize) -> Step
     ensures { λ r. ⌜ StepIs r (now (table .entry)) sides k ⌝ }
 {
     let next = after(k, sides);
-    let a = table[2 * k];
-    let b = table[2 * k + 1];
-    let c = table[2 * next];
-    let d = table[2 * next + 1];
-    Step {
-        run: c - a,
-        rise: d - b,
-        cross: a * d - b * c,
-    }
+    let from = corner_at(table, k);
+    let to = corner_at(table, next);
+    side_from(from.x, from.y, to.x, to.y)
 }
 
 // All sides of the polygon whose corners stand in a table: run, rise and cross product of side k from place 3k on.
-fn steps_from(table: &[i64], sides: usize) -> [i64; 108]
+fn steps_from(table: &[i64], sides: usize) -> [i64; STEP_NUMBERS]
     requires { ⌜ Table (now table) sides ⌝ }
     ensures { λ r. ⌜ StepsFrom r (now (table .entry)) sides ⌝ }
 {
-    let mut steps = [0i64; 108];
+    let mut steps = [0i64; STEP_NUMBERS];
     let mut k: usize = 0;
     while k < sides {
         let step = step_of(table, sides, k);
@@ -207,7 +235,7 @@ fn steps_from(table: &[i64], sides: usize) -> [i64; 108]
 }
 
 // The sides of the polygon of a mesh with this many sides.
-pub fn steps_of(sides: usize) -> [i64; 108]
+pub fn steps_of(sides: usize) -> [i64; STEP_NUMBERS]
     requires { ⌜ Listed sides ⌝ }
     ensures { λ r. ⌜ Steps (polygonOf sides) sides r ⌝ }
 {
@@ -223,7 +251,7 @@ pub fn steps_of(sides: usize) -> [i64; 108]
 // The radius of the circle around that polygon.
 pub fn radius_of(sides: usize) -> i64
     requires { ⌜ Listed sides ⌝ }
-    ensures { λ r. ⌜ Is r (polygonOf sides .radius) 65 ⌝ }
+    ensures { λ r. ⌜ Is r (polygonOf sides .radius) mostRadius ⌝ }
 {
     if sides == 12 {
         return 5;

@@ -4,13 +4,13 @@ ghost use Prim.Native.Nat.{_+_, _*_, _<_};
 ghost use lib.ListN.{length};
 ghost use lib.IntN.{pos, _-ℤ_, _*ℤ_};
 ghost use lib.Signed.{leZ};
-ghost use Rattle.integer.specs.Machine.{Is};
-ghost use Rattle.integer.specs.Bounds.{Within, AllWithin};
+ghost use Rattle.integer.specs.Bounds.{Is, Within, AllWithin};
 ghost use Rattle.scope.specs.Checks.{allBelow};
 ghost use Rattle.scope.specs.Columns.{at};
 ghost use Rattle.scope.specs.Mesh.{nodes, soils};
+ghost use Rattle.scope.specs.Bounds.{mostRadius, mostStep, mostCross, mostFriction, mostScale, mostStress, mostLever, twiceStrength, mostSpread, mostReserve, mostSlack};
 ghost use Rattle.mesh.specs.MeshContracts.{Sized};
-ghost use Rattle.rows.specs.RowContracts.{SoilNumbers, SoilFits, NodeNumbers, NodeFits, StepFits, StepsFit, MeshSteps, sideSlack, Judged, NodeState, nodeHolds};
+ghost use Rattle.rows.specs.RowContracts.{SoilNumbers, SoilFits, NodeOf, NodeNumbers, NodeFits, StepFits, StepsFit, MeshSteps, sideSlack, Judged, NodeState, nodeHolds};
 use crate::polygons::radius_of;
 use mesh::sizes::Sizes;
 use mesh::sizes::number_at;
@@ -18,7 +18,7 @@ use mesh::sizes::soil_entry;
 
 // What they read of a soil: r·h, p and 2qC.
 pub fn soil_numbers(m: &[i64], s: Sizes, soil: usize, radius: i64) -> [i64; 3]
-    requires { ⌜ Sized (now m) s × (soil < soils (now m)) ⌝ ∗ ⌜ Within 65 radius ⌝ }
+    requires { ⌜ Sized (now m) s × (soil < soils (now m)) ⌝ ∗ ⌜ Within mostRadius radius ⌝ }
     ensures { λ r. ⌜ SoilNumbers r (now (m .entry)) soil radius ⌝ }
 {
     let p = soil_entry(m, s, soil, 0);
@@ -28,9 +28,18 @@ pub fn soil_numbers(m: &[i64], s: Sizes, soil: usize, radius: i64) -> [i64; 3]
     [radius * h, p, 2 * q * cohesion]
 }
 
-// What they read of a node's stresses: r·h, sx - sy, 2t and 2qCn - p(sx + sy).
+// What they read of a node: r·h, sx - sy, 2t and 2qCn - p(sx + sy).
+fn node_of(lever: i64, friction: i64, right: i64, sx: i64, sy: i64, t: i64, n: i64) -> [i64; 4]
+    requires { ⌜ Within mostLever lever ⌝ ∗ ⌜ Within mostFriction friction ⌝ ∗ ⌜ Within twiceStrength right ⌝ }
+    requires { ⌜ Within mostStress sx ⌝ ∗ ⌜ Within mostStress sy ⌝ ∗ ⌜ Within mostStress t ⌝ ∗ ⌜ Within mostScale n ⌝ }
+    ensures { λ r. ⌜ NodeOf r lever friction right sx sy t n ⌝ }
+{
+    [lever, sx - sy, 2 * t, right * n - friction * (sx + sy)]
+}
+
+// The same, for node v of a field, from the numbers k of its soil.
 pub fn node_numbers(k: &[i64], x: &[i64], v: usize, n: i64) -> [i64; 4]
-    requires { ⌜ SoilFits (now k) ⌝ ∗ ⌜ 3 * v + 2 < length (now x) ⌝ ∗ ⌜ AllWithin 1000000000 (now x) ⌝ ∗ ⌜ Within 100000 n ⌝ }
+    requires { ⌜ SoilFits (now k) ⌝ ∗ ⌜ 3 * v + 2 < length (now x) ⌝ ∗ ⌜ AllWithin mostStress (now x) ⌝ ∗ ⌜ Within mostScale n ⌝ }
     ensures { λ r. ⌜ NodeNumbers r (now (k .entry)) (now (x .entry)) v n ⌝ }
 {
     let sx = number_at(x, 3 * v);
@@ -39,14 +48,14 @@ pub fn node_numbers(k: &[i64], x: &[i64], v: usize, n: i64) -> [i64; 4]
     let lever = number_at(k, 0);
     let friction = number_at(k, 1);
     let right = number_at(k, 2);
-    [lever, sx - sy, 2 * t, right * n - friction * (sx + sy)]
+    node_of(lever, friction, right, sx, sy, t, n)
 }
 
 // The right side of a strength row less its left side, from the numbers of the side and of the node.
 fn slack(run: i64, rise: i64, cross: i64, lever: i64, spread: i64, twist: i64, reserve: i64) -> i64
-    requires { ⌜ Within 16 run ⌝ ∗ ⌜ Within 16 rise ⌝ ∗ ⌜ Within 1183 cross ⌝ }
-    requires { ⌜ Within 65000 lever ⌝ ∗ ⌜ Within 2000000000 spread ⌝ ∗ ⌜ Within 2000000000 twist ⌝ ∗ ⌜ Within 4000000000000 reserve ⌝ }
-    ensures { λ r. ⌜ Is r (cross *ℤ reserve -ℤ lever *ℤ (rise *ℤ spread -ℤ run *ℤ twist)) 10000000000000000 ⌝ }
+    requires { ⌜ Within mostStep run ⌝ ∗ ⌜ Within mostStep rise ⌝ ∗ ⌜ Within mostCross cross ⌝ }
+    requires { ⌜ Within mostLever lever ⌝ ∗ ⌜ Within mostSpread spread ⌝ ∗ ⌜ Within mostSpread twist ⌝ ∗ ⌜ Within mostReserve reserve ⌝ }
+    ensures { λ r. ⌜ Is r (cross *ℤ reserve -ℤ lever *ℤ (rise *ℤ spread -ℤ run *ℤ twist)) mostSlack ⌝ }
 {
     cross * reserve - lever * (rise * spread - run * twist)
 }
@@ -54,7 +63,7 @@ fn slack(run: i64, rise: i64, cross: i64, lever: i64, spread: i64, twist: i64, r
 // The same for side k.
 pub fn side_slack(steps: &[i64], k: usize, d: &[i64]) -> i64
     requires { ⌜ StepFits (now steps) k ⌝ ∗ ⌜ NodeFits (now d) ⌝ }
-    ensures { λ r. ⌜ Is r (sideSlack (now (d .entry)) (now (steps .entry)) k) 10000000000000000 ⌝ }
+    ensures { λ r. ⌜ Is r (sideSlack (now (d .entry)) (now (steps .entry)) k) mostSlack ⌝ }
 {
     let run = number_at(steps, 3 * k);
     let rise = number_at(steps, 3 * k + 1);
@@ -75,11 +84,11 @@ pub fn side_holds(steps: &[i64], k: usize, d: &[i64]) -> bool
 }
 
 // The numbers of node v at a claim's field.
-pub fn node_state(m: &[i64], c: &[i64], s: Sizes, soils: &[u8], v: usize) -> [i64; 4]
-    requires { ⌜ Judged (now m) (now c) s (now soils) × (at (now c) 0 ≡ pos 1) ⌝ ∗ ⌜ v < nodes (now m) ⌝ }
+pub fn node_state(m: &[i64], c: &[i64], s: Sizes, node_soils: &[u8], v: usize) -> [i64; 4]
+    requires { ⌜ Judged (now m) (now c) s (now «node_soils») × (at (now c) 0 ≡ pos 1) ⌝ ∗ ⌜ v < nodes (now m) ⌝ }
     ensures { λ r. ⌜ NodeState r (now (m .entry)) (now (c .entry)) v ⌝ }
 {
-    let soil = soils[v] as usize;
+    let soil = node_soils[v] as usize;
     let radius = radius_of(s.sides);
     let k = soil_numbers(m, s, soil, radius);
     let n = number_at(c, 2);
@@ -102,10 +111,17 @@ fn sides_hold(steps: &[i64], sides: usize, d: &[i64]) -> bool
 }
 
 // 22 at node v: each of its strength rows holds at a claim's field.
-pub fn node_holds(m: &[i64], c: &[i64], s: Sizes, soils: &[u8], steps: &[i64], v: usize) -> bool
-    requires { ⌜ Judged (now m) (now c) s (now soils) × (at (now c) 0 ≡ pos 1) × MeshSteps (now m) (now steps) × (v < nodes (now m)) ⌝ }
+pub fn node_holds(
+    m: &[i64],
+    c: &[i64],
+    s: Sizes,
+    node_soils: &[u8],
+    steps: &[i64],
+    v: usize,
+) -> bool
+    requires { ⌜ Judged (now m) (now c) s (now «node_soils») × (at (now c) 0 ≡ pos 1) × MeshSteps (now m) (now steps) × (v < nodes (now m)) ⌝ }
     ensures { λ r. ⌜ r ≡ nodeHolds (now (m .entry)) (now (c .entry)) v ⌝ }
 {
-    let d = node_state(m, c, s, soils, v);
+    let d = node_state(m, c, s, node_soils, v);
     sides_hold(steps, s.sides, &d)
 }

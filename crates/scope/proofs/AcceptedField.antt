@@ -3,13 +3,13 @@ use mathlib.Core.Path.{sym}
 use mathlib.Core.Logic.{⊎-elim}
 use mathlib.Core.List.{List}
 use lib.IntN.{ℤ}
-use Rattle.integer.specs.Order.{≤ℤ-split, suc≤ℤ→<ℤ}
+use Rattle.integer.proofs.Order.{≤ℤ-split, suc≤ℤ→<ℤ}
 use Rattle.scope.specs.Accepted.{FieldAccepted}
 use Rattle.scope.specs.Columns.{n, l}
 use Rattle.scope.specs.Claim.{stress}
 use Rattle.scope.specs.AcceptedField.{CriterionEverywhere}
-use Rattle.scope.proofs.Facts.{mesh-facts}
-use Rattle.scope.proofs.ClaimFacts.{claim-facts}
+use Rattle.scope.proofs.NumberRanges.{mesh-facts}
+use Rattle.scope.proofs.ClaimNumberRanges.{claim-facts}
 use Rattle.scope.proofs.Printed.{field-printed}
 use Rattle.scope.proofs.Meaning.{lowest-element}
 use Rattle.scope.proofs.Criterion.{field-criterion, one-pair-each}

@@ -6,7 +6,7 @@ use Rattle.scope.specs.Columns.{n, l}
 use Rattle.scope.specs.Mesh.{nodes}
 use Rattle.scope.specs.Rows.{rowsOf}
 use Rattle.scope.specs.Claim.{stress, multiplier}
-use Rattle.scope.specs.Sound.{MeshSound}
+use Rattle.scope.specs.Statements.{MeshSound}
 use Rattle.scope.specs.Fractions.{FractionLaws}
 use Rattle.scope.specs.Parts.{allowed}
 use Rattle.scope.specs.AcceptedFractions.{MeshFractions}

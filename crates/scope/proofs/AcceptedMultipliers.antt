@@ -6,11 +6,11 @@ use lib.IntN.{ℤ}
 use Rattle.integer.specs.Fraction.{_over_}
 use Rattle.scope.specs.Mesh.{sides}
 use Rattle.scope.specs.Claim.{multiplier}
-use Rattle.scope.specs.Sound.{MeshSound}
+use Rattle.scope.specs.Statements.{MeshSound}
 use Rattle.scope.specs.Parts.{allowed}
 use Rattle.scope.specs.PrintedColumns.{ColumnsPrinted}
 use Rattle.scope.specs.AcceptedMultipliers.{MultipliersAsPrinted}
-use Rattle.scope.proofs.Facts.{mesh-facts}
+use Rattle.scope.proofs.NumberRanges.{mesh-facts}
 use Rattle.scope.proofs.PrintedColumns.{columns-printed, multipliers-printed}
 
 listed : (m : List ℤ) → MeshSound m → (sides m ≡ 12) ⊎ ((sides m ≡ 20) ⊎ (sides m ≡ 36))

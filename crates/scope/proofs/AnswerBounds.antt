@@ -9,19 +9,19 @@ use lib.IntN.{ℤ}
 use lib.ListN.{length}
 use Rattle.scope.specs.declared.Place.{Place}
 use Rattle.scope.specs.Answer.{placeNumber}
-use Rattle.scope.specs.Columns.{hasField, hasMultipliers}
-use Rattle.scope.specs.Layout.{Layout, groups, lineCount, linesBefore}
+use Rattle.scope.specs.Columns.{hasField, hasMultipliers, n, l}
+use Rattle.scope.specs.Layout.{Layout, groupAt, numbersAt, groups, lineCount, linesBefore}
 use Rattle.scope.specs.Mesh.{meshHeader, soilLines, nodeLines, elementLines, edgeLines, meshLayout, meshGroups, nodes, elements, soils, edges, sides, edgeLine}
-use Rattle.scope.specs.Claim.{claimHeader, ifThere, stressLines, elementMultipliers, edgeMultipliers, strengthMultipliers, claimLayout}
-use Rattle.scope.specs.Rows.{equalityRows, strengthRows}
-use Rattle.scope.specs.Sound.{LineSound}
+use Rattle.scope.specs.Claim.{claimHeader, stressLines, elementMultipliers, edgeMultipliers, strengthMultipliers, claimLayout, stress, multiplier}
+use Rattle.scope.specs.Rows.{equalityRows, strengthRows, rowsOf}
+use Rattle.scope.specs.Statements.{LineSound}
 use Rattle.scope.specs.Phases.{Below, AllHold}
-use Rattle.scope.specs.Refusals.{lineSteps, linePhases, shapePhases, meshPhases, fieldPhases, multiplierPhases, claimPhases, Refusal}
-use Rattle.scope.specs.Facts.{Counts}
-use Rattle.scope.proofs.Facts.{header-counts, mesh-facts}
-use Rattle.scope.proofs.Phases.{EachIn, each-refusal, each-join}
+use Rattle.scope.specs.Refusals.{lineSteps, linePhases, shapePhases, meshPhases, fieldPhases, multiplierPhases, fieldPart, multiplierPart, partPhases, claimPhases, Refusal}
+use Rattle.scope.specs.NumberRanges.{Counts}
+use Rattle.scope.proofs.NumberRanges.{header-counts, mesh-facts}
+use Rattle.scope.proofs.Phases.{EachIn, each-refusal, each-join, each-part, own-number}
 use Rattle.scope.proofs.Refusals.{line-sound, lines-sound, mesh-sound}
-use Rattle.scope.proofs.Exactly.{there-most, own-number, each-number}
+use Rattle.scope.proofs.Exactly.{there-most, each-number}
 use Rattle.scope.proofs.RowCounts.{equality-count, strength-count}
 
 -- the lines of a mesh whose header has passed
@@ -48,11 +48,11 @@ line-places {f} {ns} {B} {most} z top few = (
   λ e. (λ k c h b r. end e (decLt 0 (lineCount (groups f ns))), λ i. tt),
 )
   where
-    at : (k : ℕ) → k < lineCount (groups f ns) → Below k (λ j. AllHold (lineSteps f ns j)) → suc k ≤ most
+    at : (k : ℕ) → k < lineCount (groups f ns) → Below k (λ j. AllHold (lineSteps f (groupAt f ns j) (numbersAt f ns j))) → suc k ≤ most
     at zero h b = omega arith
     at (suc k) h b = omega (arith, few (line-sound f ns 0 (b 0 (omega arith))))
 
-    end : Below (lineCount (groups f ns)) (λ j. AllHold (lineSteps f ns j)) → Dec (0 < lineCount (groups f ns)) → suc (lineCount (groups f ns)) ≤ most
+    end : Below (lineCount (groups f ns)) (λ j. AllHold (lineSteps f (groupAt f ns j) (numbersAt f ns j))) → Dec (0 < lineCount (groups f ns)) → suc (lineCount (groups f ns)) ≤ most
     end e (yes l) = omega (arith, few (line-sound f ns 0 (e 0 l)))
     end e (no l) = omega arith
 
@@ -96,21 +96,18 @@ places-most m c =
     )))
     (λ a.
     let counts = mesh-facts m (mesh-sound m a .lines) .counts in
-    each-join Q (linePhases (claimLayout m) c) (fieldPhases m c ++ multiplierPhases m c)
+    each-join Q (linePhases (claimLayout m) c) (partPhases m c)
     (line-places {B = 361} (omega arith) (omega arith) (λ z. claim-lines m c counts))
-    (λ b. (
-      λ k n h b r. omega (arith, there-most (hasField c) (length (equalityRows m)), equality-count m, counts),
-      λ e. (
-        λ k n h b r. omega (arith, there-most (hasField c) (length (strengthRows m)), few-strengths m counts),
-        λ e. (
-          λ k n h b r. omega (arith, there-most (hasMultipliers c) (length (equalityRows m)), equality-count m, counts),
-          λ e. (
-            λ k n h b r. omega (arith, there-most (hasMultipliers c) (3 * nodes m), counts),
-            λ e. (λ k n h b r. omega arith, λ i. tt),
-          ),
-        ),
-      ),
-    )))
+    (λ b.
+    each-join Q (fieldPart m c) (multiplierPart m c)
+    (each-part Q (hasField c) (fieldPhases (equalityRows m) (strengthRows m) (stress m c) (l c) (n c)) (
+      λ k n h b r. omega (arith, equality-count m, counts),
+      λ e. (λ k n h b r. omega (arith, few-strengths m counts), λ i. tt),
+    ))
+    (λ d. each-part Q (hasMultipliers c) (multiplierPhases (equalityRows m) (rowsOf m) (3 * nodes m) (multiplier m c)) (
+      λ k n h b r. omega (arith, equality-count m, counts),
+      λ e. (λ k n h b r. omega (arith, counts), λ e. (λ k n h b r. omega arith, λ i. tt)),
+    ))))
   where
     Q : ℕ → Place → Type 0
     Q k p = placeNumber p ≤ 3601

@@ -12,14 +12,12 @@ use Rattle.scope.specs.declared.Place.the-variants.{Column}
 use Rattle.scope.specs.declared.Outcome.the-variants.{Passed}
 use Rattle.scope.specs.declared.Verdict.the-variants.{Refused}
 use Rattle.scope.specs.Columns.{n, l}
-use Rattle.scope.specs.Layout.{linesCheck}
 use Rattle.scope.specs.Mesh.{nodes}
 use Rattle.scope.specs.Rows.{Row, t, equalityRows, strengthRows, rowsOf}
 use Rattle.scope.specs.Sums.{weightedSum, weighed, liveSum, limitSum, openRows}
 use Rattle.scope.specs.Claim.{claimLayout, stress, multiplier}
-use Rattle.scope.specs.Verdict.{meshCheck, fieldCheck, multipliersCheck, verdict, rowAt}
-use Rattle.scope.specs.Computed.{computed}
-use Rattle.scope.specs.Refusals.{HasField, HasMultipliers}
+use Rattle.scope.specs.Verdict.{meshCheck, fieldCheck, multipliersCheck, verdict, linesCheck}
+use Rattle.scope.proofs.Computed.{computed}
 use Rattle.scope.specs.Accepted.{FieldAccepted, MultipliersAccepted}
 use Rattle.scope.specs.PrintedColumns.{printedColumn, printedLive, printedLimit}
 use Rattle.scope.specs.Bracket.{toSpare}
@@ -29,10 +27,12 @@ use Rattle.scope.specs.Fractions.{FractionField, WrittenOver}
 use Rattle.scope.specs.AcceptedFractions.{MeetsMesh}
 use Rattle.integer.specs.Tests.{eqZ}
 use Rattle.scope.proofs.Decides.{all-below, equalℤ}
-use Rattle.scope.proofs.Sound.{mesh-passed, lines-passed, field-passed, multipliers-passed}
 use Rattle.scope.proofs.Parts.{parts-bracket, open-rows-count}
 use Rattle.scope.proofs.AcceptedMultipliers.{sums-printed, multipliers-as-printed}
 use Rattle.scope.proofs.AcceptedFractions.{mesh-fractions}
+use Rattle.scope.specs.Tests.{rowAt}
+use Rattle.scope.specs.Statements.{HasField, HasMultipliers}
+use Rattle.scope.proofs.Refusals.{mesh-passed, lines-passed, field-passed, multipliers-passed}
 
 -- ---- what passes is accepted
 

@@ -13,20 +13,21 @@ use mir.Facts.{not-T}
 use lib.IntN.{ℤ, pos, _+ℤ_, _-ℤ_, _*ℤ_, +ℤ-idl, +ℤ-idr, +ℤ-invr, *ℤ-zero, zero-*ℤ}
 use lib.Signed.{ltZ, _≤ℤ_, _<ℤ_}
 use lib.ListN.{length}
-use Rattle.integer.specs.Laws.{eq-of-diff}
-use Rattle.integer.specs.Ring.{ring, terms}
-use Rattle.integer.specs.Order.{by-nn, nn-diff, pos-diff, ≤ℤ-split, ≡→≤ℤ, <ℤ→≢, *ℤ-nonneg, *ℤ-pos}
-use Rattle.integer.specs.Linear.{linear, _&_, facts}
-use Rattle.integer.specs.Sum.{sumOf, sumOf-same, sumOf-mono, sumOf-zero}
+use Rattle.integer.proofs.RingLaws.{eq-of-diff}
+use Rattle.integer.proofs.Ring.{ring, terms}
+use Rattle.integer.proofs.Order.{by-nn, nn-diff, pos-diff, ≤ℤ-split, ≡→≤ℤ, <ℤ→≢, *ℤ-nonneg, *ℤ-pos}
+use Rattle.integer.proofs.Linear.{linear, _&_, facts}
+use Rattle.integer.specs.Sum.{sumOf}
+use Rattle.integer.proofs.SumLaws.{sumOf-same, sumOf-mono, sumOf-zero}
 use Rattle.scope.proofs.Lists.{of-count}
 use Rattle.scope.proofs.Decides.{Decides, decides, said-as, both, belowℤ}
 use Rattle.scope.proofs.Weighted.{weighted-linear, weighted-difference, weighted-same, by-columns}
 use Rattle.scope.specs.Members.{_∈_}
 use Rattle.scope.specs.Rows.{Kind, asked, unfixed, strength, Row, countFrom}
 use Rattle.scope.specs.Sums.{weightedSum, leftSide, rightSide, weighed, unit, coefficient, columnSum, liveSum, limitSum, isOpen, howMany, openRows}
-use Rattle.scope.specs.Verdict.{rowAt}
 use Rattle.scope.specs.Meets.{Asks, FieldMeets}
 use Rattle.scope.specs.Bracket.{Columns, MultipliersMeet, spare, toSpare, Open, Bracket}
+use Rattle.scope.specs.Tests.{rowAt}
 
 -- ---- a field as a sum of its columns
 

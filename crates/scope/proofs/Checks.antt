@@ -1,7 +1,7 @@
 -- Laws of checks in order: by cases on the first outcome, and by induction on the number of places.
 use mathlib.Core.Path.{_≡_, refl, sym, ap₂}
 use mathlib.Core.Logic.{_↔_, _⊎_, inl, inr}
-use mathlib.Core.Bool.{Bool, true, false, not}
+use mathlib.Core.Bool.{Bool, true, false, cond, not}
 use Prim.Native.Nat.{ℕ, zero, suc, _+_, _<_}
 use native.Mathlib.Nat.{add-suc, add-zero}
 use native.Mathlib.Decide.{decLt}
@@ -47,6 +47,10 @@ pub then-assoc : (a b c : Outcome) → a then b then c ≡ a then (b then c)
 then-assoc Passed b c = refl
 then-assoc (Refused n p) b c = refl
 
+pub demand-then : (b : Bool) (n : ℕ) (p : Place) (o : Outcome) → demand b n p then o ≡ cond b o (Refused n p)
+demand-then true n p o = refl
+demand-then false n p o = refl
+
 pub then-Passed : (a : Outcome) → a then Passed ≡ a
 then-Passed Passed = refl
 then-Passed (Refused n p) = refl
@@ -76,21 +80,9 @@ all-lowest f zero h = refl
 all-lowest f (suc n) h =
     then-passed (lowest f n) (f n) .1 (all-lowest f n (λ k l. h k (omega arith)), h n (omega arith))
 
-pub lowest-passed : (f : ℕ → Outcome) (n : ℕ) → (lowest f n ≡ Passed) ↔ ((k : ℕ) → k < n → f k ≡ Passed)
-lowest-passed f n = (lowest-all f n, all-lowest f n)
-
 -- the first refusal, at k: all before it pass
 abbrev pub FirstAt : (ℕ → Outcome) → ℕ → ℕ → Place → ℕ → Type 0
 FirstAt f n c p k = (k < n) × ((j : ℕ) → j < k → f j ≡ Passed) × (f k ≡ Refused c p)
-
-pub refused-first : (f : ℕ → Outcome) (n c : ℕ) (p : Place) → lowest f n ≡ Refused c p → (k : ℕ) × FirstAt f n c p k
-unfolding lowest
-refused-first f zero c p e = passed-is-not-refused e
-refused-first f (suc n) c p e = by (refused-first f n c p) (then-refused (lowest f n) (f n) c p .0 e)
-  where
-    by : (lowest f n ≡ Refused c p → (k : ℕ) × FirstAt f n c p k) → (lowest f n ≡ Refused c p) ⊎ ((lowest f n ≡ Passed) × (f n ≡ Refused c p)) → (k : ℕ) × FirstAt f (suc n) c p k
-    by lower (inl d) = let (k, h) = lower d in (k, (omega (arith, h .0), h .1, h .2))
-    by lower (inr d) = (n, (omega arith, lowest-all f n (d .0), d .1))
 
 pub first-refused : (f : ℕ → Outcome) (n c : ℕ) (p : Place) (k : ℕ) → FirstAt f n c p k → lowest f n ≡ Refused c p
 unfolding lowest
@@ -101,9 +93,6 @@ first-refused f (suc n) c p k h =
     by : (k < n → lowest f n ≡ Refused c p) → (k < n) ⊎ (k ≡ n) → (lowest f n ≡ Refused c p) ⊎ ((lowest f n ≡ Passed) × (f n ≡ Refused c p))
     by lower (inl l) = inl (lower l)
     by lower (inr l) = inr (all-lowest f n (λ j i. h .1 j (omega arith)), rw l at (h .2))
-
-pub lowest-refused : (f : ℕ → Outcome) (n c : ℕ) (p : Place) → (lowest f n ≡ Refused c p) ↔ ((k : ℕ) × FirstAt f n c p k)
-lowest-refused f n c p = (refused-first f n c p, λ h. first-refused f n c p (h .0) (h .1))
 
 -- a + b places are a places and then b more
 pub lowest-add : (f : ℕ → Outcome) (a b : ℕ) → lowest f (a + b) ≡ lowest f a then lowest (λ k. f (a + k)) b

@@ -8,13 +8,14 @@ use native.Mathlib.Omega.{arith}
 use lib.IntN.{ℤ}
 use lib.Signed.{leZ, ltZ, _≤ℤ_, _<ℤ_, leZ-yes, ltZ-yes}
 use lib.Dec.{T, T-not, not-T, eqb, eqb→eq, eqb-refl, leb, leb→le, le→leb}
-use Rattle.integer.specs.Tests.{eqZ, eqZ-yes, yes-eqZ, yes-leZ, yes-ltZ}
+use Rattle.integer.specs.Tests.{eqZ}
+use Rattle.integer.proofs.TestLaws.{eqZ-yes, yes-eqZ, yes-leZ, yes-ltZ}
 use Rattle.scope.specs.declared.Place.{Place}
 use Rattle.scope.specs.declared.Outcome.{Outcome}
 use Rattle.scope.specs.declared.Outcome.the-variants.{Passed, Refused}
-use Rattle.scope.specs.Checks.{demand, _then_, lowest, someBelow, allBelow}
+use Rattle.scope.specs.Checks.{demand, someBelow, allBelow}
 use Rattle.scope.specs.Rows.{firstWhere}
-use Rattle.scope.proofs.Checks.{below-suc, demand-passed, demand-refused, then-passed, then-refused, lowest-passed, lowest-refused}
+use Rattle.scope.proofs.Checks.{below-suc, demand-passed, demand-refused}
 
 pub record Decides (b : Bool) (A : Type 0) : Type 0 where
   pub holds : T b → A
@@ -122,18 +123,6 @@ put-as h f g = record { says = λ e. f (h .says e); passed = λ b. h .passed (g 
 pub one-check : {b : Bool} {A : Type 0} → Decides b A → (c : ℕ) (p : Place) → Passes (demand b c p) A
 one-check {b} d c p = record { says = λ e. d .holds (demand-passed b c p .0 e); passed = λ h. demand-passed b c p .1 (d .passes h) }
 
-pub and-then : {a b : Outcome} {A B : Type 0} → Passes a A → Passes b B → Passes (a then b) (A × B)
-and-then {a} {b} g h = record {
-  says = λ e. let r : (a ≡ Passed) × (b ≡ Passed) = then-passed a b .0 e in (g .says (r .0), h .says (r .1));
-  passed = λ r. then-passed a b .1 (g .passed (r .0), h .passed (r .1));
-}
-
-pub at-each : {f : ℕ → Outcome} {P : ℕ → Type 0} → ((k : ℕ) → Passes (f k) (P k)) → (n : ℕ) → Passes (lowest f n) ((k : ℕ) → k < n → P k)
-at-each {f} h n = record {
-  says = λ e k l. h k .says (lowest-passed f n .0 e k l);
-  passed = λ r. lowest-passed f n .1 (λ k l. h k .passed (r k l));
-}
-
 -- checks are refused with a number and a place exactly when a statement about them holds
 pub record Refuses (o : Outcome) (R : ℕ → Place → Type 0) : Type 0 where
   pub why : (c : ℕ) (p : Place) → o ≡ Refused c p → R c p
@@ -146,22 +135,4 @@ pub one-refusal : {b : Bool} {A : Type 0} → Decides b A → (k : ℕ) (q : Pla
 one-refusal {b} d k q = record {
   why = λ c p e. let r : T (not b) × (k ≡ c) × (q ≡ p) = demand-refused b k c q p .0 e in (opposite d .holds (r .0), r .1, r .2);
   refused = λ c p r. demand-refused b k c q p .1 (opposite d .passes (r .0), r .1, r .2);
-}
-
-pub then-refusal : {a b : Outcome} {A : Type 0} {R S : ℕ → Place → Type 0} → Passes a A → Refuses a R → Refuses b S → Refuses (a then b) (λ c p. R c p ⊎ (A × S c p))
-then-refusal {a} {b} {A} {R} {S} h r s = record { why = λ c p e. to c p (then-refused a b c p .0 e); refused = λ c p x. then-refused a b c p .1 (from c p x) }
-  where
-    to : (c : ℕ) (p : Place) → (a ≡ Refused c p) ⊎ ((a ≡ Passed) × (b ≡ Refused c p)) → R c p ⊎ (A × S c p)
-    to c p (inl e) = inl (r .why c p e)
-    to c p (inr e) = inr (h .says (e .0), s .why c p (e .1))
-
-    from : (c : ℕ) (p : Place) → R c p ⊎ (A × S c p) → (a ≡ Refused c p) ⊎ ((a ≡ Passed) × (b ≡ Refused c p))
-    from c p (inl x) = inl (r .refused c p x)
-    from c p (inr x) = inr (h .passed (x .0), s .refused c p (x .1))
-
--- the lowest place that fails: all before it hold
-pub lowest-refusal : {f : ℕ → Outcome} {P : ℕ → Type 0} {R : ℕ → ℕ → Place → Type 0} → ((k : ℕ) → Passes (f k) (P k)) → ((k : ℕ) → Refuses (f k) (R k)) → (n : ℕ) → Refuses (lowest f n) (λ c p. (k : ℕ) × (k < n) × ((j : ℕ) → j < k → P j) × R k c p)
-lowest-refusal {f} h r n = record {
-  why = λ c p e. let (k, w) = lowest-refused f n c p .0 e in (k, w .0, λ j l. h j .says (w .1 j l), r k .why c p (w .2));
-  refused = λ c p x. lowest-refused f n c p .1 (x .0, (x .1, λ j l. h j .passed (x .2 j l), r (x .0) .refused c p (x .3)));
 }

@@ -2,13 +2,10 @@
 use mathlib.Core.Path.{_≡_, refl, sym, _∙_, ap, subst}
 use mathlib.Core.Logic.{_↔_, _⊎_, inl, inr}
 use mathlib.Core.Bool.{Bool, true, false}
-use mathlib.Core.List.{List, [], _∷_, _++_, Memᴰ·append-left, Memᴰ·append-right}
+use mathlib.Core.List.{List, [], _∷_, _++_}
 use Prim.Native.Nat.{ℕ, suc, _*_, _≤_, _<_}
 use native.Mathlib.Omega.{arith}
-use lib.IntN.{ℤ, pos}
-use lib.Signed.{_<ℤ_}
-use lib.ListN.{length}
-use lib.Ieee.Bits.{is-true}
+use lib.IntN.{ℤ}
 use Rattle.scope.specs.declared.Place.{Place}
 use Rattle.scope.specs.declared.Place.the-variants.{Line}
 use Rattle.scope.specs.declared.Outcome.{Outcome}
@@ -19,32 +16,20 @@ use Rattle.scope.specs.declared.Verdict.{Verdict}
 use Rattle.scope.specs.declared.Verdict.the-variants.{Accepted, Refused}
 use Rattle.scope.specs.Answer.{numberOf}
 use Rattle.scope.specs.Checks.{_then_}
-use Rattle.scope.specs.Columns.{Rule, rightAngle, naming, parts, ruleNumber, at, hasField, hasMultipliers, n, l}
-use Rattle.scope.specs.Layout.{Layout}
+use Rattle.scope.specs.Columns.{Rule, rightAngle, naming, parts, ruleNumber, hasField, hasMultipliers, n, l}
+use Rattle.scope.specs.Layout.{Layout, numbersAt, groupAt}
 use Rattle.scope.specs.Mesh.{meshLayout, nodes}
 use Rattle.scope.specs.Claim.{claimLayout, ifThere, stress, multiplier}
-use Rattle.scope.specs.Meets.{RowMet, FieldMeets}
 use Rattle.scope.specs.Rows.{equalityRows, strengthRows, rowsOf}
 use Rattle.scope.specs.Rows as R
-use Rattle.scope.specs.Sums.{columnSum, liveSum}
-use Rattle.scope.specs.Verdict.{claimCheck, rowAt, fieldCheck, multipliersCheck, ifPart, partsCheck, lowerLoad, upperLoad, openCount, answer, claimVerdict, verdict, meshCheck}
-use Rattle.scope.specs.Sound.{numbersAt, groupAt, LinesSound, MeshSound}
+use Rattle.scope.specs.Verdict.{claimCheck, lowerLoad, upperLoad, openCount, answer, claimVerdict, verdict, meshCheck}
+use Rattle.scope.specs.Statements.{LinesSound, MeshSound, HasField, HasMultipliers, RowsMet, ColumnsMet}
 use Rattle.scope.specs.Phases.{FirstFails, AllPass, RefusedBy}
-use Rattle.scope.specs.Refusals.{ruleSteps, lineSteps, linePhases, shapePhases, meshPhases, fieldPhases, multiplierPhases, claimPhases, HasField, HasMultipliers, RowsMet, ColumnsMet, Refusal}
+use Rattle.scope.specs.Refusals.{ruleSteps, lineSteps, linePhases, shapePhases, meshPhases, fieldPhases, multiplierPhases, fieldPart, multiplierPart, partPhases, claimPhases, Refusal}
 use Rattle.scope.specs.Accepted.{FieldAccepted, MultipliersAccepted, ClaimAccepted}
 use Rattle.scope.proofs.Checks.{passed-is-not-refused}
-use Rattle.scope.proofs.Decides.{Decides, equalℤ, belowℤ, Passes, one-check, and-then, at-each, Refuses, one-refusal, then-refusal}
-use Rattle.scope.proofs.Sound.{lines-passed, mesh-passed, row-meets, none-on-unfixed, field-passed, multipliers-passed}
-use Rattle.scope.proofs.Lists.{each-++, by-place, row-in}
-use Rattle.scope.proofs.Phases.{EachIn, each-refusal, each-join, each-passed, refused-join}
-use Rattle.scope.proofs.Refusals.{lines-sound, sound-lines, mesh-sound, sound-mesh, all-exact}
-
--- ---- a part that is there
-
-if-there : {b : Bool} {B A : Type 0} {o : Outcome} → Decides b B → Passes o A → Passes (ifPart b o) (B → A)
-unfolding ifPart
-if-there {b = true} d h = record { says = λ e there. h .says e; passed = λ f. h .passed (f (d .holds tt)) }
-if-there {b = false} d h = record { says = λ e there. absurd (d .passes there); passed = λ f. refl }
+use Rattle.scope.proofs.Phases.{EachIn, each-refusal, each-join, each-passed, each-part, own-number, refused-join}
+use Rattle.scope.proofs.Refusals.{lines-sound, sound-lines, mesh-sound, sound-mesh, field-part-sound, sound-field-part, claim-passed, all-exact, mesh-passed}
 
 -- ---- a refusal or what is accepted
 
@@ -64,31 +49,6 @@ answer-accepted Passed v o a b = (λ e. (refl, e), λ h. h .1)
 answer-accepted (Fails k p) v o a b = (λ e. never-both e, λ h. passed-is-not-refused (sym (h .0)))
 
 module _ (m c : List ℤ) where
-  -- ---- the checks of a claim on a mesh that has passed
-
-  field-there : Decides (hasField c) (HasField c)
-  unfolding hasField
-  field-there = equalℤ (at c 0) (pos 1)
-
-  multipliers-there : Decides (hasMultipliers c) (HasMultipliers c)
-  unfolding hasMultipliers
-  multipliers-there = equalℤ (at c 1) (pos 1)
-
-  claim-lines : Passes (claimCheck m c) (LinesSound (claimLayout m) c)
-  unfolding claimCheck
-  claim-lines = lines-passed (claimLayout m) c
-
-  field-part : Passes (ifPart (hasField c) (fieldCheck (equalityRows m) (strengthRows m) (stress m c) (l c) (n c))) (HasField c → RowsMet m c)
-  unfolding rowsOf
-  field-part = if-there field-there (field-passed (equalityRows m) (strengthRows m) (stress m c) (l c) (n c))
-
-  multiplier-part : Passes (ifPart (hasMultipliers c) (multipliersCheck (equalityRows m) (rowsOf m) (3 * nodes m) (multiplier m c))) (HasMultipliers c → ColumnsMet m c)
-  multiplier-part = if-there multipliers-there (multipliers-passed (equalityRows m) (rowsOf m) (3 * nodes m) (multiplier m c))
-
-  claim-passed : Passes (claimCheck m c then partsCheck m c) (LinesSound (claimLayout m) c × ((HasField c → RowsMet m c) × (HasMultipliers c → ColumnsMet m c)))
-  unfolding partsCheck
-  claim-passed = and-then claim-lines (and-then field-part multiplier-part)
-
   -- a claim is accepted, with its open rows and its exact loads, exactly when each part that it has is
   pub accepted-exactly : (verdict m c ≡ Accepted (openCount m c) (lowerLoad c) (upperLoad m c)) ↔ ClaimAccepted m c
   unfolding verdict claimVerdict
@@ -100,22 +60,22 @@ module _ (m c : List ℤ) where
       to : verdict m c ≡ good → ClaimAccepted m c
       to e =
           let h : (meshCheck m ≡ Passed) × (claimVerdict m c ≡ good) = answer-accepted (meshCheck m) (claimVerdict m c) (openCount m c) (lowerLoad c) (upperLoad m c) .0 e in
-          let r : LinesSound (claimLayout m) c × ((HasField c → RowsMet m c) × (HasMultipliers c → ColumnsMet m c)) = claim-passed .says (answer-accepted (claimCheck m c then partsCheck m c) good (openCount m c) (lowerLoad c) (upperLoad m c) .0 (h .1) .0) in
+          let r : LinesSound (claimLayout m) c × ((HasField c → RowsMet m c) × (HasMultipliers c → ColumnsMet m c)) = claim-passed m c .says (answer-accepted (claimCheck m c) good (openCount m c) (lowerLoad c) (upperLoad m c) .0 (h .1) .0) in
           record { mesh = mesh-passed m .says (h .0); lines = r .0; fieldMeets = r .1 .0; multipliersMeet = r .1 .1 }
 
       from : ClaimAccepted m c → verdict m c ≡ good
       from a =
           answer-accepted (meshCheck m) (claimVerdict m c) (openCount m c) (lowerLoad c) (upperLoad m c) .1 (
             mesh-passed m .passed (a .mesh),
-            answer-accepted (claimCheck m c then partsCheck m c) good (openCount m c) (lowerLoad c) (upperLoad m c) .1
-                (claim-passed .passed (a .lines, (a .fieldMeets, a .multipliersMeet)), refl),
+            answer-accepted (claimCheck m c) good (openCount m c) (lowerLoad c) (upperLoad m c) .1
+                (claim-passed m c .passed (a .lines, (a .fieldMeets, a .multipliersMeet)), refl),
           )
 
   -- a mesh and a claim are refused with a number and a place exactly when document 01's table says so
   pub refused-exactly : (k : ℕ) (p : Place) → (verdict m c ≡ Refused k p) ↔ Refusal m c k p
   unfolding verdict claimVerdict
   refused-exactly k p =
-      let checks : (verdict m c ≡ Refused k p) ↔ (meshCheck m then (claimCheck m c then partsCheck m c) ≡ Fails k p) = answer-refused (meshCheck m) (claimCheck m c then partsCheck m c) (openCount m c) (lowerLoad c) (upperLoad m c) in
+      let checks : (verdict m c ≡ Refused k p) ↔ (meshCheck m then claimCheck m c ≡ Fails k p) = answer-refused (meshCheck m) (claimCheck m c) (openCount m c) (lowerLoad c) (upperLoad m c) in
       (λ e. all-exact m c .refuses .why k p (checks .0 e), λ r. checks .1 (all-exact m c .refuses .refused k p r))
 
 -- ---- what is returned
@@ -132,15 +92,10 @@ rule-number (naming cs ∷ rs) line c (inl h) = omega (arith, h .1)
 rule-number (parts ∷ rs) line c (inl h) = omega (arith, h .1)
 rule-number (r ∷ rs) line c (inr h) = rule-number rs line c (h .1)
 
-step-number : (f : Layout) (ns : List ℤ) (k c : ℕ) → Early (f .formNumber) → Early (f .limitNumber) → FirstFails (lineSteps f ns k) c → Early c
+step-number : (f : Layout) (ns : List ℤ) (k c : ℕ) → Early (f .formNumber) → Early (f .limitNumber) → FirstFails (lineSteps f (groupAt f ns k) (numbersAt f ns k)) c → Early c
 step-number f ns k c a b (inl h) = omega (arith, h .1, a)
 step-number f ns k c a b (inr (x, inl h)) = omega (arith, h .1, b)
 step-number f ns k c a b (inr (x, inr (y, h))) = rule-number (groupAt f ns k .rules) (numbersAt f ns k) c h
-
--- a phase of one step refuses with its own number
-pub own-number : {k number c : ℕ} {H : Type 0} → k ≡ number → ((¬ H) × (number ≡ c)) ⊎ (H × ⊥) → k ≡ c
-own-number e (inl h) = e ∙ h .1
-own-number e (inr h) = absurd (h .1)
 
 line-numbers : (Q : ℕ → Place → Type 0) (f : Layout) (ns : List ℤ) → Early (f .formNumber) → Early (f .limitNumber) → ((c : ℕ) (p : Place) → Early c → Q c p) → EachIn Q (linePhases f ns)
 line-numbers Q f ns a b q = (
@@ -167,11 +122,12 @@ unfolding claimLayout
 claim-line-numbers Q m c q = line-numbers Q (claimLayout m) c (omega arith) (omega arith) q
 
 -- what holds of each early number, of 21 and 22, and of 31 to 33 after them, holds of every refusal
-pub each-number : (Q : ℕ → Place → Type 0) (m c : List ℤ) → ((k : ℕ) (p : Place) → Early k → Q k p) → EachIn Q (fieldPhases m c) → (AllPass (meshPhases m) → AllPass (linePhases (claimLayout m) c) → AllPass (fieldPhases m c) → EachIn Q (multiplierPhases m c)) → EachIn Q (meshPhases m ++ claimPhases m c)
+pub each-number : (Q : ℕ → Place → Type 0) (m c : List ℤ) → ((k : ℕ) (p : Place) → Early k → Q k p) → EachIn Q (fieldPhases (equalityRows m) (strengthRows m) (stress m c) (l c) (n c)) → (AllPass (meshPhases m) → AllPass (linePhases (claimLayout m) c) → AllPass (fieldPart m c) → EachIn Q (multiplierPhases (equalityRows m) (rowsOf m) (3 * nodes m) (multiplier m c))) → EachIn Q (meshPhases m ++ claimPhases m c)
 each-number Q m c early field after =
     each-join Q (meshPhases m) (claimPhases m c) (mesh-numbers Q m early) (λ a.
-    each-join Q (linePhases (claimLayout m) c) (fieldPhases m c ++ multiplierPhases m c) (claim-line-numbers Q m c early) (λ b.
-    each-join Q (fieldPhases m c) (multiplierPhases m c) field (λ d. after a b d)))
+    each-join Q (linePhases (claimLayout m) c) (partPhases m c) (claim-line-numbers Q m c early) (λ b.
+    each-join Q (fieldPart m c) (multiplierPart m c) (each-part Q (hasField c) (fieldPhases (equalityRows m) (strengthRows m) (stress m c) (l c) (n c)) field) (λ d.
+    each-part Q (hasMultipliers c) (multiplierPhases (equalityRows m) (rowsOf m) (3 * nodes m) (multiplier m c)) (after a b d))))
 
 refusal-number : {m c : List ℤ} {k : ℕ} {p : Place} → Refusal m c k p → 0 < k
 refusal-number {m} {c} r =
@@ -197,7 +153,7 @@ verdict-cases m c = of-mesh′ (meshCheck m)
     of-claim′ (Fails k p) = inl (k, p, refl)
 
     of-mesh′ : (o : Outcome) → ((k : ℕ) × (p : Place) × (answer o (claimVerdict m c) ≡ Refused k p)) ⊎ (answer o (claimVerdict m c) ≡ good)
-    of-mesh′ Passed = of-claim′ (claimCheck m c then partsCheck m c)
+    of-mesh′ Passed = of-claim′ (claimCheck m c)
     of-mesh′ (Fails k p) = inl (k, p, refl)
 
 -- 0 is returned exactly when the claim is accepted
@@ -222,18 +178,6 @@ claim-by-parts m c = (
   λ h. record { mesh = h .0; lines = h .1; fieldMeets = λ t. h .2 t .meets; multipliersMeet = λ t. h .3 t .meet },
 )
 
--- the phases of a field that is there
-field-passed-phases : (m c : List ℤ) → HasField c → AllPass (fieldPhases m c) → RowsMet m c
-unfolding rowsOf ifThere
-field-passed-phases m c f a = by (is-true (hasField c) (field-there m c .passes f))
-  where
-    by : hasField c ≡ true → FieldMeets (stress m c) (l c) (n c) (equalityRows m ++ strengthRows m)
-    by e =
-        let all : (k : ℕ) → ifThere (hasField c) k ≡ k = λ k. rw e in
-        each-++ (λ r. RowMet (stress m c) (l c) (n c) r)
-        (by-place (λ r. RowMet (stress m c) (l c) (n c) r) (equalityRows m) (λ k h. a .0 k (rw (all (length (equalityRows m))) h) .0))
-        (by-place (λ r. RowMet (stress m c) (l c) (n c) r) (strengthRows m) (λ k h. a .1 .0 k (rw (all (length (strengthRows m))) h) .0))
-
 -- a claim that has a field and is refused with 31, 32 or 33 has an accepted field
 pub field-before-multipliers : {m c : List ℤ} {k : ℕ} {p : Place} → Refusal m c k p → 31 ≤ k → HasField c → FieldAccepted m c
 field-before-multipliers {m} {c} r = each-refusal Q (meshPhases m ++ claimPhases m c) all (r .by)
@@ -246,7 +190,7 @@ field-before-multipliers {m} {c} r = each-refusal Q (meshPhases m ++ claimPhases
         each-number Q m c (λ k p e h f. absurd (omega (arith, e .1)))
         (λ k n h l r g f. absurd (omega (arith, own-number {k = 21} refl r)), λ e. (λ k n h l r g f. absurd (omega (arith, own-number {k = 22} refl r)), λ i. tt))
         (λ a b d.
-        let accepted : HasField c → FieldAccepted m c = λ f. record { mesh = mesh-sound m a; lines = lines-sound (claimLayout m) c b; there = f; meets = field-passed-phases m c f d } in (
+        let accepted : HasField c → FieldAccepted m c = λ f. record { mesh = mesh-sound m a; lines = lines-sound (claimLayout m) c b; there = f; meets = field-part-sound m c d f } in (
           λ k n h l r g f. accepted f,
           λ e. (λ k n h l r g f. accepted f, λ e. (λ k n h l r g f. accepted f, λ i. tt)),
         ))
@@ -258,13 +202,6 @@ there-most true k = omega arith
 there-most false k = omega arith
 
 -- the phases of an accepted field pass, so a refusal is one of the multipliers
-field-phases-pass : (m c : List ℤ) → RowsMet m c → AllPass (fieldPhases m c)
-unfolding rowsOf
-field-phases-pass m c met = (
-  λ k h. (met (rowAt (equalityRows m) k) (Memᴰ·append-left (strengthRows m) (row-in (equalityRows m) k (omega (arith, there-most (hasField c) (length (equalityRows m)))))), tt),
-  (λ k h. (met (rowAt (strengthRows m) k) (Memᴰ·append-right (equalityRows m) (row-in (strengthRows m) k (omega (arith, there-most (hasField c) (length (strengthRows m)))))), tt), tt),
-)
-
 pub refused-after-field : {m c : List ℤ} {k : ℕ} {p : Place} → FieldAccepted m c → Refusal m c k p → 31 ≤ k
 refused-after-field {m} {c} a r = each-refusal Q (meshPhases m ++ claimPhases m c) all (r .by)
   where
@@ -274,8 +211,8 @@ refused-after-field {m} {c} a r = each-refusal Q (meshPhases m ++ claimPhases m 
     all : EachIn Q (meshPhases m ++ claimPhases m c)
     all =
         each-join Q (meshPhases m) (claimPhases m c) (each-passed Q (meshPhases m) (sound-mesh m (a .mesh))) (λ h.
-        each-join Q (linePhases (claimLayout m) c) (fieldPhases m c ++ multiplierPhases m c) (each-passed Q (linePhases (claimLayout m) c) (sound-lines (claimLayout m) c (a .lines))) (λ h.
-        each-join Q (fieldPhases m c) (multiplierPhases m c) (each-passed Q (fieldPhases m c) (field-phases-pass m c (a .meets))) (λ h. (
+        each-join Q (linePhases (claimLayout m) c) (partPhases m c) (each-passed Q (linePhases (claimLayout m) c) (sound-lines (claimLayout m) c (a .lines))) (λ h.
+        each-join Q (fieldPart m c) (multiplierPart m c) (each-passed Q (fieldPart m c) (sound-field-part m c (λ t. a .meets))) (λ h. each-part Q (hasMultipliers c) (multiplierPhases (equalityRows m) (rowsOf m) (3 * nodes m) (multiplier m c)) (
           λ k n h l r. omega (arith, own-number {k = 31} refl r),
           λ e. (λ k n h l r. omega (arith, own-number {k = 32} refl r), λ e. (λ k n h l r. omega (arith, own-number {k = 33} refl r), λ i. tt)),
         ))))

@@ -10,10 +10,11 @@ use borrow.Author.Tests.{eq-eqb, ne-eqb}
 use lib.Dec.{eqb}
 use lib.IntN.{ℤ, pos, _+ℤ_, _*ℤ_}
 use lib.Signed.{_≤ℤ_, _<ℤ_}
-use Rattle.integer.specs.Laws.{*ℤ-assoc}
-use Rattle.integer.specs.Ring.{ring, ring-from, terms}
-use Rattle.integer.specs.Order.{<ℤ→≤ℤ, *ℤ-pos, *ℤ-mono, *ℤ-cancel, *ℤ-cancel-≤}
-use Rattle.integer.specs.Fraction.{_over_, _≈ᶠ_, _≤ᶠ_, ≈ᶠ-sym, ≈ᶠ-trans}
+use Rattle.integer.proofs.RingLaws.{*ℤ-assoc}
+use Rattle.integer.proofs.Ring.{ring, ring-from, terms}
+use Rattle.integer.proofs.Order.{<ℤ→≤ℤ, *ℤ-pos, *ℤ-mono, *ℤ-cancel, *ℤ-cancel-≤}
+use Rattle.integer.specs.Fraction.{_over_, _≈ᶠ_, _≤ᶠ_}
+use Rattle.integer.proofs.FractionLaws.{≈ᶠ-sym, ≈ᶠ-trans}
 use Rattle.scope.proofs.Weighted.{weighted-multiple, weighted-same}
 use Rattle.scope.proofs.Bracket.{bracket}
 use Rattle.scope.specs.Members.{_∈_}

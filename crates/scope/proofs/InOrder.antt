@@ -9,20 +9,21 @@ use lib.Dec.{leb, ltb}
 use lib.IntN.{ℤ}
 use lib.ListN.{length, take, drop, replicate, length-append, length-take, length-drop, length-replicate}
 use lib.Seq.{drop-drop, take-at, drop-at}
-use borrow.Author.Tests.{ne-eqb, eq-eqb, leb-true, ltb-true, ltb-false, le-leb}
+use borrow.Author.Tests.{ne-eqb, leb-true, ltb-true, ltb-false, le-leb}
 use borrow.Table.Steps.{cases}
 use Rattle.scope.specs.declared.Place.{Place}
 use Rattle.scope.specs.declared.Place.the-variants.{Line}
 use Rattle.scope.specs.declared.Outcome.{Outcome}
-use Rattle.scope.specs.declared.Outcome.the-variants.{Passed, Refused}
+use Rattle.scope.specs.declared.Outcome.the-variants.{Refused}
 use Rattle.scope.specs.Checks.{demand, _then_, lowest}
-use Rattle.scope.specs.Layout.{rulesHold, Group, Layout, width, groups, lineCount, numberCount, lineOf, lineNumbers, lineCheck, lineAt, linesCheck}
-use Rattle.scope.specs.Columns.{allWithin, Rule, ruleNumber, ruleTest}
-use Rattle.scope.specs.Sound.{AllWithin, AllSay}
+use Rattle.scope.specs.Layout.{Group, Layout, width, groups, lineCount, numberCount, lineOf, lineNumbers}
+use Rattle.scope.specs.Columns.{Rule, ruleNumber}
+use Rattle.scope.specs.Phases.{FirstFails}
+use Rattle.scope.specs.Refusals.{lineSteps}
+use Rattle.scope.proofs.Refusals.{lines-checked, line-exact, rule-number}
 use Rattle.scope.proofs.Lines.{group}
-use Rattle.scope.proofs.Decides.{Passes, put-as, and-then, one-check, equal}
-use Rattle.scope.proofs.Sound.{all-within, rules-passed}
-use Rattle.scope.proofs.Checks.{passed-is-not-refused, then-refused, demand-refused, then-assoc, then-Passed, lowest-cong}
+use Rattle.scope.proofs.Checks.{then-assoc, then-Passed, lowest-cong}
+use Rattle.scope.specs.Verdict.{lineCheck, lineAt, linesCheck}
 
 -- the group of each line
 unfoldable pub linesOf : List Group → List Group
@@ -138,57 +139,32 @@ group-by-number gs k h = line-by-number 0 gs k h .0
 
 -- the line check goes from the front
 pub lines-in-order : (f : Layout) (ns : List ℤ) → linesCheck f ns ≡ checkFrom f (linesOf (groups f ns)) ns 0
-unfolding linesCheck lineAt lineNumbers
+unfolding lineAt lineNumbers
 lines-in-order f ns =
     let gs = groups f ns in
     let n = lineCount gs in
     let same : (k : ℕ) → k < n → lineAt f ns k ≡ lineBy f (linesOf gs) ns 0 k = λ k h.
     let e = line-by-number 0 gs k h in
     rw (e .0, e .1, zero-add (numbersTo (linesOf gs) k), zero-add k) in
-    ap (λ x. x then allTaken f (length ns) (numberCount gs) n) (lowest-cong (lineAt f ns) (lineBy f (linesOf gs) ns 0) n same)
+    lines-checked f ns
+    ∙ ap (λ x. x then allTaken f (length ns) (numberCount gs) n) (lowest-cong (lineAt f ns) (lineBy f (linesOf gs) ns 0) n same)
     ∙ (rw (lines-length gs, numbersTo-all gs, zero-add n) at (in-order f (linesOf gs) ns 0))
 
 -- ---- one line's check
-
--- a line passes exactly when its numbers are all there, each is within its limit and the line's rules hold
-pub line-check-passed : (f : Layout) (g : Group) (line : List ℤ) (p : Place) → Passes (lineCheck f g line p) ((length line ≡ width g) × AllWithin (g .limits) line × AllSay (g .rules) line)
-unfolding lineCheck
-line-check-passed f g line p =
-    put-as
-    (and-then
-    (and-then (one-check (equal (length line) (width g)) (f .formNumber) p) (one-check (all-within (g .limits) line) (f .limitNumber) p))
-    (rules-passed (g .rules) line p))
-    (λ h. (h .0 .0, h .0 .1, h .1))
-    (λ h. ((h .0, h .1), h .2))
 
 -- where numbers are missing, the refusal is one of form
 pub line-check-short : (f : Layout) (g : Group) (line : List ℤ) (p : Place) → length line < width g → lineCheck f g line p ≡ Refused (f .formNumber) p
 unfolding lineCheck
 line-check-short f g line p h = rw (ne-eqb (length line) (width g) (λ e. omega arith))
 
-rules-number : (rs : List Rule) (line : List ℤ) (p q : Place) (c : ℕ) → rulesHold rs line p ≡ Refused c q → (r : Rule) × (c ≡ ruleNumber r)
-unfolding rulesHold
-rules-number [] line p q c e = passed-is-not-refused e
-rules-number (r ∷ rs) line p q c e = from (rules-number rs line p q c) (then-refused first (rulesHold rs line p) c q .0 e)
-  where
-    first : Outcome
-    first = demand (ruleTest r line) (ruleNumber r) p
-
-    from : (rulesHold rs line p ≡ Refused c q → (r : Rule) × (c ≡ ruleNumber r)) → (first ≡ Refused c q) ⊎ ((first ≡ Passed) × (rulesHold rs line p ≡ Refused c q)) → (r : Rule) × (c ≡ ruleNumber r)
-    from later (inl d) = (r, sym (demand-refused (ruleTest r line) (ruleNumber r) c p q .0 d .1))
-    from later (inr d) = later (d .1)
-
 -- where none is missing, it is another
 pub line-check-other : (f : Layout) (g : Group) (line : List ℤ) (p q : Place) (c : ℕ) → length line ≡ width g → lineCheck f g line p ≡ Refused c q → (c ≡ f .limitNumber) ⊎ ((r : Rule) × (c ≡ ruleNumber r))
-unfolding lineCheck
-line-check-other f g line p q c h e = from (then-refused limits (rulesHold (g .rules) line p) c q .0 (rw (eq-eqb (length line) (width g) h) at e))
+line-check-other f g line p q c h e = from (line-exact f g line p .refuses .why c q e .0)
   where
-    limits : Outcome
-    limits = demand (allWithin (g .limits) line) (f .limitNumber) p
-
-    from : (limits ≡ Refused c q) ⊎ ((limits ≡ Passed) × (rulesHold (g .rules) line p ≡ Refused c q)) → (c ≡ f .limitNumber) ⊎ ((r : Rule) × (c ≡ ruleNumber r))
-    from (inl d) = inl (sym (demand-refused (allWithin (g .limits) line) (f .limitNumber) c p q .0 d .1))
-    from (inr d) = inr (rules-number (g .rules) line p q c (d .1))
+    from : FirstFails (lineSteps f g line) c → (c ≡ f .limitNumber) ⊎ ((r : Rule) × (c ≡ ruleNumber r))
+    from (inl x) = absurd (x .0 h)
+    from (inr (x, inl y)) = inl (sym (y .1))
+    from (inr (x, inr (y, z))) = inr (rule-number (g .rules) line c z)
 
 -- ---- the first of some lines
 

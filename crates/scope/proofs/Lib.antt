@@ -1,15 +1,18 @@
 -- The theorems about document 01's definitions, each file after those that it uses.
+pub mod Computed
 pub mod Checks
 pub mod Decides
 pub mod Lines
-pub mod Sound
+pub mod Statements
 pub mod Phases
 pub mod Refusals
+pub mod TableNumbers
+pub mod RefusalTable
 pub mod Exactly
 pub mod PlaceKinds
 pub mod LineRefusals
-pub mod Facts
-pub mod ClaimFacts
+pub mod NumberRanges
+pub mod ClaimNumberRanges
 pub mod PolygonRule
 pub mod Lists
 pub mod Printed

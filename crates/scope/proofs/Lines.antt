@@ -10,7 +10,7 @@ use lib.Seq.{getD-take, getD-drop}
 use borrow.Author.Tests.{lt-ltb, le-ltb}
 use Rattle.scope.specs.Columns.{Limit, free, at}
 use Rattle.scope.specs.Layout.{Group, Layout, Placed, width, groups, lineCount, linesBefore, numbersBefore, lineOf, lineNumbers, entry}
-use Rattle.scope.specs.Sound.{Within, AllWithin, AllSay, numbersAt, groupAt, LineSound, LinesSound}
+use Rattle.scope.specs.Statements.{Within, AllWithin, AllSay, LineSound, LinesSound}
 
 -- no group at all
 abbrev pub noGroup : Group
@@ -74,7 +74,7 @@ abbrev PlacedSound : List ℤ → Placed → Type 0
 PlacedSound ns l = (length (lineNumbers ns l) ≡ width (l .group)) × AllWithin (l .group .limits) (lineNumbers ns l) × AllSay (l .group .rules) (lineNumbers ns l)
 
 pub line-facts-of : (f : Layout) (ns : List ℤ) (j i : ℕ) → LineSound f ns (linesBefore (groups f ns) j + i) → i < group (groups f ns) j .lines → 0 < width (group (groups f ns) j) → LineFacts (groups f ns) ns j i
-unfolding numbersAt groupAt lineNumbers
+unfolding lineNumbers
 line-facts-of f ns j i k h w =
     let gs : List Group = groups f ns in
     let e : lineOf 0 gs (linesBefore gs j + i) ≡ record { group = group gs j; first = numbersBefore gs j + i * width (group gs j) } =

@@ -8,7 +8,7 @@ use native.Mathlib.Omega.{arith}
 use lib.ListN.{length, getD, length-map}
 use Rattle.scope.specs.Members.{_∈_}
 use Rattle.scope.specs.Rows.{Row, countFrom, joined}
-use Rattle.scope.specs.Verdict.{rowAt}
+use Rattle.scope.specs.Tests.{rowAt}
 
 pub in-joined : {A B : Type 0} (f : A → List B) (l : List A) {a : A} {b : B} → a ∈ l → b ∈ f a → b ∈ joined f l
 unfolding joined

@@ -5,7 +5,8 @@ use Prim.Native.Nat.{ℕ}
 use lib.Dec.{T}
 use lib.IntN.{ℤ}
 use lib.Signed.{leZ, leZ-yes}
-use Rattle.integer.specs.Tests.{eqZ, eqZ-yes, yes-eqZ, yes-leZ}
+use Rattle.integer.specs.Tests.{eqZ}
+use Rattle.integer.proofs.TestLaws.{eqZ-yes, yes-eqZ, yes-leZ}
 use Rattle.scope.specs.Rows.{Kind, asked, unfixed, strength, Row}
 use Rattle.scope.specs.Sums.{leftSide, rightSide, rowHolds}
 use Rattle.scope.specs.Meets.{Asks, RowMet}

@@ -10,8 +10,8 @@ use lib.ListN.{length, length-map}
 use Rattle.scope.specs.Members.{_∈_}
 use Rattle.scope.specs.Rows.{Row}
 use Rattle.scope.specs.Sums.{weighed, howMany}
-use Rattle.scope.specs.Verdict.{rowAt}
 use Rattle.scope.specs.Parts.{Ascending, NumberOf}
+use Rattle.scope.specs.Tests.{rowAt}
 
 module _ (f : ℤ × Row → Bool) where
   -- the places of the rows that pass the test, from the front

@@ -11,27 +11,29 @@ use lib.Signed.{_≤ℤ_, _<ℤ_}
 use lib.Ieee.Bits.{is-true}
 use lib.ListN.{length, List·getD-append, length-append}
 use lib.Seq.{getD-append-add}
-use Rattle.integer.specs.Order.{≤ℤ-split}
-use Rattle.integer.specs.Tests.{eqZ, yes-eqZ}
+use Rattle.integer.proofs.Order.{≤ℤ-split}
+use Rattle.integer.specs.Tests.{eqZ}
+use Rattle.integer.proofs.TestLaws.{yes-eqZ}
 use Rattle.scope.specs.Columns.{at, hasField, hasMultipliers, n, l}
 use Rattle.scope.specs.Mesh.{nodes}
 use Rattle.scope.specs.Rows.{Kind, asked, unfixed, strength, Row, equalityRows, strengthRows, rowsOf}
 use Rattle.scope.specs.Sums.{isOpen, openRows}
 use Rattle.scope.specs.Claim.{stress, multiplier}
-use Rattle.scope.specs.Verdict.{rowAt, openCount}
-use Rattle.scope.specs.Sound.{NoneOnUnfixed, MeshSound}
+use Rattle.scope.specs.Verdict.{openCount}
+use Rattle.scope.specs.Statements.{NoneOnUnfixed, MeshSound}
 use Rattle.scope.specs.Accepted.{FieldAccepted, MultipliersAccepted}
-use Rattle.scope.specs.Facts.{MeshFacts, ClaimFacts}
+use Rattle.scope.specs.NumberRanges.{MeshFacts, ClaimFacts}
 use Rattle.scope.specs.Bracket.{NodesNamed, MultipliersMeet, Bracket}
 use Rattle.scope.specs.Parts.{carried, allowed, SameRows, PartsBracket, OpenRowsCount}
 use Rattle.scope.proofs.Lists.{row-in}
-use Rattle.scope.proofs.Facts.{mesh-facts}
-use Rattle.scope.proofs.ClaimFacts.{claim-facts}
+use Rattle.scope.proofs.NumberRanges.{mesh-facts}
+use Rattle.scope.proofs.ClaimNumberRanges.{claim-facts}
 use Rattle.scope.proofs.OpenPlaces.{number-of}
 use Rattle.scope.proofs.RowCounts.{equality-count, equality-kind, strength-count, strength-kind}
 use Rattle.scope.proofs.Columns.{mesh-columns}
 use Rattle.scope.proofs.Bracket.{is-open, bracket}
 use Rattle.scope.proofs.SameRows.{same-met}
+use Rattle.scope.specs.Tests.{rowAt}
 
 -- ---- rows by their place in both lists
 

@@ -1,6 +1,7 @@
 -- Phases in order: what is tested is refused exactly as is said. One law for a check after another, where the second need be decided only if the first passes.
-use mathlib.Core.Path.{_≡_, refl, sym}
+use mathlib.Core.Path.{_≡_, refl, sym, _∙_, ap, subst}
 use mathlib.Core.Logic.{_⊎_, inl, inr}
+use mathlib.Core.Bool.{Bool, true, false}
 use mathlib.Core.List.{List, [], _∷_, _++_}
 use Prim.Native.Nat.{ℕ, zero, suc, _≤_, _<_}
 use native.Mathlib.Omega.{arith}
@@ -9,8 +10,8 @@ use Rattle.scope.specs.declared.Place.{Place}
 use Rattle.scope.specs.declared.Outcome.{Outcome}
 use Rattle.scope.specs.declared.Outcome.the-variants.{Passed, Refused}
 use Rattle.scope.specs.Checks.{_then_, lowest}
-use Rattle.scope.specs.Phases.{Step, Phase, phase, Below, AllHold, FirstFails, HoldsAt, Everywhere, FailsIn, AllPass, RefusedBy, checkSteps, checkPhase, checkPhases}
-use Rattle.scope.proofs.Checks.{passed-is-not-refused, below-suc, then-assoc}
+use Rattle.scope.specs.Phases.{Step, Phase, phase, ifPart, Below, AllHold, FirstFails, HoldsAt, Everywhere, FailsIn, AllPass, RefusedBy, checkSteps, checkPhase, checkPhases}
+use Rattle.scope.proofs.Checks.{passed-is-not-refused, below-suc, demand-then, then-assoc, then-Passed}
 use Rattle.scope.proofs.Decides.{Decides, said-as, at-most, Passes, put-as, one-check, Refuses, told-as, one-refusal}
 
 -- ---- checks that are exact
@@ -88,19 +89,20 @@ Decided (f ∷ fs) = DecidedPhase f × (Everywhere f → Decided fs)
 
 -- ---- the law
 
-steps-exact : (ss : List Step) (q : Place) → DecidedSteps ss → Exact (checkSteps ss q) (AllHold ss) (λ c p. FirstFails ss c × (q ≡ p))
-unfolding checkSteps
+pub steps-exact : (ss : List Step) (q : Place) → DecidedSteps ss → Exact (checkSteps ss q) (AllHold ss) (λ c p. FirstFails ss c × (q ≡ p))
 steps-exact [] q d = record {
   passes = record { says = λ x. tt; passed = λ r. refl };
   refuses = record { why = λ c p x. passed-is-not-refused x; refused = λ c p r. absurd (r .0) };
 }
 steps-exact (s ∷ ss) q d =
-    exact-as
+    subst (λ o. Exact o (AllHold (s ∷ ss)) (λ c p. FirstFails (s ∷ ss) c × (q ≡ p)))
+    (demand-then (s .test) (s .number) q (checkSteps ss q))
+    (exact-as
     (then-exact (record { passes = one-check (d .0) (s .number) q; refuses = one-refusal (d .0) (s .number) q }) (λ h. steps-exact ss q (d .1 h)))
     (λ h. h)
     (λ h. h)
     to
-    from
+    from)
   where
     to : (c : ℕ) (p : Place) → ((¬ s .Holds) × (s .number ≡ c) × (q ≡ p)) ⊎ (s .Holds × (FirstFails ss c × (q ≡ p))) → FirstFails (s ∷ ss) c × (q ≡ p)
     to c p (inl h) = (inl (h .0, h .1), h .2)
@@ -120,6 +122,11 @@ phase-exact f d =
     (λ c p r. record { here = r .0; there = r .1; lower = r .2; fails = r .3 .0; called = r .3 .1 })
     (λ c p r. (r .here, r .there, r .lower, (r .fails, r .called)))
 
+pub phases-cons : (f : Phase) (fs : List Phase) → checkPhases (f ∷ fs) ≡ checkPhase f then checkPhases fs
+unfolding checkPhases
+phases-cons f [] = sym (then-Passed (checkPhase f))
+phases-cons f (g ∷ fs) = refl
+
 -- the one law: phases are refused with a number and a place exactly when all phases before hold everywhere, all lower places of this one hold, and this place fails
 pub phases-exact : (fs : List Phase) → Decided fs → Exact (checkPhases fs) (AllPass fs) (RefusedBy fs)
 unfolding checkPhases
@@ -127,7 +134,12 @@ phases-exact [] d = record {
   passes = record { says = λ x. tt; passed = λ r. refl };
   refuses = record { why = λ c p x. passed-is-not-refused x; refused = λ c p r. absurd r };
 }
-phases-exact (f ∷ fs) d = then-exact (phase-exact f (d .0)) (λ h. phases-exact fs (d .1 h))
+phases-exact (f ∷ fs) d =
+    subst (λ o. Exact o (AllPass (f ∷ fs)) (RefusedBy (f ∷ fs))) (sym (phases-cons f fs)) (then-exact (phase-exact f (d .0)) (λ h. phases-exact fs (d .1 h)))
+
+-- a phase of one step at each place: its test decides its statement
+pub one-step : {b : Bool} {A : Type 0} → Decides b A → Decides b A × (A → Unit {0})
+one-step d = (d, λ h. tt)
 
 -- example: a test that decides its statement only where the phase before it holds: a is at most b (1); then a is b, tested by b ≤ a (2)
 abbrev twoPhases : (a b : ℕ) (p q : Place) → List Phase
@@ -136,8 +148,8 @@ twoPhases a b p q = phase 1 1 (λ k. a ≤ b) (λ k. leb a b) (λ k. p) ∷ phas
 example-conditional : (a b : ℕ) (p q : Place) → Exact (checkPhases (twoPhases a b p q)) (AllPass (twoPhases a b p q)) (RefusedBy (twoPhases a b p q))
 example-conditional a b p q =
     phases-exact (twoPhases a b p q) (
-      λ k h l. (at-most a b, λ i. tt),
-      λ e. let below : a ≤ b = e 0 (omega arith) .0 in (λ k h l. (said-as (at-most b a) (λ g. omega arith) (λ g. omega arith), λ i. tt), λ i. tt),
+      λ k h l. one-step (at-most a b),
+      λ e. let below : a ≤ b = e 0 (omega arith) .0 in (λ k h l. one-step (said-as (at-most b a) (λ g. omega arith) (λ g. omega arith)), λ i. tt),
     )
 
 -- ---- phases joined
@@ -145,7 +157,11 @@ example-conditional a b p q =
 pub check-join : (fs gs : List Phase) → checkPhases (fs ++ gs) ≡ checkPhases fs then checkPhases gs
 unfolding checkPhases
 check-join [] gs = refl
-check-join (f ∷ fs) gs = rw (check-join fs gs) (sym (then-assoc (checkPhase f) (checkPhases fs) (checkPhases gs)))
+check-join (f ∷ fs) gs =
+    phases-cons f (fs ++ gs)
+    ∙ ap (λ o. checkPhase f then o) (check-join fs gs)
+    ∙ sym (then-assoc (checkPhase f) (checkPhases fs) (checkPhases gs))
+    ∙ ap (λ o. o then checkPhases gs) (sym (phases-cons f fs))
 
 pub pass-join : (fs gs : List Phase) → AllPass fs → AllPass gs → AllPass (fs ++ gs)
 pass-join [] gs a b = b
@@ -176,6 +192,24 @@ join-refused (f ∷ fs) gs c p (inl (inl r)) = inl r
 join-refused (f ∷ fs) gs c p (inl (inr (h, r))) = inr (h, join-refused fs gs c p (inl r))
 join-refused (f ∷ fs) gs c p (inr (h, r)) = inr (h .0, join-refused fs gs c p (inr (h .1, r)))
 
+-- ---- a part that may be absent
+
+pub decided-part : (b : Bool) (fs : List Phase) → Decided fs → Decided (ifPart b fs)
+decided-part true fs d = d
+decided-part false fs d = tt
+
+pub part-passes : {b : Bool} {B : Type 0} (fs : List Phase) → Decides b B → AllPass (ifPart b fs) → B → AllPass fs
+part-passes {b = true} fs d a h = a
+part-passes {b = false} fs d a h = absurd (d .passes h)
+
+pub passes-part : {b : Bool} {B : Type 0} (fs : List Phase) → Decides b B → (B → AllPass fs) → AllPass (ifPart b fs)
+passes-part {b = true} fs d a = a (d .holds tt)
+passes-part {b = false} fs d a = tt
+
+pub refused-there : {b : Bool} {B : Type 0} (fs : List Phase) → Decides b B → B → (c : ℕ) (p : Place) → RefusedBy fs c p → RefusedBy (ifPart b fs) c p
+refused-there {b = true} fs d h c p r = r
+refused-there {b = false} fs d h c p r = absurd (d .passes h)
+
 -- ---- what holds of every refusal
 
 -- of a phase: Q holds of each number and place with which it refuses
@@ -202,3 +236,21 @@ never-fails (s ∷ ss) c h (inr f) = never-fails ss c (h .1) (f .1)
 pub each-passed : (Q : ℕ → Place → Type 0) (fs : List Phase) → AllPass fs → EachIn Q fs
 each-passed Q [] a = tt
 each-passed Q (f ∷ fs) a = (λ k c h b r. absurd (never-fails (f .steps k) c (a .0 k h) r), λ h. each-passed Q fs (a .1))
+
+pub each-part : (Q : ℕ → Place → Type 0) (b : Bool) (fs : List Phase) → EachIn Q fs → EachIn Q (ifPart b fs)
+each-part Q true fs e = e
+each-part Q false fs e = tt
+
+-- where the part is there
+pub each-there : {b : Bool} {B : Type 0} (Q : ℕ → Place → Type 0) (fs : List Phase) → Decides b B → (B → EachIn Q fs) → EachIn Q (ifPart b fs)
+each-there {b = true} Q fs d e = e (d .holds tt)
+each-there {b = false} Q fs d e = tt
+
+pub each-as : (Q R : ℕ → Place → Type 0) (fs : List Phase) → ((k : ℕ) (p : Place) → Q k p → R k p) → EachIn Q fs → EachIn R fs
+each-as Q R [] f e = tt
+each-as Q R (g ∷ fs) f e = (λ k c h l r. f c (g .place k) (e .0 k c h l r), λ h. each-as Q R fs f (e .1 h))
+
+-- a phase of one step refuses with its own number
+pub own-number : {k number c : ℕ} {H : Type 0} → k ≡ number → ((¬ H) × (number ≡ c)) ⊎ (H × ⊥) → k ≡ c
+own-number e (inl h) = e ∙ h .1
+own-number e (inr h) = absurd (h .1)

@@ -1,9 +1,9 @@
 -- Which kind of place a refusal's number has: phase by phase. And so the number and the place, as two numbers, say which refusal it is.
 use mathlib.Core.Path.{_≡_, refl, sym, _∙_, ap, subst, subst₂}
-use mathlib.Core.Logic.{_↔_, _⊎_, inl, inr, _≢_}
+use mathlib.Core.Logic.{_⊎_, inl, inr}
 use mathlib.Core.Bool.{Bool, true, false, cond, _||_}
 use mathlib.Core.List.{List, [], _∷_, _++_}
-use Prim.Native.Nat.{ℕ, suc}
+use Prim.Native.Nat.{ℕ, suc, _*_}
 use native.Mathlib.Omega.{arith}
 use lib.Dec.{eqb}
 use lib.IntN.{ℤ}
@@ -12,19 +12,20 @@ use Rattle.scope.specs.declared.Place.the-variants.{Line, Row, Column, N
 use Rattle.scope.specs.declared.Outcome.{Outcome}
 use Rattle.scope.specs.declared.Outcome.the-variants.{Passed, Refused}
 use Rattle.scope.specs.Answer.{placeNumber, placeFor, meshNumberOf, meshPlaceOf}
-use Rattle.scope.specs.Columns.{Rule, rightAngle, naming, parts, ruleNumber}
-use Rattle.scope.specs.Layout.{Layout}
-use Rattle.scope.specs.Mesh.{meshLayout}
-use Rattle.scope.specs.Claim.{claimLayout}
+use Rattle.scope.specs.Columns.{Rule, rightAngle, naming, parts, ruleNumber, hasField, hasMultipliers, n, l}
+use Rattle.scope.specs.Layout.{Layout, numbersAt, groupAt}
+use Rattle.scope.specs.Mesh.{meshLayout, nodes}
+use Rattle.scope.specs.Claim.{claimLayout, stress, multiplier}
+use Rattle.scope.specs.Rows.{equalityRows, strengthRows, rowsOf}
 use Rattle.scope.specs.Verdict.{meshCheck}
-use Rattle.scope.specs.Sound.{numbersAt, groupAt, MeshSound}
+use Rattle.scope.specs.Statements.{MeshSound}
 use Rattle.scope.specs.Phases.{FirstFails}
-use Rattle.scope.specs.Refusals.{ruleSteps, lineSteps, linePhases, shapePhases, meshPhases, fieldPhases, multiplierPhases, claimPhases, MeshRefusal, Refusal}
+use Rattle.scope.specs.Refusals.{ruleSteps, lineSteps, linePhases, shapePhases, meshPhases, fieldPhases, multiplierPhases, fieldPart, multiplierPart, partPhases, claimPhases, MeshRefusal, Refusal}
 use Rattle.scope.specs.AnsweredMesh.{MeshExactly}
 use Rattle.scope.proofs.Checks.{passed-is-not-refused}
-use Rattle.scope.proofs.Phases.{EachIn, each-refusal, each-join}
+use Rattle.scope.proofs.Phases.{EachIn, each-refusal, each-join, each-part, own-number}
 use Rattle.scope.proofs.Refusals.{mesh-exact}
-use Rattle.scope.proofs.Exactly.{Early, own-number, mesh-numbers}
+use Rattle.scope.proofs.Exactly.{Early, mesh-numbers}
 
 -- the place is the one for this number
 abbrev Kind : ℕ → Place → Type 0
@@ -41,7 +42,7 @@ rule-of-line (naming cs ∷ rs) line c (inl h) = subst OfLine (h .1) (λ j. refl
 rule-of-line (parts ∷ rs) line c (inl h) = subst OfLine (h .1) (λ j. refl)
 rule-of-line (r ∷ rs) line c (inr h) = rule-of-line rs line c (h .1)
 
-step-of-line : (f : Layout) (ns : List ℤ) (k c : ℕ) → OfLine (f .formNumber) → OfLine (f .limitNumber) → FirstFails (lineSteps f ns k) c → OfLine c
+step-of-line : (f : Layout) (ns : List ℤ) (k c : ℕ) → OfLine (f .formNumber) → OfLine (f .limitNumber) → FirstFails (lineSteps f (groupAt f ns k) (numbersAt f ns k)) c → OfLine c
 step-of-line f ns k c a b (inl h) = subst OfLine (h .1) a
 step-of-line f ns k c a b (inr (x, inl h)) = subst OfLine (h .1) b
 step-of-line f ns k c a b (inr (x, inr (y, h))) = rule-of-line (groupAt f ns k .rules) (numbersAt f ns k) c h
@@ -68,13 +69,16 @@ pub all-kinds : (m c : List ℤ) → EachIn Kind (meshPhases m ++ claimPhases m 
 unfolding placeFor claimLayout
 all-kinds m c =
     each-join Kind (meshPhases m) (claimPhases m c) (mesh-kinds m) (λ a.
-    each-join Kind (linePhases (claimLayout m) c) (fieldPhases m c ++ multiplierPhases m c) (line-kinds (claimLayout m) c (λ j. refl) (λ j. refl)) (λ b. (
+    each-join Kind (linePhases (claimLayout m) c) (partPhases m c) (line-kinds (claimLayout m) c (λ j. refl) (λ j. refl)) (λ b.
+    each-join Kind (fieldPart m c) (multiplierPart m c)
+    (each-part Kind (hasField c) (fieldPhases (equalityRows m) (strengthRows m) (stress m c) (l c) (n c)) (
       λ k c h l r. one-kind refl r,
-      λ e. (
-        λ k c h l r. one-kind refl r,
-        λ e. (λ k c h l r. one-kind refl r, λ e. (λ k c h l r. one-kind refl r, λ e. (λ k c h l r. one-kind refl r, λ i. tt))),
-      ),
-    )))
+      λ e. (λ k c h l r. one-kind refl r, λ i. tt),
+    ))
+    (λ d. each-part Kind (hasMultipliers c) (multiplierPhases (equalityRows m) (rowsOf m) (3 * nodes m) (multiplier m c)) (
+      λ k c h l r. one-kind refl r,
+      λ e. (λ k c h l r. one-kind refl r, λ e. (λ k c h l r. one-kind refl r, λ i. tt)),
+    ))))
 
 pub place-kind : {m c : List ℤ} {k : ℕ} {p : Place} → Refusal m c k p → p ≡ placeFor k (placeNumber p)
 place-kind {m} {c} r = each-refusal Kind (meshPhases m ++ claimPhases m c) (all-kinds m c) (r .by)

@@ -1,6 +1,6 @@
 -- The three polygons satisfy the rule: one computed test of a table, and one lemma that turns the test into the rule.
 -- That no point is left out is a walk along the circle's first quadrant: from (0, r) one step right while inside or on the circle, one step down where outside.
-use mathlib.Core.Path.{_≡_, refl, sym, _∙_, ap, ap₂}
+use mathlib.Core.Path.{_≡_, refl, sym, _∙_, ap, ap₂, subst}
 use mathlib.Core.Bool.{Bool, true, false, not, _&&_, _||_}
 use mathlib.Core.Logic.{_⊎_, inl, inr, ⊎-elim}
 use mathlib.Core.List.{List, [], _∷_, List·Memᴰ·head, List·Memᴰ·tail, Memᴰ·cast, tail-eq-of-cons-eq}
@@ -14,13 +14,16 @@ use lib.Ieee.Fits.{and-l, and-r}
 use lib.IntN.{ℤ, pos, negsuc, _+ℤ_, _*ℤ_, negℤ, natAbs}
 use lib.Signed.{ltZ, _<ℤ_, ltZ-yes}
 use lib.ListN.{length}
-use Rattle.integer.specs.Tests.{eqZ, eqZ-yes}
-use Rattle.integer.specs.Laws.{pos-injective}
+use Rattle.integer.specs.Tests.{eqZ}
+use Rattle.integer.proofs.TestLaws.{eqZ-yes}
+use Rattle.integer.proofs.RingLaws.{pos-injective}
 use Rattle.scope.proofs.Lists.{each-nil, each-cons}
 use Rattle.scope.specs.Members.{_∈_}
 use Rattle.scope.specs.Polygon.{Point, point, Polygon, Side, sidesTo, polygonSides, quarterTurn, fourQuadrants, twelve, twenty, thirtySix, polygonOf}
 use Rattle.scope.specs.Rows.{cross}
-use Rattle.scope.specs.PolygonRule.{OnCircle, OnceAround, stepSize, crossSize, Largest, PolygonRule}
+use Rattle.scope.specs.Mesh.{mostSides}
+use Rattle.scope.specs.Bounds.{mostRadius, mostStep, mostCross, weightedStep, weightedCross, mostStrengthRows, strengthMultiplier, nodesWith}
+use Rattle.scope.specs.PolygonRule.{OnCircle, OnceAround, stepSize, crossSize, Largest, PolygonRule, PolygonFits, ListedPolygon}
 
 -- ---- tests
 
@@ -167,11 +170,20 @@ leg-≤ x y r e = by (decLt r y)
     by (yes h) = absurd (omega (arith, square-< h))
     by (no h) = omega arith
 
+-- the legs of a point of the circle, and that neither is longer than the radius
+legs : (r : ℤ) (v : Point) → OnCircle r v → natAbs v.px * natAbs v.px + natAbs v.py * natAbs v.py ≡ natAbs r * natAbs r
+legs r v on = pos-injective (sym (ap₂ _+ℤ_ (square-abs v.px) (square-abs v.py)) ∙ on ∙ square-abs r)
+
+pub legs-within : (r : ℤ) (v : Point) → OnCircle r v → (natAbs v.px ≤ natAbs r) × (natAbs v.py ≤ natAbs r)
+legs-within r v on =
+    let e = legs r v on in
+    (leg-≤ (natAbs v.py) (natAbs v.px) (natAbs r) (omega (arith, e)), leg-≤ (natAbs v.px) (natAbs v.py) (natAbs r) e)
+
 none-left-out : (c : List Point) (r : ℤ) (steps : ℕ) → T (walk (hasSigned c) (natAbs r * natAbs r) steps 0 (suc (natAbs r))) → (v : Point) → OnCircle r v → v ∈ c
 none-left-out c r steps t v on =
     let x : ℕ = natAbs v.px in
     let y : ℕ = natAbs v.py in
-    let e : x * x + y * y ≡ natAbs r * natAbs r = pos-injective (sym (ap₂ _+ℤ_ (square-abs v.px) (square-abs v.py)) ∙ on ∙ square-abs r) in
+    let e : x * x + y * y ≡ natAbs r * natAbs r = legs r v on in
     signed-yes c v.px v.py (walk-yes (hasSigned c) (natAbs r * natAbs r) steps 0 (suc (natAbs r)) t x y zero-le (suc-le-suc (leg-≤ x y (natAbs r) e)) e)
 
 from-upper : (r : ℤ) (c : List Point) → T (fromUpper r c) → OnceAround r (point r (pos 0) ∷ c)
@@ -256,3 +268,38 @@ polygon-rule k = go (eqb k 12) (eqb k 20)
     go true b = (12, 3, 15, twelve-sides)
     go false true = (20, 8, 220, twenty-sides)
     go false false = (36, 16, 1183, thirty-six-sides)
+
+-- ---- a listed number of sides, by cases once: all that rows and sums read of it
+
+boundsTest : ℕ → ℕ → ℕ → ℕ → Bool
+boundsTest sides radius step product =
+    ltb 0 sides
+    && leb sides mostSides
+    && leb radius mostRadius
+    && leb step mostStep
+    && leb product mostCross
+    && leb (strengthMultiplier sides * step) weightedStep
+    && leb (strengthMultiplier sides * product) weightedCross
+    && leb (nodesWith sides * sides) mostStrengthRows
+
+bounded : {g : Polygon} {sides step product : ℕ} (radius : ℕ) → PolygonRule g sides step product → g .radius ≡ pos radius
+    → T (boundsTest sides radius step product) → PolygonFits g sides radius step product
+unfolding boundsTest
+bounded {sides = sides} {step = step} {product = product} radius rule e t = record {
+  rule = rule;
+  radiusIs = e;
+  someSides = ltb→lt 0 sides (search (and-l, and-r) depth 10);
+  fewSides = leb→le sides mostSides (search (and-l, and-r) depth 10);
+  radiusFits = leb→le radius mostRadius (search (and-l, and-r) depth 10);
+  stepFits = leb→le step mostStep (search (and-l, and-r) depth 10);
+  productFits = leb→le product mostCross (search (and-l, and-r) depth 10);
+  stepWeighted = leb→le (strengthMultiplier sides * step) weightedStep (search (and-l, and-r) depth 10);
+  productWeighted = leb→le (strengthMultiplier sides * product) weightedCross (search (and-l, and-r) depth 10);
+  rowsFit = leb→le (nodesWith sides * sides) mostStrengthRows (search (and-l, and-r) depth 10);
+}
+
+pub listed-polygon : (k : ℕ) → (k ≡ 12) ⊎ ((k ≡ 20) ⊎ (k ≡ 36)) → ListedPolygon k
+unfolding shown boundsTest
+listed-polygon k (inl e) = subst ListedPolygon (sym e) (record { radius = 5; step = 3; product = 15; fits = bounded 5 twelve-sides refl tt })
+listed-polygon k (inr (inl e)) = subst ListedPolygon (sym e) (record { radius = 25; step = 8; product = 220; fits = bounded 25 twenty-sides refl tt })
+listed-polygon k (inr (inr e)) = subst ListedPolygon (sym e) (record { radius = 65; step = 16; product = 1183; fits = bounded 65 thirty-six-sides refl tt })

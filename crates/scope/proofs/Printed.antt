@@ -7,9 +7,9 @@ use Prim.Native.Nat.{ℕ, _<_, zero-le}
 use native.Mathlib.Omega.{arith}
 use lib.IntN.{ℤ, pos, _+ℤ_, _-ℤ_, _*ℤ_, negℤ, +ℤ-assoc, +ℤ-idr}
 use lib.Signed.{_≤ℤ_}
-use Rattle.integer.specs.Ring.{ring, ring-from, sides as both-sides, terms}
+use Rattle.integer.proofs.Ring.{ring, ring-from, sides as both-sides, terms}
 use Rattle.integer.specs.Tests.{eqZ}
-use Rattle.integer.specs.Order.{by-nn, nn-diff}
+use Rattle.integer.proofs.Order.{by-nn, nn-diff}
 use Rattle.scope.proofs.Lists.{in-joined, in-count, of-count, each-nil, each-cons, each-++, each-map, each-joined}
 use Rattle.scope.proofs.Decides.{Decides, either, equalℤ}
 use Rattle.scope.specs.Mesh.{elements, edges, sides, p, q, h, cohesion, deadX, deadY, liveX, liveY, x, y, corner, elementSoil, edgeEntry, fromNode, toNode}
@@ -45,11 +45,13 @@ if-fixed {B} {a} {b} what fixed e = go (eqZ fixed what || eqZ fixed (pos 3)) (ei
 with-force : (S : ℤ) {L : ℤ} (D F f n l : ℤ) → S ≡ L → S +ℤ D *ℤ f *ℤ l -ℤ negℤ (D *ℤ F) *ℤ n ≡ L -ℤ negℤ D *ℤ (n *ℤ F +ℤ l *ℤ f)
 with-force S {L} D F f n l e = ring-from (pos 1) e (ring (S ∷ L ∷ D ∷ F ∷ f ∷ n ∷ l ∷ []) (search terms depth 100) refl)
 
--- the two sides of a strength row, with k for ad - bc and (e, f) for (c - a, d - b)
-strength-sides : (r h k e f p q C n sx sy t l : ℤ)
-    → (r *ℤ h *ℤ f +ℤ k *ℤ p) *ℤ sx +ℤ ((k *ℤ p -ℤ r *ℤ h *ℤ f) *ℤ sy +ℤ (negℤ (pos 2 *ℤ (r *ℤ h *ℤ e)) *ℤ t +ℤ pos 0)) +ℤ pos 0 *ℤ l -ℤ k *ℤ (pos 2 *ℤ q *ℤ C) *ℤ n
-    ≡ r *ℤ h *ℤ (f *ℤ (sx -ℤ sy) -ℤ pos 2 *ℤ e *ℤ t) -ℤ k *ℤ (pos 2 *ℤ q *ℤ C *ℤ n -ℤ p *ℤ (sx +ℤ sy))
-strength-sides r h k e f p q C n sx sy t l = ring (r ∷ h ∷ k ∷ e ∷ f ∷ p ∷ q ∷ C ∷ n ∷ sx ∷ sy ∷ t ∷ l ∷ []) (both-sides (search terms depth 100) (search terms depth 100)) refl
+-- a strength row of node v, for any soil's numbers
+strength-less : (s : ℕ → ℤ) (l n r p q h C : ℤ) (v : ℕ) (d : Side) → leftSide s l (strengthRow r p q h C v d) -ℤ rightSide n (strengthRow r p q h C v d) ≡ deviator r d h (s (sx v)) (s (sy v)) (s (t v)) -ℤ resistance d p q C n (s (sx v)) (s (sy v))
+unfolding strengthRow leftSide rightSide weightedSum cross
+strength-less s l n r p q h C v d =
+    ring
+    (r ∷ p ∷ q ∷ h ∷ C ∷ n ∷ l ∷ s (sx v) ∷ s (sy v) ∷ s (t v) ∷ d .from .px ∷ d .from .py ∷ d .to .px ∷ d .to .py ∷ [])
+    (both-sides (search terms depth 200 fits 100000) (search terms depth 200 fits 100000)) refl
 
 -- the rows of an element, of an edge and of a pair among the rows of the mesh
 module _ (m : List ℤ) where
@@ -99,9 +101,7 @@ module _ (m : List ℤ) (s : ℕ → ℤ) (l n : ℤ) where
   row-strength : (r : ℤ) (a : Pair) (d : Side)
       → leftSide s l (strengthRow r (p m (a .soil)) (q m (a .soil)) (h m (a .soil)) (cohesion m (a .soil)) (a .at) d) -ℤ rightSide n (strengthRow r (p m (a .soil)) (q m (a .soil)) (h m (a .soil)) (cohesion m (a .soil)) (a .at) d)
       ≡ deviator r d (h m (a .soil)) (s (sx (a .at))) (s (sy (a .at))) (s (t (a .at))) -ℤ resistance d (p m (a .soil)) (q m (a .soil)) (cohesion m (a .soil)) n (s (sx (a .at))) (s (sy (a .at)))
-  unfolding strengthRow leftSide rightSide weightedSum cross
-  row-strength r a d =
-      strength-sides r (h m (a .soil)) (cross (d .from) (d .to)) (d .to .px -ℤ d .from .px) (d .to .py -ℤ d .from .py) (p m (a .soil)) (q m (a .soil)) (cohesion m (a .soil)) n (s (sx (a .at))) (s (sy (a .at))) (s (t (a .at))) l
+  row-strength r a d = strength-less s l n r (p m (a .soil)) (q m (a .soil)) (h m (a .soil)) (cohesion m (a .soil)) (a .at) d
 
   pub rows-printed : RowsPrinted m s l n
   rows-printed = record { balance-x = row-x; balance-y = row-y; normal = row-normal; shear = row-shear; strength = row-strength (polygonOf (sides m) .radius) }

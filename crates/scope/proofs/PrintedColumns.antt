@@ -9,22 +9,22 @@ use native.Mathlib.Decide.{decLt}
 use native.Mathlib.Omega.{arith}
 use lib.IntN.{ℤ, pos, negsuc, _+ℤ_, _-ℤ_, _*ℤ_, negℤ, +ℤ-assoc, +ℤ-idl, +ℤ-idr}
 use lib.ListN.{length}
-use Rattle.integer.specs.Ring.{ring, terms}
+use Rattle.integer.proofs.Ring.{ring, terms}
 use Rattle.integer.specs.Tests.{eqZ}
 use Rattle.scope.specs.Mesh.{nodes, elements, edges, sides, edgeEntry, fromNode, toNode}
 use Rattle.scope.specs.Polygon.{polygonOf}
-use Rattle.scope.specs.Rows.{Kind, asked, unfixed, strength, Row, sx, sy, t, balanceX, balanceY, normalRow, shearRow, fixedIf, equalityRows, strengthRows, rowsOf}
+use Rattle.scope.specs.Rows.{asked, unfixed, strength, Row, sx, sy, t, balanceX, balanceY, normalRow, shearRow, fixedIf, equalityRows, rowsOf}
 use Rattle.scope.specs.Sums.{weightedSum, leftSide, rightSide, weighed, unit, coefficient, columnSum, liveSum, limitSum}
-use Rattle.scope.specs.Verdict.{rowAt}
-use Rattle.scope.specs.Sound.{NoneOnUnfixed, MeetsColumns}
-use Rattle.scope.specs.RowNumbers.{sideAt, pairRow, pairOf}
+use Rattle.scope.specs.Statements.{NoneOnUnfixed, MeetsColumns}
+use Rattle.scope.specs.RowNumbers.{sideAt, pairOf}
 use Rattle.scope.specs.Printed.{FixesNormal, FixesShear}
-use Rattle.scope.specs.PrintedColumns.{lessX, lessY, lessNormal, lessShear, lessStrength, sumBelow, ofElement, ofEdge, ofNode, weighedRows, printedColumn, printedLive, printedLimit, ColumnsPrinted, MultipliersPrinted}
+use Rattle.scope.specs.PrintedColumns.{lessX, lessY, lessNormal, lessShear, lessStrength, sumBelow, ofElement, ofEdge, ofNode, weighedRows, ColumnsPrinted, MultipliersPrinted}
 use Rattle.scope.proofs.Decides.{Decides, either, equalℤ}
 use Rattle.scope.proofs.Weighted.{weighted-same, weighted-zero, weighted-multiple}
 use Rattle.scope.proofs.Printed.{rows-printed}
 use Rattle.scope.proofs.RowCounts.{equality-count}
 use Rattle.scope.proofs.RowNumbers.{elementRows, edgeRows, balance-at, side-at, equality-among, strength-among, strength-at, row-count}
+use Rattle.scope.specs.Tests.{rowAt}
 
 -- ---- sums below a number
 

@@ -1,5 +1,5 @@
 -- The row of a refusal by its number, as it is printed: the phase's row, the row of that number, and the printed row are one.
-use mathlib.Core.Path.{_≡_, refl, sym, _∙_, ap, subst}
+use mathlib.Core.Path.{_≡_, refl, sym, subst}
 use mathlib.Core.Logic.{_⊎_, inl, inr}
 use mathlib.Core.List.{List, _++_}
 use Prim.Native.Nat.{ℕ, suc, _+_, _*_, _-_, _<_}
@@ -9,21 +9,21 @@ use Rattle.scope.specs.declared.Place.{Place}
 use Rattle.scope.specs.declared.Place.the-variants.{Row}
 use Rattle.scope.specs.Answer.{placeNumber}
 use Rattle.scope.specs.Columns.{n, l}
-use Rattle.scope.specs.Mesh.{nodes, elements, edges, sides, fromNode, toNode}
+use Rattle.scope.specs.Mesh.{elements, sides, fromNode, toNode}
 use Rattle.scope.specs.Polygon.{polygonOf}
 use Rattle.scope.specs.Claim.{stress}
 use Rattle.scope.specs.Rows as R
 use Rattle.scope.specs.Rows.{equalityRows, strengthRows}
-use Rattle.scope.specs.Verdict.{rowAt}
 use Rattle.scope.specs.Meets.{RowMet}
-use Rattle.scope.specs.Refusals.{EqualityMet, StrengthMet, meshPhases, claimPhases, Refusal}
+use Rattle.scope.specs.Refusals.{meshPhases, claimPhases, Refusal}
 use Rattle.scope.specs.RowNumbers.{rowNumbered, sideNumbered, pairOf, RowNumbers}
 use Rattle.scope.specs.RefusedRows.{EqualityFails, StrengthFails}
-use Rattle.scope.proofs.Phases.{EachIn, each-refusal}
-use Rattle.scope.proofs.Exactly.{own-number, each-number, refused-on-mesh}
-use Rattle.scope.proofs.Facts.{mesh-facts}
+use Rattle.scope.proofs.Phases.{EachIn, each-refusal, own-number}
+use Rattle.scope.proofs.Exactly.{each-number, refused-on-mesh}
+use Rattle.scope.proofs.NumberRanges.{mesh-facts}
 use Rattle.scope.proofs.Printed.{balance-x, balance-y, normal, shear, strength}
 use Rattle.scope.proofs.RowNumbers.{row-numbers}
+use Rattle.scope.specs.Tests.{rowAt}
 
 module _ (m c : List ℤ) where
   met : R.Row → Type 0

@@ -14,7 +14,7 @@ use Rattle.scope.specs.Mesh.{nodes, elements, edges, sides, edgeEntry, e
 use Rattle.scope.specs.Polygon.{Point, sidesTo, polygonSides, polygonOf}
 use Rattle.scope.specs.Rows.{Kind, asked, unfixed, strength, Row, countFrom, joined, balanceX, balanceY, balanceRows, fixedIf, normalRow, shearRow, sideRows, strengthPairs, strengthRow, pairRows, strengthRows, equalityRows}
 use Rattle.scope.proofs.Lists.{count-length, each-nil, each-cons, each-++, each-map, each-joined}
-use Rattle.scope.proofs.PolygonRule.{twelve-sides, twenty-sides, thirty-six-sides}
+use Rattle.scope.proofs.PolygonRule.{listed-polygon}
 
 pub length-joined : {A B : Type 0} (f : A → List B) (w : ℕ) (l : List A) → ((a : A) → a ∈ l → length (f a) ≡ w) → length (joined f l) ≡ length l * w
 unfolding joined
@@ -31,7 +31,7 @@ balance-count m =
     length-joined (λ e. balanceX m e ∷ balanceY m e ∷ []) 2 (countFrom 0 (elements m)) (λ a i. refl)
     ∙ ap (λ (k : ℕ). k * 2) (count-length 0 (elements m))
 
-side-count : (m : List ℤ) → length (sideRows m) ≡ edges m * 4
+pub side-count : (m : List ℤ) → length (sideRows m) ≡ edges m * 4
 unfolding sideRows
 side-count m = length-joined _ 4 (countFrom 0 (edges m)) (λ a i. refl) ∙ ap (λ (k : ℕ). k * 4) (count-length 0 (edges m))
 
@@ -81,9 +81,7 @@ side-of-each (v ∷ vs) = sides-to v v vs
 
 -- a listed polygon has as many sides as it says
 pub polygon-sides : (k : ℕ) → (k ≡ 12) ⊎ ((k ≡ 20) ⊎ (k ≡ 36)) → length (polygonSides (polygonOf k .corners)) ≡ k
-polygon-sides k (inl e) = subst (λ (i : ℕ). length (polygonSides (polygonOf i .corners)) ≡ i) (sym e) (side-of-each (polygonOf 12 .corners) ∙ twelve-sides .count)
-polygon-sides k (inr (inl e)) = subst (λ (i : ℕ). length (polygonSides (polygonOf i .corners)) ≡ i) (sym e) (side-of-each (polygonOf 20 .corners) ∙ twenty-sides .count)
-polygon-sides k (inr (inr e)) = subst (λ (i : ℕ). length (polygonSides (polygonOf i .corners)) ≡ i) (sym e) (side-of-each (polygonOf 36 .corners) ∙ thirty-six-sides .count)
+polygon-sides k h = side-of-each (polygonOf k .corners) ∙ listed-polygon k h .fits .rule .count
 
 pub strength-count : (m : List ℤ) → (sides m ≡ 12) ⊎ ((sides m ≡ 20) ⊎ (sides m ≡ 36)) → length (strengthRows m) ≡ nodes m * sides m
 unfolding strengthRows pairRows strengthPairs

@@ -9,12 +9,12 @@ use lib.IntN.{ℤ}
 use lib.ListN.{length, getD, length-append, length-map, List·getD-append}
 use lib.Seq.{getD-append-add}
 use Rattle.scope.specs.Mesh.{nodes, elements, edges, sides, fromNode, toNode}
-use Rattle.scope.specs.Polygon.{Side, polygonSides, polygonOf}
+use Rattle.scope.specs.Polygon.{polygonSides, polygonOf}
 use Rattle.scope.specs.Rows.{Row, Pair, countFrom, joined, balanceX, balanceY, balanceRows, normalRow, shearRow, sideRows, strengthPairs, pairRows, strengthRows, equalityRows, rowsOf}
-use Rattle.scope.specs.Verdict.{rowAt}
 use Rattle.scope.specs.RowNumbers.{sideAt, pairRow, pairOf, RowNumbers}
 use Rattle.scope.proofs.RowCounts.{balance-count, equality-count, polygon-sides, strength-count}
 use Rattle.scope.proofs.Lists.{count-length, at-count, at-map, at-each, length-each}
+use Rattle.scope.specs.Tests.{rowAt}
 
 -- ---- pieces
 

@@ -6,13 +6,12 @@ use Prim.Native.Nat.{ℕ, zero, suc, _<_}
 use native.Mathlib.Omega.{arith}
 use lib.IntN.{ℤ}
 use lib.ListN.{length, length-map}
-use Rattle.scope.specs.Members.{_∈_}
 use Rattle.scope.specs.Rows.{Kind, asked, unfixed, strength, Row, rowsOf, judgedAs, judged}
 use Rattle.scope.specs.Sums.{leftSide, rightSide}
-use Rattle.scope.specs.Verdict.{rowAt}
 use Rattle.scope.specs.Meets.{Asks, RowMet, FieldMeets}
 use Rattle.scope.specs.Parts.{SameRows, SameRow, SameRowsMeans}
 use Rattle.scope.proofs.Lists.{row-in, by-place}
+use Rattle.scope.specs.Tests.{rowAt}
 
 -- ---- one row
 

@@ -3,8 +3,9 @@ use mathlib.Core.Path.{_≡_, refl, _∙_, ap}
 use mathlib.Core.List.{List, [], _∷_}
 use Prim.Native.Nat.{ℕ}
 use lib.IntN.{ℤ, pos, _+ℤ_, _-ℤ_, _*ℤ_, *ℤ-zero}
-use Rattle.integer.specs.Ring.{ring, terms}
-use Rattle.integer.specs.Sum.{sumOf, sumOf-same, sumOf-zero}
+use Rattle.integer.proofs.Ring.{ring, terms}
+use Rattle.integer.specs.Sum.{sumOf}
+use Rattle.integer.proofs.SumLaws.{sumOf-same, sumOf-zero}
 use Rattle.scope.specs.Members.{_∈_}
 use Rattle.scope.specs.Sums.{weightedSum}
 

@@ -2,8 +2,7 @@
 use mathlib.Core.List.{List}
 use lib.IntN.{ℤ}
 use Rattle.scope.specs.Claim.{claimLayout}
-use Rattle.scope.specs.Sound.{LinesSound, MeshSound}
-use Rattle.scope.specs.Refusals.{HasField, HasMultipliers, RowsMet, ColumnsMet}
+use Rattle.scope.specs.Statements.{LinesSound, MeshSound, HasField, HasMultipliers, RowsMet, ColumnsMet}
 
 -- an accepted field, whatever becomes of the claim's multipliers
 pub record FieldAccepted (m c : List ℤ) : Type 0 where

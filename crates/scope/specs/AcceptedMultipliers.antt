@@ -5,8 +5,7 @@ use mathlib.Core.List.{List}
 use lib.IntN.{ℤ}
 use Rattle.integer.specs.Fraction.{_over_}
 use Rattle.scope.specs.Claim.{claimLayout, multiplier}
-use Rattle.scope.specs.Sound.{LinesSound, MeshSound}
-use Rattle.scope.specs.Refusals.{HasMultipliers}
+use Rattle.scope.specs.Statements.{LinesSound, MeshSound, HasMultipliers}
 use Rattle.scope.specs.Accepted.{MultipliersAccepted}
 use Rattle.scope.specs.Parts.{allowed}
 use Rattle.scope.specs.PrintedColumns.{MultipliersPrinted, printedLive, printedLimit}

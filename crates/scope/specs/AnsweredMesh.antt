@@ -6,7 +6,7 @@ use Prim.Native.Nat.{ℕ}
 use lib.IntN.{ℤ}
 use Rattle.scope.specs.declared.Outcome.{Outcome}
 use Rattle.scope.specs.Answer.{placeFor, meshNumberOf, meshPlaceOf}
-use Rattle.scope.specs.Sound.{MeshSound}
+use Rattle.scope.specs.Statements.{MeshSound}
 use Rattle.scope.specs.Refusals.{MeshRefusal}
 
 pub record MeshExactly (m : List ℤ) (o : Outcome) : Type 0 where

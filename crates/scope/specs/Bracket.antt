@@ -11,7 +11,7 @@ use Rattle.scope.specs.Members.{_∈_}
 use Rattle.scope.specs.Mesh.{nodes, elements, edges, corner, fromNode, toNode}
 use Rattle.scope.specs.Rows.{Kind, asked, unfixed, strength, Row, rowsOf}
 use Rattle.scope.specs.Sums.{weightedSum, leftSide, rightSide, weighed, columnSum, liveSum, limitSum, openRows}
-use Rattle.scope.specs.Verdict.{rowAt}
+use Rattle.scope.specs.Tests.{rowAt}
 
 -- no row has an entry in a column from `columns` on
 abbrev pub Columns : ℕ → List Row → Type 0

@@ -1,5 +1,5 @@
 -- Checks in order (document 01, 'Verdict and report', "Order"): a check is a test with a number and a place, and what is said is the first check that fails.
-use mathlib.Core.Bool.{Bool, true, false, _&&_, _||_}
+use mathlib.Core.Bool.{Bool, true, false, cond, _&&_, _||_}
 use Prim.Native.Nat.{ℕ, zero, suc}
 use Rattle.scope.specs.declared.Place.{Place}
 use Rattle.scope.specs.declared.Outcome.{Outcome}
@@ -7,8 +7,7 @@ use Rattle.scope.specs.declared.Outcome.the-variants.{Passed, Refused}
 
 -- one check: where the test fails, its number with its place
 abbrev pub demand : Bool → ℕ → Place → Outcome
-demand true n p = Passed
-demand false n p = Refused n p
+demand b n p = cond b Passed (Refused n p)
 
 -- one check after another: the first refusal counts
 infixl 20 _then_

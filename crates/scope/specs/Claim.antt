@@ -6,7 +6,7 @@ use lib.IntN.{ℤ, pos}
 use lib.ListN.{replicate}
 use Rattle.scope.specs.Columns.{between, upTo, parts, at, hasField, hasMultipliers}
 use Rattle.scope.specs.Layout.{Group, Layout, groups, numbersBefore}
-use Rattle.scope.specs.Mesh.{nodes, elements, edges, sides}
+use Rattle.scope.specs.Mesh.{nodes, elements, edges, sides, elementRows, edgeRows}
 
 -- "Header: field there (0 or 1), multipliers there (0 or 1), n 0 to 100,000, l within ±100,000,000"
 unfoldable pub claimHeader : Group
@@ -21,20 +21,27 @@ claimHeader = record {
   rules = parts ∷ [];
 }
 
+-- how many columns each line has: of the header, of a node's stresses; a line of multipliers has one for each row
+abbrev pub claimHeaderColumns : ℕ
+claimHeaderColumns = 4
+
+abbrev pub stressColumns : ℕ
+stressColumns = 3
+
 -- k lines where the part is there, else none
 unfoldable pub ifThere : Bool → ℕ → ℕ
 ifThere b k = cond b k 0
 
 -- "With a field: for each node sx, sy, t (x stress, y stress, shear), within ±1,000,000,000"
 unfoldable pub stressLines : ℕ → Group
-stressLines k = record { lines = k; limits = replicate 3 (upTo 1000000000); rules = [] }
+stressLines k = record { lines = k; limits = replicate stressColumns (upTo 1000000000); rules = [] }
 
 -- "With multipliers: for each element 2, for each edge 4, within ±100,000; then for each node a line of as many as there are sides, 0 to 10,000"
 unfoldable pub elementMultipliers : ℕ → Group
-elementMultipliers k = record { lines = k; limits = replicate 2 (upTo 100000); rules = [] }
+elementMultipliers k = record { lines = k; limits = replicate elementRows (upTo 100000); rules = [] }
 
 unfoldable pub edgeMultipliers : ℕ → Group
-edgeMultipliers k = record { lines = k; limits = replicate 4 (upTo 100000); rules = [] }
+edgeMultipliers k = record { lines = k; limits = replicate edgeRows (upTo 100000); rules = [] }
 
 unfoldable pub strengthMultipliers : ℕ → ℕ → Group
 strengthMultipliers k s = record { lines = k; limits = replicate s (between (pos 0) (pos 10000)); rules = [] }

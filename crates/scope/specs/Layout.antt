@@ -1,17 +1,12 @@
--- The lines of a file (document 01, 'The two files'): groups of lines, each line with its columns and their limits, and the checks of a line in their order.
+-- The lines of a file (document 01, 'The two files'): groups of lines, each line with its columns and their limits.
 -- A file is the list of its numbers in order. Lines and numbers are counted from 0 here; a place counts from 1.
 use mathlib.Core.Bool.{true, false}
 use mathlib.Core.List.{List, [], _∷_}
 use Prim.Native.Nat.{ℕ, zero, suc, _+_, _*_, _-_}
 use lib.IntN.{ℤ, pos, negsuc}
-use lib.Dec.{eqb, leb, ltb}
+use lib.Dec.{ltb}
 use lib.ListN.{length, take, drop, getD}
-use Rattle.scope.specs.declared.Place.{Place}
-use Rattle.scope.specs.declared.Place.the-variants.{Line}
-use Rattle.scope.specs.declared.Outcome.{Outcome}
-use Rattle.scope.specs.declared.Outcome.the-variants.{Passed}
-use Rattle.scope.specs.Checks.{demand, _then_, lowest}
-use Rattle.scope.specs.Columns.{Limit, allWithin, Rule, ruleNumber, ruleTest, at}
+use Rattle.scope.specs.Columns.{Limit, Rule, at}
 
 -- ---- groups of lines
 
@@ -74,33 +69,16 @@ pub record Layout : Type 0 where
 unfoldable pub groups : Layout → List ℤ → List Group
 groups f ns = f .header ∷ f .body ns
 
--- the rules of a line, in order
-unfoldable pub rulesHold : List Rule → List ℤ → Place → Outcome
-rulesHold [] line p = Passed
-rulesHold (r ∷ rs) line p = demand (ruleTest r line) (ruleNumber r) p then rulesHold rs line p
-
--- one line's checks in order: its numbers are all there, each within its limit, then its rules
-unfoldable pub lineCheck : Layout → Group → List ℤ → Place → Outcome
-lineCheck f g line p =
-    demand (eqb (length line) (width g)) (f .formNumber) p
-    then demand (allWithin (g .limits) line) (f .limitNumber) p
-    then rulesHold (g .rules) line p
-
 -- the numbers of a line, as far as they are there
 unfoldable pub lineNumbers : List ℤ → Placed → List ℤ
 lineNumbers ns l = take (width (l .group)) (drop (l .first) ns)
 
-unfoldable pub lineAt : Layout → List ℤ → ℕ → Outcome
-lineAt f ns k =
-    let l : Placed = lineOf 0 (groups f ns) k in
-    lineCheck f (l .group) (lineNumbers ns l) (Line (suc k))
+-- line k of a file: its group, and its numbers
+abbrev pub groupAt : Layout → List ℤ → ℕ → Group
+groupAt f ns k = lineOf 0 (groups f ns) k .group
 
--- all lines front to back; then "leftover bytes belong to the line after the last": no number is left over
-unfoldable pub linesCheck : Layout → List ℤ → Outcome
-linesCheck f ns =
-    let gs : List Group = groups f ns in
-    lowest (lineAt f ns) (lineCount gs)
-    then demand (leb (length ns) (numberCount gs)) (f .formNumber) (Line (suc (lineCount gs)))
+abbrev pub numbersAt : Layout → List ℤ → ℕ → List ℤ
+numbersAt f ns k = lineNumbers ns (lineOf 0 (groups f ns) k)
 
 -- ---- reading a number
 

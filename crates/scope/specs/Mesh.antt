@@ -7,19 +7,51 @@ use lib.ListN.{replicate}
 use Rattle.scope.specs.Columns.{between, oneOf, free, upTo, rightAngle, naming, at}
 use Rattle.scope.specs.Layout.{Group, Layout, groups, linesBefore, count, entry}
 
+-- the limits that bounds are made of: the most nodes, elements, soils, edges and sides
+abbrev pub mostNodes : ℕ
+mostNodes = 100
+
+abbrev pub mostElements : ℕ
+mostElements = 100
+
+abbrev pub mostSoils : ℕ
+mostSoils = 16
+
+abbrev pub mostEdges : ℕ
+mostEdges = 60
+
+abbrev pub mostSides : ℕ
+mostSides = 36
+
 -- "Header: nodes 4 to 100, elements 1 to 100, soils 1 to 16, edges 0 to 60, sides 12, 20 or 36"
 unfoldable pub meshHeader : Group
 meshHeader = record {
   lines = 1;
   limits =
-      between (pos 4) (pos 100)
-      ∷ between (pos 1) (pos 100)
-      ∷ between (pos 1) (pos 16)
-      ∷ between (pos 0) (pos 60)
-      ∷ oneOf (pos 12 ∷ pos 20 ∷ pos 36 ∷ [])
+      between (pos 4) (pos mostNodes)
+      ∷ between (pos 1) (pos mostElements)
+      ∷ between (pos 1) (pos mostSoils)
+      ∷ between (pos 0) (pos mostEdges)
+      ∷ oneOf (pos 12 ∷ pos 20 ∷ pos mostSides ∷ [])
       ∷ [];
   rules = [];
 }
+
+-- how many columns each line has: of the header, of a soil, of a node, of an element, of an edge (`MeshFacts` counts a mesh's numbers by them)
+abbrev pub meshHeaderColumns : ℕ
+meshHeaderColumns = 5
+
+abbrev pub soilColumns : ℕ
+soilColumns = 8
+
+abbrev pub nodeColumns : ℕ
+nodeColumns = 2
+
+abbrev pub elementColumns : ℕ
+elementColumns = 5
+
+abbrev pub edgeColumns : ℕ
+edgeColumns = 7
 
 unfoldable pub nodes : List ℤ → ℕ
 nodes m = count (at m 0)
@@ -51,13 +83,13 @@ soilLines n = record {
 
 -- "Each node: x, y, 0 to 1,000"
 unfoldable pub nodeLines : ℕ → Group
-nodeLines n = record { lines = n; limits = replicate 2 (between (pos 0) (pos 1000)); rules = [] }
+nodeLines n = record { lines = n; limits = replicate nodeColumns (between (pos 0) (pos 1000)); rules = [] }
 
 -- "Each element: four nodes, counterclockwise; a soil"
 unfoldable pub elementLines : ℕ → ℕ → ℕ → Group
 elementLines n ns ss = record {
   lines = n;
-  limits = replicate 5 free;
+  limits = replicate elementColumns free;
   rules = naming ((0, ns) ∷ (1, ns) ∷ (2, ns) ∷ (3, ns) ∷ (4, ss) ∷ []) ∷ [];
 }
 
@@ -147,5 +179,14 @@ edgeLine m g = linesBefore (meshGroups m) 4 + g
 -- ---- what is counted
 
 -- the equality rows: two for each element, then four for each edge
+abbrev pub elementRows : ℕ
+elementRows = 2
+
+abbrev pub edgeRows : ℕ
+edgeRows = 4
+
 abbrev pub equalityCount : List ℤ → ℕ
-equalityCount m = elements m * 2 + edges m * 4
+equalityCount m = elements m * elementRows + edges m * edgeRows
+
+abbrev pub mostEqualityRows : ℕ
+mostEqualityRows = mostElements * elementRows + mostEdges * edgeRows

@@ -14,8 +14,9 @@ use Rattle.scope.specs.Rows as R
 use Rattle.scope.specs.Rows.{rowsOf, judged}
 use Rattle.scope.specs.Sums.{liveSum, limitSum, openRows}
 use Rattle.scope.specs.Claim.{stress, multiplier}
-use Rattle.scope.specs.Verdict.{rowAt, openCount}
+use Rattle.scope.specs.Verdict.{openCount}
 use Rattle.scope.specs.Bracket.{Open, NoneOpen, Bracket}
+use Rattle.scope.specs.Tests.{rowAt}
 
 -- the load l/n that the field of claim c carries, and the limit W/m that the multipliers of claim k on the mesh d allow
 unfoldable pub carried : List ℤ → Frac

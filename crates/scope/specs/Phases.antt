@@ -2,19 +2,22 @@
 -- A step has a plain statement, and a test that decides it once all before it holds.
 use mathlib.Core.Path.{_≡_}
 use mathlib.Core.Logic.{_⊎_}
-use mathlib.Core.Bool.{Bool}
+use mathlib.Core.Bool.{Bool, true, false, cond}
 use mathlib.Core.List.{List, [], _∷_}
 use Prim.Native.Nat.{ℕ, _<_}
 use Rattle.scope.specs.declared.Place.{Place}
 use Rattle.scope.specs.declared.Outcome.{Outcome}
-use Rattle.scope.specs.declared.Outcome.the-variants.{Passed}
-use Rattle.scope.specs.Checks.{demand, _then_, lowest}
+use Rattle.scope.specs.declared.Outcome.the-variants.{Passed, Refused}
+use Rattle.scope.specs.Checks.{_then_, lowest}
 
 -- what is asked, and the number of the refusal where it fails
 pub record Step : Type 1 where
   pub number : ℕ
   pub Holds : Type 0
   pub test : Bool
+
+abbrev pub step : ℕ → Type 0 → Bool → Step
+step number Holds test = record { number = number; Holds = Holds; test = test }
 
 -- at each of `count` places some steps, and what the place is called
 pub record Phase : Type 1 where
@@ -24,7 +27,13 @@ pub record Phase : Type 1 where
 
 -- one step at each place
 abbrev pub phase : ℕ → ℕ → (ℕ → Type 0) → (ℕ → Bool) → (ℕ → Place) → Phase
-phase number count Holds test place = record { count = count; steps = λ k. record { number = number; Holds = Holds k; test = test k } ∷ []; place = place }
+phase number count Holds test place =
+    record { count = count; steps = λ k. step number (Holds k) (test k) ∷ []; place = place }
+
+-- the phases of a part that may be absent
+abbrev pub ifPart : Bool → List Phase → List Phase
+ifPart true fs = fs
+ifPart false fs = []
 
 -- ---- what is said
 
@@ -67,13 +76,17 @@ RefusedBy (f ∷ fs) c p = FailsIn f c p ⊎ (Everywhere f × RefusedBy fs c p)
 
 -- ---- what is tested
 
-unfoldable pub checkSteps : List Step → Place → Outcome
+-- the first step whose test fails
+abbrev pub checkSteps : List Step → Place → Outcome
 checkSteps [] p = Passed
-checkSteps (s ∷ ss) p = demand (s .test) (s .number) p then checkSteps ss p
+checkSteps (s ∷ ss) p = cond (s .test) (checkSteps ss p) (Refused (s .number) p)
 
+-- "lowest place first"
 unfoldable pub checkPhase : Phase → Outcome
 checkPhase f = lowest (λ k. checkSteps (f .steps k) (f .place k)) (f .count)
 
+-- phase after phase
 unfoldable pub checkPhases : List Phase → Outcome
 checkPhases [] = Passed
-checkPhases (f ∷ fs) = checkPhase f then checkPhases fs
+checkPhases (f ∷ []) = checkPhase f
+checkPhases (f ∷ g ∷ fs) = checkPhase f then checkPhases (g ∷ fs)

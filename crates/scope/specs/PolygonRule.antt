@@ -1,13 +1,15 @@
 -- The rule for a polygon (document 01, 'Rows', Strength): "Polygon corners are all whole-number points on the circle of radius r .., counterclockwise from (r, 0)".
 use mathlib.Core.Path.{_≡_}
 use mathlib.Core.List.{List, _∷_, _++_}
-use Prim.Native.Nat.{ℕ, _≤_, max}
+use Prim.Native.Nat.{ℕ, _*_, _≤_, _<_, max}
 use lib.IntN.{ℤ, pos, _+ℤ_, _-ℤ_, _*ℤ_, negℤ, natAbs}
 use lib.Signed.{_<ℤ_}
 use lib.ListN.{length}
 use Rattle.scope.specs.Members.{_∈_}
-use Rattle.scope.specs.Polygon.{Point, point, Polygon, Side, polygonSides}
+use Rattle.scope.specs.Polygon.{Point, point, Polygon, Side, polygonSides, polygonOf}
 use Rattle.scope.specs.Rows.{cross}
+use Rattle.scope.specs.Mesh.{mostSides}
+use Rattle.scope.specs.Bounds.{mostRadius, mostStep, mostCross, weightedStep, weightedCross, mostStrengthRows, strengthMultiplier, nodesWith}
 
 abbrev pub OnCircle : ℤ → Point → Type 0
 OnCircle r v = v .px *ℤ v .px +ℤ v .py *ℤ v .py ≡ r *ℤ r
@@ -41,3 +43,24 @@ pub record PolygonRule (g : Polygon) (sides step product : ℕ) : Type 0 where
   pub left-turns : (s : Side) → s ∈ polygonSides (g .corners) → pos 0 <ℤ cross (s .from) (s .to)
   pub largest-step : Largest stepSize (polygonSides (g .corners)) step
   pub largest-cross : Largest crossSize (polygonSides (g .corners)) product
+
+-- a polygon whose numbers are within the bounds of all polygons: its step and its cross product also with the largest
+-- multiplier of a row, and its rows with the most nodes
+pub record PolygonFits (g : Polygon) (sides radius step product : ℕ) : Type 0 where
+  pub rule : PolygonRule g sides step product
+  pub radiusIs : g .radius ≡ pos radius
+  pub someSides : 0 < sides
+  pub fewSides : sides ≤ mostSides
+  pub radiusFits : radius ≤ mostRadius
+  pub stepFits : step ≤ mostStep
+  pub productFits : product ≤ mostCross
+  pub stepWeighted : strengthMultiplier sides * step ≤ weightedStep
+  pub productWeighted : strengthMultiplier sides * product ≤ weightedCross
+  pub rowsFit : nodesWith sides * sides ≤ mostStrengthRows
+
+-- the polygon of a mesh with a listed number of sides
+pub record ListedPolygon (sides : ℕ) : Type 0 where
+  pub radius : ℕ
+  pub step : ℕ
+  pub product : ℕ
+  pub fits : PolygonFits (polygonOf sides) sides radius step product

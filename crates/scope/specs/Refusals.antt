@@ -1,4 +1,5 @@
--- When each refusal comes (document 01, 'Verdict and report'): its table of refusals in its order, as phases. A refusal with its place comes when all before it in the order holds and this place is the lowest that fails (`RefusedBy`).
+-- When each refusal comes (document 01, 'Verdict and report'): its table of refusals as phases, and its order as lists of them.
+-- A refusal with its place comes when all before it in the order holds and this place is the lowest that fails (`RefusedBy`).
 use mathlib.Core.Path.{_≡_}
 use mathlib.Core.List.{List, [], _∷_, _++_}
 use Prim.Native.Nat.{ℕ, suc, _*_, _≤_}
@@ -9,101 +10,133 @@ use lib.ListN.{length}
 use Rattle.integer.specs.Tests.{eqZ}
 use Rattle.scope.specs.declared.Place.{Place}
 use Rattle.scope.specs.declared.Place.the-variants.{Line, Row, Column, Node, Element}
-use Rattle.scope.specs.Columns.{allWithin, Rule, ruleNumber, ruleTest, at, hasField, hasMultipliers, n, l}
-use Rattle.scope.specs.Layout.{Layout, width, groups, lineCount, numberCount}
+use Rattle.scope.specs.Phases.{Step, Phase, step, phase, ifPart, RefusedBy}
+use Rattle.scope.specs.Columns.{allWithin, Rule, ruleNumber, ruleTest, hasField, hasMultipliers, n, l}
+use Rattle.scope.specs.Layout.{Group, Layout, width, groups, lineCount, numberCount, groupAt, numbersAt}
 use Rattle.scope.specs.Mesh.{meshLayout, nodes, elements, edges, edgeLine}
-use Rattle.scope.specs.Claim.{claimLayout, ifThere, stress, multiplier}
+use Rattle.scope.specs.Claim.{claimLayout, stress, multiplier}
+use Rattle.scope.specs.Rows as R
 use Rattle.scope.specs.Rows.{equalityRows, strengthRows, rowsOf}
 use Rattle.scope.specs.Sums.{rowHolds, zeroIfUnfixed, columnSum, liveSum}
-use Rattle.scope.specs.Verdict.{leftTurns, ownSides, inElement, outerEdge, rowAt}
-use Rattle.scope.specs.Meets.{RowMet, FieldMeets}
-use Rattle.scope.specs.Sound.{Says, numbersAt, groupAt, Complete, InLimits, LeftTurns, OwnSides, InElement, OuterEdge, NoneOnUnfixed, MeetsColumns}
-use Rattle.scope.specs.Phases.{Step, Phase, phase, RefusedBy}
+use Rattle.scope.specs.Tests.{leftTurns, ownSides, inElement, outerEdge, rowAt}
+use Rattle.scope.specs.Meets.{RowMet}
+use Rattle.scope.specs.Statements.{AllWithin, Says, LeftTurns, OwnSides, InElement, OuterEdge, NoneOnUnfixed}
 
--- ---- lines
+-- ---- lines: 1 to 4 of a mesh, 11 to 13 of a claim (`TableNumbers` says which is which)
 
 -- the rules of a line, in order
 abbrev pub ruleSteps : List Rule → List ℤ → List Step
 ruleSteps [] line = []
-ruleSteps (r ∷ rs) line = record { number = ruleNumber r; Holds = Says r line; test = ruleTest r line } ∷ ruleSteps rs line
+ruleSteps (r ∷ rs) line = step (ruleNumber r) (Says r line) (ruleTest r line) ∷ ruleSteps rs line
 
--- line k: form, limits, then its rules
-abbrev pub lineSteps : Layout → List ℤ → ℕ → List Step
-lineSteps f ns k =
-    record { number = f .formNumber; Holds = Complete f ns k; test = eqb (length (numbersAt f ns k)) (width (groupAt f ns k)) }
-    ∷ record { number = f .limitNumber; Holds = InLimits f ns k; test = allWithin (groupAt f ns k .limits) (numbersAt f ns k) }
-    ∷ ruleSteps (groupAt f ns k .rules) (numbersAt f ns k)
+-- one line: its numbers are all there, each within its limit, then its rules
+abbrev pub lineSteps : Layout → Group → List ℤ → List Step
+lineSteps f g line =
+    step (f .formNumber) (length line ≡ width g) (eqb (length line) (width g))
+    ∷ step (f .limitNumber) (AllWithin (g .limits) line) (allWithin (g .limits) line)
+    ∷ ruleSteps (g .rules) line
 
--- the lines of a file, "front to back"; "Leftover bytes belong to the line after the last"
+-- the lines of a file, "front to back"
+abbrev pub linesPhase : Layout → List ℤ → Phase
+linesPhase f ns = record {
+  count = lineCount (groups f ns);
+  steps = λ k. lineSteps f (groupAt f ns k) (numbersAt f ns k);
+  place = λ k. Line (suc k);
+}
+
+-- "Leftover bytes belong to the line after the last"
+abbrev pub leftoverPhase : Layout → List ℤ → Phase
+leftoverPhase f ns =
+    phase (f .formNumber) 1
+    (λ k. length ns ≤ numberCount (groups f ns))
+    (λ k. leb (length ns) (numberCount (groups f ns)))
+    (λ k. Line (suc (lineCount (groups f ns))))
+
 abbrev pub linePhases : Layout → List ℤ → List Phase
-linePhases f ns =
-    record { count = lineCount (groups f ns); steps = lineSteps f ns; place = λ k. Line (suc k) }
-    ∷ phase (f .formNumber) 1 (λ k. length ns ≤ numberCount (groups f ns)) (λ k. leb (length ns) (numberCount (groups f ns))) (λ k. Line (suc (lineCount (groups f ns))))
-    ∷ []
+linePhases f ns = linesPhase f ns ∷ leftoverPhase f ns ∷ []
 
--- ---- the mesh: "mesh lines front to back, in each line 1, 2, 3, 4; then 5, 6, 7, 8, each over the whole mesh, lowest place first"
+-- ---- the mesh
 
+-- 5: "not a left turn at all four corners"
+abbrev pub turnsPhase : List ℤ → Phase
+turnsPhase m = phase 5 (elements m) (LeftTurns m) (leftTurns m) (λ e. Element (suc e))
+
+-- 6: "a directed side that a lower element has"
+abbrev pub ownSidesPhase : List ℤ → Phase
+ownSidesPhase m = phase 6 (elements m) (OwnSides m) (ownSides m) (λ e. Element (suc e))
+
+-- 7: "in no element"
+abbrev pub nodesPhase : List ℤ → Phase
+nodesPhase m = phase 7 (nodes m) (InElement m) (inElement m) (λ v. Node (suc v))
+
+-- 8: "edge is no element's side, or its reverse is one, or an earlier edge has it"
+abbrev pub edgesPhase : List ℤ → Phase
+edgesPhase m = phase 8 (edges m) (OuterEdge m) (outerEdge m) (λ g. Line (suc (edgeLine m g)))
+
+-- "then 5, 6, 7, 8, each over the whole mesh, lowest place first"
 abbrev pub shapePhases : List ℤ → List Phase
 shapePhases m =
-    phase 5 (elements m) (LeftTurns m) (leftTurns m) (λ e. Element (suc e))
-    ∷ phase 6 (elements m) (OwnSides m) (ownSides m) (λ e. Element (suc e))
-    ∷ phase 7 (nodes m) (InElement m) (inElement m) (λ v. Node (suc v))
-    ∷ phase 8 (edges m) (OuterEdge m) (outerEdge m) (λ g. Line (suc (edgeLine m g)))
+    turnsPhase m
+    ∷ ownSidesPhase m
+    ∷ nodesPhase m
+    ∷ edgesPhase m
     ∷ []
 
+-- "mesh lines front to back, in each line 1, 2, 3, 4; then .."
 abbrev pub meshPhases : List ℤ → List Phase
 meshPhases m = linePhases meshLayout m ++ shapePhases m
 
--- ---- the claim: "11 and 12 line by line, 13 straight after line 1; then 21, 22, 31, 32, 33"
+-- ---- the parts of a claim, over any equality rows es and strength rows ss
 
--- field there, multipliers there
-abbrev pub HasField : List ℤ → Type 0
-HasField c = at c 0 ≡ pos 1
+-- 21: "equality fails", of a field of stresses s with l and n
+abbrev pub equalitiesPhase : List R.Row → (ℕ → ℤ) → ℤ → ℤ → Phase
+equalitiesPhase es s l n =
+    phase 21 (length es) (λ k. RowMet s l n (rowAt es k)) (λ k. rowHolds s l n (rowAt es k)) (λ k. Row (suc k))
 
-abbrev pub HasMultipliers : List ℤ → Type 0
-HasMultipliers c = at c 1 ≡ pos 1
+-- 22: "strength fails"
+abbrev pub strengthsPhase : List R.Row → (ℕ → ℤ) → ℤ → ℤ → Phase
+strengthsPhase ss s l n =
+    phase 22 (length ss) (λ k. RowMet s l n (rowAt ss k)) (λ k. rowHolds s l n (rowAt ss k)) (λ k. Row (suc k))
 
--- a field that is there meets every balance, side and strength row
-abbrev pub RowsMet : List ℤ → List ℤ → Type 0
-RowsMet m c = FieldMeets (stress m c) (l c) (n c) (rowsOf m)
+-- 31: "nonzero multiplier on an unfixed row", of multipliers w
+abbrev pub unfixedPhase : List R.Row → (ℕ → ℤ) → Phase
+unfixedPhase es w =
+    phase 31 (length es) (λ k. NoneOnUnfixed (w k) (rowAt es k)) (λ k. zeroIfUnfixed (w k) (rowAt es k)) (λ k. Row (suc k))
 
--- multipliers that are there: none on an unfixed row, all 3·nodes columns 0, m above 0
-abbrev pub ColumnsMet : List ℤ → List ℤ → Type 0
-ColumnsMet m c = MeetsColumns (equalityRows m) (rowsOf m) (3 * nodes m) (multiplier m c)
+-- 32: "column sum not 0", of some columns with these sums
+abbrev pub columnsPhase : (ℕ → ℤ) → ℕ → Phase
+columnsPhase sum columns = phase 32 columns (λ j. sum j ≡ pos 0) (λ j. eqZ (sum j) (pos 0)) (λ j. Column (suc j))
 
--- equality row k, strength row k
-abbrev pub EqualityMet : List ℤ → List ℤ → ℕ → Type 0
-EqualityMet m c k = RowMet (stress m c) (l c) (n c) (rowAt (equalityRows m) k)
+-- 33: "m is 0 or less", of this m
+abbrev pub livePhase : ℤ → Phase
+livePhase live = phase 33 1 (λ j. pos 0 <ℤ live) (λ j. ltZ (pos 0) live) (λ j. Column 0)
 
-abbrev pub StrengthMet : List ℤ → List ℤ → ℕ → Type 0
-StrengthMet m c k = RowMet (stress m c) (l c) (n c) (rowAt (strengthRows m) k)
+abbrev pub fieldPhases : List R.Row → List R.Row → (ℕ → ℤ) → ℤ → ℤ → List Phase
+fieldPhases es ss s l n = equalitiesPhase es s l n ∷ strengthsPhase ss s l n ∷ []
 
--- no multiplier on equality row k where it is unfixed; column j is 0; m is above 0
-abbrev pub UnfixedFree : List ℤ → List ℤ → ℕ → Type 0
-UnfixedFree m c k = NoneOnUnfixed (multiplier m c k) (rowAt (equalityRows m) k)
-
-abbrev pub ColumnZero : List ℤ → List ℤ → ℕ → Type 0
-ColumnZero m c j = columnSum (multiplier m c) (rowsOf m) j ≡ pos 0
-
-abbrev pub LiveAbove : List ℤ → List ℤ → Type 0
-LiveAbove m c = pos 0 <ℤ liveSum (multiplier m c) (rowsOf m)
-
--- a part that is absent has no rows and no columns
-abbrev pub fieldPhases : List ℤ → List ℤ → List Phase
-fieldPhases m c =
-    phase 21 (ifThere (hasField c) (length (equalityRows m))) (EqualityMet m c) (λ k. rowHolds (stress m c) (l c) (n c) (rowAt (equalityRows m) k)) (λ k. Row (suc k))
-    ∷ phase 22 (ifThere (hasField c) (length (strengthRows m))) (StrengthMet m c) (λ k. rowHolds (stress m c) (l c) (n c) (rowAt (strengthRows m) k)) (λ k. Row (suc k))
+-- rs are all rows
+abbrev pub multiplierPhases : List R.Row → List R.Row → ℕ → (ℕ → ℤ) → List Phase
+multiplierPhases es rs columns w =
+    unfixedPhase es w
+    ∷ columnsPhase (columnSum w rs) columns
+    ∷ livePhase (liveSum w rs)
     ∷ []
 
-abbrev pub multiplierPhases : List ℤ → List ℤ → List Phase
-multiplierPhases m c =
-    phase 31 (ifThere (hasMultipliers c) (length (equalityRows m))) (UnfixedFree m c) (λ k. zeroIfUnfixed (multiplier m c k) (rowAt (equalityRows m) k)) (λ k. Row (suc k))
-    ∷ phase 32 (ifThere (hasMultipliers c) (3 * nodes m)) (ColumnZero m c) (λ j. eqZ (columnSum (multiplier m c) (rowsOf m) j) (pos 0)) (λ j. Column (suc j))
-    ∷ phase 33 (ifThere (hasMultipliers c) 1) (λ j. LiveAbove m c) (λ j. ltZ (pos 0) (liveSum (multiplier m c) (rowsOf m))) (λ j. Column 0)
-    ∷ []
+-- a part that is absent has no phases
+abbrev pub fieldPart : List ℤ → List ℤ → List Phase
+fieldPart m c = ifPart (hasField c) (fieldPhases (equalityRows m) (strengthRows m) (stress m c) (l c) (n c))
 
+abbrev pub multiplierPart : List ℤ → List ℤ → List Phase
+multiplierPart m c =
+    ifPart (hasMultipliers c) (multiplierPhases (equalityRows m) (rowsOf m) (3 * nodes m) (multiplier m c))
+
+-- "then 21, 22, 31, 32, 33"
+abbrev pub partPhases : List ℤ → List ℤ → List Phase
+partPhases m c = fieldPart m c ++ multiplierPart m c
+
+-- "11 and 12 line by line, 13 straight after line 1; then .."
 abbrev pub claimPhases : List ℤ → List ℤ → List Phase
-claimPhases m c = linePhases (claimLayout m) c ++ (fieldPhases m c ++ multiplierPhases m c)
+claimPhases m c = linePhases (claimLayout m) c ++ partPhases m c
 
 -- ---- refusals
 

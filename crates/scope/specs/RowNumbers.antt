@@ -7,7 +7,7 @@ use lib.ListN.{length, getD}
 use Rattle.scope.specs.Mesh.{nodes, elements, edges, sides, p, q, h, cohesion, fromNode, toNode}
 use Rattle.scope.specs.Polygon.{point, Side, Polygon, polygonSides, polygonOf}
 use Rattle.scope.specs.Rows.{Row, Pair, balanceX, balanceY, normalRow, shearRow, nodeSoil, strengthRow, equalityRows, strengthRows, rowsOf}
-use Rattle.scope.specs.Verdict.{rowAt}
+use Rattle.scope.specs.Tests.{rowAt}
 
 -- row k of a list, counted from 1
 abbrev pub rowNumbered : List Row → ℕ → Row

@@ -1,28 +1,18 @@
 -- What the machine has of a mesh's elements and edges is what the checks of its shape ask: corners, turns, lines, outer edges.
-use mathlib.Core.Path.{_≡_, refl, sym, _∙_, ap, ap₂}
+use mathlib.Core.Path.{_≡_, refl, _∙_, ap, ap₂}
 use mathlib.Core.Bool.{Bool}
 use mathlib.Core.List.{List}
 use Prim.Native.Nat.{ℕ, suc, _+_, _*_, _%_, _≤_, _<_}
 use native.Mathlib.Omega.{arith}
 use lib.IntN.{ℤ, pos, _-ℤ_, _*ℤ_}
 use lib.Signed.{ltZ}
-use Rattle.integer.specs.Machine.{Is}
-use Rattle.scope.specs.declared.Outcome.{Outcome}
+use Rattle.integer.specs.Bounds.{Is}
 use Rattle.mesh.specs.declared.sizes.Sizes.{Sizes}
-use Rattle.scope.specs.Checks.{_then_}
 use Rattle.scope.specs.Layout.{groups, linesBefore}
 use Rattle.scope.specs.Mesh.{meshHeader, soilLines, nodeLines, elementLines, edgeLines, meshLayout, meshGroups, nodes, elements, soils, edges, corner, fromNode, toNode, edgeLine}
 use Rattle.scope.specs.Rows.{node}
-use Rattle.scope.specs.Verdict.{turn, leftTurnAt, turnsCheck, sidesCheck, nodesCheck, edgesCheck, shapeCheck}
 use Rattle.mesh.specs.MeshContracts.{Sized}
-use Rattle.scope.proofs.Checks.{then-assoc}
-
--- the checks of a shape in two parts
-pub shape-parts : (m : List ℤ) → turnsCheck m then (sidesCheck m then nodesCheck m then edgesCheck m) ≡ shapeCheck m
-unfolding shapeCheck
-shape-parts m =
-    sym (then-assoc (turnsCheck m) (sidesCheck m then nodesCheck m) (edgesCheck m))
-    ∙ ap (λ (o : Outcome). o then edgesCheck m) (sym (then-assoc (turnsCheck m) (sidesCheck m) (nodesCheck m)))
+use Rattle.scope.specs.Tests.{turn, leftTurnAt}
 
 -- ---- the corners of an element
 

@@ -14,9 +14,9 @@ use Rattle.mesh.specs.declared.sizes.Sizes.{Sizes}
 use Rattle.scope.specs.Checks.{someBelow, allBelow}
 use Rattle.scope.specs.Mesh.{nodes, elements, edges, fromNode, toNode}
 use Rattle.scope.specs.Rows.{firstWhere, node}
-use Rattle.scope.specs.Verdict.{hasSide, ownSides, outerEdge}
+use Rattle.scope.specs.Tests.{ownSideAt, hasEnds, hasSide, ownSides, outerEdge}
 use Rattle.mesh.specs.MeshContracts.{Sized}
-use Rattle.shape.specs.ShapeContracts.{Holds, isNone, put, keepFirst, byteBelow, byteAt, atPlace, SideBytes, sideByte, SideTable, ownSideAt, hasEnds, edgeByte, EdgeTable}
+use Rattle.shape.specs.ShapeContracts.{Holds, isNone, put, keepFirst, byteBelow, byteAt, atPlace, SideBytes, sideByte, SideTable, edgeByte, EdgeTable}
 use Rattle.shape.proofs.MeshLaws.{node-there, side-fits, edge-fits}
 use Rattle.shape.proofs.ByteTables.{holds-as, holds-none, put-one, first-below, first-found, some-there, byte-found, free-below, cond-same, byte-more, given, none-given, one-given, all-given}
 
@@ -71,7 +71,7 @@ module _ (m : List ℤ) where
   no-side-yet e h = bytes-to h (none-given (λ v. sideIs m e (v / 100) (v % 100)) (atPlace (sideByte m e)) e (h .bytes))
 
   pub own-sides-are : (e : ℕ) → allBelow (ownSideAt m e) 4 ≡ ownSides m e
-  unfolding ownSideAt ownSides
+  unfolding ownSides
   own-sides-are e = refl
 
 module _ (m : List ℤ) {s : Sizes} (k : Sized m s) {e : ℕ} (l : e < elements m) where

@@ -2,7 +2,7 @@
 use mathlib.Core.Path.{_≡_, refl, sym, _∙_, ap, subst}
 use mathlib.Core.Bool.{Bool, true, false, cond, not, Bool·not-not}
 use mathlib.Core.List.{List, map}
-use Prim.Native.Nat.{ℕ, suc, _+_, _-_, _≤_, _<_}
+use Prim.Native.Nat.{ℕ, _+_, _-_, _≤_, _<_}
 use native.Mathlib.Decide.{decLt}
 use native.Mathlib.Omega.{arith}
 use lib.IntN.{ℤ}
@@ -10,18 +10,18 @@ use lib.Dec.{eqb}
 use lib.ListN.{length, getD, replicate, length-append, length-replicate, List·getD-append, getD-replicate}
 use lib.Seq.{getD-append-add, ext-getD}
 use borrow.Author.Tests.{eqb-true, eqb-false, not-true, ne-eqb}
-use Rattle.scope.specs.declared.Place.the-variants.{Node}
 use Rattle.scope.specs.declared.Outcome.the-variants.{Passed}
-use Rattle.scope.specs.Checks.{_then_, someBelow}
+use Rattle.scope.specs.Checks.{someBelow}
 use Rattle.scope.specs.Mesh.{nodes, elements, soils, corner, elementSoil}
 use Rattle.scope.specs.Rows.{countFrom, firstWhere, hasCorner, nodeSoil}
-use Rattle.scope.specs.Verdict.{inElement, turnsCheck, sidesCheck, nodesCheck, edgesCheck, shapeCheck}
-use Rattle.scope.specs.Facts.{MeshFacts}
+use Rattle.scope.specs.Statements.{MeshSound}
+use Rattle.scope.specs.NumberRanges.{MeshFacts}
+use Rattle.scope.proofs.Statements.{in-element as element-decides}
+use lib.Ieee.Bits.{is-true}
 use Rattle.shape.specs.ShapeContracts.{Holds, isNone, keepFirst, byteBelow, soilBelow, SoilTable, soilBytes}
 use Rattle.mesh.specs.MeshContracts.{NodeSoils}
-use Rattle.scope.proofs.Checks.{then-passed}
 use Rattle.scope.proofs.Lists.{at-each, length-each}
-use Rattle.lines.proofs.Loops.{phase-passed}
+use Rattle.scope.specs.Tests.{inElement}
 use Rattle.shape.proofs.ByteTables.{holds-as, holds-none, first-below, some-first, none-there, free-below, given, none-given, one-given, all-given}
 
 -- ---- the elements passed
@@ -68,11 +68,8 @@ module _ (m : List ℤ) (facts : MeshFacts m) where
 
   -- ---- a mesh that has passed: each node is in an element
 
-  in-element : shapeCheck m ≡ Passed → (v : ℕ) → v < nodes m → inElement m v ≡ true
-  unfolding shapeCheck nodesCheck
-  in-element p =
-      phase-passed (inElement m) 7 (λ v. Node (suc v)) (nodes m)
-      (then-passed (turnsCheck m then sidesCheck m) (nodesCheck m) .0 (then-passed (turnsCheck m then sidesCheck m then nodesCheck m) (edgesCheck m) .0 p .0) .1)
+  in-element : MeshSound m → (v : ℕ) → v < nodes m → inElement m v ≡ true
+  in-element s v l = is-true (inElement m v) (element-decides m v .passes (s .inElement v l))
 
   not-past : (v : ℕ) → inElement m v ≡ true → eqb (firstWhere (hasCorner m v) (elements m)) (elements m) ≡ false
   unfolding inElement
@@ -114,12 +111,12 @@ module _ (m : List ℤ) (facts : MeshFacts m) where
       let past : v ≡ length among + (v - nodes m) = omega (arith, length-each (nodeSoil m) (nodes m)) in
       ap (λ (k : ℕ). getD (soilBytes Passed m) k 0) past ∙ getD-append-add among _ (v - nodes m) 0 ∙ getD-replicate (100 - nodes m) (v - nodes m) 255 0 (omega arith)
 
-  pub soils-are : {t : List ℕ} → shapeCheck m ≡ Passed → SoilTable m (elements m) t → t ≡ soilBytes Passed m
+  pub soils-are : {t : List ℕ} → MeshSound m → SoilTable m (elements m) t → t ≡ soilBytes Passed m
   soils-are {t} p h = ext-getD 0 t (soilBytes Passed m) (h .size ∙ sym soils-length) (λ v l. h .says v (omega (arith, h .size)) ∙ by v (omega (arith, h .size)) (decLt v (nodes m)))
     where
       by : (v : ℕ) → v < 100 → Dec (v < nodes m) → soilBelow m (elements m) v ≡ getD (soilBytes Passed m) v 0
       by v i (yes l) = soil-is v (in-element p v l) ∙ sym (soils-among v l)
       by v i (no l) = past-last v (omega arith) ∙ sym (soils-past v i (omega arith))
 
-  pub node-soils : shapeCheck m ≡ Passed → NodeSoils m (soilBytes Passed m)
+  pub node-soils : MeshSound m → NodeSoils m (soilBytes Passed m)
   node-soils p = record { size = soils-length; says = soils-among; there = λ v l. soil-there v (in-element p v l) }

@@ -1,2 +1,2 @@
--- contracts
+-- The definitions that the contracts of this crate cite.
 pub mod ShapeContracts

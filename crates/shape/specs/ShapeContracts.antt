@@ -1,6 +1,6 @@
--- What contracts say of what the code hands around: the sizes of a mesh, tables of soils, tables of sides, a judged mesh.
+-- What contracts say of the tables that the checks of a shape fill and read: of soils, of sides, of edges.
 use mathlib.Core.Path.{_≡_}
-use mathlib.Core.Bool.{Bool, cond, not, _&&_}
+use mathlib.Core.Bool.{Bool, cond}
 use mathlib.Core.List.{List, _++_, map}
 use Prim.Native.Nat.{ℕ, _+_, _-_, _*_, _/_, _%_, _≤_, _<_}
 use lib.IntN.{ℤ}
@@ -8,12 +8,9 @@ use lib.Dec.{eqb}
 use lib.ListN.{length, getD, set, replicate}
 use Rattle.scope.specs.declared.Outcome.{Outcome}
 use Rattle.scope.specs.declared.Outcome.the-variants.{Passed, Refused}
-use Rattle.scope.specs.Mesh.{nodes, elements, soils, edges, sides, elementSoil, fromNode, toNode}
-use Rattle.scope.specs.Checks.{someBelow}
-use Rattle.scope.specs.Rows.{countFrom, firstWhere, node, hasCorner, nodeSoil}
-use Rattle.scope.specs.Verdict.{hasSide, meshCheck}
-use Rattle.scope.specs.Facts.{MeshFacts}
-use Rattle.mesh.specs.MeshContracts.{Sized}
+use Rattle.scope.specs.Mesh.{nodes, elements, elementSoil}
+use Rattle.scope.specs.Rows.{countFrom, firstWhere, hasCorner, nodeSoil}
+use Rattle.scope.specs.Tests.{hasSide, hasEnds}
 
 -- ---- tables of bytes: 255 where a place has none yet
 
@@ -68,14 +65,6 @@ sideByte m e a b = byteBelow 255 (hasSide m a b) (λ k. k) e
 
 abbrev pub SideTable : List ℤ → ℕ → List ℕ → Type 0
 SideTable m e t = SideBytes m (sideByte m e) t
-
--- side i of element e is no lower element's
-unfoldable pub ownSideAt : List ℤ → ℕ → ℕ → Bool
-ownSideAt m e i = not (someBelow (hasSide m (node m e i) (node m e (i + 1))) e)
-
--- edge k goes from a to b
-unfoldable pub hasEnds : List ℤ → ℕ → ℕ → ℕ → Bool
-hasEnds m a b k = eqb (fromNode m k) a && eqb (toNode m k) b
 
 -- 255 where a to b is no element's side, 100 + k where k is the lowest edge below g that has it, and else the lowest element that has it
 unfoldable pub edgeByte : List ℤ → ℕ → ℕ → ℕ → ℕ

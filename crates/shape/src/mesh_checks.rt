@@ -11,23 +11,24 @@ use mesh::sizes::run_between;
 use scope::Outcome;
 use scope::Place;
 ghost use mathlib.Core.Path.{_≡_};
+ghost use mathlib.Core.List.{[], _∷_};
 ghost use Prim.Native.Nat.{_+_, _*_, _<_, _≤_};
 ghost use lib.IntN.{pos, _-ℤ_, _*ℤ_};
 ghost use lib.Signed.{ltZ};
 ghost use lib.ListN.{length};
-ghost use Rattle.integer.specs.Bounds.{Within};
-ghost use Rattle.integer.specs.Machine.{Is};
+ghost use Rattle.integer.specs.Bounds.{Within, Is};
 ghost use Rattle.scope.specs.Mesh.{nodes, elements, edges};
 ghost use Rattle.scope.specs.Rows.{node};
-ghost use Rattle.scope.specs.Checks.{_then_};
-ghost use Rattle.scope.specs.Verdict.{turn, leftTurnAt, leftTurns, ownSides, outerEdge, turnsCheck, sidesCheck, nodesCheck, edgesCheck, shapeCheck};
+ghost use Rattle.scope.specs.Phases.{checkPhase, checkPhases};
+ghost use Rattle.scope.specs.Refusals.{turnsPhase, ownSidesPhase, nodesPhase, edgesPhase, shapePhases};
+ghost use Rattle.scope.specs.Tests.{turn, leftTurnAt, leftTurns, ownSideAt, ownSides, outerEdge};
 ghost use Rattle.mesh.specs.MeshContracts.{Sized};
-ghost use Rattle.shape.specs.ShapeContracts.{keepFirst, SoilTable, byteAt, SideTable, ownSideAt, EdgeTable};
+ghost use Rattle.shape.specs.ShapeContracts.{keepFirst, SoilTable, byteAt, SideTable, EdgeTable};
 
 // ---- 5: a left turn at all four corners
 
 // The corner i of element e, where corner 4 is corner 0 again.
-fn node_of(m: &[i64], s: Sizes, e: usize, i: usize) -> usize
+fn corner_around(m: &[i64], s: Sizes, e: usize, i: usize) -> usize
     requires { ⌜ Sized (now m) s × (e < elements (now m)) ⌝ }
     ensures { λ r. ⌜ r ≡ node (now (m .entry)) e i ⌝ }
 {
@@ -58,9 +59,9 @@ fn left_turn_at(m: &[i64], s: Sizes, e: usize, i: usize) -> bool
     requires { ⌜ Sized (now m) s × (e < elements (now m)) × (i < 4) ⌝ }
     ensures { λ r. ⌜ r ≡ leftTurnAt (now (m .entry)) e i ⌝ }
 {
-    let a = node_of(m, s, e, i + 3);
-    let b = node_of(m, s, e, i);
-    let c = node_of(m, s, e, i + 1);
+    let a = corner_around(m, s, e, i + 3);
+    let b = corner_around(m, s, e, i);
+    let c = corner_around(m, s, e, i + 1);
     turns_left(m, s, a, b, c)
 }
 
@@ -80,7 +81,7 @@ pub fn left_turns(m: &[i64], s: Sizes, e: usize) -> bool
 
 fn turns_check(m: &[i64], s: Sizes) -> Outcome
     requires { ⌜ Sized (now m) s ⌝ }
-    ensures { λ r. ⌜ r ≡ turnsCheck (now (m .entry)) ⌝ }
+    ensures { λ r. ⌜ r ≡ checkPhase (turnsPhase (now (m .entry))) ⌝ }
 {
     let count = s.elements;
     let mut e: usize = 0;
@@ -120,8 +121,8 @@ fn mark_side(m: &[i64], s: Sizes, e: usize, i: usize, t: &mut [u8])
     requires { ⌜ Sized (now m) s × (e < elements (now m)) × (i < 4) × (nodes (now m) * 100 ≤ length (now t)) ⌝ }
     ensures { λ _. ⌜ now (t .exit) ≡ keepFirst (now (t .entry)) (node (now (m .entry)) e i * 100 + node (now (m .entry)) e (i + 1)) e ⌝ }
 {
-    let a = node_of(m, s, e, i);
-    let b = node_of(m, s, e, i + 1);
+    let a = corner_around(m, s, e, i);
+    let b = corner_around(m, s, e, i + 1);
     keep_first(t, a * 100 + b, e as u8)
 }
 
@@ -154,8 +155,8 @@ fn own_side(m: &[i64], s: Sizes, e: usize, i: usize, t: &[u8]) -> bool
     requires { ⌜ Sized (now m) s × (e < elements (now m)) × (i < 4) × SideTable (now m) (elements (now m)) (now t) ⌝ }
     ensures { λ r. ⌜ r ≡ ownSideAt (now (m .entry)) e i ⌝ }
 {
-    let a = node_of(m, s, e, i);
-    let b = node_of(m, s, e, i + 1);
+    let a = corner_around(m, s, e, i);
+    let b = corner_around(m, s, e, i + 1);
     side_byte(t, a, b) == e as u8
 }
 
@@ -175,7 +176,7 @@ pub fn own_sides(m: &[i64], s: Sizes, e: usize, t: &[u8]) -> bool
 
 fn sides_check(m: &[i64], s: Sizes, t: &[u8]) -> Outcome
     requires { ⌜ Sized (now m) s × SideTable (now m) (elements (now m)) (now t) ⌝ }
-    ensures { λ r. ⌜ r ≡ sidesCheck (now (m .entry)) ⌝ }
+    ensures { λ r. ⌜ r ≡ checkPhase (ownSidesPhase (now (m .entry))) ⌝ }
 {
     let count = s.elements;
     let mut e: usize = 0;
@@ -208,7 +209,7 @@ fn give_soil(m: &[i64], s: Sizes, e: usize, t: &mut [u8; 100])
 }
 
 // The soil of each node, and 255 for a node in no element. It is made once for a mesh: 7 asks it, and then the strength rows of each claim.
-pub fn node_soils(m: &[i64], s: Sizes) -> [u8; 100]
+pub fn soil_table(m: &[i64], s: Sizes) -> [u8; 100]
     requires { ⌜ Sized (now m) s ⌝ }
     ensures { λ r. ⌜ SoilTable (now (m .entry)) (elements (now (m .entry))) r ⌝ }
 {
@@ -222,14 +223,14 @@ pub fn node_soils(m: &[i64], s: Sizes) -> [u8; 100]
     t
 }
 
-fn nodes_check(m: &[i64], s: Sizes, soils: &[u8]) -> Outcome
-    requires { ⌜ Sized (now m) s × SoilTable (now m) (elements (now m)) (now soils) ⌝ }
-    ensures { λ r. ⌜ r ≡ nodesCheck (now (m .entry)) ⌝ }
+fn nodes_check(m: &[i64], s: Sizes, node_soils: &[u8]) -> Outcome
+    requires { ⌜ Sized (now m) s × SoilTable (now m) (elements (now m)) (now «node_soils») ⌝ }
+    ensures { λ r. ⌜ r ≡ checkPhase (nodesPhase (now (m .entry))) ⌝ }
 {
     let count = s.nodes;
     let mut v: usize = 0;
     while v < count {
-        if soils[v] == 255 {
+        if node_soils[v] == 255 {
             return Outcome::Refused {
                 number: 7,
                 place: Place::Node(v as u32 + 1),
@@ -281,7 +282,7 @@ pub fn outer_edge(m: &[i64], s: Sizes, g: usize, t: &[u8]) -> bool
 }
 
 // The line of edge g, counted from 1: the edges follow the header, the soils, the nodes and the elements.
-fn edge_line(s: Sizes, g: usize) -> u32
+fn edge_line_number(s: Sizes, g: usize) -> u32
     requires { ⌜ s .soils + s .nodes + s .elements + g < 1000 ⌝ }
     ensures { λ r. ⌜ r ≡ s .soils + s .nodes + s .elements + g + 2 ⌝ }
 {
@@ -290,7 +291,7 @@ fn edge_line(s: Sizes, g: usize) -> u32
 
 fn edges_check(m: &[i64], s: Sizes, t: &[u8]) -> Outcome
     requires { ⌜ Sized (now m) s × EdgeTable (now m) (edges (now m)) (now t) ⌝ }
-    ensures { λ r. ⌜ r ≡ edgesCheck (now (m .entry)) ⌝ }
+    ensures { λ r. ⌜ r ≡ checkPhase (edgesPhase (now (m .entry))) ⌝ }
 {
     let count = s.edges;
     let mut g: usize = 0;
@@ -298,7 +299,7 @@ fn edges_check(m: &[i64], s: Sizes, t: &[u8]) -> Outcome
         if !outer_edge(m, s, g, t) {
             return Outcome::Refused {
                 number: 8,
-                place: Place::Line(edge_line(s, g)),
+                place: Place::Line(edge_line_number(s, g)),
             };
         }
         g += 1;
@@ -309,16 +310,16 @@ fn edges_check(m: &[i64], s: Sizes, t: &[u8]) -> Outcome
 // ---- all four
 
 // Refusals 6 to 8, by a table in which no byte is given yet.
-fn checks_by_table(m: &[i64], s: Sizes, soils: &[u8], t: &mut [u8]) -> Outcome
-    requires { ⌜ Sized (now m) s × SoilTable (now m) (elements (now m)) (now soils) × SideTable (now m) 0 (now t) ⌝ }
-    ensures { λ r. ⌜ r ≡ sidesCheck (now (m .entry)) then nodesCheck (now (m .entry)) then edgesCheck (now (m .entry)) ⌝ }
+fn checks_by_table(m: &[i64], s: Sizes, node_soils: &[u8], t: &mut [u8]) -> Outcome
+    requires { ⌜ Sized (now m) s × SoilTable (now m) (elements (now m)) (now «node_soils») × SideTable (now m) 0 (now t) ⌝ }
+    ensures { λ r. ⌜ r ≡ checkPhases (ownSidesPhase (now (m .entry)) ∷ nodesPhase (now (m .entry)) ∷ edgesPhase (now (m .entry)) ∷ []) ⌝ }
 {
     side_table(m, s, t);
     let sides = sides_check(m, s, t);
     match sides {
         Outcome::Refused { number, place } => Outcome::Refused { number, place },
         Outcome::Passed => {
-            let nodes = nodes_check(m, s, soils);
+            let nodes = nodes_check(m, s, node_soils);
             match nodes {
                 Outcome::Refused { number, place } => Outcome::Refused { number, place },
                 Outcome::Passed => {
@@ -331,26 +332,26 @@ fn checks_by_table(m: &[i64], s: Sizes, soils: &[u8], t: &mut [u8]) -> Outcome
 }
 
 // Refusals 6 to 8. For speed a small mesh has a small table: the bytes that need no filling were 6 % of the time of the worked sheet.
-fn sides_nodes_edges(m: &[i64], s: Sizes, soils: &[u8]) -> Outcome
-    requires { ⌜ Sized (now m) s × SoilTable (now m) (elements (now m)) (now soils) ⌝ }
-    ensures { λ r. ⌜ r ≡ sidesCheck (now (m .entry)) then nodesCheck (now (m .entry)) then edgesCheck (now (m .entry)) ⌝ }
+fn sides_nodes_edges(m: &[i64], s: Sizes, node_soils: &[u8]) -> Outcome
+    requires { ⌜ Sized (now m) s × SoilTable (now m) (elements (now m)) (now «node_soils») ⌝ }
+    ensures { λ r. ⌜ r ≡ checkPhases (ownSidesPhase (now (m .entry)) ∷ nodesPhase (now (m .entry)) ∷ edgesPhase (now (m .entry)) ∷ []) ⌝ }
 {
     if s.nodes <= 16 {
         let mut small = [255u8; 1600];
-        return checks_by_table(m, s, soils, &mut small);
+        return checks_by_table(m, s, node_soils, &mut small);
     }
     let mut table = [255u8; 10000];
-    checks_by_table(m, s, soils, &mut table)
+    checks_by_table(m, s, node_soils, &mut table)
 }
 
 // Refusals 5 to 8, in their order, with the soils of the nodes.
-pub fn mesh_shape(m: &[i64], s: Sizes, soils: &[u8]) -> Outcome
-    requires { ⌜ Sized (now m) s × SoilTable (now m) (elements (now m)) (now soils) ⌝ }
-    ensures { λ r. ⌜ r ≡ shapeCheck (now (m .entry)) ⌝ }
+pub fn mesh_shape(m: &[i64], s: Sizes, node_soils: &[u8]) -> Outcome
+    requires { ⌜ Sized (now m) s × SoilTable (now m) (elements (now m)) (now «node_soils») ⌝ }
+    ensures { λ r. ⌜ r ≡ checkPhases (shapePhases (now (m .entry))) ⌝ }
 {
     let turns = turns_check(m, s);
     match turns {
         Outcome::Refused { number, place } => Outcome::Refused { number, place },
-        Outcome::Passed => sides_nodes_edges(m, s, soils),
+        Outcome::Passed => sides_nodes_edges(m, s, node_soils),
     }
 }

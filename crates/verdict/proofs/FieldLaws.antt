@@ -1,9 +1,8 @@
 -- The check of a field: what an equality row says by its numbers, and what the lowest row that fails says of the check.
-use mathlib.Core.Path.{_≡_, refl, sym, _∙_, ap, ap₂, subst₂}
+use mathlib.Core.Path.{_≡_, sym, _∙_, ap, ap₂, subst₂}
 use mathlib.Core.Bool.{Bool, true, false}
 use mathlib.Core.List.{List}
-use Prim.Native.Nat.{ℕ, suc, _+_, _*_, _-_, _≤_, _<_}
-use native.Mathlib.Nat.{le-trans}
+use Prim.Native.Nat.{ℕ, suc, _+_, _-_, _≤_, _<_}
 use native.Mathlib.Numerals.{add-one}
 use native.Mathlib.Omega.{arith}
 use lib.IntN.{ℤ, pos, _*ℤ_}
@@ -11,21 +10,22 @@ use lib.ListN.{length, take, drop}
 use mir.Syntax.{w64}
 use mir.Val.{toZ, ofZ}
 use mir.Facts.{toZ-ofZ}
-use Rattle.integer.specs.Machine.{within-SFits, Is-read}
+use Rattle.integer.proofs.Machine.{within-SFits, Is-read}
 use Rattle.integer.specs.Tests.{eqZ}
 use Rattle.scope.specs.declared.Outcome.the-variants.{Passed, Refused}
 use Rattle.scope.specs.declared.Place.the-variants as P
-use Rattle.rows.specs.declared.row_sums.EqualityRow.{EqualityRow}
+use Rattle.rows.specs.declared.equality_rows.EqualityRow.{EqualityRow}
 use Rattle.scope.specs.Columns.{at, l, n}
-use Rattle.scope.specs.Checks.{_then_}
 use Rattle.scope.specs.Claim.{stress}
 use Rattle.scope.specs.Mesh.{equalityCount}
 use Rattle.scope.specs.Rows.{Row, asked, equalityRows}
 use Rattle.scope.specs.Sums.{leftSide, rightSide, rowHolds}
-use Rattle.scope.specs.Verdict.{rowAt, fieldCheck}
-use Rattle.scope.specs.Facts.{ClaimFacts}
+use Rattle.scope.specs.Phases.{checkPhase}
+use Rattle.scope.specs.Refusals.{equalitiesPhase}
+use Rattle.scope.specs.NumberRanges.{ClaimFacts}
 use Rattle.scope.proofs.RowCounts.{equality-count}
-use Rattle.rows.specs.RowContracts.{rowOf, EntriesFit, Filled, FieldFits, equalitiesCheck, strengthsCheck}
+use Rattle.scope.specs.Tests.{rowAt}
+use Rattle.rows.specs.RowContracts.{rowOf, Filled, FieldFits}
 use Rattle.lines.specs.SearchContracts.{firstFailing}
 use Rattle.rows.proofs.ClaimLaws.{claim-within, rest-within, stress-of, scale-within, load-within, field-long}
 use Rattle.rows.proofs.StrengthLaws.{being}
@@ -64,17 +64,17 @@ abbrev pub rowTest : List Row → List ℤ → ℕ → ℕ → ℕ → Bool
 rowTest rows x l n i = rowHolds (at x) (toZ w64 l) (toZ w64 n) (rowAt rows i)
 
 module _ {m x : List ℤ} {l n : ℤ} (h : FieldFits m x l n) {k rows : ℕ} (e : k ≡ firstFailing (rowTest (equalityRows m) x (ofZ w64 l) (ofZ w64 n)) rows) (all : rows ≡ equalityCount m) where
-  equalities-read : equalitiesCheck (equalityRows m) (at x) (toZ w64 (ofZ w64 l)) (toZ w64 (ofZ w64 n)) ≡ equalitiesCheck (equalityRows m) (at x) l n
-  equalities-read = ap₂ (equalitiesCheck (equalityRows m) (at x)) (load-read h) (scale-read h)
+  equalities-read : checkPhase (equalitiesPhase (equalityRows m) (at x) (toZ w64 (ofZ w64 l)) (toZ w64 (ofZ w64 n))) ≡ checkPhase (equalitiesPhase (equalityRows m) (at x) l n)
+  equalities-read = ap₂ (λ a b. checkPhase (equalitiesPhase (equalityRows m) (at x) a b)) (load-read h) (scale-read h)
 
-  pub equality-fails : k < rows → Refused 21 (P.Row (k + 1)) ≡ equalitiesCheck (equalityRows m) (at x) l n
-  unfolding equalitiesCheck
+  pub equality-fails : k < rows → Refused 21 (P.Row (k + 1)) ≡ checkPhase (equalitiesPhase (equalityRows m) (at x) l n)
+  unfolding checkPhase
   equality-fails lt =
       phase-fails (rowTest (equalityRows m) x (ofZ w64 l) (ofZ w64 n)) 21 (λ i. P.Row (suc i)) (length (equalityRows m)) e (all ∙ sym (equality-count m)) lt (ap P.Row (add-one k))
       ∙ equalities-read
 
-  pub equalities-hold : rows ≤ k → Passed ≡ equalitiesCheck (equalityRows m) (at x) l n
-  unfolding equalitiesCheck
+  pub equalities-hold : rows ≤ k → Passed ≡ checkPhase (equalitiesPhase (equalityRows m) (at x) l n)
+  unfolding checkPhase
   equalities-hold le =
       phase-done (rowTest (equalityRows m) x (ofZ w64 l) (ofZ w64 n)) 21 (λ i. P.Row (suc i)) (length (equalityRows m)) e (all ∙ sym (equality-count m)) le
       ∙ equalities-read
@@ -95,9 +95,5 @@ module _ {m c : List ℤ} (f : ClaimFacts m c) where
   unfolding n
   scale-of e = Is-read (being e (scale-within f)) (omega arith) .same
 
-pub equalities-of : (m c : List ℤ) {l′ n′ : ℤ} → l′ ≡ l c → n′ ≡ n c → equalitiesCheck (equalityRows m) (at (take (length c - 4) (drop 4 c))) l′ n′ ≡ equalitiesCheck (equalityRows m) (stress m c) (l c) (n c)
+pub equalities-of : (m c : List ℤ) {l′ n′ : ℤ} → l′ ≡ l c → n′ ≡ n c → checkPhase (equalitiesPhase (equalityRows m) (at (take (length c - 4) (drop 4 c))) l′ n′) ≡ checkPhase (equalitiesPhase (equalityRows m) (stress m c) (l c) (n c))
 equalities-of m c el en = rw (el, en, stress-of m c)
-
-pub field-parts : (es ss : List Row) (s : ℕ → ℤ) (l n : ℤ) → (equalitiesCheck es s l n then strengthsCheck ss s l n) ≡ fieldCheck es ss s l n
-unfolding fieldCheck equalitiesCheck strengthsCheck
-field-parts es ss s l n = refl

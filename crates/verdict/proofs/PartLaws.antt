@@ -2,12 +2,13 @@
 use mathlib.Core.Path.{_≡_, refl, sym, _∙_, ap, ap₂, subst}
 use mathlib.Core.Bool.{Bool, true, false, cond, _&&_, and-false}
 use mathlib.Core.List.{List}
-use Prim.Native.Nat.{ℕ, _*_}
+use Prim.Native.Nat.{ℕ}
 use native.Mathlib.Omega.{arith}
 use lib.Ieee.Bits.{is-false}
 use lib.Dec.{T}
 use lib.IntN.{ℤ, pos}
-use Rattle.integer.specs.Tests.{eqZ, eqZ-yes, no-eqZ}
+use Rattle.integer.specs.Tests.{eqZ}
+use Rattle.integer.proofs.TestLaws.{eqZ-yes, no-eqZ}
 use Rattle.scope.specs.declared.Place.{Place}
 use Rattle.scope.specs.declared.Outcome.{Outcome}
 use Rattle.scope.specs.declared.Outcome.the-variants.{Passed, Refused as Fails}
@@ -19,12 +20,15 @@ use Rattle.scope.specs.declared.Verdict.{Verdict}
 use Rattle.scope.specs.declared.Verdict.the-variants.{Accepted, Refused}
 use Rattle.scope.specs.Columns.{at, hasField, hasMultipliers, n, l}
 use Rattle.scope.specs.Claim.{stress, multiplier}
-use Rattle.scope.specs.Mesh.{nodes}
-use Rattle.scope.specs.Rows.{equalityRows, strengthRows, rowsOf}
+use Rattle.scope.specs.Rows.{rowsOf}
 use Rattle.scope.specs.Sums.{liveSum, limitSum, openRows}
-use Rattle.scope.specs.Verdict.{fieldCheck, multipliersCheck, ifPart, partsCheck, lowerLoad, upperLoad, openCount, answer}
-use Rattle.sums.specs.declared.multiplier_checks.Limit.the-variants as L
-use Rattle.sums.specs.LimitContracts.{limitOf}
+use Rattle.scope.specs.Phases.{ifPart, Phase, checkPhases}
+use Rattle.scope.specs.Verdict.{lowerLoad, upperLoad, openCount, answer}
+use Rattle.rows.specs.declared.multiplier_checks.Limit.the-variants as L
+use Rattle.rows.specs.LimitContracts.{limitOf}
+use Rattle.scope.specs.Checks.{_then_}
+use Rattle.scope.specs.Refusals.{fieldPart, multiplierPart, partPhases}
+use Rattle.scope.proofs.Refusals.{parts-checked}
 
 -- ---- the field
 
@@ -36,13 +40,13 @@ pub no-load : (c : List ℤ) → ¬ (at c 0 ≡ pos 1) → Absent ≡ lowerLoad 
 unfolding lowerLoad hasField
 no-load c h = let e : eqZ (at c 0) (pos 1) ≡ false = is-false _ (no-eqZ h) in sym (rw e)
 
-pub part-there : (c : List ℤ) (o : Outcome) → at c 0 ≡ pos 1 → o ≡ ifPart (hasField c) o
-unfolding ifPart hasField
-part-there c o e = sym (rw e)
+pub part-there : (c : List ℤ) (fs : List Phase) → at c 0 ≡ pos 1 → checkPhases fs ≡ checkPhases (ifPart (hasField c) fs)
+unfolding hasField
+part-there c fs e = sym (rw e)
 
-pub no-part : (c : List ℤ) (o : Outcome) → ¬ (at c 0 ≡ pos 1) → Passed ≡ ifPart (hasField c) o
-unfolding ifPart hasField
-no-part c o h = let e : eqZ (at c 0) (pos 1) ≡ false = is-false _ (no-eqZ h) in sym (rw e)
+pub no-part : (c : List ℤ) (fs : List Phase) → ¬ (at c 0 ≡ pos 1) → Passed ≡ checkPhases (ifPart (hasField c) fs)
+unfolding hasField checkPhases
+no-part c fs h = let e : eqZ (at c 0) (pos 1) ≡ false = is-false _ (no-eqZ h) in sym (rw e)
 
 -- ---- what the limit says of the check of multipliers
 
@@ -79,40 +83,37 @@ no-count m c e = by (hasMultipliers c) e
 -- ---- both parts
 
 module _ (m c : List ℤ) where
-  abbrev fieldPart : Outcome
-  fieldPart = ifPart (hasField c) (fieldCheck (equalityRows m) (strengthRows m) (stress m c) (l c) (n c))
-
-  abbrev multipliersPart : Outcome
-  multipliersPart = ifPart (hasMultipliers c) (multipliersCheck (equalityRows m) (rowsOf m) (3 * nodes m) (multiplier m c))
-
   abbrev partsVerdict : Verdict
-  partsVerdict = answer (partsCheck m c) (Accepted (openCount m c) (lowerLoad c) (upperLoad m c))
+  partsVerdict = answer (checkPhases (partPhases m c)) (Accepted (openCount m c) (lowerLoad c) (upperLoad m c))
+
+  both-say : {o u : Outcome} → checkPhases (fieldPart m c) ≡ o → checkPhases (multiplierPart m c) ≡ u → checkPhases (partPhases m c) ≡ o then u
+  both-say e f = parts-checked m c ∙ ap₂ _then_ e f
 
   -- an upper load: the multipliers are there
-  pub multipliers-are : {x y : ℤ} → limitOf multipliersPart (upperLoad m c) ≡ L.Exact x y → at c 1 ≡ pos 1
+  pub multipliers-are : {x y : ℤ} → limitOf (checkPhases (multiplierPart m c)) (upperLoad m c) ≡ L.Exact x y → at c 1 ≡ pos 1
   unfolding upperLoad hasMultipliers
-  multipliers-are e = by (eqZ (at c 1) (pos 1)) refl (exactly multipliersPart (upperLoad m c) e .load)
+  multipliers-are e = by (eqZ (at c 1) (pos 1)) refl (exactly (checkPhases (multiplierPart m c)) (upperLoad m c) e .load)
     where
       by : {x y : ℤ} (b : Bool) → eqZ (at c 1) (pos 1) ≡ b → cond b (Exact (limitSum (multiplier m c) (rowsOf m)) (liveSum (multiplier m c) (rowsOf m))) Absent ≡ Exact x y → at c 1 ≡ pos 1
       by true h e = eqZ-yes (subst T (sym h) tt)
       by false h e = let z : _≡_ {A = ℕ} 0 1 = cc in absurd (omega arith)
 
-  pub field-refused : {k : ℕ} {p : Place} → fieldPart ≡ Fails k p → Refused k p ≡ partsVerdict
-  unfolding partsCheck answer
-  field-refused e = sym (rw e)
+  pub field-refused : {k : ℕ} {p : Place} → checkPhases (fieldPart m c) ≡ Fails k p → Refused k p ≡ partsVerdict
+  unfolding answer
+  field-refused e = sym (rw (both-say e refl))
 
-  pub limit-refused : {k : ℕ} {p : Place} → fieldPart ≡ Passed → limitOf multipliersPart (upperLoad m c) ≡ L.Refused k p → Refused k p ≡ partsVerdict
-  unfolding partsCheck answer
-  limit-refused e f = let g = refused multipliersPart (upperLoad m c) f in sym (rw (e, g))
+  pub limit-refused : {k : ℕ} {p : Place} → checkPhases (fieldPart m c) ≡ Passed → limitOf (checkPhases (multiplierPart m c)) (upperLoad m c) ≡ L.Refused k p → Refused k p ≡ partsVerdict
+  unfolding answer
+  limit-refused e f = let g = refused (checkPhases (multiplierPart m c)) (upperLoad m c) f in sym (rw (both-say e g))
 
-  pub limit-absent : {a : Load} → fieldPart ≡ Passed → limitOf multipliersPart (upperLoad m c) ≡ L.Absent → a ≡ lowerLoad c → Accepted NoCount a Absent ≡ partsVerdict
-  unfolding partsCheck answer
+  pub limit-absent : {a : Load} → checkPhases (fieldPart m c) ≡ Passed → limitOf (checkPhases (multiplierPart m c)) (upperLoad m c) ≡ L.Absent → a ≡ lowerLoad c → Accepted NoCount a Absent ≡ partsVerdict
+  unfolding answer
   limit-absent e f g =
-      let h = absent multipliersPart (upperLoad m c) f in
-      sym (rw (e, h .passes, no-count m c (h .load), h .load, g))
+      let h = absent (checkPhases (multiplierPart m c)) (upperLoad m c) f in
+      sym (rw (both-say e (h .passes), no-count m c (h .load), h .load, g))
 
-  pub limit-exact : {o : OpenRows} {a : Load} {x y x′ y′ : ℤ} → fieldPart ≡ Passed → limitOf multipliersPart (upperLoad m c) ≡ L.Exact x y → o ≡ openCount m c → a ≡ lowerLoad c → x′ ≡ x → y′ ≡ y → Accepted o a (Exact x′ y′) ≡ partsVerdict
-  unfolding partsCheck answer
+  pub limit-exact : {o : OpenRows} {a : Load} {x y x′ y′ : ℤ} → checkPhases (fieldPart m c) ≡ Passed → limitOf (checkPhases (multiplierPart m c)) (upperLoad m c) ≡ L.Exact x y → o ≡ openCount m c → a ≡ lowerLoad c → x′ ≡ x → y′ ≡ y → Accepted o a (Exact x′ y′) ≡ partsVerdict
+  unfolding answer
   limit-exact e f o g ex ey =
-      let h = exactly multipliersPart (upperLoad m c) f in
-      sym (rw (e, h .passes, h .load, o, g, ex, ey))
+      let h = exactly (checkPhases (multiplierPart m c)) (upperLoad m c) f in
+      sym (rw (both-say e (h .passes), h .load, o, g, ex, ey))

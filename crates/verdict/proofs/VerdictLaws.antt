@@ -9,15 +9,16 @@ use Rattle.scope.specs.declared.Outcome.{Outcome}
 use Rattle.scope.specs.declared.Outcome.the-variants.{Passed, Refused as Fails}
 use Rattle.scope.specs.declared.Verdict.{Verdict}
 use Rattle.scope.specs.declared.Verdict.the-variants.{Accepted, Refused}
-use Rattle.scope.specs.Layout.{linesCheck}
 use Rattle.scope.specs.Mesh.{meshLayout, elements}
 use Rattle.scope.specs.Claim.{claimLayout}
-use Rattle.scope.specs.Facts.{MeshFacts}
-use Rattle.scope.specs.Verdict.{shapeCheck, meshCheck, claimCheck, partsCheck, openCount, lowerLoad, upperLoad, answer, claimVerdict, verdict}
-use Rattle.scope.proofs.Checks.{then-passed}
-use Rattle.scope.proofs.Sound.{lines-passed}
-use Rattle.scope.proofs.Facts.{mesh-facts}
-use Rattle.scope.proofs.ClaimFacts.{claim-facts}
+use Rattle.scope.specs.NumberRanges.{MeshFacts}
+use Rattle.scope.specs.Statements.{MeshSound}
+use Rattle.scope.specs.Phases.{checkPhases}
+use Rattle.scope.specs.Refusals.{shapePhases, partPhases}
+use Rattle.scope.specs.Verdict.{linesCheck, meshCheck, openCount, lowerLoad, upperLoad, answer, claimVerdict, verdict}
+use Rattle.scope.proofs.NumberRanges.{mesh-facts}
+use Rattle.scope.proofs.ClaimNumberRanges.{claim-facts}
+use Rattle.scope.proofs.Refusals.{lines-passed, mesh-checked, mesh-passed, claim-checked}
 use Rattle.verdict.specs.declared.MeshAnswer.{MeshAnswer}
 use Rattle.mesh.specs.declared.sizes.Sizes.{Sizes}
 use Rattle.mesh.specs.MeshContracts.{Sized, NodeSoils}
@@ -30,13 +31,10 @@ use Rattle.shape.proofs.SoilTables.{soils-are, node-soils}
 -- what a mesh that passes is
 pub record MeshKnown (m : List ℤ) : Type 0 where
   pub facts : MeshFacts m
-  pub shape : shapeCheck m ≡ Passed
+  pub sound : MeshSound m
 
 pub mesh-known : {m : List ℤ} → meshCheck m ≡ Passed → MeshKnown m
-unfolding meshCheck
-mesh-known {m} e =
-    let h = then-passed _ _ .0 e in
-    record { facts = mesh-facts m (lines-passed meshLayout m .says (h .0)); shape = h .1 }
+mesh-known {m} e = let sound = mesh-passed m .says e in record { facts = mesh-facts m (sound .lines); sound = sound }
 
 -- ---- what judging a mesh answers
 
@@ -50,18 +48,16 @@ module _ {m : List ℤ} {r : MeshAnswer} where
   sound-mesh a e =
       let passes : meshCheck m ≡ Passed = sym (a .outcome) ∙ e in
       let known = mesh-known passes in
-      record { passes = passes; soilsAre = subst (NodeSoils m) (sym (a .soils ∙ ap (λ (o : Outcome). soilBytes o m) passes)) (node-soils m (known .facts) (known .shape)) }
+      record { passes = passes; soilsAre = subst (NodeSoils m) (sym (a .soils ∙ ap (λ (o : Outcome). soilBytes o m) passes)) (node-soils m (known .facts) (known .sound)) }
 
-pub passed-mesh : {m : List ℤ} {t : List ℕ} → MeshFacts m → linesCheck meshLayout m ≡ Passed → shapeCheck m ≡ Passed → SoilTable m (elements m) t → MeshAnswered m (record { outcome = Passed; soils = t })
-unfolding meshCheck
+pub passed-mesh : {m : List ℤ} {t : List ℕ} → MeshFacts m → linesCheck meshLayout m ≡ Passed → checkPhases (shapePhases m) ≡ Passed → SoilTable m (elements m) t → MeshAnswered m (record { outcome = Passed; soils = t })
 passed-mesh {m} facts e f h =
-    let passes : Passed ≡ meshCheck m = then-goes-on e (sym f) in
-    record { outcome = passes; soils = soils-are m facts f h ∙ ap (λ (o : Outcome). soilBytes o m) passes }
+    let passes : Passed ≡ meshCheck m = then-goes-on e (sym f) ∙ sym (mesh-checked m) in
+    record { outcome = passes; soils = soils-are m facts (mesh-passed m .says (sym passes)) h ∙ ap (λ (o : Outcome). soilBytes o m) passes }
 
 -- ---- the verdict by its stages
 
-pub judged : {m c : List ℤ} {s : Sizes} {soils : List ℕ} → SoundMesh m soils → claimCheck m c ≡ Passed → Sized m s → Judged m c s soils
-unfolding claimCheck
+pub judged : {m c : List ℤ} {s : Sizes} {soils : List ℕ} → SoundMesh m soils → linesCheck (claimLayout m) c ≡ Passed → Sized m s → Judged m c s soils
 judged {m} {c} h f s = record { sized = s; claim = claim-facts m c (lines-passed (claimLayout m) c .says f) (s .facts); nodeSoils = h .soilsAre }
 
 module _ (m c : List ℤ) where
@@ -73,10 +69,10 @@ module _ (m c : List ℤ) where
   unfolding verdict answer
   mesh-goes-on e f = f ∙ sym (rw e)
 
-  pub claim-refused : {k : ℕ} {p : Place} → claimCheck m c ≡ Fails k p → Refused k p ≡ claimVerdict m c
+  pub claim-refused : {k : ℕ} {p : Place} → linesCheck (claimLayout m) c ≡ Fails k p → Refused k p ≡ claimVerdict m c
   unfolding claimVerdict answer
-  claim-refused e = sym (rw e)
+  claim-refused e = sym (rw (claim-checked m c, e))
 
-  pub claim-goes-on : {r : Verdict} → claimCheck m c ≡ Passed → r ≡ answer (partsCheck m c) (Accepted (openCount m c) (lowerLoad c) (upperLoad m c)) → r ≡ claimVerdict m c
+  pub claim-goes-on : {r : Verdict} → linesCheck (claimLayout m) c ≡ Passed → r ≡ answer (checkPhases (partPhases m c)) (Accepted (openCount m c) (lowerLoad c) (upperLoad m c)) → r ≡ claimVerdict m c
   unfolding claimVerdict
-  claim-goes-on e f = f ∙ sym (rw e)
+  claim-goes-on e f = f ∙ sym (rw (claim-checked m c, e))

@@ -1,19 +1,11 @@
--- What contracts say of what the code hands around: the sizes of a mesh, tables of soils, tables of sides, a judged mesh.
+-- What contracts say of a mesh that is judged: its outcome, and the soil of each of its nodes.
 use mathlib.Core.Path.{_≡_}
-use mathlib.Core.Bool.{Bool, cond, not, _&&_}
-use mathlib.Core.List.{List, _++_, map}
-use Prim.Native.Nat.{ℕ, _+_, _-_, _*_, _/_, _%_, _≤_, _<_}
+use mathlib.Core.List.{List}
+use Prim.Native.Nat.{ℕ}
 use lib.IntN.{ℤ}
-use lib.Dec.{eqb}
-use lib.ListN.{length, getD, set, replicate}
-use Rattle.scope.specs.declared.Outcome.{Outcome}
-use Rattle.scope.specs.declared.Outcome.the-variants.{Passed, Refused}
+use Rattle.scope.specs.declared.Outcome.the-variants.{Passed}
 use Rattle.verdict.specs.declared.MeshAnswer.{MeshAnswer}
-use Rattle.scope.specs.Mesh.{nodes, elements, soils, edges, sides, elementSoil, fromNode, toNode}
-use Rattle.scope.specs.Checks.{someBelow}
-use Rattle.scope.specs.Rows.{countFrom, firstWhere, node, hasCorner, nodeSoil}
-use Rattle.scope.specs.Verdict.{hasSide, meshCheck}
-use Rattle.scope.specs.Facts.{MeshFacts}
+use Rattle.scope.specs.Verdict.{meshCheck}
 use Rattle.mesh.specs.MeshContracts.{NodeSoils}
 use Rattle.shape.specs.ShapeContracts.{soilBytes}
 

@@ -3,22 +3,21 @@ ghost use mathlib.Core.Path.{_≡_};
 ghost use Prim.Native.Nat.{_≤_};
 ghost use lib.ListN.{length};
 ghost use Rattle.integer.specs.Bounds.{AllWithin};
-ghost use Rattle.scope.specs.Columns.{hasField, n, l};
-ghost use Rattle.scope.specs.Claim.{stress};
-ghost use Rattle.scope.specs.Rows.{equalityRows, strengthRows};
-ghost use Rattle.scope.specs.Verdict.{fieldCheck, ifPart, partsCheck, openCount, lowerLoad, upperLoad, answer};
+ghost use Rattle.scope.specs.Phases.{checkPhases};
+ghost use Rattle.scope.specs.Refusals.{fieldPart, partPhases};
+ghost use Rattle.scope.specs.Verdict.{openCount, lowerLoad, upperLoad, answer};
 ghost use Rattle.rows.specs.RowContracts.{Judged, MeshSteps};
-use crate::part_checks::field_check;
+use crate::field_checks::field_check;
 use mesh::sizes::Sizes;
 use mesh::sizes::number_at;
+use rows::multiplier_checks::Limit;
+use rows::multiplier_checks::claim_limit;
+use rows::open_rows::open_rows;
 use rows::polygons::steps_of;
 use scope::Load;
 use scope::OpenRows;
 use scope::Outcome;
 use scope::Verdict;
-use sums::multiplier_checks::Limit;
-use sums::multiplier_checks::claim_limit;
-use sums::open_rows::open_rows;
 
 // The load l/n of a claim with a field, else none.
 fn lower_load(c: &[i64]) -> Load
@@ -35,27 +34,27 @@ fn lower_load(c: &[i64]) -> Load
 }
 
 // 21 and 22, where the claim has a field.
-fn claim_field(m: &[i64], c: &[i64], s: Sizes, soils: &[u8], steps: &[i64]) -> Outcome
-    requires { ⌜ Judged (now m) (now c) s (now soils) ⌝ ∗ ⌜ MeshSteps (now m) (now steps) ⌝ }
-    ensures { λ r. ⌜ r ≡ ifPart (hasField (now (c .entry))) (fieldCheck (equalityRows (now (m .entry))) (strengthRows (now (m .entry))) (stress (now (m .entry)) (now (c .entry))) (l (now (c .entry))) (n (now (c .entry)))) ⌝ }
+fn claim_field(m: &[i64], c: &[i64], s: Sizes, node_soils: &[u8], steps: &[i64]) -> Outcome
+    requires { ⌜ Judged (now m) (now c) s (now «node_soils») ⌝ ∗ ⌜ MeshSteps (now m) (now steps) ⌝ }
+    ensures { λ r. ⌜ r ≡ checkPhases (fieldPart (now (m .entry)) (now (c .entry))) ⌝ }
 {
     if number_at(c, 0) == 1 {
-        return field_check(m, c, s, soils, steps);
+        return field_check(m, c, s, node_soils, steps);
     }
     Outcome::Passed
 }
 
 // The verdict by the parts. For speed the polygon's sides are made once and lent to each part.
-pub fn parts_verdict(m: &[i64], c: &[i64], s: Sizes, soils: &[u8]) -> Verdict
-    requires { ⌜ Judged (now m) (now c) s (now soils) ⌝ }
-    ensures { λ r. ⌜ r ≡ answer (partsCheck (now (m .entry)) (now (c .entry))) (Verdict.Accepted (openCount (now (m .entry)) (now (c .entry))) (lowerLoad (now (c .entry))) (upperLoad (now (m .entry)) (now (c .entry)))) ⌝ }
+pub fn parts_verdict(m: &[i64], c: &[i64], s: Sizes, node_soils: &[u8]) -> Verdict
+    requires { ⌜ Judged (now m) (now c) s (now «node_soils») ⌝ }
+    ensures { λ r. ⌜ r ≡ answer (checkPhases (partPhases (now (m .entry)) (now (c .entry)))) (Verdict.Accepted (openCount (now (m .entry)) (now (c .entry))) (lowerLoad (now (c .entry))) (upperLoad (now (m .entry)) (now (c .entry)))) ⌝ }
 {
     let steps = steps_of(s.sides);
-    let field = claim_field(m, c, s, soils, &steps);
+    let field = claim_field(m, c, s, node_soils, &steps);
     if let Outcome::Refused { number, place } = field {
         return Verdict::Refused { number, place };
     }
-    let limit = claim_limit(m, c, s, soils, &steps);
+    let limit = claim_limit(m, c, s, node_soils, &steps);
     match limit {
         Limit::Refused { number, place } => Verdict::Refused { number, place },
         Limit::Absent => Verdict::Accepted {
@@ -64,7 +63,7 @@ pub fn parts_verdict(m: &[i64], c: &[i64], s: Sizes, soils: &[u8]) -> Verdict
             upper: Load::Absent,
         },
         Limit::Exact { w, m: den } => Verdict::Accepted {
-            open_rows: open_rows(m, c, s, soils, &steps),
+            open_rows: open_rows(m, c, s, node_soils, &steps),
             lower: lower_load(c),
             upper: Load::Exact { num: w, den },
         },

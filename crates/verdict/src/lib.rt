@@ -1,12 +1,12 @@
-// verdict
+// The verdict on the numbers of a mesh and of a claim (document 01, 'Verdict and report').
 
 pub mod claim_parts;
-pub mod part_checks;
-// The check of numbers: document 01's rows and sums, and its verdict on the numbers of a mesh and of a claim.
+pub mod field_checks;
 
 ghost use mathlib.Core.Path.{_≡_};
 ghost use lib.ListN.{replicate};
-ghost use Rattle.scope.specs.Verdict.{meshCheck, claimCheck, claimVerdict, verdict};
+ghost use Rattle.scope.specs.Verdict.{linesCheck, meshCheck, claimVerdict, verdict};
+ghost use Rattle.scope.specs.Claim.{claimLayout};
 ghost use Rattle.verdict.specs.JudgeContracts.{SoundMesh, MeshAnswered};
 use crate::claim_parts::parts_verdict;
 use lines::line_checks::claim_lines;
@@ -16,7 +16,7 @@ use scope::Outcome;
 use scope::Place;
 use scope::Verdict;
 use shape::mesh_checks::mesh_shape;
-use shape::mesh_checks::node_soils;
+use shape::mesh_checks::soil_table;
 
 // What is said of the numbers of a mesh: what they are refused for, 1 to 8, or that they pass, and then the soil of each node. The soils are looked up once a mesh, and lent to the judging of each claim on it.
 pub struct MeshAnswer {
@@ -43,7 +43,7 @@ pub fn judge_mesh(m: &[i64]) -> MeshAnswer
         return refused_mesh(number, place);
     }
     let s = sizes_of(m);
-    let soils = node_soils(m, s);
+    let soils = soil_table(m, s);
     let shape = mesh_shape(m, s, &soils);
     if let Outcome::Refused { number, place } = shape {
         return refused_mesh(number, place);
@@ -57,22 +57,22 @@ pub fn judge_mesh(m: &[i64]) -> MeshAnswer
 // What the lines of a claim on a judged mesh are refused for, 11 to 13, or that they pass.
 fn judge_claim_lines(m: &[i64], c: &[i64]) -> Outcome
     requires { ⌜ meshCheck (now m) ≡ Outcome.Passed ⌝ }
-    ensures { λ r. ⌜ r ≡ claimCheck (now (m .entry)) (now (c .entry)) ⌝ }
+    ensures { λ r. ⌜ r ≡ linesCheck (claimLayout (now (m .entry))) (now (c .entry)) ⌝ }
 {
     let s = sizes_of(m);
     claim_lines(c, s)
 }
 
 // The verdict on a claim's numbers on a judged mesh, whose soils are lent.
-pub fn judge_claim(m: &[i64], soils: &[u8], c: &[i64]) -> Verdict
-    requires { ⌜ SoundMesh (now m) (now soils) ⌝ }
+pub fn judge_claim(m: &[i64], node_soils: &[u8], c: &[i64]) -> Verdict
+    requires { ⌜ SoundMesh (now m) (now «node_soils») ⌝ }
     ensures { λ r. ⌜ r ≡ claimVerdict (now (m .entry)) (now (c .entry)) ⌝ }
 {
     let lines = judge_claim_lines(m, c);
     if let Outcome::Refused { number, place } = lines {
         return Verdict::Refused { number, place };
     }
-    parts_verdict(m, c, sizes_of(m), soils)
+    parts_verdict(m, c, sizes_of(m), node_soils)
 }
 
 // The verdict on a mesh and a claim handed over as numbers.

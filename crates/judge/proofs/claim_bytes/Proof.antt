@@ -1,11 +1,13 @@
 -- `claim_bytes` meets its contract: the header's line and the lines of the table.
 use mathlib.Core.Path.{_∙_, ap, ap₂, subst}
 use mathlib.Core.Bool.{Bool}
-use Prim.Native.Nat.{ℕ, _+_}
+use Prim.Native.Nat.{ℕ, _+_, _*_}
 use native.Mathlib.Omega.{arith}
 use denote.Ref.{now}
 use borrow.Author.Needs.{needs}
 use Rattle.scope.specs.Columns.{hasField, hasMultipliers}
+use Rattle.scope.specs.Claim.{claimHeaderColumns}
+use Rattle.reader.specs.File.{fileWidth}
 use Rattle.lines.specs.Table.{Tabled, claimBody}
 use Rattle.mesh.proofs.Places.{few-things}
 use Rattle.verdict.proofs.VerdictLaws.{mesh-known}
@@ -25,8 +27,8 @@ has-part-requires-2 c κs = search needs
 claim-groups-requires : tie.Need-claim-groups-requires
 claim-groups-requires c κs = few-things (c .before .before .sizes-of .ensures)
 
-total-of-requires : tie.Need-total-of-requires
-total-of-requires c κs = search needs
+body-bytes-requires : tie.Need-body-bytes-requires
+body-bytes-requires c κs = search needs
 
 add-result : tie.Need-add-result
 add-result c = search needs
@@ -39,7 +41,7 @@ returns c =
     let h = now (z .before .args .header) in
     let s = z .sizes-of .result in
     let flags = ap₂ (λ (a b : Bool). claimBody s a b) (g .before .before .has-part .ensures) (g .before .has-part2 .ensures) in
-    ap (λ (k : ℕ). 49 + k) (c .total-of .ensures .0) ∙ table-bytes h (z .sizes-of .ensures) (subst (λ body. Tabled s (g .claim-groups .result) body) flags (g .claim-groups .ensures))
+    ap (λ (k : ℕ). (claimHeaderColumns * fileWidth + 1) + k) (c .body-bytes .ensures .0) ∙ table-bytes h (z .sizes-of .ensures) (subst (λ body. Tabled s (g .claim-groups .result) body) flags (g .claim-groups .ensures))
 
 pub claim-bytes-spec : {M : Type 1} → statement M
 claim-bytes-spec =
@@ -49,6 +51,6 @@ claim-bytes-spec =
     has-part-requires
     has-part-requires-2
     claim-groups-requires
-    total-of-requires
+    body-bytes-requires
     add-result
     returns)

@@ -1,17 +1,14 @@
--- `judge_claim_file` meets its contract: each of the three rooms is taken where it is enough, and the largest always is.
+-- `judge_claim_file` meets its contract: each of the three rooms is taken where the claim's bytes say that it is enough, and the largest always is.
 use native.Mathlib.Omega.{arith}
+use denote.Ref.{now}
 use borrow.Author.Needs.{needs}
-use Rattle.mesh.proofs.Places.{few-things}
 use Rattle.verdict.proofs.VerdictLaws.{mesh-known}
-use Rattle.judge.proofs.Judged.{room-is, room-most}
+use Rattle.judge.proofs.Judged.{claim-by-length, claim-fits}
 use Rattle.judge.proofs.judge_claim_file.Statement.{statement}
 use Rattle.judge.proofs.judge_claim_file.Tie as tie
 
-sizes-of-requires : tie.Need-sizes-of-requires
-sizes-of-requires c κs = mesh-known (c .before .before .pre .passes) .facts
-
-claim-room-requires : tie.Need-claim-room-requires
-claim-room-requires c κs = few-things (c .sizes-of .ensures)
+most-numbers-requires : tie.Need-most-numbers-requires
+most-numbers-requires c κs = search needs
 
 slice-aggregate-judge-claim-in : tie.Need-slice-aggregate-judge-claim-in
 slice-aggregate-judge-claim-in c = search needs
@@ -19,7 +16,8 @@ slice-aggregate-judge-claim-in c = search needs
 judge-claim-in-requires : tie.Need-judge-claim-in-requires
 judge-claim-in-requires c κs =
     let r = c .before .before in
-    (r .before .before .before .before .pre, omega (arith, room-is (r .before .sizes-of .ensures), r .claim-room .ensures, c .before .if1 .taken))
+    let a = r .before .before .before in
+    (a .pre, omega (arith, claim-by-length (now (a .args .m)) (now (a .args .claim)), r .most-numbers .ensures, c .before .if1 .taken))
 
 returns : tie.Need-returns
 returns c = c .before .judge-claim-in .ensures
@@ -30,7 +28,8 @@ slice-aggregate-judge-claim-in-2 c = search needs
 judge-claim-in-requires-2 : tie.Need-judge-claim-in-requires-2
 judge-claim-in-requires-2 c κs =
     let r = c .before .before .before in
-    (r .before .before .before .before .pre, omega (arith, room-is (r .before .sizes-of .ensures), r .claim-room .ensures, c .before .if2 .taken))
+    let a = r .before .before .before in
+    (a .pre, omega (arith, claim-by-length (now (a .args .m)) (now (a .args .claim)), r .most-numbers .ensures, c .before .if2 .taken))
 
 returns-2 : tie.Need-returns-2
 returns-2 c = c .before .judge-claim-in2 .ensures
@@ -40,8 +39,8 @@ slice-aggregate-judge-claim-in-3 c = search needs
 
 judge-claim-in-requires-3 : tie.Need-judge-claim-in-requires-3
 judge-claim-in-requires-3 c κs =
-    let r = c .before .before .before in
-    (r .before .before .before .before .pre, omega (arith, room-most (r .before .sizes-of .ensures)))
+    let a = c .before .before .before .before .before .before in
+    (a .pre, omega (arith, claim-fits (mesh-known (a .pre .passes) .facts .counts) (now (a .args .claim))))
 
 returns-3 : tie.Need-returns-3
 returns-3 c = c .before .judge-claim-in3 .ensures
@@ -50,8 +49,7 @@ pub judge-claim-file-spec : {M : Type 1} → statement M
 judge-claim-file-spec =
     tie.close
     (tie.spec
-    sizes-of-requires
-    claim-room-requires
+    most-numbers-requires
     slice-aggregate-judge-claim-in
     judge-claim-in-requires
     returns

@@ -1,12 +1,12 @@
 -- `judge_claim_in` meets its contract: the numbers that are judged are those that were read against this mesh.
 use mathlib.Core.Path.{ap, _∙_}
-use native.Mathlib.Omega.{arith}
 use denote.Ref.{now}
 use borrow.Author.Needs.{needs}
 use Rattle.scope.specs.Verdict.{claimVerdict}
-use Rattle.mesh.proofs.Places.{few-things}
+use Rattle.mesh.proofs.Places.{as-sizes}
+use Rattle.judge.specs.Judge.{claimNumbers}
 use Rattle.verdict.proofs.VerdictLaws.{mesh-known}
-use Rattle.judge.proofs.Judged.{front, fits, as-many, room-is, claim-listed}
+use Rattle.judge.proofs.Judged.{front, fits, as-many, claim-listed}
 use Rattle.judge.proofs.judge_claim_in.Statement.{statement}
 use Rattle.judge.proofs.judge_claim_in.Tie as tie
 
@@ -14,9 +14,9 @@ sizes-of-requires : tie.Need-sizes-of-requires
 sizes-of-requires c κs = mesh-known (c .before .before .pre .0 .passes) .facts
 
 read-claim-requires : tie.Need-read-claim-requires
+unfolding claimNumbers
 read-claim-requires c κs =
-    let z = c .before .sizes-of .ensures in
-    (few-things z, omega (arith, room-is z, c .before .before .before .before .pre .1))
+    record { mesh = _; sized = as-sizes (c .before .sizes-of .ensures); fits = c .before .before .before .before .pre .1 }
 
 slice-reshare-prefix-judge-claim : tie.Need-slice-reshare-prefix-judge-claim
 slice-reshare-prefix-judge-claim c = fits (claim-listed (c .before .before .before .sizes-of .ensures) (c .before .read-claim .ensures))

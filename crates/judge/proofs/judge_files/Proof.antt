@@ -1,50 +1,56 @@
--- `judge_files` meets its contract: the claim is judged only on a mesh that has passed.
+-- `judge_files` meets its contract: each of the three rooms is taken where the mesh's bytes say that it is enough, and the largest always is.
+use native.Mathlib.Omega.{arith}
+use denote.Ref.{now}
 use borrow.Author.Needs.{needs}
-use Rattle.judge.proofs.Judged.{fits, as-many, judged-listed, judged-sound, files-refused, files-judged}
+use Rattle.judge.proofs.Judged.{mesh-by-length, mesh-fits}
 use Rattle.judge.proofs.judge_files.Statement.{statement}
 use Rattle.judge.proofs.judge_files.Tie as tie
 
-slice-aggregate-judge-mesh-file : tie.Need-slice-aggregate-judge-mesh-file
-slice-aggregate-judge-mesh-file c = search needs
+most-numbers-requires : tie.Need-most-numbers-requires
+most-numbers-requires c κs = search needs
 
-judge-mesh-file-requires : tie.Need-judge-mesh-file-requires
-judge-mesh-file-requires c κs = search needs
+slice-aggregate-judge-files-in : tie.Need-slice-aggregate-judge-files-in
+slice-aggregate-judge-files-in c = search needs
 
-enum-known-outcome : tie.Need-enum-known-outcome
-enum-known-outcome c = search needs
-
-enum-told : tie.Need-enum-told
-enum-told c = search needs
-
-array-share-prefix-numbers : tie.Need-array-share-prefix-numbers
-array-share-prefix-numbers c = fits (judged-listed (c .before .before .before .before .judge-mesh-file .ensures))
-
-slice-aggregate-m : tie.Need-slice-aggregate-m
-slice-aggregate-m c = as-many (judged-listed (c .before .before .before .before .before .judge-mesh-file .ensures))
-
-judge-claim-file-requires : tie.Need-judge-claim-file-requires
-judge-claim-file-requires c κs =
-    let told = c .before .before .before .before in
-    judged-sound (told .before .before .before .before .judge-mesh-file .ensures) (told .enum-told .given .1)
+judge-files-in-requires : tie.Need-judge-files-in-requires
+judge-files-in-requires c κs =
+    let r = c .before .before in
+    omega (arith, mesh-by-length (now (r .before .before .before .args .mesh)), r .most-numbers .ensures, c .before .if1 .taken)
 
 returns : tie.Need-returns
-returns c = files-refused (c .before .before .before .before .before .judge-mesh-file .ensures) _ (c .before .outcome .given .1)
+returns c = c .before .judge-files-in .ensures
+
+slice-aggregate-judge-files-in-2 : tie.Need-slice-aggregate-judge-files-in-2
+slice-aggregate-judge-files-in-2 c = search needs
+
+judge-files-in-requires-2 : tie.Need-judge-files-in-requires-2
+judge-files-in-requires-2 c κs =
+    let r = c .before .before .before in
+    omega (arith, mesh-by-length (now (r .before .before .before .args .mesh)), r .most-numbers .ensures, c .before .if2 .taken)
 
 returns-2 : tie.Need-returns-2
-returns-2 c =
-    let told = c .before .before .before .before .before in
-    files-judged (told .before .before .before .before .judge-mesh-file .ensures) _ (told .enum-told .given .1) (c .judge-claim-file .ensures)
+returns-2 c = c .before .judge-files-in2 .ensures
+
+slice-aggregate-judge-files-in-3 : tie.Need-slice-aggregate-judge-files-in-3
+slice-aggregate-judge-files-in-3 c = search needs
+
+judge-files-in-requires-3 : tie.Need-judge-files-in-requires-3
+judge-files-in-requires-3 c κs = mesh-fits _
+
+returns-3 : tie.Need-returns-3
+returns-3 c = c .before .judge-files-in3 .ensures
 
 pub judge-files-spec : {M : Type 1} → statement M
 judge-files-spec =
     tie.close
     (tie.spec
-    slice-aggregate-judge-mesh-file
-    judge-mesh-file-requires
-    enum-known-outcome
-    enum-told
-    array-share-prefix-numbers
-    slice-aggregate-m
-    judge-claim-file-requires
+    most-numbers-requires
+    slice-aggregate-judge-files-in
+    judge-files-in-requires
     returns
-    returns-2)
+    slice-aggregate-judge-files-in-2
+    judge-files-in-requires-2
+    returns-2
+    slice-aggregate-judge-files-in-3
+    judge-files-in-requires-3
+    returns-3)

@@ -1,10 +1,12 @@
 -- `judge_mesh_file` meets its contract: the numbers that are judged are those that were read.
 use borrow.Author.Needs.{needs}
+use Rattle.judge.specs.Judge.{meshNumbers}
 use Rattle.judge.proofs.Judged.{fits, as-many, mesh-judged}
 use Rattle.judge.proofs.judge_mesh_file.Statement.{statement}
 use Rattle.judge.proofs.judge_mesh_file.Tie as tie
 
 read-mesh-requires : tie.Need-read-mesh-requires
+unfolding meshNumbers
 read-mesh-requires c κs = search needs
 
 slice-reshare-prefix-judge-mesh : tie.Need-slice-reshare-prefix-judge-mesh

@@ -4,7 +4,7 @@ use mathlib.Core.Bool.{Bool}
 use Rattle.scope.specs.Columns.{hasField, hasMultipliers}
 use Rattle.lines.specs.Table.{claimBody}
 use Rattle.reader.specs.File.{widths}
-use Rattle.reader.proofs.Told.{widths-meant, claim-room}
+use Rattle.reader.proofs.Told.{known, widths-meant}
 use borrow.Author.Needs.{needs}
 use Rattle.reader.proofs.claim_body.Statement.{statement}
 use Rattle.reader.proofs.claim_body.Tie as tie
@@ -19,9 +19,13 @@ claim-groups-requires : tie.Need-claim-groups-requires
 claim-groups-requires c κs = search needs
 
 read-groups-requires : tie.Need-read-groups-requires
+unfolding hasField hasMultipliers
 read-groups-requires c κs =
-    let p = c .before .before .before .before .before .before .before .pre in
-    (p .0, (p .1 .0, claim-room _ _ _ _ (c .before .claim-groups .ensures) (p .1 .1 .0) (p .1 .1 .1 .1)))
+    let g = c .before in
+    let start = c .before .before .before .before .before .before .before in
+    let t = g .claim-groups .ensures in
+    let flags = ap₂ (λ (a b : Bool). widths (claimBody (start .args .s) a b)) (g .before .before .before .has-part .ensures) (g .before .has-part2 .ensures) in
+    (start .pre .0, (known t, rw (widths-meant t ∙ flags) (start .pre .1 .1)))
 
 same-length : tie.Need-same-length
 same-length c = search needs

@@ -1,7 +1,6 @@
 -- `reader::mesh_body` meets its contract: the header tells the table, whose numbers fit.
-
 use Rattle.mesh.proofs.Places.{few-sizes}
-use Rattle.reader.proofs.Told.{mesh-lines, mesh-room}
+use Rattle.reader.proofs.Told.{known, mesh-lines}
 use borrow.Author.Needs.{needs}
 use Rattle.reader.proofs.mesh_body.Statement.{statement}
 use Rattle.reader.proofs.mesh_body.Tie as tie
@@ -15,8 +14,8 @@ mesh-groups-requires c κs = few-sizes (c .header-sizes .ensures)
 read-groups-requires : tie.Need-read-groups-requires
 read-groups-requires c κs =
     let p = c .before .before .before .before .before .pre in
-    let sizes = c .before .before .header-sizes .ensures in
-    (p .0, (p .1 .0, mesh-room (c .before .mesh-groups .ensures) _ _ (few-sizes sizes) (p .1 .1 .0) (p .1 .1 .1 .1)))
+    let t = c .before .mesh-groups .ensures in
+    (p .0, (known t, rw (mesh-lines t (c .before .before .header-sizes .ensures)) (p .1 .1)))
 
 same-length : tie.Need-same-length
 same-length c = search needs

@@ -4,9 +4,10 @@ use native.Mathlib.Omega.{arith}
 use borrow.Author.Tests.{not-true, not-false}
 use mathlib.Core.List.{List}
 use lib.IntN.{ℤ}
-use Rattle.scope.specs.Claim.{claimLayout}
-use Rattle.reader.proofs.Whole.{HeaderRead}
-use Rattle.reader.proofs.Told.{claim-no-header, claim-header-read, claim-at, claim-numbers, claim-refused, claim-passed}
+use Rattle.scope.specs.Claim.{claimLayout, claimHeader}
+use Rattle.mesh.proofs.Places.{few-sizes}
+use Rattle.reader.proofs.Whole.{HeaderRead, first-room}
+use Rattle.reader.proofs.Told.{claim-no-header, claim-header-read, claim-refused, claim-room, claim-passed}
 use borrow.Author.Needs.{needs}
 use Rattle.reader.proofs.read_claim.Statement.{statement}
 use Rattle.reader.proofs.read_claim.Tie as tie
@@ -15,7 +16,11 @@ table-requires : tie.Need-table-requires
 table-requires c κs = search needs
 
 read-header-requires : tie.Need-read-header-requires
-read-header-requires c κs = search needs
+unfolding claimLayout claimHeader
+read-header-requires c κs =
+    let t = c .before .before in
+    let room = t .before .before .pre in
+    (t .table .ensures, (omega arith, first-room (claimLayout (room .mesh)) _ _ (room .fits)))
 
 same-length : tie.Need-same-length
 same-length c = search needs
@@ -27,7 +32,7 @@ returns c = claim-no-header _ _ _ (c .before .before .before .read-header .ensur
 header : (c : tie.Else1) → (m : List ℤ) → HeaderRead (claimLayout m) (c .before .before .before .before .before .before .before .before .args .bytes .now) (c .before .before .before .before .before .before .before .before .args .out .now) (c .before .before .before .read-header .result) (c .before .before .before .read-header .last .1 .1 .1 .0)
 header c =
     let r = c .before .before .before in
-    claim-header-read _ _ (r .read-header .ensures) (omega (arith, r .before .before .before .before .before .pre)) (not-false _ (c .if1 .left))
+    claim-header-read _ _ (r .read-header .ensures) (not-false _ (c .if1 .left))
 
 claim-header-requires : tie.Need-claim-header-requires
 claim-header-requires c κs = search needs
@@ -55,7 +60,8 @@ claim-body-requires c κs =
     let r = e .before .before .before in
     let a = r .before .before .before in
     let h = header e in
-    (a .table .ensures, (claim-at _ _ h, (claim-numbers _ _ h, (a .before .before .pre .0, omega arith))))
+    let room = a .before .before .pre in
+    (a .table .ensures, (few-sizes (room .sized), claim-room _ _ h _ (v .claim-header .ensures) (t .enum-told .given .1) (room .mesh) (room .sized) (omega (arith, room .fits))))
 
 same-length-3 : tie.Need-same-length-3
 same-length-3 c = search needs

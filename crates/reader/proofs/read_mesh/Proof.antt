@@ -2,9 +2,9 @@
 -- Assumes nothing.
 use native.Mathlib.Omega.{arith}
 use borrow.Author.Tests.{not-true, not-false}
-use Rattle.scope.specs.Mesh.{meshLayout}
-use Rattle.reader.proofs.Whole.{HeaderRead}
-use Rattle.reader.proofs.Told.{mesh-no-header, mesh-header-read, mesh-at, mesh-numbers, mesh-refused, mesh-header-there, mesh-passed}
+use Rattle.scope.specs.Mesh.{meshLayout, meshHeader}
+use Rattle.reader.proofs.Whole.{HeaderRead, first-room}
+use Rattle.reader.proofs.Told.{mesh-no-header, mesh-header-read, mesh-refused, mesh-header-there, mesh-room, mesh-passed}
 use borrow.Author.Needs.{needs}
 use Rattle.reader.proofs.read_mesh.Statement.{statement}
 use Rattle.reader.proofs.read_mesh.Tie as tie
@@ -13,7 +13,10 @@ table-requires : tie.Need-table-requires
 table-requires c κs = search needs
 
 read-header-requires : tie.Need-read-header-requires
-read-header-requires c κs = search needs
+unfolding meshLayout meshHeader
+read-header-requires c κs =
+    let t = c .before .before in
+    (t .table .ensures, (omega arith, first-room meshLayout _ _ (t .before .before .pre)))
 
 same-length : tie.Need-same-length
 same-length c = search needs
@@ -25,7 +28,7 @@ returns c = mesh-no-header _ _ (c .before .before .before .read-header .ensures)
 header : (c : tie.Else1) → HeaderRead (meshLayout) (c .before .before .before .before .before .before .before .before .args .bytes .now) (c .before .before .before .before .before .before .before .before .args .out .now) (c .before .before .before .read-header .result) (c .before .before .before .read-header .last .1 .1 .1 .0)
 header c =
     let r = c .before .before .before in
-    mesh-header-read _ _ (r .read-header .ensures) (omega (arith, r .before .before .before .before .before .pre)) (not-false _ (c .if1 .left))
+    mesh-header-read _ _ (r .read-header .ensures) (not-false _ (c .if1 .left))
 
 mesh-header-requires : tie.Need-mesh-header-requires
 mesh-header-requires c κs = search needs
@@ -52,7 +55,9 @@ mesh-body-requires c κs =
     let e = v .before .before in
     let r = e .before .before .before in
     let h = header e in
-    (r .before .before .before .table .ensures, (mesh-at _ _ h, (mesh-numbers _ _ h, (mesh-header-there _ _ h (v .mesh-header .ensures) (t .enum-told .given .1), omega arith))))
+    let e₁ = v .mesh-header .ensures in
+    let e₂ = t .enum-told .given .1 in
+    (r .before .before .before .table .ensures, (mesh-header-there _ _ h e₁ e₂, mesh-room _ _ h e₁ e₂ (omega (arith, r .before .before .before .before .before .pre))))
 
 same-length-3 : tie.Need-same-length-3
 same-length-3 c = search needs

@@ -1,8 +1,7 @@
 -- `judge_claim_lines` meets its contract: the counts of a mesh that has passed are small, and they are the mesh's.
 use denote.Ref.{now}
-use Rattle.scope.specs.Verdict.{claimCheck}
-use Rattle.scope.proofs.Sound.{mesh-passed}
-use Rattle.scope.proofs.Facts.{mesh-facts}
+use Rattle.scope.proofs.NumberRanges.{mesh-facts}
+use Rattle.scope.proofs.Refusals.{mesh-passed}
 use Rattle.mesh.proofs.Places.{few-things, as-sizes}
 use Rattle.verdict.proofs.judge_claim_lines.Statement.{statement}
 use Rattle.verdict.proofs.judge_claim_lines.Tie as tie
@@ -16,7 +15,6 @@ claim-lines-requires : tie.Need-claim-lines-requires
 claim-lines-requires c κs = few-things (c .sizes-of .ensures)
 
 returns : tie.Need-returns
-unfolding claimCheck
 returns c = c .claim-lines .ensures (now (c .before .before .args .m)) (as-sizes (c .before .sizes-of .ensures))
 
 pub judge-claim-lines-spec : {M : Type 1} → statement M

@@ -1,10 +1,9 @@
 -- `judge_mesh` meets its contract: the shape is checked only on a mesh whose lines have passed.
 use mathlib.Core.Path.{sym, _∙_}
 use denote.Ref.{now}
-use Rattle.scope.specs.Verdict.{meshCheck}
 use Rattle.scope.specs.Mesh.{meshLayout}
-use Rattle.scope.proofs.Sound.{lines-passed}
-use Rattle.scope.proofs.Facts.{mesh-facts}
+use Rattle.scope.proofs.NumberRanges.{mesh-facts}
+use Rattle.scope.proofs.Refusals.{lines-passed, mesh-checked}
 use Rattle.lines.proofs.Loops.{then-refuses, then-goes-on}
 use Rattle.verdict.proofs.VerdictLaws.{refused-mesh, passed-mesh}
 use borrow.Author.Needs.{needs}
@@ -21,10 +20,9 @@ refused-mesh-requires : tie.Need-refused-mesh-requires
 refused-mesh-requires c κs = search needs
 
 returns : tie.Need-returns
-unfolding meshCheck
 returns c =
     let asked = c .before .before in
-    refused-mesh (sym (then-refuses _ (sym (asked .before .before .mesh-lines .ensures) ∙ asked .lines .given .1))) (c .refused-mesh .ensures)
+    refused-mesh (mesh-checked _ ∙ sym (then-refuses _ (sym (asked .before .before .mesh-lines .ensures) ∙ asked .lines .given .1))) (c .refused-mesh .ensures)
 
 enum-told : tie.Need-enum-told
 enum-told c = search needs
@@ -34,8 +32,8 @@ sizes-of-requires c κs =
     let m = now (c .before .before .before .args .m) in
     mesh-facts m (lines-passed meshLayout m .says (sym (c .before .before .mesh-lines .ensures) ∙ c .enum-told .given .1))
 
-node-soils-requires : tie.Need-node-soils-requires
-node-soils-requires c κs = search needs
+soil-table-requires : tie.Need-soil-table-requires
+soil-table-requires c κs = search needs
 
 slice-aggregate-mesh-shape : tie.Need-slice-aggregate-mesh-shape
 slice-aggregate-mesh-shape c = search needs
@@ -50,23 +48,21 @@ refused-mesh-requires-2 : tie.Need-refused-mesh-requires-2
 refused-mesh-requires-2 c κs = search needs
 
 returns-2 : tie.Need-returns-2
-unfolding meshCheck
 returns-2 c =
     let asked = c .before .before in
     let shape = asked .before .before in
     let told = shape .before .before .before .before in
-    refused-mesh (sym (then-goes-on (sym (told .before .before .mesh-lines .ensures) ∙ told .enum-told .given .1) (sym (asked .shape .given .1) ∙ shape .mesh-shape .ensures))) (c .refused-mesh2 .ensures)
+    refused-mesh (mesh-checked _ ∙ sym (then-goes-on (sym (told .before .before .mesh-lines .ensures) ∙ told .enum-told .given .1) (sym (asked .shape .given .1) ∙ shape .mesh-shape .ensures))) (c .refused-mesh2 .ensures)
 
 enum-told-2 : tie.Need-enum-told-2
 enum-told-2 c = search needs
 
 returns-3 : tie.Need-returns-3
-unfolding meshCheck
 returns-3 c =
     let shape = c .before .before in
     let soils = shape .before .before in
     let told = soils .before .before in
-    passed-mesh (soils .before .sizes-of .ensures .facts) (sym (told .before .before .mesh-lines .ensures) ∙ told .enum-told .given .1) (sym (shape .mesh-shape .ensures) ∙ c .enum-told2 .given .1) (soils .node-soils .ensures)
+    passed-mesh (soils .before .sizes-of .ensures .facts) (sym (told .before .before .mesh-lines .ensures) ∙ told .enum-told .given .1) (sym (shape .mesh-shape .ensures) ∙ c .enum-told2 .given .1) (soils .soil-table .ensures)
 
 pub judge-mesh-spec : {M : Type 1} → statement M
 judge-mesh-spec =
@@ -78,7 +74,7 @@ judge-mesh-spec =
     returns
     enum-told
     sizes-of-requires
-    node-soils-requires
+    soil-table-requires
     slice-aggregate-mesh-shape
     mesh-shape-requires
     enum-known-shape

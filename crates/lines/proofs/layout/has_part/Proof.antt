@@ -5,8 +5,9 @@ use lib.IntN.{ℤ, pos}
 use lib.ListN.{List·getD-eq-default}
 use lib.Ieee.Bits.{is-true, is-false}
 use denote.Ref.{now}
-use Rattle.integer.specs.Machine.{machine, unbounded, told, apart}
-use Rattle.integer.specs.Tests.{eqZ, yes-eqZ, no-eqZ}
+use Rattle.integer.proofs.Machine.{machine, unbounded, told, apart}
+use Rattle.integer.specs.Tests.{eqZ}
+use Rattle.integer.proofs.TestLaws.{yes-eqZ, no-eqZ}
 use Rattle.scope.specs.Columns.{at}
 use borrow.Author.Needs.{needs}
 use Rattle.lines.proofs.layout.has_part.Statement.{statement}

@@ -5,7 +5,6 @@ use denote.Ref.{now}
 use Rattle.scope.specs.Layout.{width}
 use Rattle.lines.specs.declared.layout.Kind.{Kind}
 use Rattle.lines.specs.Table.{kindLines}
-use Rattle.lines.specs.LineContracts.{numbered}
 use Rattle.lines.proofs.GroupLaws.{ruled-width}
 use borrow.Author.Needs.{needs}
 use Rattle.lines.proofs.line_checks.group_check.Statement.{statement}

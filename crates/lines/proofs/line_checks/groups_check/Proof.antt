@@ -4,7 +4,7 @@ use mathlib.Core.List.{map}
 use Prim.Native.Nat.{_-_, _≤_}
 use native.Mathlib.Omega.{arith}
 use denote.Ref.{now}
-use Rattle.lines.specs.Table.{meant}
+use Rattle.lines.specs.Table.{groupCount, meant}
 use Rattle.lines.specs.LineContracts.{groupsCheck, numbered}
 use Rattle.lines.proofs.TableLaws.{few-in}
 use Rattle.lines.proofs.ThroughLaws.{noGroup, Through, through-start, this-good, through-stop, through-next, through-left, through-end}
@@ -16,7 +16,7 @@ abbrev Inv-loop : tie.InvT-loop
 Inv-loop s sizes form groups from₀ line₀ i₀ from line i = Through (groupsCheck (numbered form) (map (meant sizes) groups) s 2) (numbered form) sizes groups s from line i
 
 abbrev μ-loop : tie.MeasureT-loop
-μ-loop s sizes form groups from₀ line₀ i₀ from line i = 4 - i
+μ-loop s sizes form groups from₀ line₀ i₀ from line i = groupCount - i
 
 loop-holds : tie.Need-loop-holds Inv-loop μ-loop
 loop-holds c = through-start _ _ _ _

@@ -1,7 +1,7 @@
 -- `is_sides` meets its contract: the machine tests bits, and its answers are those of the numbers.
 use mathlib.Core.Path.{_∙_}
 use native.Mathlib.Omega.{arith}
-use Rattle.integer.specs.Machine.{machine, unbounded, told, apart, decides}
+use Rattle.integer.proofs.Machine.{machine, unbounded, told, apart, decides}
 use Rattle.scope.specs.Columns.{isOneOf}
 use Rattle.lines.proofs.LineLaws.{last-sides}
 use Rattle.lines.proofs.line_checks.is_sides.Statement.{statement}

@@ -2,8 +2,8 @@
 use mathlib.Core.Path.{_∙_}
 use native.Mathlib.Omega.{arith}
 use denote.Ref.{now}
-use Rattle.scope.specs.Layout.{rulesHold}
 use Rattle.scope.specs.Mesh.{meshLayout, meshHeader}
+use Rattle.scope.specs.Verdict.{rulesHold}
 use Rattle.lines.specs.LineContracts.{ranges}
 use Rattle.lines.proofs.LineLaws.{line-short, line-outside, line-by-rules, mesh-header-line, mesh-header-limits, first-fails, second-fails, both-hold, sides-read, so, not-so}
 use borrow.Author.Needs.{needs}

@@ -1,7 +1,7 @@
 -- `parts_fit` meets its contract: the machine tests bits, and its answers are those of the numbers.
 use mathlib.Core.Path.{_∙_}
 use native.Mathlib.Omega.{arith}
-use Rattle.integer.specs.Machine.{machine, unbounded, told, apart, decides}
+use Rattle.integer.proofs.Machine.{machine, unbounded, told, apart, decides}
 use Rattle.lines.proofs.LineLaws.{with-field, no-part, no-field-but-n, no-field}
 use Rattle.lines.proofs.line_checks.parts_fit.Statement.{statement}
 use Rattle.lines.proofs.line_checks.parts_fit.Tie as tie

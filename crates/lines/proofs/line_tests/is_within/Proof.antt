@@ -1,7 +1,7 @@
 -- `is_within` meets its contract: the machine's two tests are those of the numbers.
 use mathlib.Core.Path.{sym, _∙_}
 use native.Mathlib.Omega.{arith}
-use Rattle.integer.specs.Machine.{machine, unbounded, told, decides}
+use Rattle.integer.proofs.Machine.{machine, unbounded, told, decides}
 use Rattle.lines.proofs.LineLaws.{too-low, high-enough}
 use Rattle.lines.proofs.line_tests.is_within.Statement.{statement}
 use Rattle.lines.proofs.line_tests.is_within.Tie as tie

@@ -4,7 +4,7 @@ use native.Mathlib.Nat.{mul-le-mul}
 use native.Mathlib.Omega.{arith}
 use denote.Ref.{now}
 use Rattle.lines.specs.LineContracts.{numbered}
-use Rattle.lines.specs.Table.{ruledLines}
+use Rattle.lines.specs.Table.{mostLines, mostColumns, ruledLines}
 use Rattle.lines.proofs.GroupLaws.{line-missing, line-left}
 use borrow.Author.Needs.{needs}
 use Rattle.lines.proofs.line_tests.line_at.Statement.{statement}
@@ -12,7 +12,7 @@ use Rattle.lines.proofs.line_tests.line_at.Tie as tie
 
 mul-from : tie.Need-mul-from
 mul-from c =
-    let few = mul-le-mul {n₁ = c .args .k} {m₁ = c .args .columns} {n₂ = 100} {m₂ = 36} (c .pre .0 .few .fewLines) (c .pre .0 .few .fewColumns) in
+    let few = mul-le-mul {n₁ = c .args .k} {m₁ = c .args .columns} {n₂ = mostLines} {m₂ = mostColumns} (c .pre .0 .few .fewLines) (c .pre .0 .few .fewColumns) in
     record { fits = omega arith }
 
 add-refused : tie.Need-add-refused

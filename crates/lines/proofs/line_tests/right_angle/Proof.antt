@@ -1,6 +1,6 @@
 -- `right_angle` meets its contract: within 1000 no product and no sum leaves 64 bits.
 use native.Mathlib.Omega.{arith}
-use Rattle.integer.specs.Machine.{machine, fits, decides}
+use Rattle.integer.proofs.Machine.{machine, fits, decides}
 use Rattle.lines.proofs.line_tests.right_angle.Statement.{statement}
 use Rattle.lines.proofs.line_tests.right_angle.Tie as tie
 

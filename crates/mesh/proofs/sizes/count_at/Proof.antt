@@ -5,7 +5,7 @@ use lib.IntN.{ℤ, natAbs}
 use mir.Syntax.{w64}
 use mir.Val.{toZ, ofZ}
 use borrow.Author.Needs.{needs}
-use Rattle.integer.specs.Machine.{machine, unbounded, by-value, meets}
+use Rattle.integer.proofs.Machine.{machine, unbounded, by-value, meets}
 use Rattle.scope.specs.Columns.{at}
 use Rattle.scope.specs.Layout.{count}
 use Rattle.mesh.proofs.Places.{count-natAbs}

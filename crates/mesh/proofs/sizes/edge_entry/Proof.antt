@@ -1,7 +1,7 @@
--- `edge_entry` meets its contract: the number stands where the edges begin, seven to an edge.
+-- `edge_entry` meets its contract: the number stands where the edges begin, one line to an edge.
 use native.Mathlib.Omega.{arith}
 use borrow.Author.Needs.{needs}
-use Rattle.integer.specs.Machine.{Is-read}
+use Rattle.integer.proofs.Machine.{Is-read}
 use Rattle.mesh.proofs.Places.{few-things, edge-read}
 use Rattle.mesh.proofs.sizes.edge_entry.Statement.{statement}
 use Rattle.mesh.proofs.sizes.edge_entry.Tie as tie

@@ -1,4 +1,4 @@
--- `edge_from` meets its contract: the node is the first of the seven numbers of an edge.
+-- `edge_from` meets its contract: the node is the first of the numbers of an edge.
 use native.Mathlib.Omega.{arith}
 use Rattle.mesh.proofs.Places.{few-things, edge-there, from-read}
 use Rattle.mesh.proofs.sizes.edge_from.Statement.{statement}

@@ -1,4 +1,4 @@
--- `edge_to` meets its contract: the node is the second of the seven numbers of an edge.
+-- `edge_to` meets its contract: the node is the second of the numbers of an edge.
 use native.Mathlib.Omega.{arith}
 use Rattle.mesh.proofs.Places.{few-things, edge-there, to-read}
 use Rattle.mesh.proofs.sizes.edge_to.Statement.{statement}

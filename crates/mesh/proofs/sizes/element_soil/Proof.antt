@@ -1,4 +1,4 @@
--- `element_soil` meets its contract: the soil is the last of the five numbers of an element.
+-- `element_soil` meets its contract: the soil is the last of the numbers of an element.
 use native.Mathlib.Omega.{arith}
 use Rattle.mesh.proofs.Places.{few-things, element-there, element-soil-read}
 use Rattle.mesh.proofs.sizes.element_soil.Statement.{statement}

@@ -1,7 +1,7 @@
--- `node_x` meets its contract: the number stands where the nodes begin, two to a node.
+-- `node_x` meets its contract: the number stands where the nodes begin, one line to a node.
 use native.Mathlib.Omega.{arith}
 use borrow.Author.Needs.{needs}
-use Rattle.integer.specs.Machine.{Is-read}
+use Rattle.integer.proofs.Machine.{Is-read}
 use Rattle.mesh.proofs.Places.{few-things, x-read}
 use Rattle.mesh.proofs.sizes.node_x.Statement.{statement}
 use Rattle.mesh.proofs.sizes.node_x.Tie as tie

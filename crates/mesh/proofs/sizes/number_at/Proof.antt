@@ -1,7 +1,7 @@
 -- `number_at` meets its contract: the machine reads the number back from its bits.
 use native.Mathlib.Omega.{arith}
 use borrow.Author.Needs.{needs}
-use Rattle.integer.specs.Machine.{machine, unbounded, exact}
+use Rattle.integer.proofs.Machine.{machine, unbounded, exact}
 use Rattle.scope.specs.Columns.{at}
 use Rattle.mesh.proofs.sizes.number_at.Statement.{statement}
 use Rattle.mesh.proofs.sizes.number_at.Tie as tie

@@ -1,6 +1,6 @@
 -- `run_between` meets its contract: a difference of numbers from 0 to 1,000.
 use native.Mathlib.Omega.{arith}
-use Rattle.integer.specs.Machine.{machine, fits, exact}
+use Rattle.integer.proofs.Machine.{machine, fits, exact}
 use Rattle.mesh.proofs.Places.{run-within}
 use borrow.Author.Needs.{needs}
 use Rattle.mesh.proofs.sizes.run_between.Statement.{statement}

@@ -1,7 +1,7 @@
--- `soil_entry` meets its contract: the number stands after the header, eight to a soil.
+-- `soil_entry` meets its contract: the number stands after the header, one line to a soil.
 use native.Mathlib.Omega.{arith}
 use borrow.Author.Needs.{needs}
-use Rattle.integer.specs.Machine.{Is-read}
+use Rattle.integer.proofs.Machine.{Is-read}
 use Rattle.mesh.proofs.Places.{soil-read}
 use Rattle.mesh.proofs.sizes.soil_entry.Statement.{statement}
 use Rattle.mesh.proofs.sizes.soil_entry.Tie as tie

@@ -1,7 +1,7 @@
 -- `answer_of` meets its contract: by the case of the verdict, each field by its own function.
 use mathlib.Core.Path.{_∙_}
 use native.Mathlib.Omega.{arith}
-use Rattle.integer.specs.Machine.{machine, unbounded, exact}
+use Rattle.integer.proofs.Machine.{machine, unbounded, exact}
 use Rattle.numbers.proofs.AnswerLaws.{accepted-is, refused-is}
 use borrow.Author.Needs.{needs}
 use Rattle.numbers.proofs.numbers_answer.answer_of.Statement.{statement}

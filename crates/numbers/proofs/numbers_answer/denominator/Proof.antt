@@ -1,6 +1,6 @@
 -- `denominator` meets its contract: by the case of the load.
 use native.Mathlib.Omega.{arith}
-use Rattle.integer.specs.Machine.{machine, unbounded, exact}
+use Rattle.integer.proofs.Machine.{machine, unbounded, exact}
 use Rattle.numbers.proofs.AnswerLaws.{no-denominator, denominator-is}
 use borrow.Author.Needs.{needs}
 use Rattle.numbers.proofs.numbers_answer.denominator.Statement.{statement}

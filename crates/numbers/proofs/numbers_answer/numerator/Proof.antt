@@ -1,6 +1,6 @@
 -- `numerator` meets its contract: by the case of the load.
 use native.Mathlib.Omega.{arith}
-use Rattle.integer.specs.Machine.{machine, unbounded, exact}
+use Rattle.integer.proofs.Machine.{machine, unbounded, exact}
 use Rattle.numbers.proofs.AnswerLaws.{no-numerator, numerator-is}
 use borrow.Author.Needs.{needs}
 use Rattle.numbers.proofs.numbers_answer.numerator.Statement.{statement}

@@ -2,7 +2,7 @@
 -- Assumes nothing.
 use borrow.Author.Needs.{needs}
 use native.Mathlib.Omega.{arith}
-use Rattle.integer.specs.Machine.{machine, casts, fits, exact}
+use Rattle.integer.proofs.Machine.{machine, casts, fits, exact}
 use Rattle.reader.proofs.OnePass.{said-malformed, said-down, said-up}
 use Rattle.reader.proofs.column.said.Statement.{statement}
 use Rattle.reader.proofs.column.said.Tie as tie

@@ -1,7 +1,7 @@
 -- `reader::file_lines::finish` meets its contract: each return by what the tests say of the bytes left over.
 -- Assumes nothing.
 use borrow.Author.Tests.{not-true, not-false}
-use Rattle.reader.proofs.Whole.{whole-stopped, whole-left, whole-done}
+use Rattle.reader.proofs.Whole.{left-room, whole-stopped, whole-left, whole-done}
 use borrow.Author.Needs.{needs}
 use Rattle.reader.proofs.file_lines.finish.Statement.{statement}
 use Rattle.reader.proofs.file_lines.finish.Tie as tie
@@ -10,10 +10,16 @@ returns : tie.Need-returns
 returns c = let s = c .before .before in whole-stopped _ (s .args .p) _ (s .pre) (not-true _ (c .if1 .taken))
 
 mul-out : tie.Need-mul-out
-mul-out c = search needs
+mul-out c =
+    let s = c .before .before .before in
+    let l = left-room _ (s .args .p) _ (s .pre) (not-false _ (c .before .if1 .left)) (c .if2 .taken) in
+    search needs
 
 slice-set-of-out : tie.Need-slice-set-of-out
-slice-set-of-out c = search needs
+slice-set-of-out c =
+    let s = c .before .before .before in
+    let l = left-room _ (s .args .p) _ (s .pre) (not-false _ (c .before .if1 .left)) (c .if2 .taken) in
+    search needs
 
 add-result : tie.Need-add-result
 add-result c = search needs

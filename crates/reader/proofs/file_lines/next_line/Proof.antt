@@ -3,12 +3,12 @@
 use native.Mathlib.Omega.{arith}
 use borrow.Author.Needs.{needs}
 use borrow.Author.Tests.{not-true, not-false}
-use Rattle.reader.proofs.Taken.{line-malformed, line-formed}
+use Rattle.reader.proofs.Taken.{line-malformed, line-some, line-formed}
 use Rattle.reader.proofs.file_lines.next_line.Statement.{statement}
 use Rattle.reader.proofs.file_lines.next_line.Tie as tie
 
 read-line-requires : tie.Need-read-line-requires
-read-line-requires c κs = let p = c .before .before .pre in (p .0, omega arith)
+read-line-requires c κs = let p = c .before .before .pre in (p .0, omega (arith, p .1 .1 .1 .within))
 
 same-length : tie.Need-same-length
 same-length c = search needs
@@ -17,7 +17,12 @@ returns : tie.Need-returns
 returns c = let s = c .before .before in line-malformed _ _ (s .before .before .before .args .p) _ _ (s .read-line .ensures) _ (not-true (s .read-line .result) (c .if1 .taken))
 
 copy-requires : tie.Need-copy-requires
-copy-requires c κs = omega arith
+copy-requires c κs =
+    let s = c .before .before in
+    let r = s .before .before in
+    let a = r .before .before .before in
+    let formed = line-some _ _ (a .args .p) _ _ (r .read-line .ensures) (not-false (r .read-line .result) (s .if1 .left)) in
+    (omega arith, a .pre .1 .1 .1 .fits _ formed)
 
 mul-t18 : tie.Need-mul-t18
 mul-t18 c = search needs

@@ -17,7 +17,8 @@ abbrev μ-loop : tie.MeasureT-loop
 μ-loop table bytes line₀ out₀ lines columns q₀ i₀ line out q i = lines - i
 
 loop-holds : tie.Need-loop-holds Inv-loop μ-loop
-loop-holds c = (group-first _ (c .before .pre .1 .1 .1 .0) (omega arith), refl)
+unfolding linesOf
+loop-holds c = (group-first (c .before .pre .1 .1 .1) _ (c .before .pre .1 .1 .0), refl)
 
 same-length : tie.Need-same-length Inv-loop μ-loop
 same-length c = c .before .before .before .loop .inv .1
@@ -27,14 +28,15 @@ same-length-2 c = c .before .before .before .loop .inv .0 .size
 
 returns : tie.Need-returns Inv-loop μ-loop
 unfolding linesOf
-returns c = group-stops (c .before .before .before .loop .inv .0) (not-true _ (c .if1 .taken))
+returns c = group-stops (c .before .before .before .before .before .pre .1 .1 .1) (c .before .before .before .loop .inv .0) (not-true _ (c .if1 .taken))
 
 next-line-requires : tie.Need-next-line-requires Inv-loop μ-loop
+unfolding linesOf
 next-line-requires c κs =
     let s = c .before .before .before .before in
     let h = s .before .loop .inv .0 in
     let p = s .before .before .before .pre in
-    (p .0, (h .taken .within, (p .1 .1 .0, (omega (arith, h .room, p .1 .1 .0), group-room h (s .loop-test .taken) (p .1 .1 .1 .1)))))
+    (p .0, (p .1 .0, (omega (arith, h .room, p .1 .0), group-room (p .1 .1 .1) h (s .loop-test .taken) (not-false _ (c .before .before .if1 .left)))))
 
 add-i : tie.Need-add-i Inv-loop μ-loop
 add-i c = omega arith
@@ -43,12 +45,13 @@ loop-less : tie.Need-loop-less Inv-loop μ-loop
 loop-less c = omega arith
 
 loop-again : tie.Need-loop-again Inv-loop μ-loop
+unfolding linesOf
 loop-again c =
     let n = c .before .before in
     let e = n .before .before .before in
     let s = e .before .before in
     let h = s .before .loop .inv in
-    (group-next (h .0) (s .loop-test .taken) (s .before .before .before .pre .1 .1 .1 .1) (not-false _ (e .if1 .left)) (omega arith) (omega arith) (n .next-line .ensures), omega (arith, h .1))
+    (group-next (s .before .before .before .pre .1 .1 .1) (h .0) (s .loop-test .taken) (not-false _ (e .if1 .left)) (omega arith) (omega arith) (n .next-line .ensures), omega (arith, h .1))
 
 same-length-3 : tie.Need-same-length-3 Inv-loop μ-loop
 same-length-3 c = c .before .loop .inv .1
@@ -58,7 +61,7 @@ same-length-4 c = c .before .loop .inv .0 .size
 
 returns-2 : tie.Need-returns-2 Inv-loop μ-loop
 unfolding linesOf
-returns-2 c = group-ends (c .before .loop .inv .0) (c .loop-test .left)
+returns-2 c = group-ends (c .before .before .before .pre .1 .1 .1) (c .before .loop .inv .0) (c .loop-test .left)
 
 pub read-group-spec : {M : Type 1} → statement M
 read-group-spec =

@@ -1,5 +1,4 @@
 -- `reader::file_lines::read_groups` meets its contract: the groups have room, and what is left over too.
-use native.Mathlib.Nat.{le-of-lt}
 use native.Mathlib.Omega.{arith}
 use Rattle.reader.proofs.Taken.{groups-fit}
 use Rattle.reader.proofs.Whole.{listed-after}
@@ -17,7 +16,7 @@ finish-requires : tie.Need-finish-requires
 finish-requires c κs =
     let v = c .before .before .before in
     let s = v .before .before .before .before in
-    omega (arith, groups-fit (s .pre .1 .1) (v .read-all .ensures), v .read-all .kept .1)
+    groups-fit (s .pre .1 .0) (s .pre .1 .1) (v .read-all .ensures) (omega (arith, v .read-all .kept .1))
 
 same-length : tie.Need-same-length
 same-length c = search needs
@@ -26,7 +25,7 @@ returns : tie.Need-returns
 returns c =
     let f = c .before in
     let v = f .before .before .before .before in
-    listed-after _ _ (v .read-all .ensures) (le-of-lt (finish-requires (f .before) (f .finish .lifetimes))) (f .finish .ensures)
+    listed-after _ _ (v .read-all .ensures) (finish-requires (f .before) (f .finish .lifetimes) .front) (f .finish .ensures)
 
 pub read-groups-spec : {M : Type 1} → statement M
 read-groups-spec =

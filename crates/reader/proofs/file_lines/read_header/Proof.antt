@@ -8,6 +8,7 @@ slice-aggregate-next-line : tie.Need-slice-aggregate-next-line
 slice-aggregate-next-line c = search needs
 
 next-line-requires : tie.Need-next-line-requires
+unfolding start
 next-line-requires c κs = search needs
 
 same-length : tie.Need-same-length

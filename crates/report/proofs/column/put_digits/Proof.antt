@@ -2,7 +2,7 @@
 use native.Mathlib.Omega.{arith}
 use lib.ListN.{length-set}
 use Rattle.integer.specs.Decimal.{digits}
-use Rattle.integer.specs.DecimalLaws.{digits-some}
+use Rattle.integer.proofs.DecimalLaws.{digits-some}
 use Rattle.report.proofs.Text.{digits-length-64}
 use Rattle.report.proofs.ColumnLaws.{Puts, puts-start, digits-byte, digits-last}
 use Rattle.report.proofs.column.put_digits.Statement.{statement}

@@ -1,7 +1,7 @@
 -- What is left to write are the last `more` digits of `left`, and each turn writes the last of them.
 use native.Mathlib.Omega.{arith}
 use Rattle.integer.specs.Decimal.{lastDigits}
-use Rattle.integer.specs.DecimalLaws.{lastDigits-length}
+use Rattle.integer.proofs.DecimalLaws.{lastDigits-length}
 use Rattle.report.proofs.ColumnLaws.{Puts, puts-start, last-byte, last-done}
 use Rattle.report.proofs.column.put_last_digits.Statement.{statement}
 use Rattle.report.proofs.column.put_last_digits.Tie as tie

@@ -1,7 +1,7 @@
 -- A number below 0 is the opposite of its magnitude, which the machine has by `turned`; another is its own magnitude.
 use borrow.Author.Needs.{needs}
 use native.Mathlib.Omega.{arith}
-use Rattle.integer.specs.Machine.{machine, unbounded, told, meets}
+use Rattle.integer.proofs.Machine.{machine, unbounded, told, meets}
 use Rattle.report.proofs.DivisionLaws.{Turned, turned}
 use Rattle.report.proofs.division.magnitude.Statement.{statement}
 use Rattle.report.proofs.division.magnitude.Tie as tie

@@ -1,7 +1,7 @@
 -- `radius_of` meets its contract: each polygon's radius, by computing.
 use mathlib.Core.Path.{sym, ap}
 use native.Mathlib.Omega.{arith}
-use Rattle.integer.specs.Machine.{machine, is}
+use Rattle.integer.proofs.Machine.{machine, is}
 use Rattle.scope.specs.Polygon.{polygonOf, twelve, twenty, thirtySix}
 use Rattle.rows.proofs.SideLaws.{last-listed}
 use Rattle.rows.proofs.polygons.radius_of.Statement.{statement}

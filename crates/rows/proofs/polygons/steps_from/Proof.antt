@@ -2,7 +2,7 @@
 use mathlib.Core.Path.{_≡_, subst}
 use native.Mathlib.Omega.{arith}
 use Prim.Native.Nat.{_≤_, _-_}
-use Rattle.integer.specs.Machine.{machine, exact}
+use Rattle.integer.proofs.Machine.{machine, exact}
 use Rattle.rows.specs.RowContracts.{StepsUpTo}
 use Rattle.rows.proofs.SideLaws.{no-steps, one-step-more}
 use Rattle.rows.proofs.polygons.steps_from.Statement.{statement}

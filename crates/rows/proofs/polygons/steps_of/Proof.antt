@@ -1,7 +1,8 @@
 -- `steps_of` meets its contract: each table is the list of its polygon's coordinates, by computing.
-use Rattle.rows.proofs.SideLaws.{last-listed, steps-of, shown, twelve-table, twenty-table, thirty-six-table}
-use native.Mathlib.Omega.{arith}
-use Rattle.scope.proofs.PolygonRule.{twelve-sides, twenty-sides, thirty-six-sides}
+use Rattle.rows.proofs.SideLaws.{last-listed, steps-of, shown, table-of}
+use mathlib.Core.Path.{refl}
+use mathlib.Core.Logic.{inl, inr}
+use Rattle.scope.proofs.PolygonRule.{listed-polygon}
 use borrow.Author.Needs.{needs}
 use Rattle.rows.proofs.polygons.steps_of.Statement.{statement}
 use Rattle.rows.proofs.polygons.steps_of.Tie as tie
@@ -11,35 +12,35 @@ slice-aggregate-steps-from c = search needs
 
 steps-from-requires : tie.Need-steps-from-requires
 unfolding shown
-steps-from-requires c κs = twelve-table
+steps-from-requires c κs = table-of (listed-polygon 12 (inl refl))
 
 returns : tie.Need-returns
 unfolding shown
-returns c = steps-of _ 12 twelve-sides (omega arith) (omega arith) (omega arith) (c .before .before .if1 .taken) _ (c .steps-from .ensures)
+returns c = steps-of _ (listed-polygon 12 (inl refl)) (c .before .before .if1 .taken) _ (c .steps-from .ensures)
 
 slice-aggregate-steps-from-2 : tie.Need-slice-aggregate-steps-from-2
 slice-aggregate-steps-from-2 c = search needs
 
 steps-from-requires-2 : tie.Need-steps-from-requires-2
 unfolding shown
-steps-from-requires-2 c κs = twenty-table
+steps-from-requires-2 c κs = table-of (listed-polygon 20 (inr (inl refl)))
 
 returns-2 : tie.Need-returns-2
 unfolding shown
-returns-2 c = steps-of _ 20 twenty-sides (omega arith) (omega arith) (omega arith) (c .before .before .if2 .taken) _ (c .steps-from2 .ensures)
+returns-2 c = steps-of _ (listed-polygon 20 (inr (inl refl))) (c .before .before .if2 .taken) _ (c .steps-from2 .ensures)
 
 slice-aggregate-steps-from-3 : tie.Need-slice-aggregate-steps-from-3
 slice-aggregate-steps-from-3 c = search needs
 
 steps-from-requires-3 : tie.Need-steps-from-requires-3
 unfolding shown
-steps-from-requires-3 c κs = thirty-six-table
+steps-from-requires-3 c κs = table-of (listed-polygon 36 (inr (inr refl)))
 
 returns-3 : tie.Need-returns-3
 unfolding shown
 returns-3 c =
     let start = c .before .before .before .before in
-    steps-of _ 36 thirty-six-sides (omega arith) (omega arith) (omega arith) (last-listed (start .pre) (c .before .before .before .if1 .left) (c .before .before .if2 .left)) _ (c .steps-from3 .ensures)
+    steps-of _ (listed-polygon 36 (inr (inr refl))) (last-listed (start .pre) (c .before .before .before .if1 .left) (c .before .before .if2 .left)) _ (c .steps-from3 .ensures)
 
 pub steps-of-spec : {M : Type 1} → statement M
 steps-of-spec =

@@ -1,10 +1,9 @@
--- `node_numbers` meets its contract: each number is computed as the contract says.
-use mathlib.Core.Path.{refl}
-use Prim.Native.Nat.{_+_, _*_}
+-- `node_numbers` meets its contract: six numbers, read and handed on.
 use native.Mathlib.Omega.{arith}
-use Rattle.integer.specs.Machine.{machine, fits, is}
+use Prim.Native.Nat.{_+_, _*_}
+use Rattle.integer.proofs.Machine.{Is-read, Is-within, Is-Within}
 use Rattle.scope.specs.Columns.{at}
-use Rattle.rows.proofs.StrengthLaws.{being}
+use Rattle.rows.proofs.StrengthLaws.{being, node-numbered}
 use borrow.Author.Needs.{needs}
 use Rattle.rows.proofs.strength_rows.node_numbers.Statement.{statement}
 use Rattle.rows.proofs.strength_rows.node_numbers.Tie as tie
@@ -42,89 +41,33 @@ number-at-requires-5 c κs = search needs
 number-at-requires-6 : tie.Need-number-at-requires-6
 number-at-requires-6 c κs = search needs
 
-sub-t13 : tie.Need-sub-t13
+node-of-requires : tie.Need-node-of-requires
 unfolding at
-sub-t13 c =
+node-of-requires c κs =
     let start = c .before .before .before .before .before .before in
     let field = start .pre .1 .1 .0 in
-    let v = start .args .v in
-    let sx = being (c .before .before .before .before .before .number-at .ensures) (field .each (3 * v)) in
-    let sy = being (c .before .before .before .before .number-at2 .ensures) (field .each (3 * v + 1)) in
-    fits (search machine depth 30) (omega arith)
-
-mul-t14 : tie.Need-mul-t14
-unfolding at
-mul-t14 c =
-    let start = c .before .before .before .before .before .before in
-    let field = start .pre .1 .1 .0 in
-    let v = start .args .v in
-    let t = being (c .before .before .before .number-at3 .ensures) (field .each (3 * v + 2)) in
-    fits (search machine depth 30) (omega arith)
-
-mul-t15 : tie.Need-mul-t15
-unfolding at
-mul-t15 c =
-    let start = c .before .before .before .before .before .before in
-    let field = start .pre .1 .1 .0 in
-    let v = start .args .v in
-    let right = being (c .number-at6 .ensures) (start .pre .0 .right) in
-    let n = start .pre .1 .1 .1 in
-    fits (search machine depth 30) (omega arith)
-
-add-t16 : tie.Need-add-t16
-unfolding at
-add-t16 c =
-    let start = c .before .before .before .before .before .before in
-    let field = start .pre .1 .1 .0 in
-    let v = start .args .v in
-    let sx = being (c .before .before .before .before .before .number-at .ensures) (field .each (3 * v)) in
-    let sy = being (c .before .before .before .before .number-at2 .ensures) (field .each (3 * v + 1)) in
-    fits (search machine depth 30) (omega arith)
-
-mul-t17 : tie.Need-mul-t17
-unfolding at
-mul-t17 c =
-    let start = c .before .before .before .before .before .before in
-    let field = start .pre .1 .1 .0 in
-    let v = start .args .v in
-    let sx = being (c .before .before .before .before .before .number-at .ensures) (field .each (3 * v)) in
-    let sy = being (c .before .before .before .before .number-at2 .ensures) (field .each (3 * v + 1)) in
-    let friction = being (c .before .number-at5 .ensures) (start .pre .0 .friction) in
-    fits (search machine depth 30) (omega arith)
-
-sub-t18 : tie.Need-sub-t18
-unfolding at
-sub-t18 c =
-    let start = c .before .before .before .before .before .before in
-    let field = start .pre .1 .1 .0 in
-    let v = start .args .v in
-    let sx = being (c .before .before .before .before .before .number-at .ensures) (field .each (3 * v)) in
-    let sy = being (c .before .before .before .before .number-at2 .ensures) (field .each (3 * v + 1)) in
-    let friction = being (c .before .number-at5 .ensures) (start .pre .0 .friction) in
-    let right = being (c .number-at6 .ensures) (start .pre .0 .right) in
-    let n = start .pre .1 .1 .1 in
-    fits (search machine depth 30) (omega arith)
+    let sx = Is-read (being (c .before .before .before .before .before .number-at .ensures) (field .each _)) (omega arith) in
+    let sy = Is-read (being (c .before .before .before .before .number-at2 .ensures) (field .each _)) (omega arith) in
+    let t = Is-read (being (c .before .before .before .number-at3 .ensures) (field .each _)) (omega arith) in
+    let lever = Is-read (being (c .before .before .number-at4 .ensures) (start .pre .0 .lever)) (omega arith) in
+    let friction = Is-read (being (c .before .number-at5 .ensures) (start .pre .0 .friction)) (omega arith) in
+    let right = Is-read (being (c .number-at6 .ensures) (start .pre .0 .right)) (omega arith) in
+    let n = Is-read (Is-within (start .pre .1 .1 .1)) (omega arith) in
+    (Is-Within lever (omega arith), (Is-Within friction (omega arith), (Is-Within right (omega arith), (Is-Within sx (omega arith), (Is-Within sy (omega arith), (Is-Within t (omega arith), Is-Within n (omega arith)))))))
 
 returns : tie.Need-returns
 unfolding at
 returns c =
-    let start = c .before .before .before .before .before .before in
+    let start = c .before .before .before .before .before .before .before in
     let field = start .pre .1 .1 .0 in
-    let v = start .args .v in
-    let sx = being (c .before .before .before .before .before .number-at .ensures) (field .each (3 * v)) in
-    let sy = being (c .before .before .before .before .number-at2 .ensures) (field .each (3 * v + 1)) in
-    let t = being (c .before .before .before .number-at3 .ensures) (field .each (3 * v + 2)) in
-    let lever = being (c .before .before .number-at4 .ensures) (start .pre .0 .lever) in
-    let friction = being (c .before .number-at5 .ensures) (start .pre .0 .friction) in
-    let right = being (c .number-at6 .ensures) (start .pre .0 .right) in
-    let n = start .pre .1 .1 .1 in
-    record {
-      size = refl;
-      lever = is (search machine depth 30) (omega arith) refl;
-      spread = is (search machine depth 30) (omega arith) refl;
-      twist = is (search machine depth 30) (omega arith) refl;
-      reserve = is (search machine depth 30) (omega arith) refl;
-    }
+    let sx = Is-read (being (c .before .before .before .before .before .before .number-at .ensures) (field .each _)) (omega arith) in
+    let sy = Is-read (being (c .before .before .before .before .before .number-at2 .ensures) (field .each _)) (omega arith) in
+    let t = Is-read (being (c .before .before .before .before .number-at3 .ensures) (field .each _)) (omega arith) in
+    let lever = Is-read (being (c .before .before .before .number-at4 .ensures) (start .pre .0 .lever)) (omega arith) in
+    let friction = Is-read (being (c .before .before .number-at5 .ensures) (start .pre .0 .friction)) (omega arith) in
+    let right = Is-read (being (c .before .number-at6 .ensures) (start .pre .0 .right)) (omega arith) in
+    let n = Is-read (Is-within (start .pre .1 .1 .1)) (omega arith) in
+    node-numbered (lever .same) (friction .same) (right .same) (sx .same) (sy .same) (t .same) (n .same) (c .node-of .ensures)
 
 pub node-numbers-spec : {M : Type 1} → statement M
 node-numbers-spec =
@@ -141,10 +84,5 @@ node-numbers-spec =
     number-at-requires-4
     number-at-requires-5
     number-at-requires-6
-    sub-t13
-    mul-t14
-    mul-t15
-    add-t16
-    mul-t17
-    sub-t18
+    node-of-requires
     returns)

@@ -2,7 +2,7 @@
 use mathlib.Core.Path.{sym, _∙_, ap, subst}
 use Prim.Native.Nat.{_<_}
 use native.Mathlib.Omega.{arith}
-use Rattle.integer.specs.Machine.{Is-read, Is-Within}
+use Rattle.integer.proofs.Machine.{Is-read, Is-Within}
 use Rattle.scope.specs.Columns.{n}
 use Rattle.scope.specs.Mesh.{soils}
 use Rattle.scope.specs.Polygon.{polygonOf}

@@ -1,6 +1,6 @@
 -- `side_holds` meets its contract: the machine's test is the test of the slack.
 use native.Mathlib.Omega.{arith}
-use Rattle.integer.specs.Machine.{machine, decides}
+use Rattle.integer.proofs.Machine.{machine, decides}
 use borrow.Author.Needs.{needs}
 use Rattle.rows.proofs.strength_rows.side_holds.Statement.{statement}
 use Rattle.rows.proofs.strength_rows.side_holds.Tie as tie

@@ -1,6 +1,6 @@
 -- `side_slack` meets its contract: seven numbers, read and handed on.
 use native.Mathlib.Omega.{arith}
-use Rattle.integer.specs.Machine.{Is-as, Is-read, Is-Within}
+use Rattle.integer.proofs.Machine.{Is-as, Is-read, Is-Within}
 use Rattle.rows.proofs.StrengthLaws.{being}
 use Rattle.rows.specs.RowContracts.{sideSlack}
 use borrow.Author.Needs.{needs}

@@ -1,7 +1,7 @@
 -- `slack` meets its contract: each operation fits, by the bounds of the numbers.
 use mathlib.Core.Path.{refl}
 use native.Mathlib.Omega.{arith}
-use Rattle.integer.specs.Machine.{machine, fits, is}
+use Rattle.integer.proofs.Machine.{machine, fits, is}
 use Rattle.rows.proofs.strength_rows.slack.Statement.{statement}
 use Rattle.rows.proofs.strength_rows.slack.Tie as tie
 

@@ -2,7 +2,7 @@
 use mathlib.Core.Path.{refl}
 use Rattle.scope.specs.Mesh.{p, q, h, cohesion}
 use native.Mathlib.Omega.{arith}
-use Rattle.integer.specs.Machine.{machine, fits, is}
+use Rattle.integer.proofs.Machine.{machine, fits, is}
 use Rattle.scope.specs.Columns.{at}
 use Rattle.rows.proofs.StrengthLaws.{being, p-within, q-within, h-within, cohesion-within}
 use borrow.Author.Needs.{needs}

@@ -1,6 +1,7 @@
 -- `checks_by_table` meets its contract: the checks in their order, each after the one before has passed.
 use mathlib.Core.Path.{sym, _∙_}
 use borrow.Author.Needs.{needs}
+use Rattle.scope.specs.Phases.{checkPhases}
 use Rattle.lines.proofs.Loops.{then-refuses, then-goes-on}
 use Rattle.shape.proofs.mesh_checks.checks_by_table.Statement.{statement}
 use Rattle.shape.proofs.mesh_checks.checks_by_table.Tie as tie
@@ -36,24 +37,27 @@ same-length : tie.Need-same-length
 same-length c = search needs
 
 returns : tie.Need-returns
-returns c = then-refuses _ (sym (then-refuses _ (sym (c .before .before .before .sides-check .ensures) ∙ c .before .sides .given .1)))
+unfolding checkPhases
+returns c = then-refuses _ (sym (c .before .before .before .sides-check .ensures) ∙ c .before .sides .given .1)
 
 same-length-2 : tie.Need-same-length-2
 same-length-2 c = search needs
 
 returns-2 : tie.Need-returns-2
+unfolding checkPhases
 returns-2 c =
     let passed = sym (c .before .before .before .before .before .before .sides-check .ensures) ∙ c .before .before .before .before .enum-told .given .1 in
-    then-refuses _ (sym (then-goes-on passed (sym (c .before .nodes .given .1) ∙ c .before .before .before .nodes-check .ensures)))
+    then-goes-on passed (then-refuses _ (sym (c .before .before .before .nodes-check .ensures) ∙ c .before .nodes .given .1))
 
 same-length-3 : tie.Need-same-length-3
 same-length-3 c = search needs
 
 returns-3 : tie.Need-returns-3
+unfolding checkPhases
 returns-3 c =
     let asked = c .before .before .before .before .before .before .before .before in
     let passed = sym (asked .before .before .before .sides-check .ensures) ∙ asked .before .enum-told .given .1 in
-    then-goes-on (sym (then-goes-on passed (sym (c .before .before .before .before .before .before .enum-told2 .given .1) ∙ asked .nodes-check .ensures))) (c .edges-check .ensures)
+    then-goes-on passed (then-goes-on (sym (asked .nodes-check .ensures) ∙ c .before .before .before .before .before .before .enum-told2 .given .1) (c .edges-check .ensures))
 
 pub checks-by-table-spec : {M : Type 1} → statement M
 checks-by-table-spec =

@@ -1,7 +1,7 @@
 -- `cross` meets its contract: each operation fits, and the result has the value and the bound that it says.
 use mathlib.Core.Path.{refl}
 use native.Mathlib.Omega.{arith}
-use Rattle.integer.specs.Machine.{machine, fits, is}
+use Rattle.integer.proofs.Machine.{machine, fits, is}
 use Rattle.shape.proofs.mesh_checks.cross.Statement.{statement}
 use Rattle.shape.proofs.mesh_checks.cross.Tie as tie
 

@@ -29,7 +29,7 @@ keep-first-requires : tie.Need-keep-first-requires Inv-loop μ-loop
 keep-first-requires c κs =
     let p = c .before .before .before .before .before .pre in
     let size = c .before .before .before .loop .inv .1 .size in
-    omega (arith, corner-below (p .0) (p .1) (c .before .before .loop-test .taken) (c .before .corner-of .ensures), size)
+    omega (arith, corner-below (p .0) (p .1) (c .before .before .loop-test .taken) (c .before .corner-of .ensures .same), size)
 
 add-i : tie.Need-add-i Inv-loop μ-loop
 add-i c = omega arith
@@ -40,7 +40,7 @@ loop-less c = omega arith
 loop-again : tie.Need-loop-again Inv-loop μ-loop
 loop-again c =
     let p = c .before .before .before .before .before .before .pre in
-    let v = c .before .before .corner-of .ensures in
+    let v = c .before .before .corner-of .ensures .same in
     (omega arith, corner-more _ _ _ (c .before .before .before .before .loop .inv .1) v (corner-below (p .0) (p .1) (c .before .before .before .loop-test .taken) v) (c .before .before .before .before .before .element-soil .ensures) (c .keep-first .ensures))
 
 returns : tie.Need-returns Inv-loop μ-loop

@@ -6,20 +6,20 @@ use Rattle.shape.proofs.MeshLaws.{node-there, left-turn-from}
 use Rattle.shape.proofs.mesh_checks.left_turn_at.Statement.{statement}
 use Rattle.shape.proofs.mesh_checks.left_turn_at.Tie as tie
 
-add-node-of : tie.Need-add-node-of
-add-node-of c = search needs
+add-corner-around : tie.Need-add-corner-around
+add-corner-around c = search needs
 
-node-of-requires : tie.Need-node-of-requires
-node-of-requires c κs = search needs
+corner-around-requires : tie.Need-corner-around-requires
+corner-around-requires c κs = search needs
 
-node-of-requires-2 : tie.Need-node-of-requires-2
-node-of-requires-2 c κs = search needs
+corner-around-requires-2 : tie.Need-corner-around-requires-2
+corner-around-requires-2 c κs = search needs
 
-add-node-of-2 : tie.Need-add-node-of-2
-add-node-of-2 c = search needs
+add-corner-around-2 : tie.Need-add-corner-around-2
+add-corner-around-2 c = search needs
 
-node-of-requires-3 : tie.Need-node-of-requires-3
-node-of-requires-3 c κs = search needs
+corner-around-requires-3 : tie.Need-corner-around-requires-3
+corner-around-requires-3 c κs = search needs
 
 turns-left-requires : tie.Need-turns-left-requires
 turns-left-requires c κs =
@@ -28,16 +28,16 @@ turns-left-requires c κs =
     (c .before .before .before .pre .0, omega (arith, n (i + 3)), omega (arith, n i), omega (arith, n (i + 1)))
 
 returns : tie.Need-returns
-returns c = left-turn-from (c .before .before .before .before .args .m .now) (c .before .before .before .before .args .e) (c .before .before .before .before .args .i) (c .before .before .before .node-of .ensures) (c .before .before .node-of2 .ensures) (c .before .node-of3 .ensures) (c .turns-left .ensures)
+returns c = left-turn-from (c .before .before .before .before .args .m .now) (c .before .before .before .before .args .e) (c .before .before .before .before .args .i) (c .before .before .before .corner-around .ensures) (c .before .before .corner-around2 .ensures) (c .before .corner-around3 .ensures) (c .turns-left .ensures)
 
 pub left-turn-at-spec : {M : Type 1} → statement M
 left-turn-at-spec =
     tie.close
     (tie.spec
-    add-node-of
-    node-of-requires
-    node-of-requires-2
-    add-node-of-2
-    node-of-requires-3
+    add-corner-around
+    corner-around-requires
+    corner-around-requires-2
+    add-corner-around-2
+    corner-around-requires-3
     turns-left-requires
     returns)

@@ -5,7 +5,7 @@ use Prim.Native.Nat.{_≤_, _-_}
 use native.Mathlib.Omega.{arith}
 use borrow.Author.Tests.{not-true, not-false}
 use Rattle.scope.specs.Checks.{allBelow}
-use Rattle.scope.specs.Verdict.{leftTurnAt, leftTurns}
+use Rattle.scope.specs.Tests.{leftTurnAt, leftTurns}
 use Rattle.lines.proofs.Loops.{all-more, all-fails, all-done}
 use Rattle.shape.proofs.mesh_checks.left_turns.Statement.{statement}
 use Rattle.shape.proofs.mesh_checks.left_turns.Tie as tie

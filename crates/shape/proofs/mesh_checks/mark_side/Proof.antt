@@ -8,24 +8,24 @@ use Rattle.shape.proofs.MeshLaws.{side-fits}
 use Rattle.shape.proofs.mesh_checks.mark_side.Statement.{statement}
 use Rattle.shape.proofs.mesh_checks.mark_side.Tie as tie
 
-node-of-requires : tie.Need-node-of-requires
-node-of-requires c κs = search needs
+corner-around-requires : tie.Need-corner-around-requires
+corner-around-requires c κs = search needs
 
-add-node-of : tie.Need-add-node-of
-add-node-of c = search needs
+add-corner-around : tie.Need-add-corner-around
+add-corner-around c = search needs
 
-node-of-requires-2 : tie.Need-node-of-requires-2
-node-of-requires-2 c κs = search needs
+corner-around-requires-2 : tie.Need-corner-around-requires-2
+corner-around-requires-2 c κs = search needs
 
 mul-keep-first : tie.Need-mul-keep-first
 mul-keep-first c =
     let p = c .before .before .before .before .pre in
-    omega (arith, side-fits (p .0) (p .1) (c .before .before .before .before .args .i) (p .3) (c .before .before .node-of .ensures) (c .before .node-of2 .ensures))
+    omega (arith, side-fits (p .0) (p .1) (c .before .before .before .before .args .i) (p .3) (c .before .before .corner-around .ensures) (c .before .corner-around2 .ensures))
 
 add-keep-first : tie.Need-add-keep-first
 add-keep-first c =
     let p = c .before .before .before .before .pre in
-    omega (arith, side-fits (p .0) (p .1) (c .before .before .before .before .args .i) (p .3) (c .before .before .node-of .ensures) (c .before .node-of2 .ensures))
+    omega (arith, side-fits (p .0) (p .1) (c .before .before .before .before .args .i) (p .3) (c .before .before .corner-around .ensures) (c .before .corner-around2 .ensures))
 
 cast-keep-first : tie.Need-cast-keep-first
 cast-keep-first c = omega (arith, c .before .before .before .before .pre .0 .facts .counts .elementsMost)
@@ -33,7 +33,7 @@ cast-keep-first c = omega (arith, c .before .before .before .before .pre .0 .fac
 keep-first-requires : tie.Need-keep-first-requires
 keep-first-requires c κs =
     let p = c .before .before .before .before .pre in
-    side-fits (p .0) (p .1) (c .before .before .before .before .args .i) (p .3) (c .before .before .node-of .ensures) (c .before .node-of2 .ensures)
+    side-fits (p .0) (p .1) (c .before .before .before .before .args .i) (p .3) (c .before .before .corner-around .ensures) (c .before .corner-around2 .ensures)
 
 same-length : tie.Need-same-length
 same-length c = omega arith
@@ -41,15 +41,15 @@ same-length c = omega arith
 returns : tie.Need-returns
 returns c =
     let s = c .before .before .before .before .before .before .before in
-    c .before .before .keep-first .ensures ∙ ap₂ (λ (a b : ℕ). keepFirst (s .args .t .now) (a * 100 + b) (s .args .e)) (c .before .before .before .before .before .node-of .ensures) (c .before .before .before .before .node-of2 .ensures)
+    c .before .before .keep-first .ensures ∙ ap₂ (λ (a b : ℕ). keepFirst (s .args .t .now) (a * 100 + b) (s .args .e)) (c .before .before .before .before .before .corner-around .ensures) (c .before .before .before .before .corner-around2 .ensures)
 
 pub mark-side-spec : {M : Type 1} → statement M
 mark-side-spec =
     tie.close
     (tie.spec
-    node-of-requires
-    add-node-of
-    node-of-requires-2
+    corner-around-requires
+    add-corner-around
+    corner-around-requires-2
     mul-keep-first
     add-keep-first
     cast-keep-first

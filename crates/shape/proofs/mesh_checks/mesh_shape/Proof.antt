@@ -1,8 +1,8 @@
 -- `mesh_shape` meets its contract: the turns first, and then the rest.
 use mathlib.Core.Path.{sym, _∙_}
 use borrow.Author.Needs.{needs}
+use Rattle.scope.specs.Phases.{checkPhases}
 use Rattle.lines.proofs.Loops.{then-refuses, then-goes-on}
-use Rattle.shape.proofs.MeshLaws.{shape-parts}
 use Rattle.shape.proofs.mesh_checks.mesh_shape.Statement.{statement}
 use Rattle.shape.proofs.mesh_checks.mesh_shape.Tie as tie
 
@@ -19,10 +19,12 @@ sides-nodes-edges-requires : tie.Need-sides-nodes-edges-requires
 sides-nodes-edges-requires c κs = search needs
 
 returns : tie.Need-returns
-returns c = then-refuses _ (sym (c .before .before .before .turns-check .ensures) ∙ c .before .turns .given .1) ∙ shape-parts _
+unfolding checkPhases
+returns c = then-refuses _ (sym (c .before .before .before .turns-check .ensures) ∙ c .before .turns .given .1)
 
 returns-2 : tie.Need-returns-2
-returns-2 c = then-goes-on (sym (c .before .before .before .turns-check .ensures) ∙ c .before .enum-told .given .1) (c .sides-nodes-edges .ensures) ∙ shape-parts _
+unfolding checkPhases
+returns-2 c = then-goes-on (sym (c .before .before .before .turns-check .ensures) ∙ c .before .enum-told .given .1) (c .sides-nodes-edges .ensures)
 
 pub mesh-shape-spec : {M : Type 1} → statement M
 mesh-shape-spec =

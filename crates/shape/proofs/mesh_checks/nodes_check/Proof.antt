@@ -8,10 +8,10 @@ use borrow.Author.Tests.{eq-eqb, ne-eqb}
 use Rattle.scope.specs.declared.Place.the-variants.{Node}
 use Rattle.scope.specs.Checks.{allBelow}
 use Rattle.scope.specs.Mesh.{nodes}
-use Rattle.scope.specs.Verdict.{inElement, nodesCheck}
+use Rattle.scope.specs.Phases.{checkPhase}
+use Rattle.scope.specs.Tests.{inElement}
 use Rattle.lines.proofs.Loops.{all-more, each-below, phase-at, phase-all}
 use Rattle.shape.proofs.SoilTables.{soil-test}
-use borrow.Author.Needs.{needs}
 use Rattle.shape.proofs.mesh_checks.nodes_check.Statement.{statement}
 use Rattle.shape.proofs.mesh_checks.nodes_check.Tie as tie
 
@@ -41,7 +41,7 @@ add-t10 c =
     omega (arith, c .before .before .loop-test .taken, sized .nodesAre, sized .facts .counts .nodesMost)
 
 returns : tie.Need-returns Inv-loop μ-loop
-unfolding nodesCheck
+unfolding checkPhase
 returns c =
     let b = c .before .before in
     let pre = b .before .before .pre in
@@ -64,7 +64,7 @@ loop-again c =
     (omega arith, all-more (inElement _) (b .before .loop .inv .1) some)
 
 returns-2 : tie.Need-returns-2 Inv-loop μ-loop
-unfolding nodesCheck
+unfolding checkPhase
 returns-2 c =
     let sized = c .before .before .pre .0 in
     phase-all (inElement _) 7 (λ v. Node (suc v)) (nodes _) (λ k l. each-below _ _ (c .before .loop .inv .1) k (omega (arith, sized .nodesAre, c .before .loop .inv .0)))

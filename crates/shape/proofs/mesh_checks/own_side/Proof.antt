@@ -6,19 +6,19 @@ use Rattle.shape.proofs.SideTables.{own-side-is}
 use Rattle.shape.proofs.mesh_checks.own_side.Statement.{statement}
 use Rattle.shape.proofs.mesh_checks.own_side.Tie as tie
 
-node-of-requires : tie.Need-node-of-requires
-node-of-requires c κs = search needs
+corner-around-requires : tie.Need-corner-around-requires
+corner-around-requires c κs = search needs
 
-add-node-of : tie.Need-add-node-of
-add-node-of c = search needs
+add-corner-around : tie.Need-add-corner-around
+add-corner-around c = search needs
 
-node-of-requires-2 : tie.Need-node-of-requires-2
-node-of-requires-2 c κs = search needs
+corner-around-requires-2 : tie.Need-corner-around-requires-2
+corner-around-requires-2 c κs = search needs
 
 side-byte-requires : tie.Need-side-byte-requires
 side-byte-requires c κs =
     let p = c .before .before .before .pre in
-    side-fits (p .0) (p .1) (c .before .before .before .args .i) (p .3 .room) (c .before .node-of .ensures) (c .node-of2 .ensures)
+    side-fits (p .0) (p .1) (c .before .before .before .args .i) (p .3 .room) (c .before .corner-around .ensures) (c .corner-around2 .ensures)
 
 cast-result : tie.Need-cast-result
 cast-result c = omega (arith, c .before .before .before .before .pre .0 .facts .counts .elementsMost)
@@ -26,15 +26,15 @@ cast-result c = omega (arith, c .before .before .before .before .pre .0 .facts .
 returns : tie.Need-returns
 returns c =
     let p = c .before .before .before .before .pre in
-    own-side-is _ (p .0) (p .1) (p .2) (p .3) (c .before .before .node-of .ensures) (c .before .node-of2 .ensures) (c .side-byte .ensures)
+    own-side-is _ (p .0) (p .1) (p .2) (p .3) (c .before .before .corner-around .ensures) (c .before .corner-around2 .ensures) (c .side-byte .ensures)
 
 pub own-side-spec : {M : Type 1} → statement M
 own-side-spec =
     tie.close
     (tie.spec
-    node-of-requires
-    add-node-of
-    node-of-requires-2
+    corner-around-requires
+    add-corner-around
+    corner-around-requires-2
     side-byte-requires
     cast-result
     returns)

@@ -5,7 +5,7 @@ use Prim.Native.Nat.{_≤_, _-_}
 use native.Mathlib.Omega.{arith}
 use borrow.Author.Tests.{not-true, not-false}
 use Rattle.scope.specs.Checks.{allBelow}
-use Rattle.shape.specs.ShapeContracts.{ownSideAt}
+use Rattle.scope.specs.Tests.{ownSideAt}
 use Rattle.lines.proofs.Loops.{all-more, all-fails, all-done}
 use Rattle.shape.proofs.SideTables.{own-sides-are}
 use Rattle.shape.proofs.mesh_checks.own_sides.Statement.{statement}

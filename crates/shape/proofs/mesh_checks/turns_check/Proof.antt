@@ -8,7 +8,8 @@ use borrow.Author.Tests.{not-true, not-false}
 use Rattle.scope.specs.declared.Place.the-variants.{Element}
 use Rattle.scope.specs.Checks.{allBelow}
 use Rattle.scope.specs.Mesh.{elements}
-use Rattle.scope.specs.Verdict.{leftTurns, turnsCheck}
+use Rattle.scope.specs.Phases.{checkPhase}
+use Rattle.scope.specs.Tests.{leftTurns}
 use Rattle.lines.proofs.Loops.{all-more, each-below, phase-at, phase-all}
 use Rattle.shape.proofs.mesh_checks.turns_check.Statement.{statement}
 use Rattle.shape.proofs.mesh_checks.turns_check.Tie as tie
@@ -39,7 +40,7 @@ add-t8 c =
     omega (arith, sized .elementsAre, sized .facts .counts .elementsMost)
 
 returns : tie.Need-returns Inv-loop μ-loop
-unfolding turnsCheck
+unfolding checkPhase
 returns c =
     let sized = c .before .before .before .before .pre in
     phase-at (leftTurns _) 5 (λ e. Element (suc e)) (elements _) (each-below _ _ (c .before .before .before .loop .inv .1)) (omega (arith, sized .elementsAre)) (sym (c .before .left-turns .ensures) ∙ not-true _ (c .if1 .taken)) (ap Element (add-one _))
@@ -54,7 +55,7 @@ loop-again : tie.Need-loop-again Inv-loop μ-loop
 loop-again c = (omega arith, all-more (leftTurns _) (c .before .before .before .loop .inv .1) (sym (c .before .left-turns .ensures) ∙ not-false _ (c .if1 .left)))
 
 returns-2 : tie.Need-returns-2 Inv-loop μ-loop
-unfolding turnsCheck
+unfolding checkPhase
 returns-2 c =
     let sized = c .before .before .pre in
     phase-all (leftTurns _) 5 (λ e. Element (suc e)) (elements _) (λ k l. each-below _ _ (c .before .loop .inv .1) k (omega (arith, sized .elementsAre, c .before .loop .inv .0)))

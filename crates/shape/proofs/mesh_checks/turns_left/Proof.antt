@@ -4,8 +4,8 @@ use native.Mathlib.Omega.{arith}
 use lib.IntN.{pos}
 use lib.Signed.{ltZ}
 use borrow.Author.Needs.{needs}
-use Rattle.integer.specs.Machine.{Is-read, machine, bounded, decides}
-use Rattle.scope.specs.Verdict.{turn}
+use Rattle.integer.proofs.Machine.{Is-read, machine, bounded, decides}
+use Rattle.scope.specs.Tests.{turn}
 use Rattle.shape.proofs.MeshLaws.{cross-from}
 use Rattle.shape.proofs.mesh_checks.turns_left.Statement.{statement}
 use Rattle.shape.proofs.mesh_checks.turns_left.Tie as tie

@@ -1,7 +1,7 @@
 -- `claim_field` meets its contract: a field is checked where there is one.
 use mathlib.Core.Path.{_∙_}
 use native.Mathlib.Omega.{arith}
-use Rattle.integer.specs.Machine.{machine, told, apart}
+use Rattle.integer.proofs.Machine.{machine, told, apart}
 use Rattle.scope.specs.Columns.{at}
 use Rattle.rows.proofs.ClaimLaws.{claim-within, claim-long}
 use Rattle.rows.proofs.StrengthLaws.{being}

@@ -1,6 +1,6 @@
 -- `lower_load` meets its contract: the two numbers of the header, where there is a field.
 use native.Mathlib.Omega.{arith}
-use Rattle.integer.specs.Machine.{machine, told, apart, Is-read}
+use Rattle.integer.proofs.Machine.{machine, told, apart, Is-read}
 use Rattle.scope.specs.Columns.{at}
 use Rattle.rows.proofs.StrengthLaws.{being}
 use Rattle.verdict.proofs.PartLaws.{load-there, no-load}

@@ -1,7 +1,7 @@
 -- `parts_verdict` meets its contract: the field's check, then the multipliers', then what is accepted.
 use mathlib.Core.Path.{sym, _∙_}
 use native.Mathlib.Omega.{arith}
-use Rattle.integer.specs.Machine.{machine, unbounded, exact}
+use Rattle.integer.proofs.Machine.{machine, unbounded, exact}
 use Rattle.rows.proofs.ClaimLaws.{claim-within, claim-long}
 use Rattle.verdict.proofs.PartLaws.{field-refused, limit-refused, limit-absent, limit-exact, multipliers-are}
 use Rattle.rows.proofs.StrengthLaws.{sides-listed, steps-as}

@@ -1,0 +1,59 @@
+-- `equality_row` meets its contract: two rows for each element, then four for each edge.
+use Rattle.scope.specs.Mesh.{elements}
+use Rattle.scope.specs.Rows.{equalityRows}
+use Rattle.scope.specs.Tests.{rowAt}
+use mathlib.Core.Path.{_≡_, ap}
+use native.Mathlib.Omega.{arith}
+use Prim.Native.Nat.{_+_, _*_, _-_, _/_, _%_}
+use Rattle.rows.proofs.EqualityLaws.{filled-as, balance-row-is}
+use borrow.Author.Needs.{needs}
+use Rattle.rows.proofs.equality_rows.equality_row.Statement.{statement}
+use Rattle.rows.proofs.equality_rows.equality_row.Tie as tie
+
+mul-first : tie.Need-mul-first
+mul-first c = search needs
+
+balance-x-requires : tie.Need-balance-x-requires
+balance-x-requires c κs = search needs
+
+returns : tie.Need-returns
+unfolding rowAt
+returns c =
+    let start = c .before .before .before .before in
+    let k = start .args .k in
+    filled-as (c .balance-x .ensures) (balance-row-is (start .args .m .now) (k / 2) k 0 (omega arith) (omega arith) (omega arith))
+
+balance-y-requires : tie.Need-balance-y-requires
+balance-y-requires c κs = search needs
+
+returns-2 : tie.Need-returns-2
+unfolding rowAt
+returns-2 c =
+    let start = c .before .before .before .before in
+    let k = start .args .k in
+    filled-as (c .balance-y .ensures) (balance-row-is (start .args .m .now) (k / 2) k 1 (omega arith) (omega arith) (omega arith))
+
+side-row-requires : tie.Need-side-row-requires
+side-row-requires c κs = search needs
+
+returns-3 : tie.Need-returns-3
+unfolding rowAt
+returns-3 c =
+    let start = c .before .before .before in
+    let k = start .args .k in
+    let m = start .args .m .now in
+    let first = start .args .s .elements * 2 in
+    let e : elements m * 2 + ((k - first) / 4 * 4 + (k - first) % 4) ≡ k = omega (arith, start .pre .0 .elementsAre) in
+    filled-as (c .side-row .ensures) (ap (rowAt (equalityRows m)) e)
+
+pub equality-row-spec : {M : Type 1} → statement M
+equality-row-spec =
+    tie.close
+    (tie.spec
+    mul-first
+    balance-x-requires
+    returns
+    balance-y-requires
+    returns-2
+    side-row-requires
+    returns-3)

@@ -1,0 +1,142 @@
+-- What the sums over multipliers hand around: rows summed one after the other, the sides of a node, and the records that their functions require and ensure.
+use mathlib.Core.Path.{_≡_}
+use mathlib.Core.Bool.{Bool, cond}
+use mathlib.Core.List.{List}
+use Prim.Native.Nat.{ℕ, zero, suc, _+_, _*_, _≤_, _<_}
+use lib.IntN.{ℤ, pos, _+ℤ_, _-ℤ_, _*ℤ_, negℤ}
+use lib.ListN.{length}
+use Rattle.integer.specs.Bounds.{Within, AllWithin, Is}
+use Rattle.scope.specs.Mesh.{mostNodes, mostSides, nodes, sides, equalityCount}
+use Rattle.scope.specs.Bounds.{mostMultiplier, strengthMultiplier, weightedStep, weightedCross, equalityColumn, equalitySum, equalityColumns, equalitySums, strengthSum, nodeColumn, mostColumn, mostSum}
+use Rattle.scope.specs.Columns.{at}
+use Rattle.scope.specs.Rows.{sx, sy, t, rowsOf}
+use Rattle.scope.specs.Sums.{unit, coefficient}
+use Rattle.scope.specs.Tests.{rowAt}
+use Rattle.rows.specs.declared.multiplier_sums.Sums.{Sums}
+use Rattle.rows.specs.declared.multiplier_sums.SideSums.{SideSums}
+use Rattle.rows.specs.declared.multiplier_sums.NodeSums.{NodeSums}
+use Rattle.mesh.specs.declared.sizes.Sizes.{Sizes}
+use Rattle.mesh.specs.MeshContracts.{Sized, NodeSoils}
+use Rattle.rows.specs.RowContracts.{MeshSteps, SumsAre, sumBelow, rowSum, partSum, Grown}
+
+-- ---- a claim's multipliers
+
+-- the multipliers of all rows are there, those of the strength rows after those of the equality rows
+pub record Multipliers (m y : List ℤ) : Type 0 where
+  pub long : equalityCount m + nodes m * sides m ≤ length y
+  pub bounds : AllWithin mostMultiplier y
+  pub strengthBounds : (k : ℕ) → k < nodes m * sides m → Within (strengthMultiplier (sides m)) (at y (equalityCount m + k))
+
+-- what the sums over all rows require: a mesh, the soil of each node, the sides of its polygon, and the multipliers
+pub record RowsGiven (m : List ℤ) (s : Sizes) (t : List ℕ) (steps y : List ℤ) : Type 0 where
+  pub sized : Sized m s
+  pub nodeSoils : NodeSoils m t
+  pub sidesGiven : MeshSteps m steps
+  pub multipliers : Multipliers m y
+
+-- ---- equality rows
+
+-- sums that have room for more
+pub record SumsFit (columns : List ℤ) (sums : Sums) : Type 0 where
+  pub columnsFit : AllWithin mostColumn columns
+  pub limitFits : Within equalitySums (sums .w)
+  pub liveFits : Within equalitySums (sums .m)
+
+-- row k, times its multiplier, is added to the column sums, to W and to m
+pub record RowSummed (m y : List ℤ) (k : ℕ) (before after : List ℤ) (a b : Sums) : Type 0 where
+  pub columns : (j : ℕ) → Grown (at before j) (at after j) (at y k *ℤ coefficient j (rowAt (rowsOf m) k)) equalityColumn
+  pub limit : Grown (a .w) (b .w) (at y k *ℤ rowAt (rowsOf m) k .right) equalitySum
+  pub live : Grown (a .m) (b .m) (at y k *ℤ rowAt (rowsOf m) k .live) equalitySum
+
+-- a sum for each column there can be, and all are 0
+pub record NoSums (columns : List ℤ) : Type 0 where
+  pub size : length columns ≡ 3 * mostNodes
+  pub none : (j : ℕ) → at columns j ≡ pos 0
+
+-- the first k rows, each times its multiplier, are summed: the columns are within C, and W and m within B
+pub record SummedTo (m y : List ℤ) (k C B : ℕ) (columns : List ℤ) (sums : Sums) : Type 0 where
+  pub size : length columns ≡ 3 * mostNodes
+  pub columnsAre : SumsAre C columns (λ j. rowSum (coefficient j) (at y) (rowsOf m) k)
+  pub limitIs : Is (sums .w) (rowSum (λ r. r .right) (at y) (rowsOf m) k) B
+  pub liveIs : Is (sums .m) (rowSum (λ r. r .live) (at y) (rowsOf m) k) B
+
+-- the first k equality rows
+abbrev pub Summed : List ℤ → List ℤ → ℕ → List ℤ → Sums → Type 0
+Summed m y k columns sums = SummedTo m y k (k * equalityColumn) (k * equalitySum) columns sums
+
+-- ---- the sides of a node
+
+-- side k of the table t with its multiplier w: their products are bounded, not each by itself, for a polygon with larger steps has smaller multipliers
+pub record SideWeighted (t : List ℤ) (k : ℕ) (w : ℤ) : Type 0 where
+  pub itself : Within mostMultiplier w
+  pub run : Within weightedStep (w *ℤ at t (3 * k))
+  pub rise : Within weightedStep (w *ℤ at t (3 * k + 1))
+  pub cross : Within weightedCross (w *ℤ at t (3 * k + 2))
+
+-- n multipliers of strength rows from the place `first` on, and the sides of the table t
+pub record SideMultipliers (t y : List ℤ) (first n : ℕ) : Type 0 where
+  pub there : first + n ≤ length y
+  pub bounds : (k : ℕ) → k < n → SideWeighted t k (at y (first + k))
+
+pub record SideSumsFit (a : SideSums) : Type 0 where
+  pub run : Within (mostSides * weightedStep) (a .run)
+  pub rise : Within (mostSides * weightedStep) (a .rise)
+  pub cross : Within (mostSides * weightedCross) (a .cross)
+
+-- side k of the table t, times its multiplier w, is added
+pub record SideAdded (t : List ℤ) (k : ℕ) (w : ℤ) (a b : SideSums) : Type 0 where
+  pub run : Grown (a .run) (b .run) (w *ℤ at t (3 * k)) weightedStep
+  pub rise : Grown (a .rise) (b .rise) (w *ℤ at t (3 * k + 1)) weightedStep
+  pub cross : Grown (a .cross) (b .cross) (w *ℤ at t (3 * k + 2)) weightedCross
+
+-- f over n sides, each times its multiplier
+unfoldable pub sideSum : (ℕ → ℤ) → List ℤ → ℕ → ℕ → ℤ
+sideSum f y first n = sumBelow (λ i. at y (first + i) *ℤ f i) n
+
+pub record SideSumsAre (a : SideSums) (t y : List ℤ) (first n : ℕ) : Type 0 where
+  pub run : Is (a .run) (sideSum (λ i. at t (3 * i)) y first n) (n * weightedStep)
+  pub rise : Is (a .rise) (sideSum (λ i. at t (3 * i + 1)) y first n) (n * weightedStep)
+  pub cross : Is (a .cross) (sideSum (λ i. at t (3 * i + 2)) y first n) (n * weightedCross)
+
+-- ---- the strength rows of a node
+
+-- what they add up to, from the sums over the sides and the numbers k of the soil: r·h, p and 2qC
+pub record NodeSumsAre (r : NodeSums) (a : SideSums) (k : List ℤ) : Type 0 where
+  pub sxIs : Is (r .sx) (at k 1 *ℤ a .cross +ℤ at k 0 *ℤ a .rise) nodeColumn
+  pub syIs : Is (r .sy) (at k 1 *ℤ a .cross -ℤ at k 0 *ℤ a .rise) nodeColumn
+  pub tIs : Is (r .t) (negℤ (pos 2 *ℤ at k 0 *ℤ a .run)) nodeColumn
+  pub rightIs : Is (r .right) (at k 2 *ℤ a .cross) (mostSides * strengthSum)
+
+pub record NodeSumsFit (r : NodeSums) : Type 0 where
+  pub sxFits : Within nodeColumn (r .sx)
+  pub syFits : Within nodeColumn (r .sy)
+  pub tFits : Within nodeColumn (r .t)
+  pub rightFits : Within (mostSides * strengthSum) (r .right)
+
+-- the number of a node's first row, from 0
+unfoldable pub nodeFirst : List ℤ → ℕ → ℕ
+nodeFirst m v = equalityCount m + v * sides m
+
+-- all equality rows, and the rows of the nodes before node v
+abbrev pub NodesSummed : List ℤ → List ℤ → ℕ → List ℤ → Sums → Type 0
+NodesSummed m y v columns sums = SummedTo m y (nodeFirst m v) (equalityColumns + v * (3 * nodeColumn)) (equalitySums + v * sides m * strengthSum) columns sums
+
+-- the sums over the rows of node v
+pub record NodePart (r : NodeSums) (m y : List ℤ) (v : ℕ) : Type 0 where
+  pub columns : (j : ℕ) → partSum (coefficient j) (at y) (rowsOf m) (nodeFirst m v) (sides m) ≡ r .sx *ℤ unit j (sx v) +ℤ r .sy *ℤ unit j (sy v) +ℤ r .t *ℤ unit j (t v)
+  pub limit : partSum (λ r. r .right) (at y) (rowsOf m) (nodeFirst m v) (sides m) ≡ r .right
+  pub live : partSum (λ r. r .live) (at y) (rowsOf m) (nodeFirst m v) (sides m) ≡ pos 0
+  pub fits : NodeSumsFit r
+  pub limitFits : Within (sides m * strengthSum) (r .right)
+
+-- a sum for each of three columns from `column` on is added
+abbrev pub threeAdded : List ℤ → ℕ → NodeSums → ℕ → ℤ
+threeAdded before column r j = at before j +ℤ r .sx *ℤ unit j column +ℤ r .sy *ℤ unit j (column + 1) +ℤ r .t *ℤ unit j (column + 2)
+
+-- ---- all rows
+
+-- the sums over all rows, by their size
+pub record WholeSumsFit (columns : List ℤ) (sums : Sums) : Type 0 where
+  pub columnsFit : AllWithin mostColumn columns
+  pub limitFits : Within mostSum (sums .w)
+  pub liveFits : Within mostSum (sums .m)

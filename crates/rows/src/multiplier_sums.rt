@@ -1,0 +1,225 @@
+// The sums over all rows, each times its multiplier: the columns, W and m.
+ghost use Prim.Native.Nat.{_+_, _*_, _<_, _≤_};
+ghost use lib.ListN.{length};
+ghost use mathlib.Core.Path.{_≡_};
+ghost use lib.IntN.{_+ℤ_, _*ℤ_};
+ghost use Rattle.integer.specs.Bounds.{Within, AllWithin};
+ghost use Rattle.scope.specs.Mesh.{nodes, sides, equalityCount};
+ghost use Rattle.scope.specs.Bounds.{mostMultiplier, equalityRight, equalitySums, nodeColumn, mostColumn};
+ghost use Rattle.mesh.specs.MeshContracts.{Sized};
+ghost use Rattle.rows.specs.RowContracts.{SumsAre, SoilFits, StepsFit, StepFits};
+ghost use Rattle.rows.specs.MultiplierContracts.{Multipliers, RowsGiven, SumsFit, RowSummed, NoSums, Summed, NodesSummed, SideWeighted, SideMultipliers, SideSumsFit, SideAdded, SideSumsAre, NodeSumsAre, NodeSumsFit, NodePart, threeAdded};
+use crate::equality_rows::add_at;
+use crate::equality_rows::add_row;
+use crate::equality_rows::equality_row;
+use crate::polygons::radius_of;
+use crate::strength_rows::soil_numbers;
+use mesh::sizes::Sizes;
+use mesh::sizes::equality_count;
+use mesh::sizes::number_at;
+
+// W and m, so far.
+pub struct Sums {
+    pub w: i64,
+    pub m: i64,
+}
+
+// ---- equality rows
+
+// Adds the right side of a row and its coefficient of l, times the multiplier y, to W and m.
+fn add_sums(sums: Sums, y: i64, right: i64, live: i64) -> Sums
+    requires { ⌜ Within equalitySums (sums .w) ⌝ ∗ ⌜ Within equalitySums (sums .m) ⌝ ∗ ⌜ Within mostMultiplier y ⌝ ∗ ⌜ Within equalityRight right ⌝ ∗ ⌜ Within equalityRight live ⌝ }
+    ensures { λ r. ⌜ (r .w ≡ sums .w +ℤ y *ℤ right) × (r .m ≡ sums .m +ℤ y *ℤ live) ⌝ }
+{
+    Sums {
+        w: sums.w + y * right,
+        m: sums.m + y * live,
+    }
+}
+
+// Adds equality row k, times its multiplier, to the column sums and to W and m.
+fn add_equality(m: &[i64], s: Sizes, y: &[i64], k: usize, columns: &mut [i64], sums: Sums) -> Sums
+    requires { ⌜ Sized (now m) s × (k < equalityCount (now m)) ⌝ ∗ ⌜ k < length (now y) ⌝ ∗ ⌜ AllWithin mostMultiplier (now y) ⌝ ∗ ⌜ 3 * nodes (now m) ≤ length (now columns) ⌝ ∗ ⌜ SumsFit (now columns) sums ⌝ }
+    ensures { λ r. ⌜ RowSummed (now (m .entry)) (now (y .entry)) k (now (columns .entry)) (now (columns .exit)) sums r ⌝ }
+{
+    let w = number_at(y, k);
+    if w == 0 {
+        return sums;
+    }
+    let row = equality_row(m, s, k);
+    add_row(columns, &row.coefficients, &row.columns, row.count, w);
+    add_sums(sums, w, row.right, row.live)
+}
+
+// All equality rows, each times its multiplier: to column sums that are 0 yet.
+fn equality_sums(m: &[i64], s: Sizes, y: &[i64], columns: &mut [i64]) -> Sums
+    requires { ⌜ Sized (now m) s ⌝ ∗ ⌜ Multipliers (now m) (now y) ⌝ ∗ ⌜ NoSums (now columns) ⌝ }
+    ensures { λ r. ⌜ Summed (now (m .entry)) (now (y .entry)) (equalityCount (now (m .entry))) (now (columns .exit)) r ⌝ }
+{
+    let rows = equality_count(s);
+    let mut sums = Sums { w: 0, m: 0 };
+    let mut k: usize = 0;
+    while k < rows {
+        sums = add_equality(m, s, y, k, columns, sums);
+        k += 1;
+    }
+    sums
+}
+
+// ---- strength rows
+
+// What the multipliers of a node's sides add up to, each times what a strength row reads of its side.
+pub struct SideSums {
+    pub run: i64,
+    pub rise: i64,
+    pub cross: i64,
+}
+
+// Adds side k, times its multiplier w.
+fn add_side(steps: &[i64], k: usize, w: i64, a: SideSums) -> SideSums
+    requires { ⌜ StepFits (now steps) k ⌝ ∗ ⌜ SideWeighted (now steps) k w ⌝ ∗ ⌜ SideSumsFit a ⌝ }
+    ensures { λ r. ⌜ SideAdded (now (steps .entry)) k w a r ⌝ }
+{
+    if w == 0 {
+        return a;
+    }
+    let run = w * number_at(steps, 3 * k);
+    let rise = w * number_at(steps, 3 * k + 1);
+    let cross = w * number_at(steps, 3 * k + 2);
+    SideSums {
+        run: a.run + run,
+        rise: a.rise + rise,
+        cross: a.cross + cross,
+    }
+}
+
+// All sides of a node whose first multiplier stands at `first`. For speed they are summed first, and multiplied by r·h and p once.
+fn side_sums(steps: &[i64], sides: usize, y: &[i64], first: usize) -> SideSums
+    requires { ⌜ StepsFit (now steps) sides ⌝ ∗ ⌜ SideMultipliers (now steps) (now y) first sides ⌝ }
+    ensures { λ r. ⌜ SideSumsAre r (now (steps .entry)) (now (y .entry)) first sides ⌝ }
+{
+    let mut sums = SideSums {
+        run: 0,
+        rise: 0,
+        cross: 0,
+    };
+    let mut k: usize = 0;
+    while k < sides {
+        let w = number_at(y, first + k);
+        sums = add_side(steps, k, w, sums);
+        k += 1;
+    }
+    sums
+}
+
+// What a node's strength rows add up to, each times its multiplier: for the columns of its sx, sy and t, and for W. They add nothing to m.
+pub struct NodeSums {
+    pub sx: i64,
+    pub sy: i64,
+    pub t: i64,
+    pub right: i64,
+}
+
+// The same, from the sums over the sides and the numbers of the soil.
+fn node_sums(a: SideSums, k: &[i64]) -> NodeSums
+    requires { ⌜ SideSumsFit a ⌝ ∗ ⌜ SoilFits (now k) ⌝ }
+    ensures { λ r. ⌜ NodeSumsAre r a (now (k .entry)) ⌝ }
+{
+    let lever = number_at(k, 0);
+    let friction = number_at(k, 1);
+    let cohesion = number_at(k, 2);
+    let rise = lever * a.rise;
+    let push = friction * a.cross;
+    NodeSums {
+        sx: push + rise,
+        sy: push - rise,
+        t: -(2 * lever * a.run),
+        right: cohesion * a.cross,
+    }
+}
+
+// The same, for node v.
+fn node_part(m: &[i64], s: Sizes, node_soils: &[u8], steps: &[i64], y: &[i64], v: usize) -> NodeSums
+    requires { ⌜ RowsGiven (now m) s (now «node_soils») (now steps) (now y) ⌝ ∗ ⌜ v < nodes (now m) ⌝ }
+    ensures { λ r. ⌜ NodePart r (now (m .entry)) (now (y .entry)) v ⌝ }
+{
+    let sides = s.sides;
+    let first = equality_count(s) + v * sides;
+    let a = side_sums(steps, sides, y, first);
+    let soil = node_soils[v] as usize;
+    let radius = radius_of(sides);
+    let k = soil_numbers(m, s, soil, radius);
+    node_sums(a, &k)
+}
+
+// Adds a node's sums to its three columns, from `column` on.
+fn add_columns(columns: &mut [i64], column: usize, a: NodeSums)
+    requires { ⌜ column + 2 < length (now columns) ⌝ ∗ ⌜ AllWithin mostColumn (now columns) ⌝ ∗ ⌜ NodeSumsFit a ⌝ }
+    ensures { λ _. ⌜ SumsAre (mostColumn + 3 * nodeColumn) (now (columns .exit)) (threeAdded (now (columns .entry)) column a) ⌝ }
+{
+    add_at(columns, column, a.sx);
+    add_at(columns, column + 1, a.sy);
+    add_at(columns, column + 2, a.t);
+}
+
+// Adds the strength rows of node v, each times its multiplier.
+fn add_node(
+    m: &[i64],
+    s: Sizes,
+    node_soils: &[u8],
+    steps: &[i64],
+    y: &[i64],
+    v: usize,
+    columns: &mut [i64],
+    sums: Sums,
+) -> Sums
+    requires { ⌜ RowsGiven (now m) s (now «node_soils») (now steps) (now y) ⌝ ∗ ⌜ v < nodes (now m) ⌝ ∗ ⌜ NodesSummed (now m) (now y) v (now columns) sums ⌝ }
+    ensures { λ r. ⌜ NodesSummed (now (m .entry)) (now (y .entry)) (v + 1) (now (columns .exit)) r ⌝ }
+{
+    let a = node_part(m, s, node_soils, steps, y, v);
+    let right = a.right;
+    add_columns(columns, 3 * v, a);
+    Sums {
+        w: sums.w + right,
+        m: sums.m,
+    }
+}
+
+// All strength rows, each times its multiplier: to the sums over the equality rows.
+fn strength_sums(
+    m: &[i64],
+    s: Sizes,
+    node_soils: &[u8],
+    steps: &[i64],
+    y: &[i64],
+    columns: &mut [i64],
+    equalities: Sums,
+) -> Sums
+    requires { ⌜ RowsGiven (now m) s (now «node_soils») (now steps) (now y) ⌝ ∗ ⌜ Summed (now m) (now y) (equalityCount (now m)) (now columns) equalities ⌝ }
+    ensures { λ r. ⌜ NodesSummed (now (m .entry)) (now (y .entry)) (nodes (now (m .entry))) (now (columns .exit)) r ⌝ }
+{
+    let nodes = s.nodes;
+    let mut sums = equalities;
+    let mut v: usize = 0;
+    while v < nodes {
+        sums = add_node(m, s, node_soils, steps, y, v, columns, sums);
+        v += 1;
+    }
+    sums
+}
+
+// All rows, each times its multiplier: to column sums that are 0 yet.
+pub fn row_sums(
+    m: &[i64],
+    s: Sizes,
+    node_soils: &[u8],
+    steps: &[i64],
+    y: &[i64],
+    columns: &mut [i64],
+) -> Sums
+    requires { ⌜ RowsGiven (now m) s (now «node_soils») (now steps) (now y) ⌝ ∗ ⌜ NoSums (now columns) ⌝ }
+    ensures { λ r. ⌜ NodesSummed (now (m .entry)) (now (y .entry)) (nodes (now (m .entry))) (now (columns .exit)) r ⌝ }
+{
+    let equalities = equality_sums(m, s, y, columns);
+    strength_sums(m, s, node_soils, steps, y, columns, equalities)
+}

@@ -1,0 +1,141 @@
+-- Each test decides its plain statement, by one law for each way of building a test.
+use mathlib.Core.Path.{_≡_}
+use mathlib.Core.Logic.{_⊎_, inl, inr}
+use mathlib.Core.Bool.{Bool, true, false, cond}
+use mathlib.Core.List.{List, [], _∷_}
+use Prim.Native.Nat.{ℕ, zero, suc, _+_, _<_}
+use native.Mathlib.Omega.{arith}
+use lib.IntN.{ℤ, pos, _+ℤ_, _*ℤ_}
+use Rattle.integer.specs.Tests.{eqZ}
+use Rattle.scope.specs.declared.Place.the-variants.{Row}
+use Rattle.scope.specs.Checks.{someBelow}
+use Rattle.scope.specs.Columns.{Limit, between, oneOf, free, isOneOf, within, allWithin, Rule, rightAngle, naming, parts, names, allNamed, at, hasField, hasMultipliers, n, l, ruleTest}
+use Rattle.scope.specs.Mesh.{elements, corner, fromNode, toNode}
+use Rattle.scope.specs.Rows as R
+use Rattle.scope.specs.Rows.{node, hasCorner}
+use Rattle.scope.specs.Sums.{rowHolds, zeroIfUnfixed}
+use Rattle.scope.specs.Statements.{OneOf, Within, AllWithin, AllNamed, PartsFit, Says, LeftTurns, SideAt, OwnSides, InElement, IsSide, OuterEdge, NoneOnUnfixed}
+use Rattle.scope.specs.Meets.{RowMet}
+use Rattle.scope.proofs.Meets.{row-holds}
+use Rattle.scope.proofs.Decides.{Decides, both, either, opposite, said-as, equal, equalℤ, at-mostℤ, belowℤ, some-below, all-below}
+use Rattle.scope.specs.Tests.{turn, leftTurnAt, leftTurns, hasSide, ownSideAt, ownSides, inElement, hasEnds, outerEdge}
+
+-- ---- lines
+
+always : Decides true (Unit {0})
+always = record { holds = λ t. tt; passes = λ h. tt }
+
+one-of : (zs : List ℤ) (z : ℤ) → Decides (isOneOf zs z) (OneOf zs z)
+unfolding isOneOf
+one-of [] z = record { holds = λ t. absurd t; passes = λ h. absurd h }
+one-of (a ∷ rest) z = either (equalℤ z a) (one-of rest z)
+
+within-limit : (a : Limit) (z : ℤ) → Decides (within a z) (Within a z)
+unfolding within
+within-limit (between lo hi) z = both (at-mostℤ lo z) (at-mostℤ z hi)
+within-limit (oneOf zs) z = one-of zs z
+within-limit free z = always
+
+pub all-within : (limits : List Limit) (zs : List ℤ) → Decides (allWithin limits zs) (AllWithin limits zs)
+unfolding allWithin
+all-within [] zs = always
+all-within (a ∷ rest) [] = always
+all-within (a ∷ rest) (z ∷ zs) = both (within-limit a z) (all-within rest zs)
+
+all-named : (cs : List (ℕ × ℕ)) (line : List ℤ) → Decides (allNamed cs line) (AllNamed cs line)
+unfolding allNamed names
+all-named [] line = always
+all-named (c ∷ cs) line =
+    both (both (at-mostℤ (pos 1) (at line (c .0))) (at-mostℤ (at line (c .0)) (pos (c .1)))) (all-named cs line)
+
+choice : {a b c : Bool} {A B C : Type 0} → Decides a A → Decides b B → Decides c C → Decides (cond a b c) ((A → B) × (¬ A → C))
+choice {a = true} d e f = record { holds = λ t. (λ h. e .holds t, λ g. absurd (g (d .holds tt))); passes = λ h. e .passes (h .0 (d .holds tt)) }
+choice {a = false} d e f = record { holds = λ t. (λ h. absurd (d .passes h), λ g. f .holds t); passes = λ h. f .passes (h .1 (λ a. d .passes a)) }
+
+parts-fit : (line : List ℤ) → Decides (ruleTest parts line) (PartsFit line)
+unfolding ruleTest hasField hasMultipliers
+parts-fit line =
+    said-as
+    (both
+    (either (equalℤ (at line 0) (pos 1)) (equalℤ (at line 1) (pos 1)))
+    (choice (equalℤ (at line 0) (pos 1)) (opposite (equalℤ (n line) (pos 0))) (both (equalℤ (n line) (pos 0)) (equalℤ (l line) (pos 0)))))
+    (λ h. record { somePart = h .0; withField = h .1 .0; withoutField = h .1 .1 })
+    (λ h. (h .somePart, (h .withField, h .withoutField)))
+
+pub rule-says : (r : Rule) (line : List ℤ) → Decides (ruleTest r line) (Says r line)
+unfolding ruleTest
+rule-says rightAngle line = equalℤ (at line 0 *ℤ at line 0 +ℤ at line 1 *ℤ at line 1) (at line 2 *ℤ at line 2)
+rule-says (naming cs) line = all-named cs line
+rule-says parts line = parts-fit line
+
+-- ---- the mesh
+
+pub left-turns : (m : List ℤ) (e : ℕ) → Decides (leftTurns m e) (LeftTurns m e)
+unfolding leftTurns leftTurnAt
+left-turns m e = all-below (λ i. belowℤ (pos 0) (turn m (node m e (i + 3)) (node m e i) (node m e (i + 1)))) 4
+
+side-of : (m : List ℤ) (a b e : ℕ) → Decides (hasSide m a b e) ((i : ℕ) × (i < 4) × SideAt m a b e i)
+unfolding hasSide
+side-of m a b e = some-below (λ i. both (equal (node m e i) a) (equal (node m e (i + 1)) b)) 4
+
+pub own-sides : (m : List ℤ) (e : ℕ) → Decides (ownSides m e) (OwnSides m e)
+unfolding ownSides ownSideAt
+own-sides m e =
+    said-as (all-below (λ i. opposite (some-below (side-of m (node m e i) (node m e (i + 1))) e)) 4)
+    (λ h i l d k j r s. h i l (d, k, (j, r, s)))
+    (λ h i l s. h i l (s .0) (s .1) (s .2 .0) (s .2 .1) (s .2 .2))
+
+pub corner-of : (m : List ℤ) (v e : ℕ) → Decides (hasCorner m v e) ((i : ℕ) × (i < 4) × (corner m e i ≡ v))
+unfolding hasCorner
+corner-of m v e =
+    said-as (either (either (either (equal (corner m e 0) v) (equal (corner m e 1) v)) (equal (corner m e 2) v)) (equal (corner m e 3) v)) to (λ h. from (h .0) (h .1) (h .2))
+  where
+    to : (((corner m e 0 ≡ v) ⊎ (corner m e 1 ≡ v)) ⊎ (corner m e 2 ≡ v)) ⊎ (corner m e 3 ≡ v) → (i : ℕ) × (i < 4) × (corner m e i ≡ v)
+    to (inl (inl (inl h))) = (0, omega arith, h)
+    to (inl (inl (inr h))) = (1, omega arith, h)
+    to (inl (inr h)) = (2, omega arith, h)
+    to (inr h) = (3, omega arith, h)
+
+    from : (i : ℕ) → i < 4 → corner m e i ≡ v → (((corner m e 0 ≡ v) ⊎ (corner m e 1 ≡ v)) ⊎ (corner m e 2 ≡ v)) ⊎ (corner m e 3 ≡ v)
+    from zero l h = inl (inl (inl h))
+    from (suc zero) l h = inl (inl (inr h))
+    from (suc (suc zero)) l h = inl (inr h)
+    from (suc (suc (suc zero))) l h = inr h
+    from (suc (suc (suc (suc i)))) l h = absurd (omega arith)
+
+pub in-element : (m : List ℤ) (v : ℕ) → Decides (inElement m v) (InElement m v)
+unfolding inElement
+in-element m v =
+    said-as (some-below (corner-of m v) (elements m))
+    (λ h. record { element = h .0; there = h .1; place = h .2 .0; four = h .2 .1; same = h .2 .2 })
+    (λ h. (h .element, h .there, (h .place, h .four, h .same)))
+
+is-side : (m : List ℤ) (a b : ℕ) → Decides (someBelow (hasSide m a b) (elements m)) (IsSide m a b)
+is-side m a b =
+    said-as (some-below (side-of m a b) (elements m))
+    (λ h. record { element = h .0; there = h .1; place = h .2 .0; four = h .2 .1; same = h .2 .2 })
+    (λ h. (h .element, h .there, (h .place, h .four, h .same)))
+
+pub outer-edge : (m : List ℤ) (g : ℕ) → Decides (outerEdge m g) (OuterEdge m g)
+unfolding outerEdge hasEnds
+outer-edge m g =
+    said-as
+    (both
+    (both (is-side m (fromNode m g) (toNode m g)) (opposite (is-side m (toNode m g) (fromNode m g))))
+    (opposite (some-below (λ k. both (equal (fromNode m k) (fromNode m g)) (equal (toNode m k) (toNode m g))) g)))
+    (λ h. record { isSide = h .0 .0; isOuter = h .0 .1; isFirst = λ k l s. h .1 (k, l, s) })
+    (λ h. ((h .isSide, h .isOuter), λ s. h .isFirst (s .0) (s .1) (s .2)))
+
+-- ---- the parts
+
+pub row-meets : (s : ℕ → ℤ) (l n : ℤ) (r : R.Row) → Decides (rowHolds s l n r) (RowMet s l n r)
+row-meets s l n r = record { holds = row-holds s l n r .0; passes = row-holds s l n r .1 }
+
+pub none-on-unfixed : (w : ℤ) (r : R.Row) → Decides (zeroIfUnfixed w r) (NoneOnUnfixed w r)
+unfolding zeroIfUnfixed
+none-on-unfixed w r = by (r .kind)
+  where
+    by : (k : R.Kind) → Decides (elim k [ R.asked ↦ true | R.unfixed ↦ eqZ w (pos 0) | R.strength ↦ true ]) (elim k [ R.asked ↦ Unit {0} | R.unfixed ↦ w ≡ pos 0 | R.strength ↦ Unit {0} ])
+    by R.asked = always
+    by R.unfixed = equalℤ w (pos 0)
+    by R.strength = always

@@ -1,0 +1,53 @@
+-- What is tested of a mesh after its lines (document 01, 'Verdict and report', refusals 5 to 8), and the row that 21, 22 and 31 test.
+use mathlib.Core.Bool.{Bool, not, _&&_}
+use mathlib.Core.List.{List, []}
+use Prim.Native.Nat.{ℕ, _+_}
+use lib.IntN.{ℤ, pos, _-ℤ_, _*ℤ_}
+use lib.Signed.{ltZ}
+use lib.Dec.{eqb}
+use lib.ListN.{getD}
+use Rattle.scope.specs.Checks.{someBelow, allBelow}
+use Rattle.scope.specs.Mesh.{elements, x, y, fromNode, toNode}
+use Rattle.scope.specs.Rows as R
+use Rattle.scope.specs.Rows.{node, hasCorner}
+
+-- twice the area of the triangle of the nodes a, b, c: above 0 where b is a left turn
+unfoldable pub turn : List ℤ → ℕ → ℕ → ℕ → ℤ
+turn m a b c = (x m b -ℤ x m a) *ℤ (y m c -ℤ y m a) -ℤ (x m c -ℤ x m a) *ℤ (y m b -ℤ y m a)
+
+-- refusal 5: "not a left turn at all four corners"
+unfoldable pub leftTurnAt : List ℤ → ℕ → ℕ → Bool
+leftTurnAt m e i = ltZ (pos 0) (turn m (node m e (i + 3)) (node m e i) (node m e (i + 1)))
+
+unfoldable pub leftTurns : List ℤ → ℕ → Bool
+leftTurns m e = allBelow (leftTurnAt m e) 4
+
+-- the directed side a to b is one of element e's
+unfoldable pub hasSide : List ℤ → ℕ → ℕ → ℕ → Bool
+hasSide m a b e = someBelow (λ i. eqb (node m e i) a && eqb (node m e (i + 1)) b) 4
+
+-- refusal 6: "a directed side that a lower element has", side i of element e being none of these
+unfoldable pub ownSideAt : List ℤ → ℕ → ℕ → Bool
+ownSideAt m e i = not (someBelow (hasSide m (node m e i) (node m e (i + 1))) e)
+
+unfoldable pub ownSides : List ℤ → ℕ → Bool
+ownSides m e = allBelow (ownSideAt m e) 4
+
+-- refusal 7: "in no element"
+unfoldable pub inElement : List ℤ → ℕ → Bool
+inElement m v = someBelow (hasCorner m v) (elements m)
+
+-- edge k goes from a to b
+unfoldable pub hasEnds : List ℤ → ℕ → ℕ → ℕ → Bool
+hasEnds m a b k = eqb (fromNode m k) a && eqb (toNode m k) b
+
+-- refusal 8: "edge is no element's side, or its reverse is one, or an earlier edge has it"
+unfoldable pub outerEdge : List ℤ → ℕ → Bool
+outerEdge m g =
+    someBelow (hasSide m (fromNode m g) (toNode m g)) (elements m)
+    && not (someBelow (hasSide m (toNode m g) (fromNode m g)) (elements m))
+    && not (someBelow (hasEnds m (fromNode m g) (toNode m g)) g)
+
+-- row k of a list of rows
+unfoldable pub rowAt : List R.Row → ℕ → R.Row
+rowAt rs k = getD rs k (record { kind = R.unfixed; entries = []; live = pos 0; right = pos 0 })

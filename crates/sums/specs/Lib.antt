@@ -1,4 +1,0 @@
--- contracts
-pub mod MultiplierContracts
-pub mod LimitContracts
-pub mod OpenContracts

@@ -1,0 +1,119 @@
+// The check of a claim's field against the rows: 21 and 22.
+ghost use mathlib.Core.Path.{_≡_};
+ghost use Prim.Native.Nat.{_+_, _*_, _<_, _≤_};
+ghost use lib.IntN.{pos};
+ghost use lib.Signed.{leZ};
+ghost use Rattle.scope.specs.Columns.{at, n, l};
+ghost use Rattle.scope.specs.Claim.{stress};
+ghost use Rattle.scope.specs.Mesh.{equalityCount};
+ghost use Rattle.scope.specs.Rows.{equalityRows, strengthRows};
+ghost use Rattle.scope.specs.Sums.{rowHolds};
+ghost use Rattle.scope.specs.Phases.{checkPhase, checkPhases};
+ghost use Rattle.scope.specs.Refusals.{equalitiesPhase, strengthsPhase, fieldPhases};
+ghost use Rattle.scope.specs.Tests.{rowAt};
+ghost use Rattle.mesh.specs.MeshContracts.{Sized};
+ghost use Rattle.lines.specs.SearchContracts.{firstFailing};
+ghost use Rattle.rows.specs.RowContracts.{StepsFit, NodeFits, sideSlack, FieldFits, Judged, MeshSteps};
+use mesh::sizes::Sizes;
+use mesh::sizes::equality_count;
+use mesh::sizes::number_at;
+use rows::equality_rows::equality_row;
+use rows::equality_rows::left_side;
+use rows::strength_rows::node_holds;
+use rows::strength_rows::node_state;
+use rows::strength_rows::side_holds;
+use scope::Outcome;
+use scope::Place;
+
+// Equality row k holds at the field x with l and n, or asks nothing.
+pub fn equality_holds(m: &[i64], s: Sizes, x: &[i64], l: i64, n: i64, k: usize) -> bool
+    requires { ⌜ Sized (now m) s × (k < equalityCount (now m)) ⌝ ∗ ⌜ FieldFits (now m) (now x) l n ⌝ }
+    ensures { λ r. ⌜ r ≡ rowHolds (at (now (x .entry))) l n (rowAt (equalityRows (now (m .entry))) k) ⌝ }
+{
+    let row = equality_row(m, s, k);
+    let right = row.right;
+    let live = row.live;
+    if row.asked {
+        let left = left_side(&row.coefficients, &row.columns, row.count, live, x, l);
+        return left == right * n;
+    }
+    true
+}
+
+// 21: the lowest equality row that fails.
+fn equalities_check(m: &[i64], s: Sizes, x: &[i64], l: i64, n: i64) -> Outcome
+    requires { ⌜ Sized (now m) s ⌝ ∗ ⌜ FieldFits (now m) (now x) l n ⌝ }
+    ensures { λ r. ⌜ r ≡ checkPhase (equalitiesPhase (equalityRows (now (m .entry))) (at (now (x .entry))) l n) ⌝ }
+{
+    let rows = equality_count(s);
+    let mut k: usize = 0;
+    while k < rows {
+        if !equality_holds(m, s, x, l, n, k) {
+            return Outcome::Refused {
+                number: 21,
+                place: Place::Row((k + 1) as u32),
+            };
+        }
+        k += 1;
+    }
+    Outcome::Passed
+}
+
+// "Its number is (node-1)·sides + k", where v and k are counted from 0.
+fn strength_number(v: usize, sides: usize, k: usize) -> u32
+    requires { ⌜ (v < 100) × (sides ≤ 36) × (k ≤ 36) ⌝ }
+    ensures { λ r. ⌜ r ≡ v * sides + k + 1 ⌝ }
+{
+    (v * sides + k + 1) as u32
+}
+
+// The first side whose strength row fails at a node with these numbers; where each holds, their count.
+fn first_side(steps: &[i64], sides: usize, d: &[i64]) -> usize
+    requires { ⌜ StepsFit (now steps) sides ⌝ ∗ ⌜ NodeFits (now d) ⌝ }
+    ensures { λ r. ⌜ r ≡ firstFailing (λ k. leZ (pos 0) (sideSlack (now (d .entry)) (now (steps .entry)) k)) sides ⌝ ∗ ⌜ r ≤ sides ⌝ }
+{
+    let mut k: usize = 0;
+    while k < sides {
+        if !side_holds(steps, k, d) {
+            return k;
+        }
+        k += 1;
+    }
+    sides
+}
+
+// 22: the lowest strength row that fails, which is on the lowest node that has one.
+fn strengths_check(m: &[i64], c: &[i64], s: Sizes, node_soils: &[u8], steps: &[i64]) -> Outcome
+    requires { ⌜ Judged (now m) (now c) s (now «node_soils») × (at (now c) 0 ≡ pos 1) ⌝ ∗ ⌜ MeshSteps (now m) (now steps) ⌝ }
+    ensures { λ r. ⌜ r ≡ checkPhase (strengthsPhase (strengthRows (now (m .entry))) (stress (now (m .entry)) (now (c .entry))) (l (now (c .entry))) (n (now (c .entry)))) ⌝ }
+{
+    let nodes = s.nodes;
+    let mut v: usize = 0;
+    while v < nodes {
+        if !node_holds(m, c, s, node_soils, steps, v) {
+            let sides = s.sides;
+            let d = node_state(m, c, s, node_soils, v);
+            let k = first_side(steps, sides, &d);
+            return Outcome::Refused {
+                number: 22,
+                place: Place::Row(strength_number(v, sides, k)),
+            };
+        }
+        v += 1;
+    }
+    Outcome::Passed
+}
+
+// 21, then 22: a field that is there, against the rows.
+pub fn field_check(m: &[i64], c: &[i64], s: Sizes, node_soils: &[u8], steps: &[i64]) -> Outcome
+    requires { ⌜ Judged (now m) (now c) s (now «node_soils») × (at (now c) 0 ≡ pos 1) ⌝ ∗ ⌜ MeshSteps (now m) (now steps) ⌝ }
+    ensures { λ r. ⌜ r ≡ checkPhases (fieldPhases (equalityRows (now (m .entry))) (strengthRows (now (m .entry))) (stress (now (m .entry)) (now (c .entry))) (l (now (c .entry))) (n (now (c .entry)))) ⌝ }
+{
+    let n = number_at(c, 2);
+    let l = number_at(c, 3);
+    let equalities = equalities_check(m, s, &c[4..], l, n);
+    if let Outcome::Refused { number, place } = equalities {
+        return Outcome::Refused { number, place };
+    }
+    strengths_check(m, c, s, node_soils, steps)
+}
