@@ -21,7 +21,7 @@
       2      line      mesh number outside its limits
       3      line      p^2 + q^2 is not h^2
       4      line      names a node or soil that isn't there
-      5      element   not a left turn at all four corners
+      5      element   not a left turn at all corners: four, or three of a triangle
       6      element   a directed side that a lower element has
       7      node      in no element
       8      line      edge is no element's side, or its reverse is one, or an earlier edge has it

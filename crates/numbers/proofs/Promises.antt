@@ -44,11 +44,13 @@ use Rattle.scope.proofs.Parts.{nodes-named, multipliers-meet, field-n, parts-br
 use Rattle.scope.proofs.AcceptedFractions.{mesh-fractions}
 use Rattle.scope.proofs.SameRows.{same-met}
 use Rattle.scope.proofs.AcceptedMultipliers.{sums-printed, multipliers-as-printed}
+use Rattle.scope.proofs.Meaning.{area}
+use Rattle.scope.proofs.Triangles.{only-repeat, read-as-triangle, passed-before}
 use Rattle.verdict.specs.declared.MeshAnswer.{MeshAnswer}
 use Rattle.numbers.proofs.NumbersListed.{refusal-listed}
 use Rattle.numbers.specs.declared.numbers_answer.NumbersAnswer.{NumbersAnswer}
 use Rattle.numbers.specs.NumbersAnswer.{there, numerator, denominator, counted, answerOf}
-use Rattle.numbers.specs.Promises.{Answers, Returned, ReturnsZero, RefusesExactly, NumbersListed, RowsRefused, TellsField, FieldExactly, MultipliersExactly, FieldReported, MultipliersReported, CriterionAtEachNode, CallsBracket, TwoAnswers, AnswerAndMultipliers, OpenRowsReported, FractionsBracket, FractionsAndAnswer, FieldInFractions, MeshAnsweredExactly}
+use Rattle.numbers.specs.Promises.{Answers, Returned, ReturnsZero, RefusesExactly, NumbersListed, RowsRefused, TellsField, FieldExactly, MultipliersExactly, FieldReported, MultipliersReported, CriterionAtEachNode, CallsBracket, TwoAnswers, AnswerAndMultipliers, OpenRowsReported, FractionsBracket, FractionsAndAnswer, FieldInFractions, MeshAnsweredExactly, TrianglesAsked}
 
 -- every answer returns the verdict's number and place
 pub returned : {m c : List ℤ} {r : NumbersAnswer} → Answers m c r → Returned m c (r .number) (r .place)
@@ -367,3 +369,14 @@ fractions-bracket {d} {k} {s} g e m sound same =
 -- what `judge_mesh` answers, by document 01's number and place for each case of its outcome
 pub mesh-answered-exactly : {m : List ℤ} {r : MeshAnswer} → MeshAnsweredExactly m r
 mesh-answered-exactly {m} {r} h = mesh-exactly m (r .outcome) (h .outcome)
+
+-- ---- triangles
+
+pub triangles-asked : (m : List ℤ) → TrianglesAsked m
+triangles-asked m sound e there = record {
+  triangle = read-as-triangle m e;
+  only-repeat = only-repeat m e (sound .leftTurns e there);
+  area = area m e;
+  area-above-0 = area m e .above-0 (sound .leftTurns e there);
+  passed-before = passed-before m e;
+}

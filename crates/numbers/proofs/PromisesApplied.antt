@@ -1,8 +1,8 @@
 -- Each promise of the call on numbers applied to document 01's sheet or a neighbour: antt computes the answer, and the promise says the rest.
-use mathlib.Core.Path.{_≡_, refl}
+use mathlib.Core.Path.{_≡_, refl, subst₂}
 use mathlib.Core.Logic.{inr}
 use mathlib.Core.List.{List, [], _∷_, _++_}
-use Prim.Native.Nat.{ℕ, suc}
+use Prim.Native.Nat.{ℕ, suc, _<_}
 use native.Mathlib.Omega.{arith}
 use lib.Dec.{lt→ltb}
 use lib.IntN.{ℤ, pos, negsuc, _*ℤ_}
@@ -25,13 +25,16 @@ use Rattle.scope.specs.Bracket.{Open, NoneOpen}
 use Rattle.scope.specs.Fractions.{Fraction, FractionField, fieldOver}
 use Rattle.scope.specs.AcceptedFractions.{MeetsMesh}
 use Rattle.scope.specs.Parts.{SameRows, NumberOf, PartsBracket}
-use Rattle.scope.specs.Worked.{zeros, workedMesh, workedStresses, workedMultipliers, workedClaim, multipliersAlone, sheet, sheet19, sheet29, freeShear}
+use Rattle.scope.specs.Worked.{zeros, workedMesh, workedStresses, workedMultipliers, workedClaim, multipliersAlone, sheet, sheet19, sheet29, freeShear, twoTriangles, fieldAlone}
 use Rattle.scope.proofs.Printed.{field-printed}
 use Rattle.scope.proofs.Applied.{free-field, free-rows}
 use Rattle.scope.specs.Tests.{rowAt}
+use Rattle.scope.specs.Mesh.{elements, corner}
+use Rattle.scope.specs.Statements.{MeshSound}
+use Rattle.scope.specs.Triangles.{Triangle}
 use Rattle.numbers.specs.declared.numbers_answer.NumbersAnswer.{NumbersAnswer}
 use Rattle.numbers.specs.Promises.{Answers, returnedNumbers, TellsField, FieldInFractions}
-use Rattle.numbers.proofs.Promises.{returned, returns-zero-exactly, refuses-exactly, numbers-listed, field-exactly, multipliers-exactly, criterion-at-each-node, field-reported, multipliers-reported, open-rows-reported, field-in-fractions, calls-bracket, call-bracket, accepted-parts, fractions-bracket}
+use Rattle.numbers.proofs.Promises.{returned, returns-zero-exactly, refuses-exactly, numbers-listed, field-exactly, multipliers-exactly, criterion-at-each-node, field-reported, multipliers-reported, open-rows-reported, field-in-fractions, calls-bracket, call-bracket, accepted-parts, fractions-bracket, triangles-asked}
 
 -- ---- what is answered
 
@@ -184,3 +187,37 @@ pub free-fractions : pos 19 over pos 1 ≤ᶠ pos 600 over pos 30
 free-fractions =
     let field = field-in-fractions (freeShear (pos 0)) sheet19 answer19 free-nineteen refl in
     fractions-bracket free-sheet refl (freeShear (pos 0)) (free-field .mesh) free-rows .at-most (fieldOver (pos 1) (field .above-0) (stress (freeShear (pos 0)) sheet19) (pos 19)) (field .meets)
+
+-- ---- triangles: the sheet's square as two of them, and as it stands
+
+pub triangleAnswer : NumbersAnswer
+triangleAnswer = record { number = 0; place = 0; field = 1; multipliers = 0; l = pos 20; n = pos 1; w = pos 0; m = pos 0; «open_rows» = 0 }
+
+pub triangles-answered : Answers twoTriangles fieldAlone triangleAnswer
+unfolding computed zeros twoTriangles workedStresses fieldAlone triangleAnswer
+triangles-answered = refl
+
+triangles-sound : MeshSound twoTriangles
+unfolding triangleAnswer
+triangles-sound = returns-zero-exactly twoTriangles fieldAlone 0 0 (returned triangles-answered) .exactly .0 refl .mesh
+
+second-element : (1 < elements twoTriangles) × (corner twoTriangles 1 2 ≡ corner twoTriangles 1 3)
+unfolding computed zeros twoTriangles
+second-element = (omega arith, refl)
+
+pub second-triangle : Triangle twoTriangles 1
+second-triangle = triangles-asked twoTriangles triangles-sound 1 (second-element .0) .triangle (second-element .1)
+
+-- the sheet's element has four different corners, as before
+one-element : 0 < elements workedMesh
+unfolding computed zeros workedMesh
+one-element = omega arith
+
+different : (corner workedMesh 0 2 ≡ corner workedMesh 0 3) → ⊥
+unfolding computed zeros workedMesh
+different e = let z : _≡_ {A = ℕ} 2 3 = e in omega arith
+
+pub sheet-no-repeat : (i j : ℕ) → i < j → j < 4 → corner workedMesh 0 i ≡ corner workedMesh 0 j → ⊥
+sheet-no-repeat i j l h same =
+    let (second, third) = triangles-asked workedMesh (sheet-accepted .mesh) 0 one-element .only-repeat i j l h same in
+    different (subst₂ (λ (a b : ℕ). corner workedMesh 0 a ≡ corner workedMesh 0 b) second third same)

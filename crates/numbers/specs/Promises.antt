@@ -10,8 +10,8 @@ use lib.ListN.{length}
 use Rattle.integer.specs.Fraction.{Frac, _over_, _≈ᶠ_, _≤ᶠ_}
 use Rattle.scope.specs.Members.{_∈_}
 use Rattle.scope.specs.Columns.{n, l}
-use Rattle.scope.specs.Mesh.{nodes}
-use Rattle.scope.specs.Rows.{nodeSoil, rowsOf}
+use Rattle.scope.specs.Mesh.{nodes, elements, corner}
+use Rattle.scope.specs.Rows.{nodeSoil, rowsOf, twiceArea}
 use Rattle.scope.specs.Sums.{liveSum, limitSum}
 use Rattle.scope.specs.Claim.{claimLayout, stress, multiplier}
 use Rattle.scope.specs.Verdict.{verdict}
@@ -29,6 +29,8 @@ use Rattle.scope.specs.Fractions.{FractionField, WrittenOver, FractionLaws, fie
 use Rattle.scope.specs.AcceptedFractions.{MeetsMesh}
 use Rattle.scope.specs.Parts.{SameRows, PartsBracket, NumberOf}
 use Rattle.scope.specs.Tests.{rowAt}
+use Rattle.scope.specs.Meaning.{Area}
+use Rattle.scope.specs.Triangles.{ReadAsTriangle, PassedBefore}
 use Rattle.verdict.specs.declared.MeshAnswer.{MeshAnswer}
 use Rattle.verdict.specs.JudgeContracts.{MeshAnswered}
 use Rattle.numbers.specs.declared.numbers_answer.NumbersAnswer.{NumbersAnswer}
@@ -103,6 +105,18 @@ pub record MultipliersReported (m c : List ℤ) (r : NumbersAnswer) : Type 0 whe
 -- the Mohr-Coulomb criterion (001, eq. 12) at each node, with the strength of the node's soil
 abbrev pub CriterionAtEachNode : List ℤ → List ℤ → Type 0
 CriterionAtEachNode m c = (v : ℕ) → v < nodes m → MeetsCriterion m c (record { at = v; soil = nodeSoil m v })
+
+-- "An element whose third and fourth nodes are the same is to be read as a triangle: its balance rows are the same sums, .. and three left turns are asked. The repeat makes no side .. Every other repeat still gets 5. A file that passed before gives the same report." (document 02, N1)
+pub record TrianglesRead (m : List ℤ) (e : ℕ) : Type 0 where
+  pub triangle : ReadAsTriangle m e
+  pub only-repeat : (i j : ℕ) → i < j → j < 4 → corner m e i ≡ corner m e j → (i ≡ 2) × (j ≡ 3)
+  pub area : Area m e
+  pub area-above-0 : pos 0 <ℤ twiceArea m e
+  pub passed-before : PassedBefore m e
+
+-- of each element of a mesh that passes 5
+abbrev pub TrianglesAsked : List ℤ → Type 0
+TrianglesAsked m = MeshSound m → (e : ℕ) → e < elements m → TrianglesRead m e
 
 -- ==== Demand 3: loads compared
 

@@ -184,4 +184,23 @@ noticing =
     ∷ sheet unitSquare
     "1 0 1 0 / 1000000000 1000000000 0 / 1000000000 1000000000 0 / 1000000000 1000000000 0 / 1000000000 1000000000 0"
     "                           0                        none                    0.000000                        none\n"
+    -- the sheet's square as two triangles that repeat their third corners: accepted
+    ∷ sheet "4 2 1 3 12 / 0 1 1 10 0 0 0 0 / 0 0 / 1 0 / 1 1 / 0 1 / 1 2 3 3 1 / 1 3 4 4 1 / 3 4 3 0 0 -1 0 / 2 3 3 0 0 0 0 / 4 1 3 0 0 0 0"
+    "1 0 1 20 / 0 -20 0 / 0 -20 0 / 0 -20 0 / 0 -20 0"
+    "                           0                        none                   20.000000                        none\n"
+    -- a body force on a triangle with corners (0, 0), (3, 1) and (1, 2), linear stresses: D is 5, twice its area
+    ∷ sheet "4 2 1 0 12 / 0 1 1 10000 2 3 5 7 / 0 0 / 3 1 / 1 2 / 0 3 / 1 2 3 3 1 / 1 3 4 4 1"
+    "1 0 2 3 / 0 0 0 / -57 -27 0 / -19 -54 0 / 0 -81 0"
+    "                           0                        none                    1.500000                        none\n"
+    -- the first two nodes the same, and the second and the third: 5, element 1
+    ∷ sheet "4 1 1 0 12 / 0 1 1 10 0 0 0 0 / 0 0 / 1 0 / 1 1 / 0 1 / 1 1 2 3 1"
+    ""
+    "                           5                           1                        none                        none\n"
+    ∷ sheet "4 1 1 0 12 / 0 1 1 10 0 0 0 0 / 0 0 / 1 0 / 1 1 / 0 1 / 1 2 2 3 1"
+    ""
+    "                           5                           1                        none                        none\n"
+    -- an edge from the repeated node to itself is on no side: 8, line 9
+    ∷ sheet "4 2 1 1 12 / 0 1 1 10 0 0 0 0 / 0 0 / 1 0 / 1 1 / 0 1 / 1 2 3 3 1 / 1 3 4 4 1 / 3 3 3 0 0 0 0"
+    ""
+    "                           8                           9                        none                        none\n"
     ∷ []

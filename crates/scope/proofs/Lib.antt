@@ -17,6 +17,7 @@ pub mod PolygonRule
 pub mod Lists
 pub mod Printed
 pub mod Meets
+pub mod Triangles
 pub mod Meaning
 pub mod Criterion
 pub mod AcceptedField

@@ -1,23 +1,25 @@
 -- The laws of what the rows mean: ring identities; the element's area and outward normal by its left turns; a node's soil by a search from the lowest element up.
-use mathlib.Core.Path.{_≡_, refl, sym, _∙_}
-use mathlib.Core.Logic.{_↔_, ⊎-elim}
+use mathlib.Core.Path.{_≡_, refl, sym, _∙_, ap, subst}
+use mathlib.Core.Logic.{_↔_, _⊎_, inl, inr, ⊎-elim}
 use mathlib.Core.List.{List, [], _∷_}
-use Prim.Native.Nat.{ℕ, zero, suc, _+_, _<_}
+use Prim.Native.Nat.{ℕ, zero, suc, _+_, _%_, _<_}
 use native.Mathlib.Omega.{arith}
 use native.Mathlib.Nat.{eq-or-lt-of-le}
 use lib.Dec.{T-not, lit<}
-use lib.IntN.{ℤ, pos, _+ℤ_, _-ℤ_, _*ℤ_, negℤ}
+use lib.IntN.{ℤ, pos, _+ℤ_, _-ℤ_, _*ℤ_, negℤ, +ℤ-idr}
 use lib.Signed.{_<ℤ_}
 use Rattle.integer.proofs.Ring.{ring, ring-from, sides as both-sides, terms}
 use Rattle.integer.proofs.Order.{by-pos, +ℤ-mono-<, *ℤ-pos, *ℤ-cancel, <ℤ→≤ℤ}
 use Rattle.scope.proofs.Decides.{First, first-where}
 use Rattle.scope.proofs.Statements.{corner-of}
-use Rattle.scope.specs.Mesh.{elements, x, y, corner, edgeEntry, fromNode, toNode}
+use Rattle.scope.proofs.Triangles.{Shape, triangle, quadrilateral, shape-of, around-is, turn-at, turn-aab}
+use Rattle.scope.specs.Mesh.{elements, x, y, corner, cornerCount, around, edgeEntry, fromNode, toNode}
 use Rattle.scope.specs.Polygon.{Side}
 use Rattle.scope.specs.Rows.{node, crossAt, twiceArea, stepX, stepY, firstWhere, hasCorner, nodeSoil, cross}
 use Rattle.scope.specs.Tests.{turn}
 use Rattle.scope.specs.Printed.{deviator}
 use Rattle.scope.specs.Criterion.{circleRadius}
+use Rattle.scope.specs.Statements.{LeftTurns}
 use Rattle.scope.specs.Meaning.{doubledArea, Divergence, Area, Balanced, Tractions, Pressure, Inward, OutwardNormal, SideMeaning, HasCorner, LowestElement}
 
 -- ---- balance
@@ -33,7 +35,8 @@ unfolding twiceArea crossAt node turn
 area m e = record {
   within = refl;
   triangles = halves;
-  above-0 = λ left. rw halves (+ℤ-mono-< (left 1 (lit< tt)) (<ℤ→≤ℤ (left 3 (lit< tt))));
+  repeated = λ h. repeat h;
+  above-0 = λ left. above left (shape-of m e);
 }
   where
     halves : twiceArea m e ≡ turn m (corner m e 0) (corner m e 1) (corner m e 2) +ℤ turn m (corner m e 2) (corner m e 3) (corner m e 0)
@@ -41,6 +44,13 @@ area m e = record {
         ring
         (x m (corner m e 0) ∷ x m (corner m e 1) ∷ x m (corner m e 2) ∷ x m (corner m e 3) ∷ y m (corner m e 0) ∷ y m (corner m e 1) ∷ y m (corner m e 2) ∷ y m (corner m e 3) ∷ [])
         (search terms depth 100) refl
+
+    repeat : corner m e 2 ≡ corner m e 3 → twiceArea m e ≡ turn m (corner m e 0) (corner m e 1) (corner m e 2)
+    repeat h = halves ∙ ap (λ z. turn m (corner m e 0) (corner m e 1) (corner m e 2) +ℤ z) (ap (λ v. turn m (corner m e 2) v (corner m e 0)) (sym h) ∙ turn-aab m (corner m e 2) (corner m e 0)) ∙ +ℤ-idr _
+
+    above : LeftTurns m e → Shape m e → pos 0 <ℤ twiceArea m e
+    above left (triangle h c) = rw (repeat h) (turn-at m e 3 c left 1 (lit< tt))
+    above left (quadrilateral h c) = rw halves (+ℤ-mono-< (turn-at m e 4 c left 1 (lit< tt)) (<ℤ→≤ℤ (turn-at m e 4 c left 3 (lit< tt))))
 
 -- D·z = -D·f says z + f = 0, where D is above 0
 cancelled : {L : ℤ} (D z f : ℤ) → pos 0 <ℤ D → L ≡ D *ℤ z → (L ≡ negℤ D *ℤ f) ↔ (z +ℤ f ≡ pos 0)
@@ -76,19 +86,42 @@ turn-cycle : (m : List ℤ) (a b c : ℕ) → turn m c a b ≡ turn m a b c
 unfolding turn
 turn-cycle m a b c = ring (x m a ∷ x m b ∷ x m c ∷ y m a ∷ y m b ∷ y m c ∷ []) (search terms depth 100) refl
 
-pub outward-normal : (m : List ℤ) (g e : ℕ) → OutwardNormal m g e
-unfolding node
-outward-normal m g e i h from to left = go i h from to
-  where
-    other-two : (a b c d : ℕ) → fromNode m g ≡ a → toNode m g ≡ b → pos 0 <ℤ turn m a b c → pos 0 <ℤ turn m d a b → Inward m g c × Inward m g d
-    other-two a b c d from to hc hd = (inward m g a b c from to hc, inward m g a b d from to (rw turn-cycle at hd))
+-- of a triangle the third corner lies inward, of a quadrilateral the other two
+module _ (m : List ℤ) (g e : ℕ) (left : LeftTurns m e) where
+  other-one : cornerCount m e ≡ 3 → (i : ℕ) → i < 3 → fromNode m g ≡ corner m e (i % 3) → toNode m g ≡ corner m e ((i + 1) % 3) → Inward m g (corner m e ((i + 2) % 3))
+  other-one c zero h from to = inward m g _ _ _ from to (turn-at m e 3 c left 1 (lit< tt))
+  other-one c (suc zero) h from to = inward m g _ _ _ from to (turn-at m e 3 c left 2 (lit< tt))
+  other-one c (suc (suc zero)) h from to = inward m g _ _ _ from to (turn-at m e 3 c left 0 (lit< tt))
+  other-one c (suc (suc (suc i))) h from to = absurd (omega arith)
 
-    go : (i : ℕ) → i < 4 → fromNode m g ≡ node m e i → toNode m g ≡ node m e (i + 1) → Inward m g (node m e (i + 2)) × Inward m g (node m e (i + 3))
-    go zero h from to = other-two (corner m e 0) (corner m e 1) (corner m e 2) (corner m e 3) from to (left 1 (lit< tt)) (left 0 (lit< tt))
-    go (suc zero) h from to = other-two (corner m e 1) (corner m e 2) (corner m e 3) (corner m e 0) from to (left 2 (lit< tt)) (left 1 (lit< tt))
-    go (suc (suc zero)) h from to = other-two (corner m e 2) (corner m e 3) (corner m e 0) (corner m e 1) from to (left 3 (lit< tt)) (left 2 (lit< tt))
-    go (suc (suc (suc zero))) h from to = other-two (corner m e 3) (corner m e 0) (corner m e 1) (corner m e 2) from to (left 0 (lit< tt)) (left 3 (lit< tt))
-    go (suc (suc (suc (suc i)))) h from to = absurd (omega arith)
+  other-two : cornerCount m e ≡ 4 → (i : ℕ) → i < 4 → fromNode m g ≡ corner m e (i % 4) → toNode m g ≡ corner m e ((i + 1) % 4) → Inward m g (corner m e ((i + 2) % 4)) × Inward m g (corner m e ((i + 3) % 4))
+  other-two c i h from to = by i h from to
+    where
+      both : (a b z w : ℕ) → fromNode m g ≡ a → toNode m g ≡ b → pos 0 <ℤ turn m a b z → pos 0 <ℤ turn m w a b → Inward m g z × Inward m g w
+      both a b z w from to hz hw = (inward m g a b z from to hz, inward m g a b w from to (rw turn-cycle at hw))
+
+      by : (i : ℕ) → i < 4 → fromNode m g ≡ corner m e (i % 4) → toNode m g ≡ corner m e ((i + 1) % 4) → Inward m g (corner m e ((i + 2) % 4)) × Inward m g (corner m e ((i + 3) % 4))
+      by zero h from to = both _ _ _ _ from to (turn-at m e 4 c left 1 (lit< tt)) (turn-at m e 4 c left 0 (lit< tt))
+      by (suc zero) h from to = both _ _ _ _ from to (turn-at m e 4 c left 2 (lit< tt)) (turn-at m e 4 c left 1 (lit< tt))
+      by (suc (suc zero)) h from to = both _ _ _ _ from to (turn-at m e 4 c left 3 (lit< tt)) (turn-at m e 4 c left 2 (lit< tt))
+      by (suc (suc (suc zero))) h from to = both _ _ _ _ from to (turn-at m e 4 c left 0 (lit< tt)) (turn-at m e 4 c left 3 (lit< tt))
+      by (suc (suc (suc (suc i)))) h from to = absurd (omega arith)
+
+pub outward-normal : (m : List ℤ) (g e : ℕ) → OutwardNormal m g e
+outward-normal m g e i h from to left j two below = by (shape-of m e)
+  where
+    at : (k l : ℕ) → cornerCount m e ≡ k → Inward m g (corner m e ((i + l) % k)) → j ≡ l → Inward m g (around m e (i + j))
+    at k l c inw same = subst (Inward m g) (sym (around-is m e (i + j) k c ∙ ap (λ (n : ℕ). corner m e ((i + n) % k)) same)) inw
+
+    last : (z : Inward m g (corner m e ((i + 2) % 4)) × Inward m g (corner m e ((i + 3) % 4))) → cornerCount m e ≡ 4 → (j ≡ 2) ⊎ (j ≡ 3) → Inward m g (around m e (i + j))
+    last z c (inl same) = at 4 2 c (z .0) same
+    last z c (inr same) = at 4 3 c (z .1) same
+
+    by : Shape m e → Inward m g (around m e (i + j))
+    by (triangle t c) = at 3 2 c (other-one m g e left c i (omega arith) (from ∙ around-is m e i 3 c) (to ∙ around-is m e (i + 1) 3 c)) (omega arith)
+    by (quadrilateral t c) =
+        last (other-two m g e left c i (omega arith) (from ∙ around-is m e i 4 c) (to ∙ around-is m e (i + 1) 4 c)) c
+        (⊎-elim (λ e. inl (omega arith)) (λ l. inr (omega arith)) (eq-or-lt-of-le two))
 
 -- ---- strength
 

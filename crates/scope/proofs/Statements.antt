@@ -3,16 +3,16 @@ use mathlib.Core.Path.{_≡_}
 use mathlib.Core.Logic.{_⊎_, inl, inr}
 use mathlib.Core.Bool.{Bool, true, false, cond}
 use mathlib.Core.List.{List, [], _∷_}
-use Prim.Native.Nat.{ℕ, zero, suc, _+_, _<_}
+use Prim.Native.Nat.{ℕ, zero, suc, _+_, _-_, _<_}
 use native.Mathlib.Omega.{arith}
 use lib.IntN.{ℤ, pos, _+ℤ_, _*ℤ_}
 use Rattle.integer.specs.Tests.{eqZ}
 use Rattle.scope.specs.declared.Place.the-variants.{Row}
 use Rattle.scope.specs.Checks.{someBelow}
 use Rattle.scope.specs.Columns.{Limit, between, oneOf, free, isOneOf, within, allWithin, Rule, rightAngle, naming, parts, names, allNamed, at, hasField, hasMultipliers, n, l, ruleTest}
-use Rattle.scope.specs.Mesh.{elements, corner, fromNode, toNode}
+use Rattle.scope.specs.Mesh.{elements, corner, cornerCount, around, fromNode, toNode}
 use Rattle.scope.specs.Rows as R
-use Rattle.scope.specs.Rows.{node, hasCorner}
+use Rattle.scope.specs.Rows.{hasCorner}
 use Rattle.scope.specs.Sums.{rowHolds, zeroIfUnfixed}
 use Rattle.scope.specs.Statements.{OneOf, Within, AllWithin, AllNamed, PartsFit, Says, LeftTurns, SideAt, OwnSides, InElement, IsSide, OuterEdge, NoneOnUnfixed}
 use Rattle.scope.specs.Meets.{RowMet}
@@ -72,16 +72,16 @@ rule-says parts line = parts-fit line
 
 pub left-turns : (m : List ℤ) (e : ℕ) → Decides (leftTurns m e) (LeftTurns m e)
 unfolding leftTurns leftTurnAt
-left-turns m e = all-below (λ i. belowℤ (pos 0) (turn m (node m e (i + 3)) (node m e i) (node m e (i + 1)))) 4
+left-turns m e = all-below (λ i. belowℤ (pos 0) (turn m (around m e (i + (cornerCount m e - 1))) (around m e i) (around m e (i + 1)))) (cornerCount m e)
 
-side-of : (m : List ℤ) (a b e : ℕ) → Decides (hasSide m a b e) ((i : ℕ) × (i < 4) × SideAt m a b e i)
+side-of : (m : List ℤ) (a b e : ℕ) → Decides (hasSide m a b e) ((i : ℕ) × (i < cornerCount m e) × SideAt m a b e i)
 unfolding hasSide
-side-of m a b e = some-below (λ i. both (equal (node m e i) a) (equal (node m e (i + 1)) b)) 4
+side-of m a b e = some-below (λ i. both (equal (around m e i) a) (equal (around m e (i + 1)) b)) (cornerCount m e)
 
 pub own-sides : (m : List ℤ) (e : ℕ) → Decides (ownSides m e) (OwnSides m e)
 unfolding ownSides ownSideAt
 own-sides m e =
-    said-as (all-below (λ i. opposite (some-below (side-of m (node m e i) (node m e (i + 1))) e)) 4)
+    said-as (all-below (λ i. opposite (some-below (side-of m (around m e i) (around m e (i + 1))) e)) (cornerCount m e))
     (λ h i l d k j r s. h i l (d, k, (j, r, s)))
     (λ h i l s. h i l (s .0) (s .1) (s .2 .0) (s .2 .1) (s .2 .2))
 
@@ -113,8 +113,8 @@ in-element m v =
 is-side : (m : List ℤ) (a b : ℕ) → Decides (someBelow (hasSide m a b) (elements m)) (IsSide m a b)
 is-side m a b =
     said-as (some-below (side-of m a b) (elements m))
-    (λ h. record { element = h .0; there = h .1; place = h .2 .0; four = h .2 .1; same = h .2 .2 })
-    (λ h. (h .element, h .there, (h .place, h .four, h .same)))
+    (λ h. record { element = h .0; there = h .1; place = h .2 .0; inside = h .2 .1; same = h .2 .2 })
+    (λ h. (h .element, h .there, (h .place, h .inside, h .same)))
 
 pub outer-edge : (m : List ℤ) (g : ℕ) → Decides (outerEdge m g) (OuterEdge m g)
 unfolding outerEdge hasEnds

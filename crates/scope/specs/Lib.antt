@@ -29,6 +29,7 @@ pub mod RowNumbers
 pub mod Printed
 pub mod PrintedColumns
 pub mod RefusedRows
+pub mod Triangles
 pub mod Criterion
 pub mod Meaning
 pub mod AcceptedField

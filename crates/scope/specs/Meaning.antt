@@ -2,10 +2,10 @@
 use mathlib.Core.Path.{_≡_}
 use mathlib.Core.Logic.{_↔_}
 use mathlib.Core.List.{List}
-use Prim.Native.Nat.{ℕ, _+_, _<_}
+use Prim.Native.Nat.{ℕ, _+_, _≤_, _<_}
 use lib.IntN.{ℤ, pos, _+ℤ_, _-ℤ_, _*ℤ_, negℤ}
 use lib.Signed.{_<ℤ_}
-use Rattle.scope.specs.Mesh.{elements, x, y, corner, elementSoil, edgeEntry, fromNode, toNode}
+use Rattle.scope.specs.Mesh.{elements, x, y, corner, cornerCount, around, elementSoil, edgeEntry, fromNode, toNode}
 use Rattle.scope.specs.Polygon.{Point, Side}
 use Rattle.scope.specs.Rows.{sx, sy, t, node, twiceArea, stepX, stepY, nodeSoil, cross}
 use Rattle.scope.specs.Tests.{turn}
@@ -28,10 +28,11 @@ pub record Divergence (x y : ℕ → ℤ) : Type 0 where
   pub in-x : (sx ∂sx/∂x ∂sx/∂y t ∂t/∂x ∂t/∂y : ℤ) → forceX x y (linear sx ∂sx/∂x ∂sx/∂y x y) (linear t ∂t/∂x ∂t/∂y x y) ≡ doubledArea x y *ℤ (∂sx/∂x +ℤ ∂t/∂y)
   pub in-y : (sy ∂sy/∂x ∂sy/∂y t ∂t/∂x ∂t/∂y : ℤ) → forceY x y (linear sy ∂sy/∂x ∂sy/∂y x y) (linear t ∂t/∂x ∂t/∂y x y) ≡ doubledArea x y *ℤ (∂t/∂x +ℤ ∂sy/∂y)
 
--- "D twice its area": of two triangles, and above 0
+-- "D twice its area": of two triangles, the second of which has none where the third corner is repeated; and above 0
 pub record Area (m : List ℤ) (e : ℕ) : Type 0 where
   pub within : twiceArea m e ≡ doubledArea (λ i. x m (corner m e i)) (λ i. y m (corner m e i))
   pub triangles : twiceArea m e ≡ turn m (corner m e 0) (corner m e 1) (corner m e 2) +ℤ turn m (corner m e 2) (corner m e 3) (corner m e 0)
+  pub repeated : corner m e 2 ≡ corner m e 3 → twiceArea m e ≡ turn m (corner m e 0) (corner m e 1) (corner m e 2)
   pub above-0 : LeftTurns m e → pos 0 <ℤ twiceArea m e
 
 -- so the rows say what 001 does: "stress divergence plus force is zero"
@@ -65,11 +66,11 @@ Pressure m s l n g v =
 abbrev pub Inward : List ℤ → ℕ → ℕ → Type 0
 Inward m g z = (stepY m g *ℤ (x m z -ℤ x m (fromNode m g)) +ℤ negℤ (stepX m g) *ℤ (y m z -ℤ y m (fromNode m g))) <ℤ pos 0
 
--- and so do the other two corners of the element whose side from corner i to the next the edge is
+-- and so do the other corners, one or two, of the element whose side from corner i to the next the edge is
 abbrev pub OutwardNormal : List ℤ → ℕ → ℕ → Type 0
 OutwardNormal m g e =
-    (i : ℕ) → i < 4 → fromNode m g ≡ node m e i → toNode m g ≡ node m e (i + 1) → LeftTurns m e
-    → Inward m g (node m e (i + 2)) × Inward m g (node m e (i + 3))
+    (i : ℕ) → i < cornerCount m e → fromNode m g ≡ around m e i → toNode m g ≡ around m e (i + 1) → LeftTurns m e
+    → (j : ℕ) → 2 ≤ j → j < cornerCount m e → Inward m g (around m e (i + j))
 
 -- ---- strength
 

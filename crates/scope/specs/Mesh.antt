@@ -1,8 +1,10 @@
 -- A mesh (document 01, 'The two files', "Mesh, in this order"): its lines, and what its numbers are.
 -- Soils, nodes, elements and edges are counted from 0 here; the file counts from 1.
+use mathlib.Core.Bool.{cond}
 use mathlib.Core.List.{List, [], _∷_}
-use Prim.Native.Nat.{ℕ, _+_, _-_, _*_}
+use Prim.Native.Nat.{ℕ, _+_, _-_, _*_, _%_}
 use lib.IntN.{ℤ, pos}
+use lib.Dec.{eqb}
 use lib.ListN.{replicate}
 use Rattle.scope.specs.Columns.{between, oneOf, free, upTo, rightAngle, naming, at}
 use Rattle.scope.specs.Layout.{Group, Layout, groups, linesBefore, count, entry}
@@ -155,9 +157,17 @@ x m v = entry (meshGroups m) m 2 v 0
 unfoldable pub y : List ℤ → ℕ → ℤ
 y m v = entry (meshGroups m) m 2 v 1
 
--- element e: the node at its corner i, for i from 0 to 3, and its soil
+-- element e: the node at its corner i, for i from 0 to 3, the third and the fourth of which may be the same
 unfoldable pub corner : List ℤ → ℕ → ℕ → ℕ
 corner m e i = count (entry (meshGroups m) m 3 e i) - 1
+
+-- "An element whose third and fourth nodes are the same is to be read as a triangle" (document 02, N1): how many corners it has
+unfoldable pub cornerCount : List ℤ → ℕ → ℕ
+cornerCount m e = cond (eqb (corner m e 2) (corner m e 3)) 3 4
+
+-- its corners in order, after the last the first again: left turns and sides go by these, so that "The repeat makes no side"
+unfoldable pub around : List ℤ → ℕ → ℕ → ℕ
+around m e i = corner m e (i % cornerCount m e)
 
 unfoldable pub elementSoil : List ℤ → ℕ → ℕ
 elementSoil m e = count (entry (meshGroups m) m 3 e 4) - 1

@@ -2,15 +2,15 @@
 use mathlib.Core.Path.{_≡_}
 use mathlib.Core.Logic.{_⊎_}
 use mathlib.Core.List.{List, [], _∷_}
-use Prim.Native.Nat.{ℕ, _+_, _*_, _≤_, _<_}
+use Prim.Native.Nat.{ℕ, _+_, _-_, _*_, _≤_, _<_}
 use lib.IntN.{ℤ, pos, _+ℤ_, _*ℤ_}
 use lib.Signed.{_≤ℤ_, _<ℤ_}
 use lib.ListN.{length}
 use Rattle.scope.specs.Columns.{Limit, between, oneOf, free, Rule, rightAngle, naming, parts, at, n, l}
 use Rattle.scope.specs.Layout.{Layout, width, groups, lineCount, numberCount, groupAt, numbersAt}
-use Rattle.scope.specs.Mesh.{meshLayout, nodes, elements, edges, corner, fromNode, toNode}
+use Rattle.scope.specs.Mesh.{meshLayout, nodes, elements, edges, corner, cornerCount, around, fromNode, toNode}
 use Rattle.scope.specs.Rows as R
-use Rattle.scope.specs.Rows.{node, equalityRows, rowsOf}
+use Rattle.scope.specs.Rows.{equalityRows, rowsOf}
 use Rattle.scope.specs.Sums.{columnSum, liveSum}
 use Rattle.scope.specs.Tests.{turn, rowAt}
 use Rattle.scope.specs.Claim.{stress, multiplier}
@@ -77,17 +77,21 @@ pub record LinesSound (f : Layout) (ns : List ℤ) : Type 0 where
 
 -- ---- the mesh
 
--- "a left turn at all four corners": the triangle of a corner and its neighbours has an area above 0
+-- "a left turn at all four corners", or at the three of a triangle: the triangle of a corner and its neighbours has an area above 0
 abbrev pub LeftTurns : List ℤ → ℕ → Type 0
-LeftTurns m e = (i : ℕ) → i < 4 → pos 0 <ℤ turn m (node m e (i + 3)) (node m e i) (node m e (i + 1))
+LeftTurns m e =
+    (i : ℕ) → i < cornerCount m e
+    → pos 0 <ℤ turn m (around m e (i + (cornerCount m e - 1))) (around m e i) (around m e (i + 1))
 
 -- a to b is the directed side i of element e
 abbrev pub SideAt : List ℤ → ℕ → ℕ → ℕ → ℕ → Type 0
-SideAt m a b e i = (node m e i ≡ a) × (node m e (i + 1) ≡ b)
+SideAt m a b e i = (around m e i ≡ a) × (around m e (i + 1) ≡ b)
 
 -- no directed side of element e is a lower element's
 abbrev pub OwnSides : List ℤ → ℕ → Type 0
-OwnSides m e = (i : ℕ) → i < 4 → (d : ℕ) → d < e → (j : ℕ) → j < 4 → ¬ SideAt m (node m e i) (node m e (i + 1)) d j
+OwnSides m e =
+    (i : ℕ) → i < cornerCount m e → (d : ℕ) → d < e → (j : ℕ) → j < cornerCount m d
+    → ¬ SideAt m (around m e i) (around m e (i + 1)) d j
 
 -- node v is a corner of some element
 pub record InElement (m : List ℤ) (v : ℕ) : Type 0 where
@@ -102,7 +106,7 @@ pub record IsSide (m : List ℤ) (a b : ℕ) : Type 0 where
   pub element : ℕ
   pub there : element < elements m
   pub place : ℕ
-  pub four : place < 4
+  pub inside : place < cornerCount m element
   pub same : SideAt m a b element place
 
 -- edge g is a side of an element, its reverse is none, and no earlier edge has it

@@ -1,37 +1,38 @@
 -- What is tested of a mesh after its lines (document 01, 'Verdict and report', refusals 5 to 8), and the row that 21, 22 and 31 test.
 use mathlib.Core.Bool.{Bool, not, _&&_}
 use mathlib.Core.List.{List, []}
-use Prim.Native.Nat.{ℕ, _+_}
+use Prim.Native.Nat.{ℕ, _+_, _-_}
 use lib.IntN.{ℤ, pos, _-ℤ_, _*ℤ_}
 use lib.Signed.{ltZ}
 use lib.Dec.{eqb}
 use lib.ListN.{getD}
 use Rattle.scope.specs.Checks.{someBelow, allBelow}
-use Rattle.scope.specs.Mesh.{elements, x, y, fromNode, toNode}
+use Rattle.scope.specs.Mesh.{elements, x, y, cornerCount, around, fromNode, toNode}
 use Rattle.scope.specs.Rows as R
-use Rattle.scope.specs.Rows.{node, hasCorner}
+use Rattle.scope.specs.Rows.{hasCorner}
 
 -- twice the area of the triangle of the nodes a, b, c: above 0 where b is a left turn
 unfoldable pub turn : List ℤ → ℕ → ℕ → ℕ → ℤ
 turn m a b c = (x m b -ℤ x m a) *ℤ (y m c -ℤ y m a) -ℤ (x m c -ℤ x m a) *ℤ (y m b -ℤ y m a)
 
--- refusal 5: "not a left turn at all four corners"
+-- refusal 5: "not a left turn at all four corners"; of a triangle "three left turns are asked" (document 02, N1)
 unfoldable pub leftTurnAt : List ℤ → ℕ → ℕ → Bool
-leftTurnAt m e i = ltZ (pos 0) (turn m (node m e (i + 3)) (node m e i) (node m e (i + 1)))
+leftTurnAt m e i =
+    ltZ (pos 0) (turn m (around m e (i + (cornerCount m e - 1))) (around m e i) (around m e (i + 1)))
 
 unfoldable pub leftTurns : List ℤ → ℕ → Bool
-leftTurns m e = allBelow (leftTurnAt m e) 4
+leftTurns m e = allBelow (leftTurnAt m e) (cornerCount m e)
 
 -- the directed side a to b is one of element e's
 unfoldable pub hasSide : List ℤ → ℕ → ℕ → ℕ → Bool
-hasSide m a b e = someBelow (λ i. eqb (node m e i) a && eqb (node m e (i + 1)) b) 4
+hasSide m a b e = someBelow (λ i. eqb (around m e i) a && eqb (around m e (i + 1)) b) (cornerCount m e)
 
 -- refusal 6: "a directed side that a lower element has", side i of element e being none of these
 unfoldable pub ownSideAt : List ℤ → ℕ → ℕ → Bool
-ownSideAt m e i = not (someBelow (hasSide m (node m e i) (node m e (i + 1))) e)
+ownSideAt m e i = not (someBelow (hasSide m (around m e i) (around m e (i + 1))) e)
 
 unfoldable pub ownSides : List ℤ → ℕ → Bool
-ownSides m e = allBelow (ownSideAt m e) 4
+ownSides m e = allBelow (ownSideAt m e) (cornerCount m e)
 
 -- refusal 7: "in no element"
 unfoldable pub inElement : List ℤ → ℕ → Bool

@@ -85,3 +85,19 @@ freeShear z =
     ++ (pos 3 ∷ pos 4 ∷ pos 3 ∷ pos 0 ∷ pos 0 ∷ negsuc 0 ∷ pos 0 ∷ [])
     ++ (pos 2 ∷ pos 3 ∷ pos 3 ∷ zeros 4)
     ++ (pos 4 ∷ pos 1 ∷ pos 1 ∷ pos 0 ∷ z ∷ zeros 2)
+
+-- the sheet's square as two triangles that repeat their third corners: 1 2 3 3 and 1 3 4 4
+unfoldable pub twoTriangles : List ℤ
+twoTriangles =
+    (pos 4 ∷ pos 2 ∷ pos 1 ∷ pos 3 ∷ pos 12 ∷ [])
+    ++ (pos 0 ∷ pos 1 ∷ pos 1 ∷ pos 10 ∷ zeros 4)
+    ++ (pos 0 ∷ pos 0 ∷ pos 1 ∷ pos 0 ∷ pos 1 ∷ pos 1 ∷ pos 0 ∷ pos 1 ∷ [])
+    ++ (pos 1 ∷ pos 2 ∷ pos 3 ∷ pos 3 ∷ pos 1 ∷ [])
+    ++ (pos 1 ∷ pos 3 ∷ pos 4 ∷ pos 4 ∷ pos 1 ∷ [])
+    ++ (pos 3 ∷ pos 4 ∷ pos 3 ∷ pos 0 ∷ pos 0 ∷ negsuc 0 ∷ pos 0 ∷ [])
+    ++ (pos 2 ∷ pos 3 ∷ pos 3 ∷ zeros 4)
+    ++ (pos 4 ∷ pos 1 ∷ pos 3 ∷ zeros 4)
+
+-- its field of l 20 alone
+unfoldable pub fieldAlone : List ℤ
+fieldAlone = (pos 1 ∷ pos 0 ∷ pos 1 ∷ pos 20 ∷ []) ++ workedStresses 20

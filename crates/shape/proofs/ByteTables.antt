@@ -193,12 +193,12 @@ module _ (reach : ℕ → ℕ → Bool) (old : ℕ → ℕ) (byte : ℕ) {n : �
           ap (λ (b : Bool). cond b (kept isNone (given (reach v) (old v) byte i) byte) (given (reach v) (old v) byte i)) (d v)
           ∙ regroup (someBelow (reach v) i) (reach v i) (old v)
 
-pub all-given : (reach has : ℕ → ℕ → Bool) (value : ℕ → ℕ) {e n i : ℕ} {t : List ℕ} → Holds n (λ v. given (reach v) (byteBelow 255 (has v) value e) (value e) i) t → i ≡ 4 → ((v : ℕ) → someBelow (reach v) 4 ≡ has v e) → ((k : ℕ) → k < e → isNone (value k) ≡ false) → Holds n (λ v. byteBelow 255 (has v) value (e + 1)) t
-all-given reach has value {e} {n} {i} {t} h e₄ d taken =
+pub all-given : (reach has : ℕ → ℕ → Bool) (value : ℕ → ℕ) {e n i k : ℕ} {t : List ℕ} → Holds n (λ v. given (reach v) (byteBelow 255 (has v) value e) (value e) i) t → i ≡ k → ((v : ℕ) → someBelow (reach v) k ≡ has v e) → ((k : ℕ) → k < e → isNone (value k) ≡ false) → Holds n (λ v. byteBelow 255 (has v) value (e + 1)) t
+all-given reach has value {e} {n} {i} {k} {t} h all d taken =
     subst (λ (k : ℕ). Holds n (λ v. byteBelow 255 (has v) value k) t) (sym (add-one e))
-    (holds-as (subst (λ (j : ℕ). Holds n (λ v. given (reach v) (byteBelow 255 (has v) value e) (value e) j) t) e₄ h) more)
+    (holds-as (subst (λ (j : ℕ). Holds n (λ v. given (reach v) (byteBelow 255 (has v) value e) (value e) j) t) all h) more)
   where
-    more : (v : ℕ) → given (reach v) (byteBelow 255 (has v) value e) (value e) 4 ≡ byteBelow 255 (has v) value (suc e)
+    more : (v : ℕ) → given (reach v) (byteBelow 255 (has v) value e) (value e) k ≡ byteBelow 255 (has v) value (suc e)
     more v =
         ap (λ (b : Bool). cond b (kept isNone (byteBelow 255 (has v) value e) (value e)) (byteBelow 255 (has v) value e)) (d v)
         ∙ byte-more isNone refl (has v) value e taken

@@ -1,43 +1,48 @@
 -- What the machine has of a mesh's elements and edges is what the checks of its shape ask: corners, turns, lines, outer edges.
-use mathlib.Core.Path.{_≡_, refl, _∙_, ap, ap₂}
+use mathlib.Core.Path.{_≡_, sym, _∙_, ap, ap₂, subst}
 use mathlib.Core.Bool.{Bool}
 use mathlib.Core.List.{List}
-use Prim.Native.Nat.{ℕ, suc, _+_, _*_, _%_, _≤_, _<_}
+use Prim.Native.Nat.{ℕ, suc, _+_, _*_, _-_, _%_, _≤_, _<_}
 use native.Mathlib.Omega.{arith}
 use lib.IntN.{ℤ, pos, _-ℤ_, _*ℤ_}
 use lib.Signed.{ltZ}
 use Rattle.integer.specs.Bounds.{Is}
 use Rattle.mesh.specs.declared.sizes.Sizes.{Sizes}
 use Rattle.scope.specs.Layout.{groups, linesBefore}
-use Rattle.scope.specs.Mesh.{meshHeader, soilLines, nodeLines, elementLines, edgeLines, meshLayout, meshGroups, nodes, elements, soils, edges, corner, fromNode, toNode, edgeLine}
-use Rattle.scope.specs.Rows.{node}
+use Rattle.scope.specs.Mesh.{meshHeader, soilLines, nodeLines, elementLines, edgeLines, meshLayout, meshGroups, nodes, elements, soils, edges, corner, cornerCount, around, fromNode, toNode, edgeLine}
 use Rattle.mesh.specs.MeshContracts.{Sized}
 use Rattle.scope.specs.Tests.{turn, leftTurnAt}
+use Rattle.scope.proofs.Triangles.{some-corners, around-below, around-is}
 
 -- ---- the corners of an element
 
-pub node-corner : (m : List ℤ) (e i : ℕ) → corner m e (i % 4) ≡ node m e i
-unfolding node
-node-corner m e i = refl
+pub corners-there : (m : List ℤ) (e : ℕ) {n : ℕ} → n ≡ cornerCount m e → (3 ≤ n) × (n ≤ 4)
+corners-there m e h = let (l, r) = some-corners m e in (omega arith, omega arith)
 
-pub node-there : {m : List ℤ} {s : Sizes} → Sized m s → {e : ℕ} → e < elements m → (i : ℕ) → node m e i < nodes m
-unfolding node
-node-there k {e} l i = k .facts .element e l .cornerThere (i % 4) (omega arith)
+pub place-below : (m : List ℤ) (e i : ℕ) {n : ℕ} → n ≡ cornerCount m e → i % n < 4
+place-below m e i h = subst (λ (k : ℕ). i % k < 4) (sym h) (around-below m e i)
+
+pub around-corner : (m : List ℤ) (e i : ℕ) {n : ℕ} → n ≡ cornerCount m e → corner m e (i % n) ≡ around m e i
+around-corner m e i h = sym (around-is m e i _ (sym h))
+
+pub around-there : {m : List ℤ} {s : Sizes} → Sized m s → {e : ℕ} → e < elements m → (i : ℕ) → around m e i < nodes m
+unfolding around
+around-there {m} k {e} l i = k .facts .element e l .cornerThere (i % cornerCount m e) (around-below m e i)
 
 pub corner-below : {m : List ℤ} {s : Sizes} → Sized m s → {a e i : ℕ} → e < elements m → i < 4 → a ≡ corner m e i → a < 100
 corner-below k {e = e} {i = i} l j d = omega (arith, k .facts .element e l .cornerThere i j, k .facts .counts .nodesMost)
 
 -- the place of a side in a table
-pub side-fits : {m : List ℤ} {s : Sizes} → Sized m s → {a b e n : ℕ} → e < elements m → (i : ℕ) → nodes m * 100 ≤ n → a ≡ node m e i → b ≡ node m e (i + 1) → a * 100 + b < n
-side-fits k l i r d f = omega (arith, node-there k l i, node-there k l (i + 1), k .facts .counts .nodesMost)
+pub side-fits : {m : List ℤ} {s : Sizes} → Sized m s → {a b e n : ℕ} → e < elements m → (i : ℕ) → nodes m * 100 ≤ n → a ≡ around m e i → b ≡ around m e (i + 1) → a * 100 + b < n
+side-fits k l i r d f = omega (arith, around-there k l i, around-there k l (i + 1), k .facts .counts .nodesMost)
 
 -- a cross product of numbers that the machine has
 pub cross-from : {ux uy vx vy p q r s : ℤ} {A B C D : ℕ} → Is ux p A → Is uy q B → Is vx r C → Is vy s D → ux *ℤ vy -ℤ vx *ℤ uy ≡ p *ℤ s -ℤ r *ℤ q
 cross-from d e f g = ap₂ _-ℤ_ (ap₂ _*ℤ_ (d .same) (g .same)) (ap₂ _*ℤ_ (f .same) (e .same))
 
-pub left-turn-from : (m : List ℤ) (e i : ℕ) {r : Bool} {a b c : ℕ} → a ≡ node m e (i + 3) → b ≡ node m e i → c ≡ node m e (i + 1) → r ≡ ltZ (pos 0) (turn m a b c) → r ≡ leftTurnAt m e i
+pub left-turn-from : (m : List ℤ) (e i : ℕ) {r : Bool} {a b c n : ℕ} → n ≡ cornerCount m e → a ≡ around m e (i + (n - 1)) → b ≡ around m e i → c ≡ around m e (i + 1) → r ≡ ltZ (pos 0) (turn m a b c) → r ≡ leftTurnAt m e i
 unfolding leftTurnAt
-left-turn-from m e i d f g h = h ∙ ap (ltZ (pos 0)) (ap₃ d f g)
+left-turn-from m e i n d f g h = h ∙ ap (ltZ (pos 0)) (ap₃ (d ∙ ap (λ (k : ℕ). around m e (i + (k - 1))) n) f g)
   where
     ap₃ : {a b c a′ b′ c′ : ℕ} → a ≡ a′ → b ≡ b′ → c ≡ c′ → turn m a b c ≡ turn m a′ b′ c′
     ap₃ d f g = λ k. turn m (d k) (f k) (g k)

@@ -12,12 +12,12 @@ use lib.ListN.{length, replicate, length-replicate}
 use borrow.Author.Tests.{eqb-true, eqb-false, lt-ltb, le-ltb, eq-eqb, ne-eqb}
 use Rattle.mesh.specs.declared.sizes.Sizes.{Sizes}
 use Rattle.scope.specs.Checks.{someBelow, allBelow}
-use Rattle.scope.specs.Mesh.{nodes, elements, edges, fromNode, toNode}
-use Rattle.scope.specs.Rows.{firstWhere, node}
+use Rattle.scope.specs.Mesh.{nodes, elements, edges, cornerCount, around, fromNode, toNode}
+use Rattle.scope.specs.Rows.{firstWhere}
 use Rattle.scope.specs.Tests.{ownSideAt, hasEnds, hasSide, ownSides, outerEdge}
 use Rattle.mesh.specs.MeshContracts.{Sized}
 use Rattle.shape.specs.ShapeContracts.{Holds, isNone, put, keepFirst, byteBelow, byteAt, atPlace, SideBytes, sideByte, SideTable, edgeByte, EdgeTable}
-use Rattle.shape.proofs.MeshLaws.{node-there, side-fits, edge-fits}
+use Rattle.shape.proofs.MeshLaws.{around-there, side-fits, edge-fits}
 use Rattle.shape.proofs.ByteTables.{holds-as, holds-none, put-one, first-below, first-found, some-there, byte-found, free-below, cond-same, byte-more, given, none-given, one-given, all-given}
 
 -- ---- places of sides
@@ -49,7 +49,7 @@ bytes-up-to {m} f {t = t} h d = subst (λ (n : ℕ). SideBytes m (f n) t) d h
 
 -- side j of element e goes from a to b
 abbrev sideIs : List ℤ → ℕ → ℕ → ℕ → ℕ → Bool
-sideIs m e a b j = eqb (node m e j) a && eqb (node m e (j + 1)) b
+sideIs m e a b j = eqb (around m e j) a && eqb (around m e (j + 1)) b
 
 -- the byte of the side a to b once the first i sides of element e are given its number
 abbrev pub sidesSoFar : List ℤ → ℕ → ℕ → ℕ → ℕ → ℕ
@@ -70,31 +70,31 @@ module _ (m : List ℤ) where
   pub no-side-yet : (e : ℕ) {t : List ℕ} → SideTable m e t → SideBytes m (sidesSoFar m e 0) t
   no-side-yet e h = bytes-to h (none-given (λ v. sideIs m e (v / 100) (v % 100)) (atPlace (sideByte m e)) e (h .bytes))
 
-  pub own-sides-are : (e : ℕ) → allBelow (ownSideAt m e) 4 ≡ ownSides m e
+  pub own-sides-are : (e : ℕ) → allBelow (ownSideAt m e) (cornerCount m e) ≡ ownSides m e
   unfolding ownSides
   own-sides-are e = refl
 
 module _ (m : List ℤ) {s : Sizes} (k : Sized m s) {e : ℕ} (l : e < elements m) where
-  pub side-more : (i : ℕ) {t u : List ℕ} → SideBytes m (sidesSoFar m e i) t → u ≡ keepFirst t (node m e i * 100 + node m e (i + 1)) e → SideBytes m (sidesSoFar m e (i + 1)) u
+  pub side-more : (i : ℕ) {t u : List ℕ} → SideBytes m (sidesSoFar m e i) t → u ≡ keepFirst t (around m e i * 100 + around m e (i + 1)) e → SideBytes m (sidesSoFar m e (i + 1)) u
   side-more i h d =
       bytes-to h
-      (one-given (λ v. sideIs m e (v / 100) (v % 100)) (atPlace (sideByte m e)) e i (h .bytes) (side-fits k l i (h .room) refl refl) (same-side (node m e i) (node m e (i + 1)) (omega (arith, node-there k l (i + 1), k .facts .counts .nodesMost))) d)
+      (one-given (λ v. sideIs m e (v / 100) (v % 100)) (atPlace (sideByte m e)) e i (h .bytes) (side-fits k l i (h .room) refl refl) (same-side (around m e i) (around m e (i + 1)) (omega (arith, around-there k l (i + 1), k .facts .counts .nodesMost))) d)
 
-  pub all-sides : {i : ℕ} {t : List ℕ} → SideBytes m (sidesSoFar m e i) t → i ≤ 4 → 4 ≤ i → SideTable m (e + 1) t
+  pub all-sides : {i : ℕ} {t : List ℕ} → SideBytes m (sidesSoFar m e i) t → i ≤ cornerCount m e → cornerCount m e ≤ i → SideTable m (e + 1) t
   unfolding hasSide
   all-sides {i} h j n =
-      let e₄ : i ≡ 4 = omega arith in
-      bytes-to h (all-given (λ v. sideIs m e (v / 100) (v % 100)) (λ v. hasSide m (v / 100) (v % 100)) (λ k. k) (h .bytes) e₄ (λ v. refl) (few (omega (arith, k .facts .counts .elementsMost))))
+      let whole : i ≡ cornerCount m e = omega arith in
+      bytes-to h (all-given (λ v. sideIs m e (v / 100) (v % 100)) (λ v. hasSide m (v / 100) (v % 100)) (λ k. k) (h .bytes) whole (λ v. refl) (few (omega (arith, k .facts .counts .elementsMost))))
 
-  has-own : {i : ℕ} → i < 4 → hasSide m (node m e i) (node m e (i + 1)) e ≡ true
+  has-own : {i : ℕ} → i < cornerCount m e → hasSide m (around m e i) (around m e (i + 1)) e ≡ true
   unfolding hasSide
-  has-own {i} j = some-there _ 4 j (ap₂ _&&_ (eq-eqb (node m e i) (node m e i) refl) (eq-eqb (node m e (i + 1)) (node m e (i + 1)) refl))
+  has-own {i} j = some-there _ (cornerCount m e) j (ap₂ _&&_ (eq-eqb (around m e i) (around m e i) refl) (eq-eqb (around m e (i + 1)) (around m e (i + 1)) refl))
 
-  pub own-side-is : {i : ℕ} → i < 4 → {t : List ℕ} → SideTable m (elements m) t → {a b byte : ℕ} → a ≡ node m e i → b ≡ node m e (i + 1) → byte ≡ byteAt t a b → eqb byte e ≡ ownSideAt m e i
+  pub own-side-is : {i : ℕ} → i < cornerCount m e → {t : List ℕ} → SideTable m (elements m) t → {a b byte : ℕ} → a ≡ around m e i → b ≡ around m e (i + 1) → byte ≡ byteAt t a b → eqb byte e ≡ ownSideAt m e i
   unfolding ownSideAt
   own-side-is {i} j {t} h d f g =
-      let has = hasSide m (node m e i) (node m e (i + 1)) in
-      ap (λ (x : ℕ). eqb x e) (g ∙ ap₂ (byteAt t) d f ∙ byte-of h k (node-there k l i) (node-there k l (i + 1)) ∙ byte-found 255 has (λ k. k) (elements m) l (has-own j))
+      let has = hasSide m (around m e i) (around m e (i + 1)) in
+      ap (λ (x : ℕ). eqb x e) (g ∙ ap₂ (byteAt t) d f ∙ byte-of h k (around-there k l i) (around-there k l (i + 1)) ∙ byte-found 255 has (λ k. k) (elements m) l (has-own j))
       ∙ first-found has (elements m) l (has-own j) .1
 
 -- ---- the sides that edges take

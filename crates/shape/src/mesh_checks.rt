@@ -17,23 +17,37 @@ ghost use lib.IntN.{pos, _-ℤ_, _*ℤ_};
 ghost use lib.Signed.{ltZ};
 ghost use lib.ListN.{length};
 ghost use Rattle.integer.specs.Bounds.{Within, Is};
-ghost use Rattle.scope.specs.Mesh.{nodes, elements, edges};
-ghost use Rattle.scope.specs.Rows.{node};
+ghost use Rattle.scope.specs.Mesh.{nodes, elements, edges, cornerCount, around};
 ghost use Rattle.scope.specs.Phases.{checkPhase, checkPhases};
 ghost use Rattle.scope.specs.Refusals.{turnsPhase, ownSidesPhase, nodesPhase, edgesPhase, shapePhases};
 ghost use Rattle.scope.specs.Tests.{turn, leftTurnAt, leftTurns, ownSideAt, ownSides, outerEdge};
 ghost use Rattle.mesh.specs.MeshContracts.{Sized};
 ghost use Rattle.shape.specs.ShapeContracts.{keepFirst, SoilTable, byteAt, SideTable, EdgeTable};
 
-// ---- 5: a left turn at all four corners
+// ---- the corners of an element
 
-// The corner i of element e, where corner 4 is corner 0 again.
-fn corner_around(m: &[i64], s: Sizes, e: usize, i: usize) -> usize
+// How many corners element e has: three where its third and its fourth node are the same.
+fn corner_count(m: &[i64], s: Sizes, e: usize) -> usize
     requires { ⌜ Sized (now m) s × (e < elements (now m)) ⌝ }
-    ensures { λ r. ⌜ r ≡ node (now (m .entry)) e i ⌝ }
+    ensures { λ r. ⌜ r ≡ cornerCount (now (m .entry)) e ⌝ }
 {
-    corner_of(m, s, e, i % 4)
+    let third = corner_of(m, s, e, 2);
+    let fourth = corner_of(m, s, e, 3);
+    if third == fourth {
+        return 3;
+    }
+    4
 }
+
+// Corner i of element e, which has so many; after the last comes the first.
+fn corner_around(m: &[i64], s: Sizes, e: usize, count: usize, i: usize) -> usize
+    requires { ⌜ Sized (now m) s × (e < elements (now m)) × (count ≡ cornerCount (now m) e) ⌝ }
+    ensures { λ r. ⌜ r ≡ around (now (m .entry)) e i ⌝ }
+{
+    corner_of(m, s, e, i % count)
+}
+
+// ---- 5: a left turn at all corners
 
 // The cross product of two steps.
 fn cross(ux: i64, uy: i64, vx: i64, vy: i64) -> i64
@@ -55,13 +69,13 @@ fn turns_left(m: &[i64], s: Sizes, a: usize, b: usize, c: usize) -> bool
     0 < cross(ux, uy, vx, vy)
 }
 
-fn left_turn_at(m: &[i64], s: Sizes, e: usize, i: usize) -> bool
-    requires { ⌜ Sized (now m) s × (e < elements (now m)) × (i < 4) ⌝ }
+fn left_turn_at(m: &[i64], s: Sizes, e: usize, count: usize, i: usize) -> bool
+    requires { ⌜ Sized (now m) s × (e < elements (now m)) × (count ≡ cornerCount (now m) e) × (i < count) ⌝ }
     ensures { λ r. ⌜ r ≡ leftTurnAt (now (m .entry)) e i ⌝ }
 {
-    let a = corner_around(m, s, e, i + 3);
-    let b = corner_around(m, s, e, i);
-    let c = corner_around(m, s, e, i + 1);
+    let a = corner_around(m, s, e, count, i + (count - 1));
+    let b = corner_around(m, s, e, count, i);
+    let c = corner_around(m, s, e, count, i + 1);
     turns_left(m, s, a, b, c)
 }
 
@@ -69,9 +83,10 @@ pub fn left_turns(m: &[i64], s: Sizes, e: usize) -> bool
     requires { ⌜ Sized (now m) s × (e < elements (now m)) ⌝ }
     ensures { λ r. ⌜ r ≡ leftTurns (now (m .entry)) e ⌝ }
 {
+    let count = corner_count(m, s, e);
     let mut i: usize = 0;
-    while i < 4 {
-        if !left_turn_at(m, s, e, i) {
+    while i < count {
+        if !left_turn_at(m, s, e, count, i) {
             return false;
         }
         i += 1;
@@ -117,12 +132,12 @@ fn side_byte(t: &[u8], a: usize, b: usize) -> u8
 }
 
 // Gives the number of element e to its side i.
-fn mark_side(m: &[i64], s: Sizes, e: usize, i: usize, t: &mut [u8])
-    requires { ⌜ Sized (now m) s × (e < elements (now m)) × (i < 4) × (nodes (now m) * 100 ≤ length (now t)) ⌝ }
-    ensures { λ _. ⌜ now (t .exit) ≡ keepFirst (now (t .entry)) (node (now (m .entry)) e i * 100 + node (now (m .entry)) e (i + 1)) e ⌝ }
+fn mark_side(m: &[i64], s: Sizes, e: usize, count: usize, i: usize, t: &mut [u8])
+    requires { ⌜ Sized (now m) s × (e < elements (now m)) × (count ≡ cornerCount (now m) e) × (i < count) × (nodes (now m) * 100 ≤ length (now t)) ⌝ }
+    ensures { λ _. ⌜ now (t .exit) ≡ keepFirst (now (t .entry)) (around (now (m .entry)) e i * 100 + around (now (m .entry)) e (i + 1)) e ⌝ }
 {
-    let a = corner_around(m, s, e, i);
-    let b = corner_around(m, s, e, i + 1);
+    let a = corner_around(m, s, e, count, i);
+    let b = corner_around(m, s, e, count, i + 1);
     keep_first(t, a * 100 + b, e as u8)
 }
 
@@ -130,9 +145,10 @@ fn mark_sides(m: &[i64], s: Sizes, e: usize, t: &mut [u8])
     requires { ⌜ Sized (now m) s × (e < elements (now m)) × SideTable (now m) e (now t) ⌝ }
     ensures { λ _. ⌜ SideTable (now (m .entry)) (e + 1) (now (t .exit)) ⌝ }
 {
+    let count = corner_count(m, s, e);
     let mut i: usize = 0;
-    while i < 4 {
-        mark_side(m, s, e, i, t);
+    while i < count {
+        mark_side(m, s, e, count, i, t);
         i += 1;
     }
 }
@@ -151,12 +167,12 @@ fn side_table(m: &[i64], s: Sizes, t: &mut [u8])
 }
 
 // Whether side i of element e has its own number, so that no lower element has it.
-fn own_side(m: &[i64], s: Sizes, e: usize, i: usize, t: &[u8]) -> bool
-    requires { ⌜ Sized (now m) s × (e < elements (now m)) × (i < 4) × SideTable (now m) (elements (now m)) (now t) ⌝ }
+fn own_side(m: &[i64], s: Sizes, e: usize, count: usize, i: usize, t: &[u8]) -> bool
+    requires { ⌜ Sized (now m) s × (e < elements (now m)) × (count ≡ cornerCount (now m) e) × (i < count) × SideTable (now m) (elements (now m)) (now t) ⌝ }
     ensures { λ r. ⌜ r ≡ ownSideAt (now (m .entry)) e i ⌝ }
 {
-    let a = corner_around(m, s, e, i);
-    let b = corner_around(m, s, e, i + 1);
+    let a = corner_around(m, s, e, count, i);
+    let b = corner_around(m, s, e, count, i + 1);
     side_byte(t, a, b) == e as u8
 }
 
@@ -164,9 +180,10 @@ pub fn own_sides(m: &[i64], s: Sizes, e: usize, t: &[u8]) -> bool
     requires { ⌜ Sized (now m) s × (e < elements (now m)) × SideTable (now m) (elements (now m)) (now t) ⌝ }
     ensures { λ r. ⌜ r ≡ ownSides (now (m .entry)) e ⌝ }
 {
+    let count = corner_count(m, s, e);
     let mut i: usize = 0;
-    while i < 4 {
-        if !own_side(m, s, e, i, t) {
+    while i < count {
+        if !own_side(m, s, e, count, i, t) {
             return false;
         }
         i += 1;

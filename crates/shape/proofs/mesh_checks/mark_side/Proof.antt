@@ -20,12 +20,12 @@ corner-around-requires-2 c κs = search needs
 mul-keep-first : tie.Need-mul-keep-first
 mul-keep-first c =
     let p = c .before .before .before .before .pre in
-    omega (arith, side-fits (p .0) (p .1) (c .before .before .before .before .args .i) (p .3) (c .before .before .corner-around .ensures) (c .before .corner-around2 .ensures))
+    omega (arith, side-fits (p .0) (p .1) (c .before .before .before .before .args .i) (p .4) (c .before .before .corner-around .ensures) (c .before .corner-around2 .ensures))
 
 add-keep-first : tie.Need-add-keep-first
 add-keep-first c =
     let p = c .before .before .before .before .pre in
-    omega (arith, side-fits (p .0) (p .1) (c .before .before .before .before .args .i) (p .3) (c .before .before .corner-around .ensures) (c .before .corner-around2 .ensures))
+    omega (arith, side-fits (p .0) (p .1) (c .before .before .before .before .args .i) (p .4) (c .before .before .corner-around .ensures) (c .before .corner-around2 .ensures))
 
 cast-keep-first : tie.Need-cast-keep-first
 cast-keep-first c = omega (arith, c .before .before .before .before .pre .0 .facts .counts .elementsMost)
@@ -33,7 +33,7 @@ cast-keep-first c = omega (arith, c .before .before .before .before .pre .0 .fac
 keep-first-requires : tie.Need-keep-first-requires
 keep-first-requires c κs =
     let p = c .before .before .before .before .pre in
-    side-fits (p .0) (p .1) (c .before .before .before .before .args .i) (p .3) (c .before .before .corner-around .ensures) (c .before .corner-around2 .ensures)
+    side-fits (p .0) (p .1) (c .before .before .before .before .args .i) (p .4) (c .before .before .corner-around .ensures) (c .before .corner-around2 .ensures)
 
 same-length : tie.Need-same-length
 same-length c = omega arith

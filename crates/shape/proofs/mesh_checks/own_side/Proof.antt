@@ -18,7 +18,7 @@ corner-around-requires-2 c κs = search needs
 side-byte-requires : tie.Need-side-byte-requires
 side-byte-requires c κs =
     let p = c .before .before .before .pre in
-    side-fits (p .0) (p .1) (c .before .before .before .args .i) (p .3 .room) (c .before .corner-around .ensures) (c .corner-around2 .ensures)
+    side-fits (p .0) (p .1) (c .before .before .before .args .i) (p .4 .room) (c .before .corner-around .ensures) (c .corner-around2 .ensures)
 
 cast-result : tie.Need-cast-result
 cast-result c = omega (arith, c .before .before .before .before .pre .0 .facts .counts .elementsMost)
@@ -26,7 +26,7 @@ cast-result c = omega (arith, c .before .before .before .before .pre .0 .facts .
 returns : tie.Need-returns
 returns c =
     let p = c .before .before .before .before .pre in
-    own-side-is _ (p .0) (p .1) (p .2) (p .3) (c .before .before .corner-around .ensures) (c .before .corner-around2 .ensures) (c .side-byte .ensures)
+    own-side-is _ (p .0) (p .1) (omega (arith, p .2, p .3)) (p .4) (c .before .before .corner-around .ensures) (c .before .corner-around2 .ensures) (c .side-byte .ensures)
 
 pub own-side-spec : {M : Type 1} → statement M
 own-side-spec =
