@@ -6,7 +6,7 @@ use independent::Answer;
 use std::hint::black_box;
 use std::time::{Duration, Instant};
 
-// The test of the archives has the entries; of the two only the one on files is timed.
+// The test of the archive has the entries; of the two only the one on files is timed.
 #[allow(dead_code)]
 #[path = "../tests/independent/programs/compare/archive.rs"]
 mod archive;

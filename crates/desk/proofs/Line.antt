@@ -1,4 +1,4 @@
--- In a buffer of 113 bytes the check leaves the report line and nothing else.
+-- In a buffer as long as the report the check leaves the report line and nothing else.
 use mathlib.Core.Path.{_≡_, ap, _∙_}
 use mathlib.Core.List.{List, _++_, append-nil}
 use Prim.Native.Nat.{ℕ}
@@ -6,15 +6,16 @@ use native.Mathlib.Omega.{arith}
 use lib.ListN.{length, drop-of-length-le}
 use Rattle.reader.specs.File.{fileWidth}
 use Rattle.judge.specs.Judge.{filesVerdict}
-use Rattle.report.specs.Report.{reportLine, decimals}
-use Rattle.pechuvo.specs.Check.{reportBytes, check}
+use Rattle.report.specs.Report.{reportBytes, reportLine, decimals}
+use Rattle.pechuvo.specs.Check.{check}
 use Rattle.pechuvo.specs.Answers.{Answers}
 
-pub whole-line : {mesh claim before after : List ℕ} {number place : ℕ} → length before ≡ 113 → Answers mesh claim before number place after → after ≡ reportLine decimals (filesVerdict fileWidth mesh claim)
-unfolding check reportBytes
+pub whole-line : {mesh claim before after : List ℕ} {number place : ℕ} → length before ≡ reportBytes
+    → Answers mesh claim before number place after → after ≡ reportLine decimals (filesVerdict fileWidth mesh claim)
+unfolding check
 whole-line {mesh} {claim} {before} {after} l a =
     let line = reportLine decimals (filesVerdict fileWidth mesh claim) in
     let b : after ≡ check mesh claim before .buffer = a .bufferIs in
     (rw (l, check) at b)
-    ∙ ap (λ (rest : List ℕ). line ++ rest) (drop-of-length-le before {i = 113} (omega arith))
+    ∙ ap (λ (rest : List ℕ). line ++ rest) (drop-of-length-le before {i = reportBytes} (omega arith))
     ∙ append-nil line

@@ -2,6 +2,7 @@
 
 use libc::STDOUT_FILENO;
 use pechuvo::pechuvo_check;
+use report::LINE;
 ghost use mathlib.Core.Path.{_≡_};
 ghost use Rattle.io.specs.Counts.{Counts};
 ghost use Rattle.reader.specs.File.{fileWidth};
@@ -24,10 +25,10 @@ fn read_argument(i: usize, bytes: &mut [u8]) -> usize
 }
 
 // The report line of two files.
-fn report_line(mesh: &[u8], claim: &[u8]) -> [u8; 113]
+fn report_line(mesh: &[u8], claim: &[u8]) -> [u8; LINE]
     ensures { λ r. ⌜ r ≡ reportLine decimals (filesVerdict fileWidth (now (mesh .entry)) (now (claim .entry))) ⌝ }
 {
-    let mut line = [0u8; 113];
+    let mut line = [0u8; LINE];
     pechuvo_check(mesh, claim, &mut line);
     line
 }

@@ -3,4 +3,4 @@ pub mod Numbers
 pub mod Form
 pub mod Handed
 pub mod ClaimBytes
-pub mod Judged
+pub mod FilesJudged

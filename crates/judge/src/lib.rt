@@ -23,7 +23,7 @@ ghost use Rattle.verdict.specs.JudgeContracts.{SoundMesh};
 ghost use Rattle.reader.specs.File.{fileWidth};
 ghost use Rattle.judge.specs.Judge.{meshNumbers, claimNumbers, filesVerdict};
 ghost use Rattle.judge.specs.ClaimBytes.{claimBytes};
-ghost use Rattle.judge.specs.Judged.{MeshJudged};
+ghost use Rattle.judge.specs.MeshFileJudged.{MeshJudged};
 
 // How many numbers a mesh file has, and what is said of them.
 pub struct JudgedMesh {
@@ -49,31 +49,31 @@ pub fn judge_mesh_file(mesh: &[u8], numbers: &mut [i64]) -> JudgedMesh
 }
 
 // The verdict on a claim file on a judged mesh with the numbers m, with room for the claim's numbers.
-fn judge_claim_in(m: &[i64], soils: &[u8], claim: &[u8], numbers: &mut [i64]) -> Verdict
-    requires { ⌜ SoundMesh (now m) (now soils) ⌝ ∗ ⌜ length (claimNumbers fileWidth (now m) (now claim)) ≤ length (now numbers) ⌝ }
+fn judge_claim_in(m: &[i64], node_soils: &[u8], claim: &[u8], numbers: &mut [i64]) -> Verdict
+    requires { ⌜ SoundMesh (now m) (now «node_soils») ⌝ ∗ ⌜ length (claimNumbers fileWidth (now m) (now claim)) ≤ length (now numbers) ⌝ }
     ensures { λ r. ⌜ r ≡ claimVerdict (now (m .entry)) (claimNumbers fileWidth (now (m .entry)) (now (claim .entry))) ⌝ }
 {
     let s = sizes_of(m);
     let count = read_claim(claim, s, numbers);
-    judge_claim(m, soils, &numbers[..count])
+    judge_claim(m, node_soils, &numbers[..count])
 }
 
 // The verdict on a claim file on a judged mesh with the numbers m.
-pub fn judge_claim_file(m: &[i64], soils: &[u8], claim: &[u8]) -> Verdict
-    requires { ⌜ SoundMesh (now m) (now soils) ⌝ }
+pub fn judge_claim_file(m: &[i64], node_soils: &[u8], claim: &[u8]) -> Verdict
+    requires { ⌜ SoundMesh (now m) (now «node_soils») ⌝ }
     ensures { λ r. ⌜ r ≡ claimVerdict (now (m .entry)) (claimNumbers fileWidth (now (m .entry)) (now (claim .entry))) ⌝ }
 {
     let room = most_numbers(claim.len());
     if room <= SMALL_ROOM {
         let mut small = [0i64; SMALL_ROOM];
-        return judge_claim_in(m, soils, claim, &mut small);
+        return judge_claim_in(m, node_soils, claim, &mut small);
     }
     if room <= MIDDLE_CLAIM {
         let mut middle = [0i64; MIDDLE_CLAIM];
-        return judge_claim_in(m, soils, claim, &mut middle);
+        return judge_claim_in(m, node_soils, claim, &mut middle);
     }
     let mut large = [0i64; CLAIM_ROOM];
-    judge_claim_in(m, soils, claim, &mut large)
+    judge_claim_in(m, node_soils, claim, &mut large)
 }
 
 // The verdict on a mesh file and a claim file, with room for the mesh's numbers.
@@ -89,7 +89,7 @@ fn judge_files_in(mesh: &[u8], claim: &[u8], numbers: &mut [i64]) -> Verdict
         Outcome::Refused { number, place } => Verdict::Refused { number, place },
         Outcome::Passed => {
             let m = &numbers[..count];
-            judge_claim_file(m, &answer.soils, claim)
+            judge_claim_file(m, &answer.node_soils, claim)
         }
     }
 }

@@ -1,6 +1,5 @@
 -- Where each number of a mesh stands in its list, and the bound that sound lines give it: by unfolding the layout.
 use mathlib.Core.Path.{_≡_, refl, sym, _∙_, ap, subst}
-use mathlib.Core.Logic.{_⊎_, inl, inr}
 use mathlib.Core.List.{List}
 use Prim.Native.Nat.{ℕ, zero, suc, _+_, _*_, _-_, _≤_, _<_}
 use native.Mathlib.Omega.{arith}
@@ -14,8 +13,11 @@ use Rattle.integer.proofs.Order.{≤ℤ-pos}
 use Rattle.mesh.specs.declared.sizes.Sizes.{Sizes}
 use Rattle.scope.specs.Columns.{at}
 use Rattle.scope.specs.Layout.{groups, numbersBefore, count, entry}
-use Rattle.scope.specs.Mesh.{mostSides, meshHeaderColumns, soilColumns, nodeColumns, elementColumns, edgeColumns, meshHeader, soilLines, nodeLines, elementLines, edgeLines, meshLayout, meshGroups, nodes, elements, soils, edges, sides, p, q, h, cohesion, soilEntry, x, y, corner, elementSoil, edgeEntry, fromNode, toNode}
+use Rattle.scope.specs.Mesh.{meshHeaderColumns, soilColumns, nodeColumns, elementColumns, edgeColumns, meshHeader, soilLines, nodeLines, elementLines, edgeLines, meshLayout, meshGroups, nodes, elements, soils, edges, sides, p, q, h, cohesion, soilEntry, x, y, corner, elementSoil, edgeEntry, fromNode, toNode}
 use Rattle.scope.specs.NumberRanges.{Between, MeshFacts, SoilFacts, EdgeFacts}
+use Rattle.scope.proofs.NumberRanges.{some-sides}
+use Rattle.scope.proofs.PolygonRule.{listed-polygon}
+use Rattle.scope.proofs.SumBounds.{apart}
 use Rattle.mesh.specs.MeshContracts.{Sized, SizesAre, HeaderThere, FewThings, NodeAt, nodesFrom, elementsFrom, edgesFrom}
 
 -- ---- counts
@@ -58,12 +60,7 @@ module _ {m : List ℤ} (f : HeaderThere m) where
 
   pub sides-there : There 0 m 4
   unfolding sides
-  sides-there = (omega (arith, f .there), counted (at m 4) (listed (f .counts .sidesListed)))
-    where
-      listed : (sides m ≡ 12) ⊎ ((sides m ≡ 20) ⊎ (sides m ≡ mostSides)) → 0 < count (at m 4)
-      listed (inl e) = omega arith
-      listed (inr (inl e)) = omega arith
-      listed (inr (inr e)) = omega arith
+  sides-there = (omega (arith, f .there), counted (at m 4) (some-sides (f .counts)))
 
   -- the sizes that are made of the counts
   pub sizes-are : {a b c d e : ℕ} → a ≡ count (at m 0) → b ≡ count (at m 1) → c ≡ count (at m 2) → d ≡ count (at m 3) → e ≡ count (at m 4) → SizesAre m (record { nodes = a; elements = b; soils = c; edges = d; sides = e })
@@ -80,22 +77,16 @@ sized f k = record { facts = f; nodesAre = k .nodesAre; elementsAre = k .element
 pub as-sizes : {m : List ℤ} {s : Sizes} → Sized m s → SizesAre m s
 as-sizes k = record { counts = k .facts .counts; nodesAre = k .nodesAre; elementsAre = k .elementsAre; soilsAre = k .soilsAre; edgesAre = k .edgesAre; sidesAre = k .sidesAre }
 
--- a polygon has at least one side, and no more than the most
-some-sides : {n : ℕ} → (n ≡ 12) ⊎ ((n ≡ 20) ⊎ (n ≡ mostSides)) → (0 < n) × (n ≤ mostSides)
-some-sides (inl e) = (omega arith, omega arith)
-some-sides (inr (inl e)) = (omega arith, omega arith)
-some-sides (inr (inr e)) = (omega arith, omega arith)
-
 pub few-sizes : {m : List ℤ} {s : Sizes} → SizesAre m s → FewThings s
-few-sizes k =
-    let sides = some-sides (k .counts .sidesListed) in
+few-sizes {m} k =
+    let polygon = listed-polygon (sides m) (k .counts .sidesListed) .fits in
     record {
       fewSoils = omega (arith, k .soilsAre, k .counts .soilsMost);
       fewNodes = omega (arith, k .nodesAre, k .counts .nodesMost);
       fewElements = omega (arith, k .elementsAre, k .counts .elementsMost);
       fewEdges = omega (arith, k .edgesAre, k .counts .edgesMost);
-      someSide = omega (arith, k .sidesAre, sides .0);
-      fewSides = omega (arith, k .sidesAre, sides .1);
+      someSide = omega (arith, k .sidesAre, polygon .someSides);
+      fewSides = omega (arith, k .sidesAre, polygon .fewSides);
     }
 
 pub few-things : {m : List ℤ} {s : Sizes} → Sized m s → FewThings s
@@ -191,9 +182,6 @@ module _ {m : List ℤ} {s : Sizes} (k : Sized m s) where
   to-read g b d = rw (edge-at b g 1) d
 
 -- ---- differences of coordinates
-
-apart : {a b : ℤ} → Between (pos 0) (pos 1000) a → Between (pos 0) (pos 1000) b → Within 1000 (a -ℤ b)
-apart h k = linear (h .least & h .most & k .least & k .most) (search bounds depth 40) (omega arith)
 
 pub run-within : {m : List ℤ} → MeshFacts m → {a b : ℕ} → a < nodes m → b < nodes m → Within 1000 (x m a -ℤ x m b)
 run-within f {a} {b} h k = apart (f .node a h .xRange) (f .node b k .xRange)

@@ -44,7 +44,7 @@ use Rattle.scope.proofs.Parts.{nodes-named, multipliers-meet, field-n, parts-br
 use Rattle.scope.proofs.AcceptedFractions.{mesh-fractions}
 use Rattle.scope.proofs.SameRows.{same-met}
 use Rattle.scope.proofs.AcceptedMultipliers.{sums-printed, multipliers-as-printed}
-use Rattle.scope.proofs.Meaning.{area}
+use Rattle.scope.proofs.Meaning.{area, outward-normal}
 use Rattle.scope.proofs.Triangles.{only-repeat, read-as-triangle, passed-before}
 use Rattle.verdict.specs.declared.MeshAnswer.{MeshAnswer}
 use Rattle.numbers.proofs.NumbersListed.{refusal-listed}
@@ -107,7 +107,7 @@ module _ (m c : List ℤ) (number place : ℕ) (h : Returned m c number place) w
     where
       by : VerdictCases m c → NumbersListed number place
       by (inl (k, p, e)) =
-          let (there, line-one, column-zero) = refusal-listed (refused-exactly m c k p .0 e) in
+          let (there, (line-one, column-zero)) = refusal-listed (refused-exactly m c k p .0 e) in
           let (same, at) = is-refused e in
           record { listed = rw same there; line-one = λ z. at ∙ line-one (sym same ∙ z); column-zero = λ z. at ∙ column-zero (sym same ∙ z) }
       by (inr e) =
@@ -378,5 +378,6 @@ triangles-asked m sound e there = record {
   only-repeat = only-repeat m e (sound .leftTurns e there);
   area = area m e;
   area-above-0 = area m e .above-0 (sound .leftTurns e there);
+  outward = λ g. outward-normal m g e;
   passed-before = passed-before m e;
 }

@@ -2,7 +2,7 @@
 -- Each is proved of every answer (`proofs/Promises.antt`) and applied to document 01's sheet (`proofs/PromisesApplied.antt`). Those about the number and the place alone serve the check of two files too.
 use mathlib.Core.Path.{_≡_}
 use mathlib.Core.Logic.{_↔_, _⊎_, _≢_}
-use mathlib.Core.List.{List, [], _∷_}
+use mathlib.Core.List.{List, _∷_}
 use Prim.Native.Nat.{ℕ, _*_, _≤_, _<_}
 use lib.IntN.{ℤ, pos}
 use lib.Signed.{_<ℤ_}
@@ -19,6 +19,7 @@ use Rattle.scope.specs.Answer.{placeFor, numberOf, placeOf}
 use Rattle.scope.specs.AnsweredMesh.{MeshExactly}
 use Rattle.scope.specs.Statements.{LinesSound, MeshSound, HasField, HasMultipliers}
 use Rattle.scope.specs.Refusals.{Refusal}
+use Rattle.scope.specs.TableNumbers.{tableNumbers}
 use Rattle.scope.specs.Accepted.{FieldAccepted, MultipliersAccepted, ClaimAccepted}
 use Rattle.scope.specs.Printed.{MeetsPrinted}
 use Rattle.scope.specs.RefusedRows.{EqualityFails, StrengthFails}
@@ -29,7 +30,7 @@ use Rattle.scope.specs.Fractions.{FractionField, WrittenOver, FractionLaws, fie
 use Rattle.scope.specs.AcceptedFractions.{MeetsMesh}
 use Rattle.scope.specs.Parts.{SameRows, PartsBracket, NumberOf}
 use Rattle.scope.specs.Tests.{rowAt}
-use Rattle.scope.specs.Meaning.{Area}
+use Rattle.scope.specs.Meaning.{Area, OutwardNormal}
 use Rattle.scope.specs.Triangles.{ReadAsTriangle, PassedBefore}
 use Rattle.verdict.specs.declared.MeshAnswer.{MeshAnswer}
 use Rattle.verdict.specs.JudgeContracts.{MeshAnswered}
@@ -58,7 +59,7 @@ pub record RefusesExactly (m c : List ℤ) (number place : ℕ) : Type 0 where
 
 -- the numbers of the table that numbers handed over can get, and 0; a file can get 41 too
 abbrev pub returnedNumbers : List ℕ
-returnedNumbers = 0 ∷ 1 ∷ 2 ∷ 3 ∷ 4 ∷ 5 ∷ 6 ∷ 7 ∷ 8 ∷ 11 ∷ 12 ∷ 13 ∷ 21 ∷ 22 ∷ 31 ∷ 32 ∷ 33 ∷ []
+returnedNumbers = 0 ∷ tableNumbers
 
 -- no other number is returned; "13, line 1"; "33, column 0"
 pub record NumbersListed (number place : ℕ) : Type 0 where
@@ -112,9 +113,10 @@ pub record TrianglesRead (m : List ℤ) (e : ℕ) : Type 0 where
   pub only-repeat : (i j : ℕ) → i < j → j < 4 → corner m e i ≡ corner m e j → (i ≡ 2) × (j ≡ 3)
   pub area : Area m e
   pub area-above-0 : pos 0 <ℤ twiceArea m e
+  pub outward : (g : ℕ) → OutwardNormal m g e
   pub passed-before : PassedBefore m e
 
--- of each element of a mesh that passes 5
+-- of each element of a mesh that passes
 abbrev pub TrianglesAsked : List ℤ → Type 0
 TrianglesAsked m = MeshSound m → (e : ℕ) → e < elements m → TrianglesRead m e
 

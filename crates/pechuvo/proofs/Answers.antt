@@ -9,9 +9,9 @@ use Rattle.scope.specs.declared.Verdict.{Verdict}
 use Rattle.reader.specs.File.{fileWidth}
 use Rattle.judge.specs.Judge.{filesVerdict}
 use Rattle.report.specs.declared.Reported.{Reported}
-use Rattle.report.specs.Report.{decimals}
+use Rattle.report.specs.Report.{reportBytes, decimals}
 use Rattle.report.specs.Buffer.{afterReport, reported, reportedNumber, reportedPlace, Reports}
-use Rattle.pechuvo.specs.Check.{reportBytes, check}
+use Rattle.pechuvo.specs.Check.{check}
 use Rattle.pechuvo.specs.Answers.{Answers}
 
 module _ (mesh claim buffer : List ℕ) where
@@ -19,16 +19,16 @@ module _ (mesh claim buffer : List ℕ) where
   v = filesVerdict fileWidth mesh claim
 
   number-checked : reportedNumber v (reported buffer) ≡ check mesh claim buffer .number
-  unfolding check reported reportBytes
-  number-checked = cases (ltb (length buffer) 113) (λ t. rw (t, check, reported)) (λ t. rw (t, check, reported))
+  unfolding check reported
+  number-checked = cases (ltb (length buffer) reportBytes) (λ t. rw (t, check, reported)) (λ t. rw (t, check, reported))
 
   place-checked : reportedPlace v (reported buffer) ≡ check mesh claim buffer .place
-  unfolding check reported reportBytes
-  place-checked = cases (ltb (length buffer) 113) (λ t. rw (t, check, reported)) (λ t. rw (t, check, reported))
+  unfolding check reported
+  place-checked = cases (ltb (length buffer) reportBytes) (λ t. rw (t, check, reported)) (λ t. rw (t, check, reported))
 
   buffer-checked : afterReport decimals v buffer ≡ check mesh claim buffer .buffer
-  unfolding check afterReport reportBytes
-  buffer-checked = cases (ltb (length buffer) 113) (λ t. rw (t, check, afterReport)) (λ t. rw (t, check, afterReport))
+  unfolding check afterReport
+  buffer-checked = cases (ltb (length buffer) reportBytes) (λ t. rw (t, check, afterReport)) (λ t. rw (t, check, afterReport))
 
 pub answers : {mesh claim before after : List ℕ} {v : Verdict} {w : Reported} {number place : ℕ} → v ≡ filesVerdict fileWidth mesh claim → Reports decimals v before after w → (number ≡ reportedNumber v w) × (place ≡ reportedPlace v w) → Answers mesh claim before number place after
 answers {mesh} {claim} {before} e p a = record {

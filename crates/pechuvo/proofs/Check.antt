@@ -34,7 +34,8 @@ use Rattle.judge.specs.Judge.{meshNumbers, claimNumbers, filesVerdict}
 use Rattle.judge.specs.ClaimBytes.{claimBytes}
 use Rattle.judge.proofs.Numbers.{mesh-lines-refused, some-side}
 use Rattle.judge.proofs.ClaimBytes.{claim-bytes}
-use Rattle.pechuvo.specs.Check.{reportBytes, check}
+use Rattle.report.specs.Report.{reportBytes}
+use Rattle.pechuvo.specs.Check.{mostFileBytes, check}
 
 -- ---- how long a mesh and a claim can be
 
@@ -43,7 +44,8 @@ mesh-bytes : (h : List ℤ) → bytesOf 12 (widths (meshLayout .body h)) ≡ soi
 unfolding meshLayout soilLines nodeLines elementLines edgeLines lineBytes
 mesh-bytes h = simp (group-bytes, no-bytes) (omega arith)
 
-mesh-short : (h : List ℤ) → soils h ≤ 16 → nodes h ≤ 100 → elements h ≤ 100 → edges h ≤ 60 → lineBytes 12 (width (meshLayout .header)) + bytesOf 12 (widths (meshLayout .body h)) < 65536
+mesh-short : (h : List ℤ) → soils h ≤ 16 → nodes h ≤ 100 → elements h ≤ 100 → edges h ≤ 60
+    → lineBytes 12 (width (meshLayout .header)) + bytesOf 12 (widths (meshLayout .body h)) < mostFileBytes
 unfolding meshLayout meshHeader lineBytes
 mesh-short h s n e g = rw (mesh-bytes h) (omega arith)
 
@@ -53,7 +55,8 @@ count-most (pos n) h = ≤ℤ-pos h
 count-most (negsuc n) h = omega arith
 
 -- a mesh whose header passes
-mesh-header-short : (h : List ℤ) → lineCheck meshLayout (meshLayout .header) h (Line 1) ≡ Passed → lineBytes 12 (width (meshLayout .header)) + bytesOf 12 (widths (meshLayout .body h)) < 65536
+mesh-header-short : (h : List ℤ) → lineCheck meshLayout (meshLayout .header) h (Line 1) ≡ Passed
+    → lineBytes 12 (width (meshLayout .header)) + bytesOf 12 (widths (meshLayout .body h)) < mostFileBytes
 unfolding meshLayout meshHeader soils nodes elements edges
 mesh-header-short h e =
     let p = line-check-passed meshLayout meshHeader h (Line 1) .says e in
@@ -64,11 +67,12 @@ mesh-header-short h e =
     (count-most (at h 1) (w 1 (omega arith) .1))
     (count-most (at h 3) (w 3 (omega arith) .1))
 
-mesh-header-line : lineBytes 12 (width (meshLayout .header)) ≤ 65536
+mesh-header-line : lineBytes 12 (width (meshLayout .header)) ≤ mostFileBytes
 unfolding meshLayout meshHeader lineBytes
 mesh-header-line = omega arith
 
-claim-short : (m c : List ℤ) → Counts m → lineBytes 12 (width (claimLayout m .header)) + bytesOf 12 (widths (claimLayout m .body c)) < 65536
+claim-short : (m c : List ℤ) → Counts m
+    → lineBytes 12 (width (claimLayout m .header)) + bytesOf 12 (widths (claimLayout m .body c)) < mostFileBytes
 unfolding claimBytes
 claim-short m c k =
     let ns = k .nodesMost in
@@ -89,25 +93,28 @@ claim-short m c k =
 
 -- ---- two files, or their first 65,536 bytes
 
-files-cut : (mesh claim : List ℕ) → filesVerdict 12 (take 65536 mesh) (take 65536 claim) ≡ filesVerdict 12 mesh claim
+files-cut : (mesh claim : List ℕ)
+    → filesVerdict 12 (take mostFileBytes mesh) (take mostFileBytes claim) ≡ filesVerdict 12 mesh claim
 unfolding filesVerdict meshNumbers claimNumbers
 files-cut mesh claim = by (linesCheck meshLayout m) refl
   where
     m : List ℤ
     m = numbersOf 12 meshLayout mesh
 
-    same : numbersOf 12 meshLayout (take 65536 mesh) ≡ m
-    same = numbers-cut 12 meshLayout 65536 mesh mesh-header-line mesh-header-short
+    same : numbersOf 12 meshLayout (take mostFileBytes mesh) ≡ m
+    same = numbers-cut 12 meshLayout mostFileBytes mesh mesh-header-line mesh-header-short
 
-    by : (o : Outcome) → linesCheck meshLayout m ≡ o → filesVerdict 12 (take 65536 mesh) (take 65536 claim) ≡ filesVerdict 12 mesh claim
+    by : (o : Outcome) → linesCheck meshLayout m ≡ o
+        → filesVerdict 12 (take mostFileBytes mesh) (take mostFileBytes claim) ≡ filesVerdict 12 mesh claim
     by Passed e =
         let k = counts m (lines-passed meshLayout m .says e) in
-        rw same (ap (verdict m) (numbers-cut 12 (claimLayout m) 65536 claim (omega (arith, claim-short m [] k)) (λ c p. claim-short m c k)))
+        rw same (ap (verdict m) (numbers-cut 12 (claimLayout m) mostFileBytes claim (omega (arith, claim-short m [] k)) (λ c p. claim-short m c k)))
     by (Fails k p) e =
-        rw same (mesh-lines-refused m (numbersOf 12 (claimLayout m) (take 65536 claim)) k p e ∙ sym (mesh-lines-refused m (numbersOf 12 (claimLayout m) claim) k p e))
+        rw same (mesh-lines-refused m (numbersOf 12 (claimLayout m) (take mostFileBytes claim)) k p e ∙ sym (mesh-lines-refused m (numbersOf 12 (claimLayout m) claim) k p e))
 
 -- the check of two files is the check of each file cut to 65,536 bytes
-pub check-cut : (mesh claim buffer : List ℕ) → check mesh claim buffer ≡ check (take 65536 mesh) (take 65536 claim) buffer
+pub check-cut : (mesh claim buffer : List ℕ)
+    → check mesh claim buffer ≡ check (take mostFileBytes mesh) (take mostFileBytes claim) buffer
 unfolding check
 check-cut mesh claim buffer =
     cases (ltb (length buffer) reportBytes)
@@ -116,7 +123,8 @@ check-cut mesh claim buffer =
 
 -- ---- a longer file
 
-accepted-short : (mesh claim : List ℕ) → numberOf (filesVerdict 12 mesh claim) ≡ 0 → (length mesh < 65536) × (length claim < 65536)
+accepted-short : (mesh claim : List ℕ) → numberOf (filesVerdict 12 mesh claim) ≡ 0
+    → (length mesh < mostFileBytes) × (length claim < mostFileBytes)
 unfolding filesVerdict meshNumbers claimNumbers
 accepted-short mesh claim e =
     let m = numbersOf 12 meshLayout mesh in
@@ -131,13 +139,15 @@ accepted-short mesh claim e =
     )
 
 -- "a longer file is too long for any mesh or claim": it is never accepted
-pub longer-refused : (mesh claim buffer : List ℕ) → (65536 < length mesh) ⊎ (65536 < length claim) → check mesh claim buffer .number ≢ 0
+pub longer-refused : (mesh claim buffer : List ℕ) → (mostFileBytes < length mesh) ⊎ (mostFileBytes < length claim)
+    → check mesh claim buffer .number ≢ 0
 unfolding check
 longer-refused mesh claim buffer l e =
     cases (ltb (length buffer) reportBytes)
     (λ t. let z : _≡_ {A = ℕ} 41 0 = rw (t, check) at e in omega arith)
     (λ t. by l (accepted-short mesh claim (rw (t, check) at e)))
   where
-    by : (65536 < length mesh) ⊎ (65536 < length claim) → (length mesh < 65536) × (length claim < 65536) → ⊥
+    by : (mostFileBytes < length mesh) ⊎ (mostFileBytes < length claim)
+        → (length mesh < mostFileBytes) × (length claim < mostFileBytes) → ⊥
     by (inl g) h = omega arith
     by (inr g) h = omega arith

@@ -2,7 +2,7 @@
 pub mod Sheets
 pub mod Check
 pub mod Answers
-pub mod Held
+pub mod VerdictFits
 pub mod Words
 pub mod OpenColumn
 pub mod Promises

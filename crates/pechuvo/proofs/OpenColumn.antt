@@ -22,7 +22,7 @@ use Rattle.report.specs.Text.{Said, number, said}
 use Rattle.report.specs.Report.{reportLine}
 use Rattle.report.specs.Says.{columnOf, RowsSay, rows, Says, says-accepted}
 use Rattle.report.proofs.Line.{line-says}
-use Rattle.pechuvo.proofs.Held.{held}
+use Rattle.pechuvo.proofs.VerdictFits.{held}
 
 count-says : {k : ℕ} {b : Said} → RowsSay (Count k) b → b ≡ number (pos k) 0
 count-says (rows k) = refl

@@ -46,7 +46,7 @@ use Rattle.numbers.specs.Promises as Handed-over
 use Rattle.numbers.specs.Promises.{Returned, TellsField}
 use Rattle.numbers.proofs.Promises.{returned, returns-zero-exactly, refuses-exactly, numbers-listed, rows-refused, field-exactly, multipliers-exactly, criterion-at-each-node, fractions-allowed}
 use Rattle.report.specs.Text.{Said, number as shows}
-use Rattle.report.specs.Report.{reportLine, decimals}
+use Rattle.report.specs.Report.{reportBytes, reportLine, decimals}
 use Rattle.report.specs.Says.{LoadSays, no-load, rounded, Says, says-accepted, says-refused, LineSays}
 use Rattle.report.proofs.Line.{line-says, lower-within, upper-within}
 use Rattle.reader.specs.File.{fileWidth}
@@ -57,12 +57,12 @@ use Rattle.judge.specs.Handed.{Handed, meshOf, claimOf}
 use Rattle.judge.proofs.Numbers.{some-side, numbers-verdict, width-there}
 use Rattle.judge.proofs.Form as Form
 use Rattle.judge.proofs.Handed.{handed-bracket}
-use Rattle.pechuvo.specs.Check.{reportBytes, check}
+use Rattle.pechuvo.specs.Check.{check}
 use Rattle.pechuvo.specs.Sheets.{Sheet, printed, starred}
 use Rattle.pechuvo.specs.Answers.{Answers}
 use Rattle.pechuvo.specs.Promises.{meshIn, claimIn, AnyCall, LongFiles, OnFiles, FormExactly, LowerPrinted, UpperPrinted, Prints, OpenRowsPrinted, Call, on-files, on-numbers, AcceptedFiles, TwoCalls, CallAndMultipliers, FractionsAndCall, AsAFile, Written}
 use Rattle.pechuvo.proofs.Check.{check-cut, longer-refused}
-use Rattle.pechuvo.proofs.Held.{held}
+use Rattle.pechuvo.proofs.VerdictFits.{held}
 use Rattle.pechuvo.proofs.Words.{lower-word, upper-word, rows-word}
 use Rattle.pechuvo.proofs.OpenColumn.{open-column}
 use Rattle.pechuvo.proofs.Sheets.{starred-sheets}
@@ -73,34 +73,36 @@ use Rattle.pechuvo.proofs.Sheets.{starred-sheets}
 abbrev fileVerdict : List ℕ → List ℕ → Verdict
 fileVerdict mesh claim = verdict (meshIn mesh) (claimIn mesh claim)
 
-is-short : (mesh claim before : List ℕ) → ltb (length before) 113 ≡ true → check mesh claim before ≡ record { number = 41; place = 0; buffer = before }
-unfolding check reportBytes
+is-short : (mesh claim before : List ℕ) → ltb (length before) reportBytes ≡ true
+    → check mesh claim before ≡ record { number = 41; place = 0; buffer = before }
+unfolding check
 is-short mesh claim before t = rw (t, check)
 
-is-line : (mesh claim before : List ℕ) → ltb (length before) 113 ≡ false → check mesh claim before ≡ record { number = numberOf (fileVerdict mesh claim); place = placeOf (fileVerdict mesh claim); buffer = reportLine decimals (fileVerdict mesh claim) ++ drop 113 before }
-unfolding check reportBytes filesVerdict
+is-line : (mesh claim before : List ℕ) → ltb (length before) reportBytes ≡ false
+    → check mesh claim before ≡ record { number = numberOf (fileVerdict mesh claim); place = placeOf (fileVerdict mesh claim); buffer = reportLine decimals (fileVerdict mesh claim) ++ drop reportBytes before }
+unfolding check filesVerdict
 is-line mesh claim before t = rw (t, check)
 
 pub record TooShort (before : List ℕ) (number place : ℕ) (after : List ℕ) : Type 0 where
-  pub short : length before < 113
+  pub short : length before < reportBytes
   pub number-41 : number ≡ 41
   pub place-0 : place ≡ 0
   pub untouched : after ≡ before
 
 pub record LineWritten (mesh claim before : List ℕ) (number place : ℕ) (after : List ℕ) : Type 0 where
-  pub room : 113 ≤ length before
+  pub room : reportBytes ≤ length before
   pub returns : Returned (meshIn mesh) (claimIn mesh claim) number place
-  pub writes : after ≡ reportLine decimals (fileVerdict mesh claim) ++ drop 113 before
+  pub writes : after ≡ reportLine decimals (fileVerdict mesh claim) ++ drop reportBytes before
 
 two-cases : {mesh claim before : List ℕ} {number place : ℕ} {after : List ℕ} → Answers mesh claim before number place after → TooShort before number place after ⊎ LineWritten mesh claim before number place after
 two-cases {mesh} {claim} {before} h =
-    cases (ltb (length before) 113)
+    cases (ltb (length before) reportBytes)
     (λ t.
     let e = is-short mesh claim before t in
-    inl (record { short = ltb-true (length before) 113 t; number-41 = h .numberIs ∙ ap (λ x. x .number) e; place-0 = h .placeIs ∙ ap (λ x. x .place) e; untouched = h .bufferIs ∙ ap (λ x. x .buffer) e }))
+    inl (record { short = ltb-true (length before) reportBytes t; number-41 = h .numberIs ∙ ap (λ x. x .number) e; place-0 = h .placeIs ∙ ap (λ x. x .place) e; untouched = h .bufferIs ∙ ap (λ x. x .buffer) e }))
     (λ t.
     let e = is-line mesh claim before t in
-    inr (record { room = ltb-false (length before) 113 t; returns = record { numberIs = h .numberIs ∙ ap (λ x. x .number) e; placeIs = h .placeIs ∙ ap (λ x. x .place) e }; writes = h .bufferIs ∙ ap (λ x. x .buffer) e }))
+    inr (record { room = ltb-false (length before) reportBytes t; returns = record { numberIs = h .numberIs ∙ ap (λ x. x .number) e; placeIs = h .placeIs ∙ ap (λ x. x .place) e }; writes = h .bufferIs ∙ ap (λ x. x .buffer) e }))
 
 -- every number of a verdict is at most 33
 at-most-33 : (m c : List ℤ) → numberOf (verdict m c) ≤ 33
@@ -198,21 +200,21 @@ module _ (m c : List ℤ) where
 -- ==== Demand 1
 
 module _ (mesh claim before : List ℕ) (number place : ℕ) (after : List ℕ) (h : Answers mesh claim before number place after) where
-  never-short : {X : Type 0} → 113 ≤ length before → TooShort before number place after → X
+  never-short : {X : Type 0} → reportBytes ≤ length before → TooShort before number place after → X
   never-short b s = absurd (omega (arith, s .short))
 
-  written : 113 ≤ length before → LineWritten mesh claim before number place after
+  written : reportBytes ≤ length before → LineWritten mesh claim before number place after
   written b = by (two-cases h)
     where
       by : TooShort before number place after ⊎ LineWritten mesh claim before number place after → LineWritten mesh claim before number place after
       by (inl s) = never-short b s
       by (inr w) = w
 
-  line-bytes : length (reportLine decimals (fileVerdict mesh claim)) ≡ 113
+  line-bytes : length (reportLine decimals (fileVerdict mesh claim)) ≡ reportBytes
   line-bytes = says-line (meshIn mesh) (claimIn mesh claim) .bytes
 
-  line-is : 113 ≤ length before → take 113 after ≡ reportLine decimals (fileVerdict mesh claim)
-  line-is b = ap (take 113) (written b .writes) ∙ take-at (reportLine decimals (fileVerdict mesh claim)) (drop 113 before) 113 line-bytes
+  line-is : reportBytes ≤ length before → take reportBytes after ≡ reportLine decimals (fileVerdict mesh claim)
+  line-is b = ap (take reportBytes) (written b .writes) ∙ take-at (reportLine decimals (fileVerdict mesh claim)) (drop reportBytes before) reportBytes line-bytes
 
   pub any-call : AnyCall mesh claim before number place after
   unfolding filesVerdict
@@ -226,21 +228,26 @@ module _ (mesh claim before : List ℕ) (number place : ℕ) (after : List ℕ) 
     size = as-long (two-cases h);
   }
     where
-      short : length before < 113 → TooShort before number place after ⊎ LineWritten mesh claim before number place after → (number ≡ 41) × (place ≡ 0) × (after ≡ before)
+      short : length before < reportBytes
+          → TooShort before number place after ⊎ LineWritten mesh claim before number place after
+          → (number ≡ 41) × (place ≡ 0) × (after ≡ before)
       short b (inl s) = (s .number-41, s .place-0, s .untouched)
       short b (inr w) = absurd (omega (arith, w .room))
 
-      forty-one : number ≡ 41 → TooShort before number place after ⊎ LineWritten mesh claim before number place after → length before < 113
+      forty-one : number ≡ 41
+          → TooShort before number place after ⊎ LineWritten mesh claim before number place after
+          → length before < reportBytes
       forty-one e (inl s) = s .short
       forty-one e (inr w) = absurd (omega (arith, w .returns .numberIs, at-most-33 (meshIn mesh) (claimIn mesh claim)))
 
-      beyond : TooShort before number place after ⊎ LineWritten mesh claim before number place after → drop 113 after ≡ drop 113 before
-      beyond (inl s) = ap (drop 113) (s .untouched)
-      beyond (inr w) = ap (drop 113) (w .writes) ∙ drop-at (reportLine decimals (fileVerdict mesh claim)) (drop 113 before) 113 line-bytes
+      beyond : TooShort before number place after ⊎ LineWritten mesh claim before number place after
+          → drop reportBytes after ≡ drop reportBytes before
+      beyond (inl s) = ap (drop reportBytes) (s .untouched)
+      beyond (inr w) = ap (drop reportBytes) (w .writes) ∙ drop-at (reportLine decimals (fileVerdict mesh claim)) (drop reportBytes before) reportBytes line-bytes
 
       as-long : TooShort before number place after ⊎ LineWritten mesh claim before number place after → length after ≡ length before
       as-long (inl s) = ap length (s .untouched)
-      as-long (inr w) = omega (arith, ap length (w .writes), length-append (reportLine decimals (fileVerdict mesh claim)) (drop 113 before), line-bytes, length-drop 113 before, w .room)
+      as-long (inr w) = omega (arith, ap length (w .writes), length-append (reportLine decimals (fileVerdict mesh claim)) (drop reportBytes before), line-bytes, length-drop reportBytes before, w .room)
 
   pub long-files : LongFiles mesh claim before number place after
   long-files = record {
@@ -254,7 +261,7 @@ module _ (mesh claim before : List ℕ) (number place : ℕ) (after : List ℕ) 
 
   -- ==== Demand 2
 
-  pub on-numbers-read : 113 ≤ length before → OnFiles mesh claim number place
+  pub on-numbers-read : reportBytes ≤ length before → OnFiles mesh claim number place
   on-numbers-read b =
       let r : Returned (meshIn mesh) (claimIn mesh claim) number place = written b .returns in
       record {
@@ -267,7 +274,7 @@ module _ (mesh claim before : List ℕ) (number place : ℕ) (after : List ℕ) 
         criterion = criterion-at-each-node (meshIn mesh) (claimIn mesh claim) number place r;
       }
 
-  pub form-exactly : 113 ≤ length before → FormExactly mesh claim number place
+  pub form-exactly : reportBytes ≤ length before → FormExactly mesh claim number place
   unfolding placeFor filesVerdict
   form-exactly b =
       let refuses = on-numbers-read b .refuses .exactly in
@@ -277,7 +284,7 @@ module _ (mesh claim before : List ℕ) (number place : ℕ) (after : List ℕ) 
       }
 
   -- what is accepted passes the checks of its lines, so its bytes are those of its numbers
-  pub accepted-files : 113 ≤ length before → AcceptedFiles mesh claim number
+  pub accepted-files : reportBytes ≤ length before → AcceptedFiles mesh claim number
   unfolding meshNumbers claimNumbers
   accepted-files b =
       let accepted : number ≡ 0 → ClaimAccepted (meshIn mesh) (claimIn mesh claim) = on-numbers-read b .returns-zero .exactly .0 in
@@ -288,12 +295,15 @@ module _ (mesh claim before : List ℕ) (number place : ℕ) (after : List ℕ) 
             written-back fileWidth (claimLayout (meshIn mesh)) (claim-regular (meshIn mesh) (some-side (meshIn mesh) mesh-lines)) claim (lines-passed (claimLayout (meshIn mesh)) (claimIn mesh claim) .passed (accepted z .lines));
       }
 
-  pub prints-columns : 113 ≤ length before → Prints (meshIn mesh) (claimIn mesh claim) number place (take 113 after)
+  pub prints-columns : reportBytes ≤ length before
+      → Prints (meshIn mesh) (claimIn mesh claim) number place (take reportBytes after)
   prints-columns b = let r = written b .returns in rw (r .numberIs, r .placeIs, line-is b) (prints (meshIn mesh) (claimIn mesh claim))
 
   -- ==== Demand 3
 
-  pub prints-open-rows : 113 ≤ length before → number ≡ 0 → HasField (claimIn mesh claim) → HasMultipliers (claimIn mesh claim) → OpenRowsPrinted (meshIn mesh) (claimIn mesh claim) (take 113 after)
+  pub prints-open-rows : reportBytes ≤ length before → number ≡ 0 → HasField (claimIn mesh claim)
+      → HasMultipliers (claimIn mesh claim)
+      → OpenRowsPrinted (meshIn mesh) (claimIn mesh claim) (take reportBytes after)
   prints-open-rows b z f w = rw (line-is b) (prints-open (meshIn mesh) (claimIn mesh claim) (sym (written b .returns .numberIs) ∙ z) f w)
 
 -- an accepted field, and accepted multipliers, of a call on files or on numbers
@@ -339,8 +349,8 @@ same-at f g (a ∷ xs) e x (List·Memᴰ·head p) = let h : f a ≡ g a = cc in 
 same-at f g (a ∷ xs) e x (List·Memᴰ·tail t) = let h : map f xs ≡ map g xs = cc in same-at f g xs h x t
 
 printed-line : (s : Sheet) → printed s ≡ reportLine decimals (fileVerdict (s .mesh) (s .claim))
-unfolding printed reportBytes
-printed-line s = ap (λ x. x .buffer) (is-line (s .mesh) (s .claim) (replicate 113 0) refl) ∙ append-nil (reportLine decimals (fileVerdict (s .mesh) (s .claim)))
+unfolding printed
+printed-line s = ap (λ x. x .buffer) (is-line (s .mesh) (s .claim) (replicate reportBytes 0) refl) ∙ append-nil (reportLine decimals (fileVerdict (s .mesh) (s .claim)))
 
 -- the starred sheets, as one table
 pub starred-written : (s : Sheet) → s ∈ starred → Written s

@@ -29,11 +29,11 @@ use Rattle.numbers.proofs.PromisesApplied.{secondSoil, answer19, aloneAnswer, n
 use Rattle.reader.specs.File.{fileOf, fileWidth}
 use Rattle.reader.specs.WellFormed.{FormFails}
 use Rattle.report.specs.Text.{word, number as shows, beforePoint, afterPoint, decimal, saidNumber, belowZero, saidMinus, andSaid, signedDecimal, isNone, said}
-use Rattle.report.specs.Report.{reportLine, decimals}
+use Rattle.report.specs.Report.{reportBytes, reportLine, decimals}
 use Rattle.report.specs.Says.{columnOf, LineSays}
 use Rattle.judge.specs.Judge.{filesVerdict}
 use Rattle.judge.specs.Handed.{files, numbers, meshOf, claimOf, HasAcceptedMultipliers, HandedBracket}
-use Rattle.pechuvo.specs.Check.{check}
+use Rattle.pechuvo.specs.Check.{mostFileBytes, check}
 use Rattle.pechuvo.specs.Sheets.{Sheet, sheet, starred}
 use Rattle.pechuvo.specs.Answers.{Answers}
 use Rattle.pechuvo.specs.Promises.{meshIn, claimIn, LowerPrinted, UpperPrinted, OpenRowsPrinted, Call, on-files, on-numbers, AsAFile}
@@ -50,7 +50,7 @@ abbrev pub at : ℕ → Sheet
 at k = getD starred k (sheet "" "" "")
 
 abbrev pub room : List ℕ
-room = replicate 113 0
+room = replicate reportBytes 0
 
 -- ---- what is answered
 
@@ -90,8 +90,8 @@ unfolding opened
 empty-claim = record { numberIs = refl; placeIs = refl; bufferIs = refl }
 
 -- the buffer of 113 bytes has room, and the parts are there
-fits : 113 ≤ length room
-fits = omega (arith, length-replicate {A = ℕ} 113 0)
+fits : reportBytes ≤ length room
+fits = omega (arith, length-replicate {A = ℕ} reportBytes 0)
 
 sheet-parts : HasField (claimIn (at 0 .mesh) (at 0 .claim)) × HasMultipliers (claimIn (at 0 .mesh) (at 0 .claim))
 unfolding opened
@@ -118,14 +118,15 @@ never-41 number place after h e = let short = any-call (at 0 .mesh) (at 0 .claim
 pub sheet-returned : Returned (meshIn (at 0 .mesh)) (claimIn (at 0 .mesh) (at 0 .claim)) 0 0
 sheet-returned = any-call (at 0 .mesh) (at 0 .claim) room 0 0 (at 0 .line) sheet-answered .returns fits
 
-pub sheet-line : take 113 (at 0 .line) ≡ reportLine decimals (filesVerdict fileWidth (at 0 .mesh) (at 0 .claim))
+pub sheet-line : take reportBytes (at 0 .line) ≡ reportLine decimals (filesVerdict fileWidth (at 0 .mesh) (at 0 .claim))
 sheet-line = any-call (at 0 .mesh) (at 0 .claim) room 0 0 (at 0 .line) sheet-answered .line fits
 
-pub sheet-says : LineSays decimals (filesVerdict fileWidth (at 0 .mesh) (at 0 .claim)) (take 113 (at 0 .line))
+pub sheet-says : LineSays decimals (filesVerdict fileWidth (at 0 .mesh) (at 0 .claim)) (take reportBytes (at 0 .line))
 sheet-says = any-call (at 0 .mesh) (at 0 .claim) room 0 0 (at 0 .line) sheet-answered .says fits
 
 -- a byte beyond 113 stays, and the buffer is as long as before
-pub byte-114 : (number place : ℕ) (after : List ℕ) → Answers (at 0 .mesh) (at 0 .claim) (replicate 114 7) number place after → drop 113 after ≡ 7 ∷ []
+pub byte-114 : (number place : ℕ) (after : List ℕ)
+    → Answers (at 0 .mesh) (at 0 .claim) (replicate 114 7) number place after → drop reportBytes after ≡ 7 ∷ []
 byte-114 number place after h = any-call (at 0 .mesh) (at 0 .claim) (replicate 114 7) number place after h .rest
 
 pub as-long : (number place : ℕ) (after : List ℕ) → Answers (at 0 .mesh) (at 0 .claim) (replicate 114 7) number place after → length after ≡ 114
@@ -133,15 +134,16 @@ as-long number place after h = any-call (at 0 .mesh) (at 0 .claim) (replicate 11
 
 -- the sheet's mesh with 65,536 spaces after it gets the answer of its first 65,536 bytes
 abbrev long-mesh : List ℕ
-long-mesh = at 0 .mesh ++ replicate 65536 32
+long-mesh = at 0 .mesh ++ replicate mostFileBytes 32
 
-short-claim : take 65536 (at 0 .claim) ≡ at 0 .claim
+short-claim : take mostFileBytes (at 0 .claim) ≡ at 0 .claim
 unfolding opened
 short-claim = refl
 
-pub sheet-cut : (number place : ℕ) (after : List ℕ) → Answers long-mesh (at 0 .claim) room number place after → Answers (take 65536 long-mesh) (at 0 .claim) room number place after
+pub sheet-cut : (number place : ℕ) (after : List ℕ) → Answers long-mesh (at 0 .claim) room number place after
+    → Answers (take mostFileBytes long-mesh) (at 0 .claim) room number place after
 sheet-cut number place after h =
-    subst (λ (claim : List ℕ). Answers (take 65536 long-mesh) claim room number place after) short-claim
+    subst (λ (claim : List ℕ). Answers (take mostFileBytes long-mesh) claim room number place after) short-claim
     (long-files long-mesh (at 0 .claim) room number place after h .cut)
 
 -- a file of 65,537 spaces
@@ -205,13 +207,13 @@ pub empty-claim-form : MeshSound (meshIn (at 0 .mesh)) × FormFails fileWidth (c
 empty-claim-form = form-exactly (at 0 .mesh) [] room 11 1 (check (at 0 .mesh) [] room .buffer) empty-claim fits .claim-form 0 .0 (refl, refl)
 
 -- 1/3 as lower 0.333333, as upper 0.333334
-pub third-lower : LowerPrinted (claimIn (at 7 .mesh) (at 7 .claim)) (take 113 (at 7 .line))
+pub third-lower : LowerPrinted (claimIn (at 7 .mesh) (at 7 .claim)) (take reportBytes (at 7 .line))
 third-lower = prints-columns (at 7 .mesh) (at 7 .claim) room 0 0 (at 7 .line) third-answered fits .lower refl (third-parts .0)
 
-pub third-upper : UpperPrinted (meshIn (at 7 .mesh)) (claimIn (at 7 .mesh) (at 7 .claim)) (take 113 (at 7 .line))
+pub third-upper : UpperPrinted (meshIn (at 7 .mesh)) (claimIn (at 7 .mesh) (at 7 .claim)) (take reportBytes (at 7 .line))
 third-upper = prints-columns (at 7 .mesh) (at 7 .claim) room 0 0 (at 7 .line) third-answered fits .upper refl (third-parts .1)
 
-third-columns : (said (columnOf 2 (take 113 (at 7 .line))) ≡ some (shows (pos 333333) 6)) × (said (columnOf 3 (take 113 (at 7 .line))) ≡ some (shows (pos 333334) 6))
+third-columns : (said (columnOf 2 (take reportBytes (at 7 .line))) ≡ some (shows (pos 333333) 6)) × (said (columnOf 3 (take reportBytes (at 7 .line))) ≡ some (shows (pos 333334) 6))
 unfolding opened
 third-columns = (refl, refl)
 
@@ -222,7 +224,7 @@ third-millionths = (
 )
 
 -- "Refused: number, place, none, none"
-pub refused-columns : (said (columnOf 0 (take 113 (at 4 .line))) ≡ some (shows (pos 32) 0)) × (said (columnOf 1 (take 113 (at 4 .line))) ≡ some (shows (pos 7) 0)) × (said (columnOf 2 (take 113 (at 4 .line))) ≡ some word) × (said (columnOf 3 (take 113 (at 4 .line))) ≡ some word)
+pub refused-columns : (said (columnOf 0 (take reportBytes (at 4 .line))) ≡ some (shows (pos 32) 0)) × (said (columnOf 1 (take reportBytes (at 4 .line))) ≡ some (shows (pos 7) 0)) × (said (columnOf 2 (take reportBytes (at 4 .line))) ≡ some word) × (said (columnOf 3 (take reportBytes (at 4 .line))) ≡ some word)
 refused-columns =
     let prints = prints-columns (at 4 .mesh) (at 4 .claim) room 32 7 (at 4 .line) refused-answered fits in
     (prints .first, prints .refused (λ e. omega arith), prints .lower-none .1 (inl (λ e. omega arith)), prints .upper-none .1 (inl (λ e. omega arith)))
@@ -232,16 +234,16 @@ no-field : ¬ HasField (claimIn (at 9 .mesh) (at 9 .claim))
 unfolding opened
 no-field e = let z : _≡_ {A = ℕ} 0 1 = cc in omega arith
 
-pub alone-no-rows : said (columnOf 1 (take 113 (at 9 .line))) ≡ some word
+pub alone-no-rows : said (columnOf 1 (take reportBytes (at 9 .line))) ≡ some word
 alone-no-rows = prints-columns (at 9 .mesh) (at 9 .claim) room 0 0 (at 9 .line) alone-file fits .rows-none refl .1 (inl no-field)
 
 -- ---- demand 3
 
 -- two open rows of l 19
-pub nineteen-open : OpenRowsPrinted (meshIn (at 1 .mesh)) (claimIn (at 1 .mesh) (at 1 .claim)) (take 113 (at 1 .line))
+pub nineteen-open : OpenRowsPrinted (meshIn (at 1 .mesh)) (claimIn (at 1 .mesh) (at 1 .claim)) (take reportBytes (at 1 .line))
 nineteen-open = prints-open-rows (at 1 .mesh) (at 1 .claim) room 0 0 (at 1 .line) nineteen-file fits refl (nineteen-parts .0) (nineteen-parts .1)
 
-nineteen-column : said (columnOf 1 (take 113 (at 1 .line))) ≡ some (shows (pos 2) 0)
+nineteen-column : said (columnOf 1 (take reportBytes (at 1 .line))) ≡ some (shows (pos 2) 0)
 unfolding opened
 nineteen-column = refl
 
@@ -249,10 +251,10 @@ pub nineteen-two : nineteen-open .number ≡ 2
 nineteen-two = let a = nineteen-open .reads in let b = nineteen-column in cc
 
 -- "1/3 on 1/3 prints 0.333333 and 0.333334 with 0 open rows"
-third-open : OpenRowsPrinted (meshIn (at 7 .mesh)) (claimIn (at 7 .mesh) (at 7 .claim)) (take 113 (at 7 .line))
+third-open : OpenRowsPrinted (meshIn (at 7 .mesh)) (claimIn (at 7 .mesh) (at 7 .claim)) (take reportBytes (at 7 .line))
 third-open = prints-open-rows (at 7 .mesh) (at 7 .claim) room 0 0 (at 7 .line) third-answered fits refl (third-parts .0) (third-parts .1)
 
-third-column : said (columnOf 1 (take 113 (at 7 .line))) ≡ some (shows (pos 0) 0)
+third-column : said (columnOf 1 (take reportBytes (at 7 .line))) ≡ some (shows (pos 0) 0)
 unfolding opened
 third-column = refl
 
@@ -344,7 +346,8 @@ nineteen-as-a-file = as-a-file nineteen-answered
 
 -- ---- the sheets
 
-pub sheet-written : (number place : ℕ) (after : List ℕ) → Answers (at 0 .mesh) (at 0 .claim) room number place after → take 113 after ≡ at 0 .line
+pub sheet-written : (number place : ℕ) (after : List ℕ) → Answers (at 0 .mesh) (at 0 .claim) room number place after
+    → take reportBytes after ≡ at 0 .line
 unfolding starred
 sheet-written number place after h = starred-written (at 0) first room after number place h fits
   where

@@ -8,14 +8,14 @@ use Rattle.reader.specs.File.{lineBytes, readColumns, readLine, widths, readLin
 use Rattle.report.specs.Text.{pointed, fixed, noneText}
 use Rattle.report.specs.Report.{loadText, lowerText, upperText, openText, fourColumns, reportLine, decimals}
 use Rattle.judge.specs.Judge.{meshNumbers, claimNumbers, filesVerdict}
-use Rattle.pechuvo.specs.Check.{reportBytes, check}
+use Rattle.pechuvo.specs.Check.{check}
 use Rattle.pechuvo.specs.Bytes.{bytes, withWord, numbersAfter, numbers}
 use Rattle.pechuvo.specs.Sheets.{sheet, printed, starred, unitSquare, noticing, workedMesh}
 use Rattle.pechuvo.specs.Shipped.{asFiles, shipped}
 
 -- for proofs by computation: every definition between the bytes of two files and the bytes of the line is open
 unfoldable pub computedLine : Unit {0}
-unfolding digitsWithin digits lastDigits rightJustified isDigit allDigits valueAfter properDigits computed spelling column unsigned negated signed readColumn lineBytes readColumns readLine widths readLines hasPassed headerPasses numbersOf columns writeLines fileOf pointed fixed noneText loadText lowerText upperText openText fourColumns reportLine decimals meshNumbers claimNumbers filesVerdict reportBytes check bytes withWord numbersAfter numbers sheet printed starred workedMesh
+unfolding digitsWithin digits lastDigits rightJustified isDigit allDigits valueAfter properDigits computed spelling column unsigned negated signed readColumn lineBytes readColumns readLine widths readLines hasPassed headerPasses numbersOf columns writeLines fileOf pointed fixed noneText loadText lowerText upperText openText fourColumns reportLine decimals meshNumbers claimNumbers filesVerdict check bytes withWord numbersAfter numbers sheet printed starred workedMesh
 computedLine = tt
 
 pub starred-sheets : map printed starred ≡ map (λ s. s .line) starred

@@ -30,7 +30,7 @@ use Rattle.report.specs.Text.{said, word}
 use Rattle.report.specs.Report.{reportLine}
 use Rattle.report.specs.Says.{columnOf, Held, NoLoad, NoLower, NoUpper}
 use Rattle.report.proofs.Line.{lower-none, upper-none, rows-none}
-use Rattle.pechuvo.proofs.Held.{held}
+use Rattle.pechuvo.proofs.VerdictFits.{held}
 
 -- a load that is there only where a test passes, over a number above 0
 load-if : (b : Bool) (num den : ℤ) → (T b → pos 0 <ℤ den) → NoLoad (cond b (Exact num den) Absent) ↔ T (not b)

@@ -7,11 +7,11 @@ use lib.ListN.{length, drop}
 use Rattle.scope.specs.Answer.{numberOf, placeOf}
 use Rattle.reader.specs.File.{fileWidth}
 use Rattle.judge.specs.Judge.{filesVerdict}
-use Rattle.report.specs.Report.{reportLine, decimals}
+use Rattle.report.specs.Report.{reportBytes, reportLine, decimals}
 
--- "The report is 113 bytes"
-unfoldable pub reportBytes : ℕ
-reportBytes = 113
+-- "at most 65,536 bytes of each" file are read
+abbrev pub mostFileBytes : ℕ
+mostFileBytes = 65536
 
 -- what is returned and what the buffer holds afterwards
 pub record Answered : Type 0 where

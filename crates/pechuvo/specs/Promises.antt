@@ -23,10 +23,11 @@ use Rattle.numbers.specs.NumbersAnswer.{answerOf}
 use Rattle.reader.specs.File.{fileOf, fileWidth}
 use Rattle.reader.specs.WellFormed.{Fit, FormFails}
 use Rattle.report.specs.Text.{word, number as shows, said}
-use Rattle.report.specs.Report.{reportLine, decimals}
+use Rattle.report.specs.Report.{reportBytes, reportLine, decimals}
 use Rattle.report.specs.Says.{columnOf, LineSays}
 use Rattle.judge.specs.Judge.{meshNumbers, claimNumbers, filesVerdict}
 use Rattle.judge.specs.Handed.{Handed, files, numbers, meshOf, claimOf, HasAcceptedMultipliers, OnTheSameMesh, HandedBracket}
+use Rattle.pechuvo.specs.Check.{mostFileBytes}
 use Rattle.pechuvo.specs.Answers.{Answers}
 use Rattle.pechuvo.specs.Sheets.{Sheet}
 
@@ -41,20 +42,20 @@ claimIn mesh claim = claimNumbers fileWidth (meshIn mesh) claim
 
 pub record AnyCall (mesh claim before : List ℕ) (number place : ℕ) (after : List ℕ) : Type 0 where
   -- "41, place 0, untouched: buffer under 113 bytes", and 41 in no other case
-  pub too-short : length before < 113 → (number ≡ 41) × (place ≡ 0) × (after ≡ before)
-  pub only-then : number ≡ 41 → length before < 113
+  pub too-short : length before < reportBytes → (number ≡ 41) × (place ≡ 0) × (after ≡ before)
+  pub only-then : number ≡ 41 → length before < reportBytes
   -- else the verdict's number and place, and its line: "four columns of 28, right-justified, and byte 10"
-  pub returns : 113 ≤ length before → Returned (meshIn mesh) (claimIn mesh claim) number place
-  pub line : 113 ≤ length before → take 113 after ≡ reportLine decimals (filesVerdict fileWidth mesh claim)
-  pub says : 113 ≤ length before → LineSays decimals (filesVerdict fileWidth mesh claim) (take 113 after)
+  pub returns : reportBytes ≤ length before → Returned (meshIn mesh) (claimIn mesh claim) number place
+  pub line : reportBytes ≤ length before → take reportBytes after ≡ reportLine decimals (filesVerdict fileWidth mesh claim)
+  pub says : reportBytes ≤ length before → LineSays decimals (filesVerdict fileWidth mesh claim) (take reportBytes after)
   -- "Bytes beyond 113 are never written"
-  pub rest : drop 113 after ≡ drop 113 before
+  pub rest : drop reportBytes after ≡ drop reportBytes before
   pub size : length after ≡ length before
 
 -- "at most 65,536 bytes of each ..; a longer file is too long for any mesh or claim and is refused as its first 65,536 bytes are"
 pub record LongFiles (mesh claim before : List ℕ) (number place : ℕ) (after : List ℕ) : Type 0 where
-  pub cut : Answers (take 65536 mesh) (take 65536 claim) before number place after
-  pub never-accepted : (65536 < length mesh) ⊎ (65536 < length claim) → number ≢ 0
+  pub cut : Answers (take mostFileBytes mesh) (take mostFileBytes claim) before number place after
+  pub never-accepted : (mostFileBytes < length mesh) ⊎ (mostFileBytes < length claim) → number ≢ 0
 
 -- ==== Demand 2: what is accepted, what is refused, what is printed; where the buffer has 113 bytes
 
@@ -137,4 +138,4 @@ pub record AsAFile (m c : List ℤ) (r : NumbersAnswer) : Type 0 where
 
 -- each sheet's line stands at the front of the buffer
 abbrev pub Written : Sheet → Type 0
-Written s = (before after : List ℕ) (number place : ℕ) → Answers (s .mesh) (s .claim) before number place after → 113 ≤ length before → take 113 after ≡ s .line
+Written s = (before after : List ℕ) (number place : ℕ) → Answers (s .mesh) (s .claim) before number place after → reportBytes ≤ length before → take reportBytes after ≡ s .line

@@ -8,7 +8,8 @@ use Rattle.scope.specs.Mesh.{meshLayout}
 use Rattle.scope.specs.Claim.{claimLayout}
 use Rattle.reader.specs.File.{fileOf, fileWidth}
 use Rattle.pechuvo.specs.Bytes.{bytes, numbers}
-use Rattle.pechuvo.specs.Check.{reportBytes, check}
+use Rattle.report.specs.Report.{reportBytes}
+use Rattle.pechuvo.specs.Check.{check}
 
 -- the bytes of two files, and the line that they give
 pub record Sheet : Type 0 where

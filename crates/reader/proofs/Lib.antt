@@ -9,9 +9,9 @@ pub mod WrittenBack
 pub mod Cut
 pub mod OnePass
 pub mod Entries
-pub mod Taken
+pub mod LinesRead
 pub mod InLine
 pub mod Whole
-pub mod Told
+pub mod LinesAfterHeader
 pub mod Most
 pub mod TableBytes

@@ -18,11 +18,11 @@ use Rattle.scope.specs.Layout.{Layout, width}
 use Rattle.scope.specs.Verdict.{lineCheck}
 use Rattle.reader.specs.declared.file_lines.Progress.{Progress}
 use Rattle.reader.specs.File.{fileWidth, lineBytes, readLine, widths, readLines, hasPassed, headerPasses, numbersOf}
-use Rattle.reader.specs.HowFar.{start, past, written, LineTaken, LineRoom, allNumbers, LinesTaken, Room}
+use Rattle.reader.specs.ReadSoFar.{start, past, written, LineTaken, LineRoom, allNumbers, LinesTaken, Room}
 use Rattle.reader.specs.Listed.{Listed}
 use Rattle.reader.proofs.Line.{line-means}
 use Rattle.reader.proofs.Cut.{line-there}
-use Rattle.reader.proofs.Taken.{drop-further}
+use Rattle.reader.proofs.LinesRead.{drop-further}
 
 -- ---- after the last line
 

@@ -5,6 +5,6 @@ pub mod WellFormed
 pub mod WrittenBack
 pub mod Listed
 pub mod OnePass
-pub mod HowFar
+pub mod ReadSoFar
 pub mod Most
 pub mod TableBytes

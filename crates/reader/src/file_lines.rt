@@ -14,7 +14,7 @@ ghost use lib.ListN.{length, take, drop};
 ghost use Rattle.lines.specs.Table.{mostColumns, Known, lineWidths};
 ghost use Rattle.reader.specs.OnePass.{Table};
 ghost use Rattle.reader.specs.File.{fileWidth, readLine};
-ghost use Rattle.reader.specs.HowFar.{start, LineTaken, LineRoom, linesOf, LinesTaken, allNumbers, Room, RoomBefore};
+ghost use Rattle.reader.specs.ReadSoFar.{start, LineTaken, LineRoom, linesOf, LinesTaken, allNumbers, Room, RoomBefore};
 ghost use Rattle.reader.specs.Listed.{Listed};
 
 // How far a file is read: whether its lines so far are all well formed, the place of its next byte, and how many numbers it has so far.

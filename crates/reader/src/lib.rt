@@ -40,7 +40,7 @@ ghost use Rattle.mesh.specs.MeshContracts.{HeaderThere, FewThings};
 ghost use Rattle.lines.specs.Table.{Known, claimBody};
 ghost use Rattle.reader.specs.File.{fileWidth, numbersOf, widths};
 ghost use Rattle.reader.specs.OnePass.{Table};
-ghost use Rattle.reader.specs.HowFar.{allNumbers, Room};
+ghost use Rattle.reader.specs.ReadSoFar.{allNumbers, Room};
 ghost use Rattle.reader.specs.Listed.{Listed, ClaimRoom, ClaimListed};
 ghost use Rattle.reader.specs.Most.{mostNumbers};
 ghost use Rattle.reader.specs.TableBytes.{mostBytes, bytesIn};

@@ -17,7 +17,7 @@ use Rattle.scope.specs.declared.Verdict.{Verdict}
 use Rattle.scope.specs.declared.Verdict.the-variants.{Accepted, Refused}
 use Rattle.scope.specs.Answer.{placeNumber}
 use Rattle.report.specs.Text.{noneText}
-use Rattle.report.specs.Report.{loadText, lowerText, upperText, openText, fourColumns, reportLine}
+use Rattle.report.specs.Report.{reportBytes, loadText, lowerText, upperText, openText, fourColumns, reportLine}
 use Rattle.report.specs.declared.Reported.the-variants.{Written, TooShort}
 use Rattle.report.specs.Buffer.{afterReport, reported, Reports}
 
@@ -111,14 +111,14 @@ refused-line d v k n place rest e m f = rw (e, ← m) f
 
 -- ---- by the buffer's length
 
-pub too-short : (d : ℕ) (v : Verdict) (buffer : List ℕ) → length buffer < 113 → Reports d v buffer buffer TooShort
+pub too-short : (d : ℕ) (v : Verdict) (buffer : List ℕ) → length buffer < reportBytes → Reports d v buffer buffer TooShort
 unfolding afterReport reported
 too-short d v buffer h =
-    let t = lt-ltb (length buffer) 113 h in
+    let t = lt-ltb (length buffer) reportBytes h in
     record { buffer = rw (t, afterReport); answer = rw (t, reported) }
 
-pub written : (d : ℕ) (v : Verdict) (buffer : List ℕ) {after : List ℕ} → 113 ≤ length buffer → after ≡ reportLine d v ++ drop 113 buffer → Reports d v buffer after Written
+pub written : (d : ℕ) (v : Verdict) (buffer : List ℕ) {after : List ℕ} → reportBytes ≤ length buffer → after ≡ reportLine d v ++ drop reportBytes buffer → Reports d v buffer after Written
 unfolding afterReport reported
 written d v buffer h e =
-    let t = le-ltb (length buffer) 113 h in
+    let t = le-ltb (length buffer) reportBytes h in
     record { buffer = rw (t, afterReport) e; answer = rw (t, reported) }

@@ -9,15 +9,15 @@ use Rattle.scope.specs.declared.Verdict.{Verdict}
 use Rattle.scope.specs.Answer.{numberOf, placeOf}
 use Rattle.report.specs.declared.Reported.{Reported}
 use Rattle.report.specs.declared.Reported.the-variants.{Written, TooShort}
-use Rattle.report.specs.Report.{reportLine}
+use Rattle.report.specs.Report.{reportBytes, reportLine}
 
 -- "buffer under 113 bytes": untouched; else the report stands at its front, and "Bytes beyond 113 are never written"
 unfoldable pub afterReport : ℕ → Verdict → List ℕ → List ℕ
 afterReport d v buffer =
-    elim (ltb (length buffer) 113) [ true ↦ buffer | false ↦ reportLine d v ++ drop 113 buffer ]
+    elim (ltb (length buffer) reportBytes) [ true ↦ buffer | false ↦ reportLine d v ++ drop reportBytes buffer ]
 
 unfoldable pub reported : List ℕ → Reported
-reported buffer = elim (ltb (length buffer) 113) [ true ↦ TooShort | false ↦ Written ]
+reported buffer = elim (ltb (length buffer) reportBytes) [ true ↦ TooShort | false ↦ Written ]
 
 -- what is returned for each answer: "41, place 0"; else the verdict's number and place
 abbrev pub reportedNumber : Verdict → Reported → ℕ

@@ -1,6 +1,6 @@
 -- The report line (document 01, 'Verdict and report'): "The report is 113 bytes: four columns of 28, right-justified, and byte 10."
 use mathlib.Core.List.{List, [], _∷_, _++_}
-use Prim.Native.Nat.{ℕ, zero, suc, _^_}
+use Prim.Native.Nat.{ℕ, zero, suc, _+_, _*_, _^_}
 use lib.IntN.{ℤ, pos, negsuc, _*ℤ_}
 use Rattle.integer.specs.Decimal.{digits, rightJustified}
 use Rattle.integer.specs.Round.{floorDiv, ceilDiv}
@@ -12,6 +12,14 @@ use Rattle.scope.specs.declared.Verdict.{Verdict}
 use Rattle.scope.specs.declared.Verdict.the-variants.{Accepted, Refused}
 use Rattle.scope.specs.Answer.{placeNumber}
 use Rattle.report.specs.Text.{fixed, noneText}
+
+-- "four columns of 28"
+abbrev pub columnBytes : ℕ
+columnBytes = 28
+
+-- "The report is 113 bytes": the columns and byte 10
+abbrev pub reportBytes : ℕ
+reportBytes = 4 * columnBytes + 1
 
 -- a load with d decimals, rounded once by `round`; a load whose denominator is not above 0 is none (an accepted claim has no such load)
 unfoldable pub loadText : (ℤ → ℕ → ℤ) → ℕ → Load → List ℕ
@@ -33,7 +41,8 @@ openText (Count k) = digits k
 
 unfoldable pub fourColumns : List ℕ → List ℕ → List ℕ → List ℕ → List ℕ
 fourColumns a b c e =
-    rightJustified 28 a ++ (rightJustified 28 b ++ (rightJustified 28 c ++ (rightJustified 28 e ++ (10 ∷ []))))
+    rightJustified columnBytes a
+    ++ (rightJustified columnBytes b ++ (rightJustified columnBytes c ++ (rightJustified columnBytes e ++ (10 ∷ []))))
 
 -- "Accepted .. reports: 0; the open rows ..; l/n; W/m"; "Refused: number, place, none, none"
 unfoldable pub reportLine : ℕ → Verdict → List ℕ

@@ -17,10 +17,11 @@ use Rattle.scope.specs.declared.Verdict.{Verdict}
 use Rattle.scope.specs.declared.Verdict.the-variants.{Accepted, Refused}
 use Rattle.scope.specs.Answer.{placeNumber}
 use Rattle.report.specs.Text.{Said, word, number, said}
+use Rattle.report.specs.Report.{columnBytes, reportBytes}
 
 -- column i of a line, counted from 0: "four columns of 28"
 unfoldable pub columnOf : ℕ → List ℕ → List ℕ
-columnOf i line = take 28 (drop (i * 28) line)
+columnOf i line = take columnBytes (drop (i * columnBytes) line)
 
 -- ---- the numbers that can come, by a verdict's machine types
 
@@ -67,10 +68,10 @@ pub data Says (d : ℕ) : Verdict → Said → Said → Said → Said → Type 0
   says-accepted : {o : OpenRows} {lower upper : Load} {b c e : Said} → RowsSay o b → LoadSays Floor d lower c → LoadSays Ceil d upper e → Says d (Accepted o lower upper) (number (pos 0) 0) b c e
   says-refused : (k : ℕ) (place : Place) → Says d (Refused k place) (number (pos k) 0) (number (pos (placeNumber place)) 0) word word
 
--- a line of 113 bytes, the last of them byte 10, whose columns say that
+-- a line of as many bytes as the report has, byte 10 after its four columns, whose columns say that
 pub record LineSays (d : ℕ) (v : Verdict) (line : List ℕ) : Type 0 where
-  pub bytes : length line ≡ 113
-  pub end : drop 112 line ≡ 10 ∷ []
+  pub bytes : length line ≡ reportBytes
+  pub end : drop (4 * columnBytes) line ≡ 10 ∷ []
   pub first : Said
   pub second : Said
   pub third : Said

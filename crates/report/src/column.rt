@@ -1,11 +1,13 @@
-// Texts in a column of 28 bytes, written from its end: each function is told where its text ends.
+// Texts in a column, written from its end: each function is told where its text ends.
 ghost use mathlib.Core.Path.{_≡_};
 ghost use Prim.Native.Nat.{_≤_};
 ghost use lib.ListN.{length, replicate};
 ghost use Rattle.integer.specs.Decimal.{digits, lastDigits, rightJustified};
 ghost use Rattle.report.specs.Text.{noneText};
+ghost use Rattle.report.specs.Report.{columnBytes};
 ghost use Rattle.report.specs.Column.{endingAt, Ends};
 
+// "four columns of 28"
 pub const WIDTH: usize = 28;
 
 // Spaces everywhere.
@@ -67,8 +69,8 @@ pub fn put_text(column: &mut [u8], end: usize, text: &[u8])
 
 // A number.
 pub fn put_number(column: &mut [u8], k: u64)
-    requires { ⌜ length (now column) ≡ 28 ⌝ }
-    ensures { λ _. ⌜ now (column .exit) ≡ rightJustified 28 (digits k) ⌝ }
+    requires { ⌜ length (now column) ≡ columnBytes ⌝ }
+    ensures { λ _. ⌜ now (column .exit) ≡ rightJustified columnBytes (digits k) ⌝ }
 {
     blank(column);
     put_digits(column, WIDTH, k);
@@ -76,8 +78,8 @@ pub fn put_number(column: &mut [u8], k: u64)
 
 // "the four letters none"
 pub fn put_none(column: &mut [u8])
-    requires { ⌜ length (now column) ≡ 28 ⌝ }
-    ensures { λ _. ⌜ now (column .exit) ≡ rightJustified 28 noneText ⌝ }
+    requires { ⌜ length (now column) ≡ columnBytes ⌝ }
+    ensures { λ _. ⌜ now (column .exit) ≡ rightJustified columnBytes noneText ⌝ }
 {
     blank(column);
     put_text(column, WIDTH, b"none");

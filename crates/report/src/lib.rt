@@ -3,6 +3,7 @@ mod column;
 mod division;
 mod load;
 
+use column::WIDTH;
 use column::put_none;
 use column::put_number;
 use load::put_load;
@@ -15,7 +16,7 @@ ghost use mathlib.Core.List.{_++_};
 ghost use Prim.Native.Nat.{_≤_};
 ghost use lib.ListN.{length, drop};
 ghost use Rattle.integer.specs.Decimal.{digits, rightJustified};
-ghost use Rattle.report.specs.Report.{lowerText, upperText, openText, fourColumns, reportLine, decimals};
+ghost use Rattle.report.specs.Report.{columnBytes, reportBytes, lowerText, upperText, openText, fourColumns, reportLine, decimals};
 ghost use Rattle.report.specs.Buffer.{Reports};
 
 // Whether the line was written, or the buffer has no room for it.
@@ -24,15 +25,25 @@ pub enum Reported {
     TooShort,
 }
 
-const LINE: usize = 113;
+// Where the columns after the first begin, and where the last ends.
+const SECOND: usize = WIDTH;
+
+const THIRD: usize = 2 * WIDTH;
+
+const FOURTH: usize = 3 * WIDTH;
+
+const END: usize = 4 * WIDTH;
+
+// "The report is 113 bytes": four columns and byte 10.
+pub const LINE: usize = END + 1;
 
 // "Both loads have six decimals"
 const DECIMALS: usize = 6;
 
 // The open rows, or none where there is no count.
 fn put_open(column: &mut [u8], open_rows: OpenRows)
-    requires { ⌜ length (now column) ≡ 28 ⌝ }
-    ensures { λ _. ⌜ now (column .exit) ≡ rightJustified 28 (openText «open_rows») ⌝ }
+    requires { ⌜ length (now column) ≡ columnBytes ⌝ }
+    ensures { λ _. ⌜ now (column .exit) ≡ rightJustified columnBytes (openText «open_rows») ⌝ }
 {
     match open_rows {
         OpenRows::Absent => put_none(column),
@@ -44,20 +55,20 @@ fn put_open(column: &mut [u8], open_rows: OpenRows)
 
 // Four columns and byte 10. The second is a number or none, as the open rows are.
 fn put_line(buffer: &mut [u8], number: u64, second: OpenRows, lower: Load, upper: Load, d: usize)
-    requires { ⌜ d ≤ 7 ⌝ ∗ ⌜ 113 ≤ length (now buffer) ⌝ }
-    ensures { λ _. ⌜ now (buffer .exit) ≡ fourColumns (digits number) (openText second) (lowerText d lower) (upperText d upper) ++ drop 113 (now (buffer .entry)) ⌝ }
+    requires { ⌜ d ≤ 7 ⌝ ∗ ⌜ reportBytes ≤ length (now buffer) ⌝ }
+    ensures { λ _. ⌜ now (buffer .exit) ≡ fourColumns (digits number) (openText second) (lowerText d lower) (upperText d upper) ++ drop reportBytes (now (buffer .entry)) ⌝ }
 {
-    put_number(&mut buffer[0..28], number);
-    put_open(&mut buffer[28..56], second);
-    put_load(&mut buffer[56..84], lower, false, d);
-    put_load(&mut buffer[84..112], upper, true, d);
-    buffer[112] = b'\n';
+    put_number(&mut buffer[0..SECOND], number);
+    put_open(&mut buffer[SECOND..THIRD], second);
+    put_load(&mut buffer[THIRD..FOURTH], lower, false, d);
+    put_load(&mut buffer[FOURTH..END], upper, true, d);
+    buffer[END] = b'\n';
 }
 
 // "Accepted .. reports: 0; the open rows ..; l/n; W/m"; "Refused: number, place, none, none"
 fn write_line(v: Verdict, buffer: &mut [u8], d: usize)
-    requires { ⌜ 113 ≤ length (now buffer) ⌝ ∗ ⌜ d ≤ 7 ⌝ }
-    ensures { λ _. ⌜ now (buffer .exit) ≡ reportLine d v ++ drop 113 (now (buffer .entry)) ⌝ }
+    requires { ⌜ reportBytes ≤ length (now buffer) ⌝ ∗ ⌜ d ≤ 7 ⌝ }
+    ensures { λ _. ⌜ now (buffer .exit) ≡ reportLine d v ++ drop reportBytes (now (buffer .entry)) ⌝ }
 {
     match v {
         Verdict::Accepted {

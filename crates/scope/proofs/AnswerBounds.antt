@@ -1,8 +1,8 @@
 -- Every number and place of a refusal is small: a place is a line, row, column, node or element of a mesh whose header has passed, or the first line.
-use mathlib.Core.Path.{_≡_, refl, ap}
-use mathlib.Core.Logic.{_⊎_, inl, inr}
+use mathlib.Core.Path.{_≡_, refl}
 use mathlib.Core.List.{List, _++_}
 use Prim.Native.Nat.{ℕ, zero, suc, _+_, _*_, _<_, _≤_}
+use native.Mathlib.Nat.{mul-le-mul}
 use native.Mathlib.Decide.{decLt}
 use native.Mathlib.Omega.{arith}
 use lib.IntN.{ℤ}
@@ -11,7 +11,7 @@ use Rattle.scope.specs.declared.Place.{Place}
 use Rattle.scope.specs.Answer.{placeNumber}
 use Rattle.scope.specs.Columns.{hasField, hasMultipliers, n, l}
 use Rattle.scope.specs.Layout.{Layout, groupAt, numbersAt, groups, lineCount, linesBefore}
-use Rattle.scope.specs.Mesh.{meshHeader, soilLines, nodeLines, elementLines, edgeLines, meshLayout, meshGroups, nodes, elements, soils, edges, sides, edgeLine}
+use Rattle.scope.specs.Mesh.{mostNodes, mostSides, meshHeader, soilLines, nodeLines, elementLines, edgeLines, meshLayout, meshGroups, nodes, elements, soils, edges, sides, edgeLine}
 use Rattle.scope.specs.Claim.{claimHeader, stressLines, elementMultipliers, edgeMultipliers, strengthMultipliers, claimLayout, stress, multiplier}
 use Rattle.scope.specs.Rows.{equalityRows, strengthRows, rowsOf}
 use Rattle.scope.specs.Statements.{LineSound}
@@ -22,6 +22,7 @@ use Rattle.scope.proofs.NumberRanges.{header-counts, mesh-facts}
 use Rattle.scope.proofs.Phases.{EachIn, each-refusal, each-join, each-part, own-number}
 use Rattle.scope.proofs.Refusals.{line-sound, lines-sound, mesh-sound}
 use Rattle.scope.proofs.Exactly.{there-most, each-number}
+use Rattle.scope.proofs.PolygonRule.{listed-polygon}
 use Rattle.scope.proofs.RowCounts.{equality-count, strength-count}
 
 -- the lines of a mesh whose header has passed
@@ -60,14 +61,10 @@ edge-line : (m : List ℤ) (g : ℕ) → edgeLine m g ≡ 1 + soils m + nodes m 
 unfolding edgeLine meshGroups meshLayout groups meshHeader soilLines nodeLines elementLines edgeLines linesBefore
 edge-line m g = omega arith
 
--- at most 3,600 strength rows
-pub few-strengths : (m : List ℤ) → Counts m → length (strengthRows m) ≤ 3600
-few-strengths m c = by (c .sidesListed)
-  where
-    by : (sides m ≡ 12) ⊎ ((sides m ≡ 20) ⊎ (sides m ≡ 36)) → length (strengthRows m) ≤ 3600
-    by (inl e) = omega (arith, strength-count m (inl e), ap (λ (k : ℕ). nodes m * k) e, c .nodesMost)
-    by (inr (inl e)) = omega (arith, strength-count m (inr (inl e)), ap (λ (k : ℕ). nodes m * k) e, c .nodesMost)
-    by (inr (inr e)) = omega (arith, strength-count m (inr (inr e)), ap (λ (k : ℕ). nodes m * k) e, c .nodesMost)
+pub few-strengths : (m : List ℤ) → Counts m → length (strengthRows m) ≤ mostNodes * mostSides
+few-strengths m c =
+    let most = mul-le-mul (c .nodesMost) (listed-polygon (sides m) (c .sidesListed) .fits .fewSides) in
+    omega (arith, strength-count m (c .sidesListed), most)
 
 -- ---- numbers
 

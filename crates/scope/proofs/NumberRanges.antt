@@ -14,6 +14,7 @@ use Rattle.scope.specs.Layout.{width, groups, lineCount, numberCount, li
 use Rattle.scope.specs.Mesh.{meshHeader, soilLines, nodeLines, elementLines, edgeLines, meshLayout, meshGroups, nodes, elements, soils, edges, sides, p, q, h, cohesion, soilEntry, x, y, corner, elementSoil, edgeEntry, fromNode, toNode}
 use Rattle.scope.specs.Statements.{Within, LineSound, LinesSound}
 use Rattle.scope.specs.NumberRanges.{Between, Counts, SoilFacts, NodeFacts, ElementFacts, EdgeFacts, MeshFacts}
+use Rattle.scope.proofs.PolygonRule.{listed-polygon}
 use Rattle.scope.proofs.Lines.{group, lineIn, LineFacts, line-facts-of, line-facts, at-lineIn}
 
 -- ---- counts
@@ -56,12 +57,7 @@ header-counts m s =
 
 -- a polygon has sides
 pub some-sides : {m : List ℤ} → Counts m → 0 < sides m
-some-sides {m} c = by (c .sidesListed)
-  where
-    by : (sides m ≡ 12) ⊎ ((sides m ≡ 20) ⊎ (sides m ≡ 36)) → 0 < sides m
-    by (inl e) = omega arith
-    by (inr (inl e)) = omega arith
-    by (inr (inr e)) = omega arith
+some-sides {m} c = listed-polygon (sides m) (c .sidesListed) .fits .someSides
 
 module _ (m : List ℤ) (s : LinesSound meshLayout m) where
   pub counts : Counts m

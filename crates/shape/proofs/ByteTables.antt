@@ -13,7 +13,7 @@ use lib.Seq.{getD-set-same, getD-set-other}
 use borrow.Author.Tests.{eqb-false, eq-eqb, ne-eqb}
 use Rattle.scope.specs.Checks.{someBelow}
 use Rattle.scope.specs.Rows.{firstWhere}
-use Rattle.shape.specs.ShapeContracts.{Holds, put, isNone, keepFirst, byteBelow}
+use Rattle.shape.specs.ShapeContracts.{noByte, Holds, put, isNone, keepFirst, byteBelow}
 use Rattle.scope.proofs.Checks.{below-suc}
 use Rattle.scope.proofs.Decides.{first-where}
 
@@ -34,8 +34,8 @@ kept free old byte = cond (free old) byte old
 pub holds-as : {n : ℕ} {f g : ℕ → ℕ} {t : List ℕ} → Holds n f t → ((v : ℕ) → f v ≡ g v) → Holds n g t
 holds-as h e = record { size = h .size; says = λ v i. h .says v i ∙ e v }
 
-pub holds-none : (n : ℕ) → Holds n (λ v. 255) (replicate n 255)
-holds-none n = record { size = length-replicate {A = ℕ} n 255; says = λ v i. getD-replicate n v 255 0 i }
+pub holds-none : (n : ℕ) → Holds n (λ v. noByte) (replicate n noByte)
+holds-none n = record { size = length-replicate {A = ℕ} n noByte; says = λ v i. getD-replicate n v noByte 0 i }
 
 pub put-one : (free : ℕ → Bool) {n : ℕ} {f : ℕ → ℕ} {t : List ℕ} → Holds n f t → {p : ℕ} → p < n → (byte : ℕ) → Holds n (λ v. cond (eqb p v) (kept free (f v) byte) (f v)) (put free t p byte)
 unfolding put
@@ -179,12 +179,12 @@ module _ (reach : ℕ → ℕ → Bool) (old : ℕ → ℕ) (byte : ℕ) {n : �
       subst (λ (j : ℕ). Holds n (λ v. given (reach v) (old v) byte j) u) (sym (add-one i))
       (subst (Holds n (λ v. given (reach v) (old v) byte (suc i))) (sym g) (holds-as (put-one isNone h l byte) more))
     where
-      twice : (x : ℕ) (b : Bool) → eqb x 255 ≡ b → kept isNone (kept isNone x byte) byte ≡ kept isNone x byte
-      twice x true e = let k : kept isNone x byte ≡ byte = ap (λ (b : Bool). cond b byte x) e in ap (λ (y : ℕ). kept isNone y byte) k ∙ cond-same (eqb byte 255) byte ∙ sym k
+      twice : (x : ℕ) (b : Bool) → eqb x noByte ≡ b → kept isNone (kept isNone x byte) byte ≡ kept isNone x byte
+      twice x true e = let k : kept isNone x byte ≡ byte = ap (λ (b : Bool). cond b byte x) e in ap (λ (y : ℕ). kept isNone y byte) k ∙ cond-same (eqb byte noByte) byte ∙ sym k
       twice x false e = let k : kept isNone x byte ≡ x = ap (λ (b : Bool). cond b byte x) e in ap (λ (y : ℕ). kept isNone y byte) k
 
       regroup : (b d : Bool) (x : ℕ) → cond d (kept isNone (cond b (kept isNone x byte) x) byte) (cond b (kept isNone x byte) x) ≡ cond (b || d) (kept isNone x byte) x
-      regroup true true x = twice x (eqb x 255) refl
+      regroup true true x = twice x (eqb x noByte) refl
       regroup true false x = refl
       regroup false d x = refl
 
@@ -193,12 +193,12 @@ module _ (reach : ℕ → ℕ → Bool) (old : ℕ → ℕ) (byte : ℕ) {n : �
           ap (λ (b : Bool). cond b (kept isNone (given (reach v) (old v) byte i) byte) (given (reach v) (old v) byte i)) (d v)
           ∙ regroup (someBelow (reach v) i) (reach v i) (old v)
 
-pub all-given : (reach has : ℕ → ℕ → Bool) (value : ℕ → ℕ) {e n i k : ℕ} {t : List ℕ} → Holds n (λ v. given (reach v) (byteBelow 255 (has v) value e) (value e) i) t → i ≡ k → ((v : ℕ) → someBelow (reach v) k ≡ has v e) → ((k : ℕ) → k < e → isNone (value k) ≡ false) → Holds n (λ v. byteBelow 255 (has v) value (e + 1)) t
+pub all-given : (reach has : ℕ → ℕ → Bool) (value : ℕ → ℕ) {e n i k : ℕ} {t : List ℕ} → Holds n (λ v. given (reach v) (byteBelow noByte (has v) value e) (value e) i) t → i ≡ k → ((v : ℕ) → someBelow (reach v) k ≡ has v e) → ((k : ℕ) → k < e → isNone (value k) ≡ false) → Holds n (λ v. byteBelow noByte (has v) value (e + 1)) t
 all-given reach has value {e} {n} {i} {k} {t} h all d taken =
-    subst (λ (k : ℕ). Holds n (λ v. byteBelow 255 (has v) value k) t) (sym (add-one e))
-    (holds-as (subst (λ (j : ℕ). Holds n (λ v. given (reach v) (byteBelow 255 (has v) value e) (value e) j) t) all h) more)
+    subst (λ (k : ℕ). Holds n (λ v. byteBelow noByte (has v) value k) t) (sym (add-one e))
+    (holds-as (subst (λ (j : ℕ). Holds n (λ v. given (reach v) (byteBelow noByte (has v) value e) (value e) j) t) all h) more)
   where
-    more : (v : ℕ) → given (reach v) (byteBelow 255 (has v) value e) (value e) k ≡ byteBelow 255 (has v) value (suc e)
+    more : (v : ℕ) → given (reach v) (byteBelow noByte (has v) value e) (value e) k ≡ byteBelow noByte (has v) value (suc e)
     more v =
-        ap (λ (b : Bool). cond b (kept isNone (byteBelow 255 (has v) value e) (value e)) (byteBelow 255 (has v) value e)) (d v)
+        ap (λ (b : Bool). cond b (kept isNone (byteBelow noByte (has v) value e) (value e)) (byteBelow noByte (has v) value e)) (d v)
         ∙ byte-more isNone refl (has v) value e taken

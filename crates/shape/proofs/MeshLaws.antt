@@ -9,7 +9,7 @@ use lib.Signed.{ltZ}
 use Rattle.integer.specs.Bounds.{Is}
 use Rattle.mesh.specs.declared.sizes.Sizes.{Sizes}
 use Rattle.scope.specs.Layout.{groups, linesBefore}
-use Rattle.scope.specs.Mesh.{meshHeader, soilLines, nodeLines, elementLines, edgeLines, meshLayout, meshGroups, nodes, elements, soils, edges, corner, cornerCount, around, fromNode, toNode, edgeLine}
+use Rattle.scope.specs.Mesh.{mostNodes, mostElements, mostSoils, mostEdges, meshHeader, soilLines, nodeLines, elementLines, edgeLines, meshLayout, meshGroups, nodes, elements, soils, edges, corner, cornerCount, around, fromNode, toNode, edgeLine}
 use Rattle.mesh.specs.MeshContracts.{Sized}
 use Rattle.scope.specs.Tests.{turn, leftTurnAt}
 use Rattle.scope.proofs.Triangles.{some-corners, around-below, around-is}
@@ -29,11 +29,11 @@ pub around-there : {m : List ℤ} {s : Sizes} → Sized m s → {e : ℕ} → e 
 unfolding around
 around-there {m} k {e} l i = k .facts .element e l .cornerThere (i % cornerCount m e) (around-below m e i)
 
-pub corner-below : {m : List ℤ} {s : Sizes} → Sized m s → {a e i : ℕ} → e < elements m → i < 4 → a ≡ corner m e i → a < 100
+pub corner-below : {m : List ℤ} {s : Sizes} → Sized m s → {a e i : ℕ} → e < elements m → i < 4 → a ≡ corner m e i → a < mostNodes
 corner-below k {e = e} {i = i} l j d = omega (arith, k .facts .element e l .cornerThere i j, k .facts .counts .nodesMost)
 
 -- the place of a side in a table
-pub side-fits : {m : List ℤ} {s : Sizes} → Sized m s → {a b e n : ℕ} → e < elements m → (i : ℕ) → nodes m * 100 ≤ n → a ≡ around m e i → b ≡ around m e (i + 1) → a * 100 + b < n
+pub side-fits : {m : List ℤ} {s : Sizes} → Sized m s → {a b e n : ℕ} → e < elements m → (i : ℕ) → nodes m * mostNodes ≤ n → a ≡ around m e i → b ≡ around m e (i + 1) → a * mostNodes + b < n
 side-fits k l i r d f = omega (arith, around-there k l i, around-there k l (i + 1), k .facts .counts .nodesMost)
 
 -- a cross product of numbers that the machine has
@@ -51,7 +51,7 @@ left-turn-from m e i n d f g h = h ∙ ap (ltZ (pos 0)) (ap₃ (d ∙ ap (λ (k 
 
 module _ (m : List ℤ) where
   -- the place of an edge's side in a table, and of the reverse
-  pub edge-fits : {s : Sizes} → Sized m s → {g a b n : ℕ} → g < edges m → nodes m * 100 ≤ n → a ≡ fromNode m g → b ≡ toNode m g → (a * 100 + b < n) × (b * 100 + a < n)
+  pub edge-fits : {s : Sizes} → Sized m s → {g a b n : ℕ} → g < edges m → nodes m * mostNodes ≤ n → a ≡ fromNode m g → b ≡ toNode m g → (a * mostNodes + b < n) × (b * mostNodes + a < n)
   edge-fits k {g} l r d e =
       let f = k .facts .edge g l in
       (omega (arith, f .fromThere, f .toThere, k .facts .counts .nodesMost), omega (arith, f .fromThere, f .toThere, k .facts .counts .nodesMost))
@@ -60,5 +60,5 @@ module _ (m : List ℤ) where
   unfolding edgeLine linesBefore meshGroups groups meshLayout meshHeader soilLines nodeLines elementLines edgeLines
   edge-line k g e = omega (arith, k .soilsAre, k .nodesAre, k .elementsAre)
 
-  pub edge-line-fits : {s : Sizes} → Sized m s → {g : ℕ} → g < s .edges → s .soils + s .nodes + s .elements + g < 1000
+  pub edge-line-fits : {s : Sizes} → Sized m s → {g : ℕ} → g < s .edges → s .soils + s .nodes + s .elements + g < mostSoils + mostNodes + mostElements + mostEdges
   edge-line-fits k l = let c = k .facts .counts in omega (arith, k .soilsAre, k .nodesAre, k .elementsAre, k .edgesAre, c .soilsMost, c .nodesMost, c .elementsMost, c .edgesMost)

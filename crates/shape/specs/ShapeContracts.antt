@@ -8,11 +8,15 @@ use lib.Dec.{eqb}
 use lib.ListN.{length, getD, set, replicate}
 use Rattle.scope.specs.declared.Outcome.{Outcome}
 use Rattle.scope.specs.declared.Outcome.the-variants.{Passed, Refused}
-use Rattle.scope.specs.Mesh.{nodes, elements, elementSoil}
+use Rattle.scope.specs.Mesh.{mostNodes, mostElements, nodes, elements, elementSoil}
 use Rattle.scope.specs.Rows.{countFrom, firstWhere, hasCorner, nodeSoil}
 use Rattle.scope.specs.Tests.{hasSide, hasEnds}
 
--- ---- tables of bytes: 255 where a place has none yet
+-- ---- tables of bytes
+
+-- the byte of a place that has none yet
+abbrev pub noByte : ℕ
+noByte = 255
 
 -- a table of n bytes holds f
 pub record Holds (n : ℕ) (f : ℕ → ℕ) (t : List ℕ) : Type 0 where
@@ -25,7 +29,7 @@ put free t v byte = cond (free (getD t v 0)) (set t v byte) t
 
 -- a place with no byte yet is free: each keeps the first that it is given
 abbrev pub isNone : ℕ → Bool
-isNone byte = eqb byte 255
+isNone byte = eqb byte noByte
 
 abbrev pub keepFirst : List ℕ → ℕ → ℕ → List ℕ
 keepFirst t v byte = put isNone t v byte
@@ -40,42 +44,43 @@ byteBelow none has value n =
 
 -- the soil of node v among the elements below e
 abbrev pub soilBelow : List ℤ → ℕ → ℕ → ℕ
-soilBelow m e v = byteBelow 255 (hasCorner m v) (elementSoil m) e
+soilBelow m e v = byteBelow noByte (hasCorner m v) (elementSoil m) e
 
 abbrev pub SoilTable : List ℤ → ℕ → List ℕ → Type 0
-SoilTable m e t = Holds 100 (soilBelow m e) t
+SoilTable m e t = Holds mostNodes (soilBelow m e) t
 
--- ---- tables of sides: 100 bytes for each node, and the byte of the side a to b stands at a·100 + b
+-- ---- tables of sides: `mostNodes` bytes for each node, and the byte of the side a to b stands at a·mostNodes + b
 
 abbrev pub byteAt : List ℕ → ℕ → ℕ → ℕ
-byteAt t a b = getD t (a * 100 + b) 0
+byteAt t a b = getD t (a * mostNodes + b) 0
 
 -- what f says of the side whose byte stands at v
 abbrev pub atPlace : (ℕ → ℕ → ℕ) → ℕ → ℕ
-atPlace f v = f (v / 100) (v % 100)
+atPlace f v = f (v / mostNodes) (v % mostNodes)
 
 -- a table with room for the sides of all nodes holds f
 pub record SideBytes (m : List ℤ) (f : ℕ → ℕ → ℕ) (t : List ℕ) : Type 0 where
-  pub room : nodes m * 100 ≤ length t
+  pub room : nodes m * mostNodes ≤ length t
   pub bytes : Holds (length t) (atPlace f) t
 
 -- the lowest element below e that has the side a to b
 abbrev pub sideByte : List ℤ → ℕ → ℕ → ℕ → ℕ
-sideByte m e a b = byteBelow 255 (hasSide m a b) (λ k. k) e
+sideByte m e a b = byteBelow noByte (hasSide m a b) (λ k. k) e
 
 abbrev pub SideTable : List ℤ → ℕ → List ℕ → Type 0
 SideTable m e t = SideBytes m (sideByte m e) t
 
--- 255 where a to b is no element's side, 100 + k where k is the lowest edge below g that has it, and else the lowest element that has it
+-- no byte where a to b is no element's side, `mostElements` + k where k is the lowest edge below g that has it,
+-- and else the lowest element that has it
 unfoldable pub edgeByte : List ℤ → ℕ → ℕ → ℕ → ℕ
 edgeByte m g a b =
     let side : ℕ = sideByte m (elements m) a b in
-    cond (isNone side) 255 (byteBelow side (hasEnds m a b) (λ k. 100 + k) g)
+    cond (isNone side) noByte (byteBelow side (hasEnds m a b) (λ k. mostElements + k) g)
 
 abbrev pub EdgeTable : List ℤ → ℕ → List ℕ → Type 0
 EdgeTable m g t = SideBytes m (edgeByte m g) t
 
--- the soil of each node where the mesh passes, and 255 after the last of them; where it is refused, 255 throughout
+-- the soil of each node where the mesh passes, and no byte after the last of them; where it is refused, none throughout
 unfoldable pub soilBytes : Outcome → List ℤ → List ℕ
-soilBytes Passed m = map (nodeSoil m) (countFrom 0 (nodes m)) ++ replicate (100 - nodes m) 255
-soilBytes (Refused c p) m = replicate 100 255
+soilBytes Passed m = map (nodeSoil m) (countFrom 0 (nodes m)) ++ replicate (mostNodes - nodes m) noByte
+soilBytes (Refused c p) m = replicate mostNodes noByte

@@ -39,21 +39,21 @@ mesh-known {m} e = let sound = mesh-passed m .says e in record { facts = mesh-fa
 -- ---- what judging a mesh answers
 
 module _ {m : List ℤ} {r : MeshAnswer} where
-  pub refused-mesh : {k : ℕ} {p : Place} → meshCheck m ≡ Fails k p → (r .outcome ≡ Fails k p) × (r .soils ≡ replicate 100 255) → MeshAnswered m r
+  pub refused-mesh : {k : ℕ} {p : Place} → meshCheck m ≡ Fails k p → (r .outcome ≡ Fails k p) × (r .«node_soils» ≡ replicate 100 255) → MeshAnswered m r
   unfolding soilBytes
-  refused-mesh e a = record { outcome = a .0 ∙ sym e; soils = a .1 ∙ sym (ap (λ (o : Outcome). soilBytes o m) e) }
+  refused-mesh e a = record { outcome = a .0 ∙ sym e; nodeSoils = a .1 ∙ sym (ap (λ (o : Outcome). soilBytes o m) e) }
 
   -- the table that is lent to a claim has the soil of each node
-  pub sound-mesh : MeshAnswered m r → r .outcome ≡ Passed → SoundMesh m (r .soils)
+  pub sound-mesh : MeshAnswered m r → r .outcome ≡ Passed → SoundMesh m (r .«node_soils»)
   sound-mesh a e =
       let passes : meshCheck m ≡ Passed = sym (a .outcome) ∙ e in
       let known = mesh-known passes in
-      record { passes = passes; soilsAre = subst (NodeSoils m) (sym (a .soils ∙ ap (λ (o : Outcome). soilBytes o m) passes)) (node-soils m (known .facts) (known .sound)) }
+      record { passes = passes; soilsAre = subst (NodeSoils m) (sym (a .nodeSoils ∙ ap (λ (o : Outcome). soilBytes o m) passes)) (node-soils m (known .facts) (known .sound)) }
 
-pub passed-mesh : {m : List ℤ} {t : List ℕ} → MeshFacts m → linesCheck meshLayout m ≡ Passed → checkPhases (shapePhases m) ≡ Passed → SoilTable m (elements m) t → MeshAnswered m (record { outcome = Passed; soils = t })
+pub passed-mesh : {m : List ℤ} {t : List ℕ} → MeshFacts m → linesCheck meshLayout m ≡ Passed → checkPhases (shapePhases m) ≡ Passed → SoilTable m (elements m) t → MeshAnswered m (record { outcome = Passed; «node_soils» = t })
 passed-mesh {m} facts e f h =
     let passes : Passed ≡ meshCheck m = then-goes-on e (sym f) ∙ sym (mesh-checked m) in
-    record { outcome = passes; soils = soils-are m facts (mesh-passed m .says (sym passes)) h ∙ ap (λ (o : Outcome). soilBytes o m) passes }
+    record { outcome = passes; nodeSoils = soils-are m facts (mesh-passed m .says (sym passes)) h ∙ ap (λ (o : Outcome). soilBytes o m) passes }
 
 -- ---- the verdict by its stages
 

@@ -9,12 +9,10 @@ use Rattle.scope.specs.Verdict.{meshCheck}
 use Rattle.mesh.specs.MeshContracts.{NodeSoils}
 use Rattle.shape.specs.ShapeContracts.{soilBytes}
 
--- ---- judged
-
 -- what judging the numbers of a mesh answers
 pub record MeshAnswered (m : List ℤ) (r : MeshAnswer) : Type 0 where
   pub outcome : r .outcome ≡ meshCheck m
-  pub soils : r .soils ≡ soilBytes (meshCheck m) m
+  pub nodeSoils : r .«node_soils» ≡ soilBytes (meshCheck m) m
 
 -- a mesh that passes, with the soils of its nodes
 pub record SoundMesh (m : List ℤ) (t : List ℕ) : Type 0 where

@@ -16,21 +16,21 @@ use scope::Outcome;
 use scope::Place;
 use scope::Verdict;
 use shape::mesh_checks::mesh_shape;
-use shape::mesh_checks::soil_table;
+use shape::nodes::soil_table;
 
 // What is said of the numbers of a mesh: what they are refused for, 1 to 8, or that they pass, and then the soil of each node. The soils are looked up once a mesh, and lent to the judging of each claim on it.
 pub struct MeshAnswer {
     pub outcome: Outcome,
-    pub soils: [u8; 100],
+    pub node_soils: [u8; 100],
 }
 
-// A mesh that is refused: it has no soils.
+// A mesh that is refused: its nodes have no soils.
 fn refused_mesh(number: u32, place: Place) -> MeshAnswer
-    ensures { λ r. ⌜ (r .outcome ≡ Outcome.Refused number place) × (r .soils ≡ replicate 100 255) ⌝ }
+    ensures { λ r. ⌜ (r .outcome ≡ Outcome.Refused number place) × (r .«node_soils» ≡ replicate 100 255) ⌝ }
 {
     MeshAnswer {
         outcome: Outcome::Refused { number, place },
-        soils: [255; 100],
+        node_soils: [255; 100],
     }
 }
 
@@ -43,14 +43,14 @@ pub fn judge_mesh(m: &[i64]) -> MeshAnswer
         return refused_mesh(number, place);
     }
     let s = sizes_of(m);
-    let soils = soil_table(m, s);
-    let shape = mesh_shape(m, s, &soils);
+    let node_soils = soil_table(m, s);
+    let shape = mesh_shape(m, s, &node_soils);
     if let Outcome::Refused { number, place } = shape {
         return refused_mesh(number, place);
     }
     MeshAnswer {
         outcome: Outcome::Passed,
-        soils,
+        node_soils,
     }
 }
 
@@ -63,7 +63,7 @@ fn judge_claim_lines(m: &[i64], c: &[i64]) -> Outcome
     claim_lines(c, s)
 }
 
-// The verdict on a claim's numbers on a judged mesh, whose soils are lent.
+// The verdict on a claim's numbers on a judged mesh, the soils of whose nodes are lent.
 pub fn judge_claim(m: &[i64], node_soils: &[u8], c: &[i64]) -> Verdict
     requires { ⌜ SoundMesh (now m) (now «node_soils») ⌝ }
     ensures { λ r. ⌜ r ≡ claimVerdict (now (m .entry)) (now (c .entry)) ⌝ }
@@ -84,5 +84,5 @@ pub fn check_numbers(m: &[i64], c: &[i64]) -> Verdict
     if let Outcome::Refused { number, place } = outcome {
         return Verdict::Refused { number, place };
     }
-    judge_claim(m, &mesh.soils, c)
+    judge_claim(m, &mesh.node_soils, c)
 }

@@ -3,7 +3,7 @@ use native.Mathlib.Omega.{arith}
 use denote.Ref.{now}
 use borrow.Author.Needs.{needs}
 use Rattle.verdict.proofs.VerdictLaws.{mesh-known}
-use Rattle.judge.proofs.Judged.{claim-by-length, claim-fits}
+use Rattle.judge.proofs.FilesJudged.{claim-by-length, claim-fits}
 use Rattle.judge.proofs.judge_claim_file.Statement.{statement}
 use Rattle.judge.proofs.judge_claim_file.Tie as tie
 

@@ -6,7 +6,7 @@ use Rattle.scope.specs.Verdict.{claimVerdict}
 use Rattle.mesh.proofs.Places.{as-sizes}
 use Rattle.judge.specs.Judge.{claimNumbers}
 use Rattle.verdict.proofs.VerdictLaws.{mesh-known}
-use Rattle.judge.proofs.Judged.{front, fits, as-many, claim-listed}
+use Rattle.judge.proofs.FilesJudged.{front, fits, as-many, claim-listed}
 use Rattle.judge.proofs.judge_claim_in.Statement.{statement}
 use Rattle.judge.proofs.judge_claim_in.Tie as tie
 

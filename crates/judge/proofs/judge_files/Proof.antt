@@ -2,7 +2,7 @@
 use native.Mathlib.Omega.{arith}
 use denote.Ref.{now}
 use borrow.Author.Needs.{needs}
-use Rattle.judge.proofs.Judged.{mesh-by-length, mesh-fits}
+use Rattle.judge.proofs.FilesJudged.{mesh-by-length, mesh-fits}
 use Rattle.judge.proofs.judge_files.Statement.{statement}
 use Rattle.judge.proofs.judge_files.Tie as tie
 

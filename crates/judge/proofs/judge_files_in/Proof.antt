@@ -1,6 +1,6 @@
 -- `judge_files_in` meets its contract: the claim is judged only on a mesh that has passed.
 use borrow.Author.Needs.{needs}
-use Rattle.judge.proofs.Judged.{fits, as-many, judged-listed, judged-sound, files-refused, files-judged}
+use Rattle.judge.proofs.FilesJudged.{fits, as-many, judged-listed, judged-sound, files-refused, files-judged}
 use Rattle.judge.proofs.judge_files_in.Statement.{statement}
 use Rattle.judge.proofs.judge_files_in.Tie as tie
 

@@ -1,7 +1,7 @@
 -- `judge_mesh_file` meets its contract: the numbers that are judged are those that were read.
 use borrow.Author.Needs.{needs}
 use Rattle.judge.specs.Judge.{meshNumbers}
-use Rattle.judge.proofs.Judged.{fits, as-many, mesh-judged}
+use Rattle.judge.proofs.FilesJudged.{fits, as-many, mesh-judged}
 use Rattle.judge.proofs.judge_mesh_file.Statement.{statement}
 use Rattle.judge.proofs.judge_mesh_file.Tie as tie
 

@@ -4,7 +4,7 @@ use mathlib.Core.Bool.{Bool}
 use Rattle.scope.specs.Columns.{hasField, hasMultipliers}
 use Rattle.lines.specs.Table.{claimBody}
 use Rattle.reader.specs.File.{widths}
-use Rattle.reader.proofs.Told.{known, widths-meant}
+use Rattle.reader.proofs.LinesAfterHeader.{known, widths-meant}
 use borrow.Author.Needs.{needs}
 use Rattle.reader.proofs.claim_body.Statement.{statement}
 use Rattle.reader.proofs.claim_body.Tie as tie

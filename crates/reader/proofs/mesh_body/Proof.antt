@@ -1,6 +1,6 @@
 -- `reader::mesh_body` meets its contract: the header tells the table, whose numbers fit.
 use Rattle.mesh.proofs.Places.{few-sizes}
-use Rattle.reader.proofs.Told.{known, mesh-lines}
+use Rattle.reader.proofs.LinesAfterHeader.{known, mesh-lines}
 use borrow.Author.Needs.{needs}
 use Rattle.reader.proofs.mesh_body.Statement.{statement}
 use Rattle.reader.proofs.mesh_body.Tie as tie

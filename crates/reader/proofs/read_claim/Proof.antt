@@ -7,7 +7,7 @@ use lib.IntN.{ℤ}
 use Rattle.scope.specs.Claim.{claimLayout, claimHeader}
 use Rattle.mesh.proofs.Places.{few-sizes}
 use Rattle.reader.proofs.Whole.{HeaderRead, first-room}
-use Rattle.reader.proofs.Told.{claim-no-header, claim-header-read, claim-refused, claim-room, claim-passed}
+use Rattle.reader.proofs.LinesAfterHeader.{claim-no-header, claim-header-read, claim-refused, claim-room, claim-passed}
 use borrow.Author.Needs.{needs}
 use Rattle.reader.proofs.read_claim.Statement.{statement}
 use Rattle.reader.proofs.read_claim.Tie as tie

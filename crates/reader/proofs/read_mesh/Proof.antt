@@ -4,7 +4,7 @@ use native.Mathlib.Omega.{arith}
 use borrow.Author.Tests.{not-true, not-false}
 use Rattle.scope.specs.Mesh.{meshLayout, meshHeader}
 use Rattle.reader.proofs.Whole.{HeaderRead, first-room}
-use Rattle.reader.proofs.Told.{mesh-no-header, mesh-header-read, mesh-refused, mesh-header-there, mesh-room, mesh-passed}
+use Rattle.reader.proofs.LinesAfterHeader.{mesh-no-header, mesh-header-read, mesh-refused, mesh-header-there, mesh-room, mesh-passed}
 use borrow.Author.Needs.{needs}
 use Rattle.reader.proofs.read_mesh.Statement.{statement}
 use Rattle.reader.proofs.read_mesh.Tie as tie

@@ -3,7 +3,7 @@
 use Prim.Native.Nat.{_-_}
 use native.Mathlib.Omega.{arith}
 use mir.Facts.{toZ-ofZ}
-use Rattle.reader.proofs.Taken.{Copied, copied-none, copied-next, copied-all}
+use Rattle.reader.proofs.LinesRead.{Copied, copied-none, copied-next, copied-all}
 use Rattle.reader.proofs.file_lines.copy.Statement.{statement}
 use Rattle.reader.proofs.file_lines.copy.Tie as tie
 

@@ -3,7 +3,7 @@
 use native.Mathlib.Omega.{arith}
 use borrow.Author.Needs.{needs}
 use borrow.Author.Tests.{not-true, not-false}
-use Rattle.reader.proofs.Taken.{line-malformed, line-some, line-formed}
+use Rattle.reader.proofs.LinesRead.{line-malformed, line-some, line-formed}
 use Rattle.reader.proofs.file_lines.next_line.Statement.{statement}
 use Rattle.reader.proofs.file_lines.next_line.Tie as tie
 

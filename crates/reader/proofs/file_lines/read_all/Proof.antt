@@ -6,7 +6,7 @@ use lib.ListN.{length}
 use Rattle.lines.specs.Table.{groupCount}
 use Rattle.lines.proofs.TableLaws.{good-at}
 use Rattle.lines.proofs.ThroughLaws.{noGroup}
-use Rattle.reader.proofs.Taken.{InGroups, groups-first, groups-room, groups-next, groups-end}
+use Rattle.reader.proofs.LinesRead.{InGroups, groups-first, groups-room, groups-next, groups-end}
 use Rattle.reader.proofs.file_lines.read_all.Statement.{statement}
 use Rattle.reader.proofs.file_lines.read_all.Tie as tie
 

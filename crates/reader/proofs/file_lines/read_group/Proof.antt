@@ -5,8 +5,8 @@ use Prim.Native.Nat.{_-_}
 use native.Mathlib.Omega.{arith}
 use lib.ListN.{length}
 use borrow.Author.Tests.{not-true, not-false}
-use Rattle.reader.specs.HowFar.{linesOf}
-use Rattle.reader.proofs.Taken.{InGroup, group-first, group-room, group-next, group-stops, group-ends}
+use Rattle.reader.specs.ReadSoFar.{linesOf}
+use Rattle.reader.proofs.LinesRead.{InGroup, group-first, group-room, group-next, group-stops, group-ends}
 use Rattle.reader.proofs.file_lines.read_group.Statement.{statement}
 use Rattle.reader.proofs.file_lines.read_group.Tie as tie
 

@@ -1,6 +1,6 @@
 -- `reader::file_lines::read_groups` meets its contract: the groups have room, and what is left over too.
 use native.Mathlib.Omega.{arith}
-use Rattle.reader.proofs.Taken.{groups-fit}
+use Rattle.reader.proofs.LinesRead.{groups-fit}
 use Rattle.reader.proofs.Whole.{listed-after}
 use borrow.Author.Needs.{needs}
 use Rattle.reader.proofs.file_lines.read_groups.Statement.{statement}

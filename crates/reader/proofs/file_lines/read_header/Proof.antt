@@ -1,5 +1,5 @@
 -- `reader::file_lines::read_header` meets its contract: the header is the line at the start.
-use Rattle.reader.specs.HowFar.{start}
+use Rattle.reader.specs.ReadSoFar.{start}
 use borrow.Author.Needs.{needs}
 use Rattle.reader.proofs.file_lines.read_header.Statement.{statement}
 use Rattle.reader.proofs.file_lines.read_header.Tie as tie
