@@ -189,6 +189,10 @@ noticing =
     ∷ sheet "4 2 1 3 12 / 0 1 1 10 0 0 0 0 / 0 0 / 1 0 / 1 1 / 0 1 / 1 2 3 3 1 / 1 3 4 4 1 / 3 4 3 0 0 -1 0 / 2 3 3 0 0 0 0 / 4 1 3 0 0 0 0"
     "1 0 1 20 / 0 -20 0 / 0 -20 0 / 0 -20 0 / 0 -20 0"
     "                           0                        none                   20.000000                        none\n"
+    -- four triangles that all repeat the node in their middle, each beside one and across from another: accepted
+    ∷ sheet "5 4 1 4 12 / 0 1 1 10 0 0 0 0 / 0 0 / 2 0 / 2 2 / 0 2 / 1 1 / 1 2 5 5 1 / 2 3 5 5 1 / 3 4 5 5 1 / 4 1 5 5 1 / 3 4 3 0 0 -1 0 / 2 3 3 0 0 0 0 / 4 1 3 0 0 0 0 / 1 2 2 0 0 0 0"
+    "1 0 1 20 / 0 -20 0 / 0 -20 0 / 0 -20 0 / 0 -20 0 / 0 -20 0"
+    "                           0                        none                   20.000000                        none\n"
     -- a body force on a triangle with corners (0, 0), (3, 1) and (1, 2), linear stresses: D is 5, twice its area
     ∷ sheet "4 2 1 0 12 / 0 1 1 10000 2 3 5 7 / 0 0 / 3 1 / 1 2 / 0 3 / 1 2 3 3 1 / 1 3 4 4 1"
     "1 0 2 3 / 0 0 0 / -57 -27 0 / -19 -54 0 / 0 -81 0"

@@ -1,4 +1,4 @@
--- What the functions of this crate promise, module by module.
+-- Contracts between functions, nothing that a reader must believe: rows as numbers, sums over multipliers, the limit, the open rows.
 pub mod RowContracts
 pub mod MultiplierContracts
 pub mod LimitContracts

@@ -26,7 +26,8 @@ use Rattle.scope.specs.Verdict.{claimCheck, lowerLoad, upperLoad, openCo
 use Rattle.scope.specs.Statements.{LinesSound, MeshSound, HasField, HasMultipliers, RowsMet, ColumnsMet}
 use Rattle.scope.specs.Phases.{FirstFails, AllPass, RefusedBy}
 use Rattle.scope.specs.Refusals.{ruleSteps, lineSteps, linePhases, shapePhases, meshPhases, fieldPhases, multiplierPhases, fieldPart, multiplierPart, partPhases, claimPhases, Refusal}
-use Rattle.scope.specs.Accepted.{FieldAccepted, MultipliersAccepted, ClaimAccepted}
+use Rattle.scope.specs.AnsweredClaim.{AcceptedExactly, RefusedExactly, ZeroExactly, ByParts}
+use Rattle.scope.specs.Accepted.{FieldAccepted, ClaimAccepted}
 use Rattle.scope.proofs.Checks.{passed-is-not-refused}
 use Rattle.scope.proofs.Phases.{EachIn, each-refusal, each-join, each-passed, each-part, own-number, refused-join}
 use Rattle.scope.proofs.Refusals.{lines-sound, sound-lines, mesh-sound, sound-mesh, field-part-sound, sound-field-part, claim-passed, all-exact, mesh-passed}
@@ -50,7 +51,7 @@ answer-accepted (Fails k p) v o a b = (λ e. never-both e, λ h. passed-is-not-r
 
 module _ (m c : List ℤ) where
   -- a claim is accepted, with its open rows and its exact loads, exactly when each part that it has is
-  pub accepted-exactly : (verdict m c ≡ Accepted (openCount m c) (lowerLoad c) (upperLoad m c)) ↔ ClaimAccepted m c
+  pub accepted-exactly : AcceptedExactly m c
   unfolding verdict claimVerdict
   accepted-exactly = (to, from)
     where
@@ -72,7 +73,7 @@ module _ (m c : List ℤ) where
           )
 
   -- a mesh and a claim are refused with a number and a place exactly when document 01's table says so
-  pub refused-exactly : (k : ℕ) (p : Place) → (verdict m c ≡ Refused k p) ↔ Refusal m c k p
+  pub refused-exactly : RefusedExactly m c
   unfolding verdict claimVerdict
   refused-exactly k p =
       let checks : (verdict m c ≡ Refused k p) ↔ (meshCheck m then claimCheck m c ≡ Fails k p) = answer-refused (meshCheck m) (claimCheck m c) (openCount m c) (lowerLoad c) (upperLoad m c) in
@@ -157,7 +158,7 @@ verdict-cases m c = of-mesh′ (meshCheck m)
     of-mesh′ (Fails k p) = inl (k, p, refl)
 
 -- 0 is returned exactly when the claim is accepted
-pub returns-zero : (m c : List ℤ) → (numberOf (verdict m c) ≡ 0) ↔ ClaimAccepted m c
+pub returns-zero : (m c : List ℤ) → ZeroExactly m c
 returns-zero m c = (λ e. to (verdict-cases m c) e, λ a. ap numberOf (accepted-exactly m c .1 a))
   where
     to : ((k : ℕ) × (p : Place) × (verdict m c ≡ Refused k p)) ⊎ (verdict m c ≡ Accepted (openCount m c) (lowerLoad c) (upperLoad m c)) → numberOf (verdict m c) ≡ 0 → ClaimAccepted m c
@@ -167,7 +168,7 @@ returns-zero m c = (λ e. to (verdict-cases m c) e, λ a. ap numberOf (accepted-
 -- ---- parts and claims
 
 -- a claim is accepted exactly when each part that it has is
-pub claim-by-parts : (m c : List ℤ) → ClaimAccepted m c ↔ (MeshSound m × LinesSound (claimLayout m) c × (HasField c → FieldAccepted m c) × (HasMultipliers c → MultipliersAccepted m c))
+pub claim-by-parts : (m c : List ℤ) → ByParts m c
 claim-by-parts m c = (
   λ a. (
     a .mesh,

@@ -19,7 +19,7 @@ use Rattle.scope.specs.Sums.{weightedSum, leftSide, rightSide}
 use Rattle.scope.specs.Members.{_∈_}
 use Rattle.scope.specs.Meets.{Asks, RowMet, FieldMeets}
 use Rattle.scope.specs.PrintedColumns.{lessX, lessY, lessNormal, lessShear, RowsPrinted}
-use Rattle.scope.specs.Printed.{forceX, forceY, deviator, resistance, BalanceXAt, BalanceYAt, NormalAt, ShearAt, StrengthAt, MeetsPrinted}
+use Rattle.scope.specs.Printed.{forceX, forceY, deviator, resistance, BalanceXAt, BalanceYAt, NormalAt, ShearAt, StrengthAt, MeetsPrinted, FieldPrinted}
 
 same-equation : {a b c d : ℤ} → a -ℤ b ≡ c -ℤ d → (a ≡ b) ↔ (c ≡ d)
 same-equation {a} {b} {c} {d} e = (
@@ -169,5 +169,5 @@ module _ (m : List ℤ) (s : ℕ → ℤ) (l n : ℤ) where
       M : Row → Type 0
       M = RowMet s l n
 
-  pub field-printed : FieldMeets s l n (rowsOf m) ↔ MeetsPrinted m s l n
+  pub field-printed : FieldPrinted m s l n
   field-printed = (meets-printed, printed-meets)

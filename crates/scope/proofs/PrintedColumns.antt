@@ -15,10 +15,10 @@ use Rattle.scope.specs.Mesh.{nodes, elements, edges, sides, edgeEntry, f
 use Rattle.scope.specs.Polygon.{polygonOf}
 use Rattle.scope.specs.Rows.{asked, unfixed, strength, Row, sx, sy, t, balanceX, balanceY, normalRow, shearRow, fixedIf, equalityRows, rowsOf}
 use Rattle.scope.specs.Sums.{weightedSum, leftSide, rightSide, weighed, unit, coefficient, columnSum, liveSum, limitSum}
-use Rattle.scope.specs.Statements.{NoneOnUnfixed, MeetsColumns}
+use Rattle.scope.specs.Statements.{NoneOnUnfixed}
 use Rattle.scope.specs.RowNumbers.{sideAt, pairOf}
 use Rattle.scope.specs.Printed.{FixesNormal, FixesShear}
-use Rattle.scope.specs.PrintedColumns.{lessX, lessY, lessNormal, lessShear, lessStrength, sumBelow, ofElement, ofEdge, ofNode, weighedRows, ColumnsPrinted, MultipliersPrinted}
+use Rattle.scope.specs.PrintedColumns.{lessX, lessY, lessNormal, lessShear, lessStrength, sumBelow, ofElement, ofEdge, ofNode, weighedRows, ColumnsPrinted, MultipliersAsPrinted, MultipliersPrinted}
 use Rattle.scope.proofs.Decides.{Decides, either, equalℤ}
 use Rattle.scope.proofs.Weighted.{weighted-same, weighted-zero, weighted-multiple}
 use Rattle.scope.proofs.Printed.{rows-printed}
@@ -235,7 +235,7 @@ module _ (m : List ℤ) (listed : (sides m ≡ 12) ⊎ ((sides m ≡ 20) ⊎ (si
   column-of v (suc (suc (suc i))) k f h = absurd (omega arith)
 
   -- "31 to 33 for multipliers", in the terms of the printed rows
-  pub multipliers-printed : MeetsColumns (equalityRows m) (rowsOf m) (3 * nodes m) w ↔ MultipliersPrinted m w
+  pub multipliers-printed : MultipliersAsPrinted m w
   unfolding sx sy t rowAt
   multipliers-printed = (
     λ f. record {

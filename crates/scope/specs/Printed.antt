@@ -1,6 +1,6 @@
 -- The rows as document 01 prints them ('Rows'), over whole numbers, with l and n on the side where it has them; and what a field that meets the rows of a mesh meets.
 use mathlib.Core.Path.{_≡_}
-use mathlib.Core.Logic.{_⊎_}
+use mathlib.Core.Logic.{_↔_, _⊎_}
 use mathlib.Core.List.{List}
 use Prim.Native.Nat.{ℕ, _+_, _%_, _<_}
 use lib.IntN.{ℤ, pos, _+ℤ_, _-ℤ_, _*ℤ_, negℤ}
@@ -8,7 +8,8 @@ use lib.Signed.{_≤ℤ_}
 use Rattle.scope.specs.Members.{_∈_}
 use Rattle.scope.specs.Mesh.{elements, edges, sides, p, q, h, cohesion, deadX, deadY, liveX, liveY, x, y, corner, elementSoil, edgeEntry, fromNode, toNode}
 use Rattle.scope.specs.Polygon.{Side, polygonSides, polygonOf}
-use Rattle.scope.specs.Rows.{sx, sy, t, twiceArea, stepX, stepY, Pair, strengthPairs}
+use Rattle.scope.specs.Rows.{sx, sy, t, twiceArea, stepX, stepY, Pair, strengthPairs, rowsOf}
+use Rattle.scope.specs.Meets.{FieldMeets}
 
 -- ---- balance: an element's corners are numbered 0 to 3; x, y, sx, sy and t go by corner; D is twice its area
 
@@ -128,3 +129,7 @@ module _ (m : List ℤ) (s : ℕ → ℤ) (l n : ℤ) where
     pub normal-to : (g : ℕ) → g < edges m → NormalAt g (toNode m g)
     pub shear-to : (g : ℕ) → g < edges m → ShearAt g (toNode m g)
     pub strength : (a : Pair) → a ∈ strengthPairs m → (d : Side) → d ∈ polygonSides (polygonOf (sides m) .corners) → StrengthAt (polygonOf (sides m) .radius) a d
+
+  -- it meets the rows as data exactly when it meets them as printed
+  abbrev pub FieldPrinted : Type 0
+  FieldPrinted = FieldMeets s l n (rowsOf m) ↔ MeetsPrinted

@@ -8,7 +8,8 @@ use lib.IntN.{ℤ, pos, _+ℤ_, _-ℤ_, _*ℤ_, negℤ}
 use lib.Signed.{_<ℤ_}
 use Rattle.scope.specs.Mesh.{nodes, elements, edges, sides, p, q, h, cohesion, deadX, deadY, liveX, liveY, x, y, corner, elementSoil, edgeEntry, fromNode, toNode}
 use Rattle.scope.specs.Polygon.{Side, polygonOf}
-use Rattle.scope.specs.Rows.{sx, sy, t, twiceArea, stepX, stepY, Pair, balanceX, balanceY, normalRow, shearRow, rowsOf}
+use Rattle.scope.specs.Rows.{sx, sy, t, twiceArea, stepX, stepY, Pair, balanceX, balanceY, normalRow, shearRow, equalityRows, rowsOf}
+use Rattle.scope.specs.Statements.{MeetsColumns}
 use Rattle.scope.specs.Sums.{leftSide, rightSide, unit, columnSum, liveSum, limitSum}
 use Rattle.scope.specs.RowNumbers.{sideAt, pairRow, pairOf}
 use Rattle.scope.specs.Printed.{forceX, forceY, bodyForce, normalForce, shearForce, edgeForce, FixesNormal, FixesShear, deviator, resistance}
@@ -100,3 +101,7 @@ module _ (m : List ℤ) (w : ℕ → ℤ) where
     pub shear-unfixed : (g : ℕ) → g < edges m → ¬ FixesShear (edgeEntry m g 2) → (ofEdge g 1 ≡ pos 0) × (ofEdge g 3 ≡ pos 0)
     pub columns : (v : ℕ) → v < nodes m → (printedColumn (sx v) ≡ pos 0) × (printedColumn (sy v) ≡ pos 0) × (printedColumn (t v) ≡ pos 0)
     pub live : pos 0 <ℤ printedLive
+
+  -- they meet the columns of the rows' data exactly when they meet these
+  abbrev pub MultipliersAsPrinted : Type 0
+  MultipliersAsPrinted = MeetsColumns (equalityRows m) (rowsOf m) (3 * nodes m) w ↔ MultipliersPrinted

@@ -1,2 +1,2 @@
--- The definitions that the contracts of this crate cite.
+-- Contracts between functions, nothing that a reader must believe: a mesh that is judged.
 pub mod JudgeContracts

@@ -11,7 +11,6 @@ use Rattle.scope.specs.Mesh.{mostNodes, nodes}
 use Rattle.scope.specs.Phases.{checkPhase}
 use Rattle.scope.specs.Tests.{inElement}
 use Rattle.lines.proofs.Loops.{all-more, each-below, phase-at, phase-all}
-use Rattle.shape.specs.ShapeContracts.{noByte}
 use Rattle.shape.proofs.SoilTables.{soil-test}
 use Rattle.shape.proofs.nodes.nodes_check.Statement.{statement}
 use Rattle.shape.proofs.nodes.nodes_check.Tie as tie
@@ -47,7 +46,7 @@ returns c =
     let b = c .before .before in
     let pre = b .before .before .pre in
     let small : b .before .loop .v < mostNodes = omega (arith, b .loop-test .taken, pre .0 .nodesAre, pre .0 .facts .counts .nodesMost) in
-    let none = sym (soil-test _ (pre .0 .facts) (pre .1) (b .before .loop .v) small) ∙ ap not (eq-eqb _ noByte (c .if1 .taken)) in
+    let none = sym (soil-test _ (pre .0 .facts) (pre .1) (b .before .loop .v) small) ∙ ap not (eq-eqb _ _ (c .if1 .taken)) in
     phase-at (inElement _) 7 (λ v. Node (suc v)) (nodes _) (each-below _ _ (b .before .loop .inv .1)) (omega (arith, pre .0 .nodesAre)) none (ap Node (add-one _))
 
 add-v : tie.Need-add-v Inv-loop μ-loop
@@ -61,7 +60,7 @@ loop-again c =
     let b = c .before .before in
     let pre = b .before .before .pre in
     let small : b .before .loop .v < mostNodes = omega (arith, b .loop-test .taken, pre .0 .nodesAre, pre .0 .facts .counts .nodesMost) in
-    let some = sym (soil-test _ (pre .0 .facts) (pre .1) (b .before .loop .v) small) ∙ ap not (ne-eqb _ noByte (c .if1 .left)) in
+    let some = sym (soil-test _ (pre .0 .facts) (pre .1) (b .before .loop .v) small) ∙ ap not (ne-eqb _ _ (c .if1 .left)) in
     (omega arith, all-more (inElement _) (b .before .loop .inv .1) some)
 
 returns-2 : tie.Need-returns-2 Inv-loop μ-loop
