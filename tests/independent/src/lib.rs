@@ -1,4 +1,4 @@
-//! A second implementation of the check, written from document 01 alone.
+//! A second implementation of the check, written from documents 01 and 02 alone.
 //! It shares no line with the proved program: the comparison and the fuzzer hold the two against
 //! each other, and the bench takes it as the speed of ordinary Rust.
 
@@ -9,6 +9,7 @@ pub mod mesh;
 pub mod multipliers;
 pub mod polygon;
 pub mod report;
+pub mod shape;
 pub mod sheet;
 
 use claim::Claim;

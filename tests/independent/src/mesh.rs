@@ -1,8 +1,8 @@
-//! The mesh: its lines and their refusals 1 to 4, then its shape and refusals 5 to 8.
+//! The mesh: its lines and their refusals 1 to 4; `shape` has the refusals after them.
 
 use crate::lines::Lines;
 use crate::polygon::Polygon;
-use crate::{refuse, Refusal};
+use crate::{refuse, shape, Refusal};
 
 pub struct Soil {
     pub p: i64,
@@ -17,6 +17,30 @@ pub struct Soil {
 pub struct Element {
     pub corners: [usize; 4],
     pub soil: usize,
+}
+
+impl Element {
+    /// The corners without the repeat: an element whose third and fourth nodes are the same is a
+    /// triangle (document 02, N1).
+    pub fn outline(&self) -> &[usize] {
+        if self.corners[2] == self.corners[3] {
+            &self.corners[..3]
+        } else {
+            &self.corners
+        }
+    }
+
+    /// Each corner with the one before it and the one after it, around the outline.
+    pub fn turns(&self) -> impl Iterator<Item = [usize; 3]> + '_ {
+        let outline = self.outline();
+        let count = outline.len();
+        (0..count).map(move |i| [(i + count - 1) % count, i, (i + 1) % count].map(|k| outline[k]))
+    }
+
+    /// The directed sides, from corner to corner; the repeat makes none.
+    pub fn sides(&self) -> impl Iterator<Item = (usize, usize)> + '_ {
+        self.turns().map(|[_, from, to]| (from, to))
+    }
 }
 
 /// Loads are normal, then shear; nodes count from 0 here.
@@ -63,27 +87,25 @@ impl Mesh {
             return reader.refuse(2);
         };
         let [nodes, elements, soils, edges] = [0, 1, 2, 3].map(|k| header[k] as usize);
-        let soils = reader.group(soils, Reader::soil)?;
-        let all_nodes = reader.group(nodes, Reader::node)?;
-        let elements = reader.group(elements, |r| r.element(nodes, soils.len()))?;
-        let edge_line = reader.place + 1;
-        let edges = reader.group(edges, |r| r.edge(nodes))?;
+        let mut mesh = Mesh {
+            polygon,
+            soils: reader.group(soils, Reader::soil)?,
+            nodes: reader.group(nodes, Reader::node)?,
+            elements: reader.group(elements, |r| r.element(nodes, soils))?,
+            edges: reader.group(edges, |r| r.edge(nodes))?,
+            node_soil: Vec::new(),
+        };
         if !reader.lines.at_end() {
             reader.place += 1;
             return reader.refuse(1);
         }
-        check_turns(&all_nodes, &elements)?;
-        let successors = directed_sides(&elements)?;
-        let node_soil = node_soils(nodes, &elements)?;
-        check_edges(&edges, &successors, edge_line)?;
-        Ok(Mesh {
-            polygon,
-            soils,
-            nodes: all_nodes,
-            elements,
-            edges,
-            node_soil,
-        })
+        mesh.node_soil = shape::check(&mesh)?;
+        Ok(mesh)
+    }
+
+    /// The line of the first edge.
+    pub fn edge_line(&self) -> usize {
+        2 + self.soils.len() + self.nodes.len() + self.elements.len()
     }
 }
 
@@ -192,66 +214,4 @@ impl<L: Lines> Reader<'_, L> {
             live: [live_normal, live_shear],
         })
     }
-}
-
-/// Refusal 5: each corner is a strict left turn.
-fn check_turns(nodes: &[[i64; 2]], elements: &[Element]) -> Result<(), Refusal> {
-    for (e, element) in elements.iter().enumerate() {
-        let at = element.corners.map(|corner| nodes[corner]);
-        let left = |i: usize| {
-            let (before, here, after) = (at[(i + 3) % 4], at[i], at[(i + 1) % 4]);
-            let (into, out) = (
-                [here[0] - before[0], here[1] - before[1]],
-                [after[0] - here[0], after[1] - here[1]],
-            );
-            into[0] * out[1] > into[1] * out[0]
-        };
-        if !(0..4).all(left) {
-            return refuse(5, e + 1);
-        }
-    }
-    Ok(())
-}
-
-/// Refusal 6. Bit `to` of entry `from` says that some element has that directed side.
-fn directed_sides(elements: &[Element]) -> Result<[u128; 100], Refusal> {
-    let mut successors = [0u128; 100];
-    for (e, element) in elements.iter().enumerate() {
-        let [a, b, c, d] = element.corners;
-        for (from, to) in [(a, b), (b, c), (c, d), (d, a)] {
-            if successors[from] >> to & 1 == 1 {
-                return refuse(6, e + 1);
-            }
-            successors[from] |= 1 << to;
-        }
-    }
-    Ok(successors)
-}
-
-/// Refusal 7, and the soil of each node.
-fn node_soils(nodes: usize, elements: &[Element]) -> Result<Vec<usize>, Refusal> {
-    let mut soil_of = vec![usize::MAX; nodes];
-    for element in elements.iter().rev() {
-        for corner in element.corners {
-            soil_of[corner] = element.soil;
-        }
-    }
-    match soil_of.iter().position(|&soil| soil == usize::MAX) {
-        Some(node) => refuse(7, node + 1),
-        None => Ok(soil_of),
-    }
-}
-
-/// Refusal 8: an edge is an outer side, as directed, and is there once.
-fn check_edges(edges: &[Edge], successors: &[u128; 100], first_line: usize) -> Result<(), Refusal> {
-    let mut seen = [0u128; 100];
-    for (k, &Edge { from, to, .. }) in edges.iter().enumerate() {
-        let side = successors[from] >> to & 1 == 1;
-        let reverse = successors[to] >> from & 1 == 1;
-        if !side || reverse || seen[from] >> to & 1 == 1 {
-            return refuse(8, first_line + k);
-        }
-        seen[from] |= 1 << to;
-    }
-    Ok(())
 }

@@ -92,7 +92,7 @@ fn shape(random: &mut Random, mesh: &mut Lines) {
     let node = nodes + random.below(elements - nodes);
     let edge = edges + random.below((end - edges).max(1));
     let corner = random.below(4);
-    match random.below(12) {
+    match random.below(14) {
         0 => mesh[soil][random.below(3)] += 1,
         1 => mesh[element][corner] = near_limit(random),
         2 => mesh[element][4] = near_limit(random),
@@ -104,6 +104,8 @@ fn shape(random: &mut Random, mesh: &mut Lines) {
         8 if edge < end => mesh[edge].swap(0, 1),
         9 if edge < end => edge_of(random, mesh, element, edge),
         10 if edge < end => mesh[edge] = mesh[edges + random.below(end - edges)].clone(),
+        11 => mesh[element][corner] = mesh[element][(corner + 1) % 4],
+        12 => mesh[element][3] = mesh[element][2],
         _ => add_node(mesh, elements),
     }
 }

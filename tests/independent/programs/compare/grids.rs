@@ -1,5 +1,5 @@
-//! Sheets that are accepted, or nearly: rectangular grids in layers, with a field that depends on
-//! height alone and multipliers around one corner and over the whole grid.
+//! Sheets that are accepted, or nearly: rectangular grids in layers, some cells cut into triangles,
+//! with a field that depends on height alone and multipliers around one corner and over the whole grid.
 
 use crate::random::Random;
 use independent::sheet::{Lines, Sheet};
@@ -33,6 +33,7 @@ struct Grid {
     sides: i64,
     soils: Lines,
     layer_soil: Vec<usize>,
+    elements: Lines,
     /// Dead and live parts of sx, and of sy and t at each height.
     sx: [i64; 2],
     sy: Vec<[i64; 2]>,
@@ -79,6 +80,18 @@ fn integrated(random: &mut Random, ys: &[i64], forces: &[[i64; 2]]) -> Vec<[i64;
     all
 }
 
+/// A cell cut along one of its diagonals; any corner of a triangle may be the one that is repeated.
+fn triangles(random: &mut Random, corners: [i64; 4], soil: i64) -> Lines {
+    let mut cell = corners;
+    cell.rotate_left(random.below(2));
+    let [a, b, c, d] = cell;
+    let mut triangle = |mut corners: [i64; 3]| {
+        corners.rotate_left(random.below(3));
+        [&corners[..], &[corners[2], soil]].concat()
+    };
+    vec![triangle([a, b, c]), triangle([c, d, a])]
+}
+
 impl Grid {
     fn new(random: &mut Random) -> Grid {
         let largest = if random.one_in(4) { 9 } else { 3 };
@@ -98,7 +111,7 @@ impl Grid {
         let sy = integrated(random, &ys, &forces(1));
         let sx = [random.between(-40, 40), random.between(-40, 40)];
         let sides = random.pick(&[12, 20, 36]);
-        Grid {
+        let mut grid = Grid {
             columns,
             rows,
             xs,
@@ -106,25 +119,36 @@ impl Grid {
             sides,
             soils,
             layer_soil,
+            elements: Lines::new(),
             sx,
             sy,
             t,
-        }
+        };
+        grid.elements = grid.cells(random);
+        grid
     }
 
     fn node(&self, column: usize, row: usize) -> i64 {
         (row * (self.columns + 1) + column + 1) as i64
     }
 
-    fn element(&self, column: usize, row: usize) -> Vec<i64> {
-        let (right, up) = (column + 1, row + 1);
-        vec![
-            self.node(column, row),
-            self.node(right, row),
-            self.node(right, up),
-            self.node(column, up),
-            self.layer_soil[row] as i64 + 1,
-        ]
+    /// The elements, cell by cell; where there are triangles, a cell may be cut into two.
+    fn cells(&self, random: &mut Random) -> Lines {
+        let with_triangles = random.one_in(2);
+        let mut all = Lines::new();
+        for row in 0..self.rows {
+            for column in 0..self.columns {
+                let corners = [(0, 0), (1, 0), (1, 1), (0, 1)]
+                    .map(|(right, up)| self.node(column + right, row + up));
+                let soil = self.layer_soil[row] as i64 + 1;
+                if with_triangles && random.one_in(2) {
+                    all.extend(triangles(random, corners, soil));
+                } else {
+                    all.push([&corners[..], &[soil]].concat());
+                }
+            }
+        }
+        all
     }
 
     /// Foot and top: normal sy, and shear -t since the step is along x.
@@ -171,21 +195,14 @@ impl Grid {
 
     fn mesh(&self, edges: &Lines) -> Lines {
         let nodes = (self.columns + 1) * (self.rows + 1);
-        let counts = [
-            nodes,
-            self.columns * self.rows,
-            self.soils.len(),
-            edges.len(),
-        ];
+        let counts = [nodes, self.elements.len(), self.soils.len(), edges.len()];
         let mut mesh = vec![counts.iter().map(|&count| count as i64).collect::<Vec<_>>()];
         mesh[0].push(self.sides);
         mesh.extend(self.soils.iter().cloned());
         for &y in &self.ys {
             mesh.extend(self.xs.iter().map(|&x| vec![x, y]));
         }
-        for row in 0..self.rows {
-            mesh.extend((0..self.columns).map(|column| self.element(column, row)));
-        }
+        mesh.extend(self.elements.iter().cloned());
         mesh.extend(edges.iter().cloned());
         mesh
     }
@@ -203,7 +220,7 @@ impl Grid {
     /// Zero multipliers, a line for each element, edge and node.
     fn zero_multipliers(&self, edges: usize) -> Lines {
         let nodes = (self.columns + 1) * (self.rows + 1);
-        let mut lines = vec![vec![0; 2]; self.columns * self.rows];
+        let mut lines = vec![vec![0; 2]; self.elements.len()];
         lines.extend(vec![vec![0; 4]; edges]);
         lines.extend(vec![vec![0; self.sides as usize]; nodes]);
         lines
@@ -225,7 +242,7 @@ impl Grid {
         let right = self.ys[self.rows] - self.ys[self.rows - 1];
         let top = self.xs[self.columns] - self.xs[self.columns - 1];
         let y = right.max(top).pow(2) * random.between(1, 2);
-        let elements = self.columns * self.rows;
+        let elements = self.elements.len();
         let node = lines.len() - 1;
         lines[node][pair[0]] += y;
         lines[node][pair[1]] += y;
@@ -236,7 +253,7 @@ impl Grid {
     /// A rigid step (a, b) of the whole grid; every outer side has an edge with both parts fixed.
     fn add_rigid(&self, random: &mut Random, edges: &Lines, lines: &mut Lines) {
         let (a, b) = (400 * random.between(-9, 9), 400 * random.between(-9, 9));
-        let elements = self.columns * self.rows;
+        let elements = self.elements.len();
         let at = |node: i64| {
             let (row, column) = (
                 (node - 1) as usize / self.xs.len(),

@@ -8,111 +8,11 @@ mod causes;
 mod damage;
 mod grids;
 mod random;
+mod tally;
 
 use independent::sheet::{self, Sheet};
 use random::Random;
-use std::collections::BTreeMap;
-
-/// Every number that a file can get.
-const NUMBERS: [u32; 17] = [0, 1, 2, 3, 4, 5, 6, 7, 8, 11, 12, 13, 21, 22, 31, 32, 33];
-
-/// How often each number came, and how often the two disagreed.
-#[derive(Default)]
-struct Tally {
-    files: BTreeMap<u32, u64>,
-    lists: BTreeMap<u32, u64>,
-    disagreements: u64,
-}
-
-impl Tally {
-    fn disagree(&mut self, what: &str, mesh: &[u8], claim: &[u8]) {
-        self.disagreements += 1;
-        if self.disagreements <= 3 {
-            println!("DISAGREEMENT: {what}");
-            println!("mesh:\n{}", String::from_utf8_lossy(mesh));
-            println!("claim:\n{}", String::from_utf8_lossy(claim));
-        }
-    }
-
-    /// Both checks on one buffer of `room` bytes, filled with `fill` before.
-    fn file(&mut self, mesh: &[u8], claim: &[u8], room: usize, fill: u8) {
-        let mut proved = vec![fill; room];
-        let mut independent = proved.clone();
-        let theirs = archive::check(mesh, claim, &mut proved);
-        let ours = independent::check(mesh, claim, &mut independent);
-        *self.files.entry(ours.number).or_default() += 1;
-        if theirs != ours || proved != independent {
-            let line = String::from_utf8_lossy(&proved).into_owned();
-            self.disagree(
-                &format!("{theirs:?} not {ours:?}, room {room}: {line}"),
-                mesh,
-                claim,
-            );
-        }
-    }
-
-    /// Both give the answer that was worked out by hand for cause number `k`.
-    fn expect(&mut self, mesh: &[u8], claim: &[u8], number: u32, place: u32, k: usize) {
-        self.file(mesh, claim, 113, b'#');
-        let ours = independent::check(mesh, claim, &mut [0; 113]);
-        if (ours.number, ours.place) != (number, place) {
-            let what = format!("{ours:?}, by hand {number}, {place}: cause {k}");
-            self.disagree(&what, mesh, claim);
-        }
-    }
-
-    fn list(&mut self, mesh: &[i64], claim: &[i64]) {
-        let theirs = archive::check_numbers(mesh, claim);
-        let ours = independent::check_numbers(mesh, claim);
-        *self.lists.entry(ours.number).or_default() += 1;
-        if theirs != ours {
-            let text = |list: &[i64]| format!("{list:?}").into_bytes();
-            self.disagree(
-                &format!("{theirs:?} not {ours:?}"),
-                &text(mesh),
-                &text(claim),
-            );
-        }
-    }
-
-    /// A sheet as files and as numbers.
-    fn sheet(&mut self, random: &mut Random, sheet: &Sheet) {
-        let room = match random.below(16) {
-            0 => random.below(113),
-            1..=3 => 113 + random.below(8),
-            _ => 113,
-        };
-        self.file(
-            &sheet.mesh_file(),
-            &sheet.claim_file(),
-            room,
-            random.below(256) as u8,
-        );
-        self.list(&sheet.mesh.concat(), &sheet.claim.concat());
-    }
-
-    fn print(&self) {
-        println!("number      files    numbers");
-        for number in NUMBERS.iter().chain(&[41]) {
-            let count = |of: &BTreeMap<u32, u64>| of.get(number).copied().unwrap_or(0);
-            println!(
-                "{number:>6} {:>10} {:>10}",
-                count(&self.files),
-                count(&self.lists)
-            );
-        }
-        println!("disagreements: {}", self.disagreements);
-    }
-
-    /// Every number came, and the two agreed each time.
-    fn good(&self) -> bool {
-        self.disagreements == 0
-            && NUMBERS
-                .iter()
-                .all(|n| self.files.contains_key(n) && self.lists.contains_key(n))
-            && self.files.contains_key(&41)
-    }
-}
+use tally::Tally;
 
 /// Every buffer length up to 120, on an accepted and on a refused sheet.
 fn every_room(tally: &mut Tally, sheet: &Sheet) {
@@ -140,11 +40,7 @@ fn every_byte(tally: &mut Tally, random: &mut Random, sheet: &Sheet) {
 
 /// Each cause gets the answer that was worked out for it, from both.
 fn every_cause(tally: &mut Tally, random: &mut Random) {
-    let sheets = [
-        (causes::pair(), causes::of_mesh()),
-        (Sheet::worked(), causes::of_claim()),
-    ];
-    for (sheet, table) in &sheets {
+    for (sheet, table) in &causes::tables() {
         for (k, (changes, number, place)) in table.iter().enumerate() {
             let damaged = causes::changed(sheet, changes);
             tally.expect(
