@@ -7,8 +7,9 @@ mod books;
 mod lists;
 mod runs;
 mod sizes;
+mod strengths;
 
-use independent::{Answer, Book, BookAnswer};
+use independent::{Answer, Book, BookAnswer, NextStrength, Trial};
 use std::fs;
 
 /// The byte that a buffer is filled with before a call.
@@ -23,6 +24,7 @@ struct Make {
     mesh_sizes: fn(&[u8], &[u8]) -> independent::Sizes,
     book_ask: fn(Book, &[u8], &[u8], &[u8]) -> BookAnswer,
     book_commit: fn(Book, u64, &[u8], &[u8], &[u8]) -> BookAnswer,
+    next_strength: fn(Trial, Trial) -> NextStrength,
 }
 
 const MAKES: [Make; 2] = [
@@ -34,6 +36,7 @@ const MAKES: [Make; 2] = [
         mesh_sizes: archive::mesh_sizes,
         book_ask: archive::book_ask,
         book_commit: archive::book_commit,
+        next_strength: archive::next_strength,
     },
     Make {
         name: "independent",
@@ -43,6 +46,7 @@ const MAKES: [Make; 2] = [
         mesh_sizes: independent::mesh_sizes,
         book_ask: independent::book_ask,
         book_commit: independent::book_commit,
+        next_strength: independent::next_strength,
     },
 ];
 
@@ -120,6 +124,7 @@ fn main() {
     runs::all(&mut tally, &format!("{folder}/runs"));
     sizes::all(&mut tally, &folder);
     books::all(&mut tally, &format!("{folder}/book"));
+    strengths::all(&mut tally, &format!("{folder}/strength"));
     println!("{} answers, {} of them differ", tally.answers, tally.wrong);
     std::process::exit(if tally.wrong == 0 && tally.answers > 0 {
         0

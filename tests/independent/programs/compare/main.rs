@@ -9,12 +9,14 @@ mod books;
 mod causes;
 mod columns;
 mod damage;
+mod exact;
 // The bench takes an accepted grid of a given size.
 #[allow(dead_code)]
 mod grids;
 mod overlaps;
 mod random;
 mod runs;
+mod strengths;
 mod tally;
 
 use independent::sheet::{self, Files, Sheet};
@@ -187,6 +189,7 @@ fn main() {
     (0..2_000).for_each(|_| blends::at_random(&mut tally, &mut random));
     books::by_hand(&mut tally);
     (0..2_000).for_each(|_| books::at_random(&mut tally, &mut random));
+    strengths::all(&mut tally, &mut random);
     runs::by_hand(&mut tally);
     (0..6_000).for_each(|_| runs::at_random(&mut tally, &mut random));
     for _ in 0..500 {
