@@ -2,6 +2,8 @@
 //! with a joint, where the field may jump; else the field depends on height alone. Multipliers are
 //! around one corner and over the whole grid.
 
+mod claims;
+
 use crate::random::Random;
 use independent::sheet::{Lines, Sheet};
 use std::collections::BTreeSet;
@@ -17,16 +19,6 @@ const FRICTION: [[i64; 3]; 8] = [
     [7, 24, 25],
     [280, 960, 1000],
 ];
-
-/// The radius of a polygon, and the height of its first corner above (r, 0).
-fn radius_and_rise(sides: i64) -> (i64, i64) {
-    match sides {
-        12 => (5, 3),
-        20 => (25, 7),
-        36 => (65, 16),
-        _ => (1105, 47),
-    }
-}
 
 /// A line of the grid, upright or level, whose nodes from one on are there twice.
 #[derive(Clone, Copy)]
@@ -68,23 +60,6 @@ struct Grid {
     table: Lines,
 }
 
-fn common_divisor(a: i64, b: i64) -> i64 {
-    if b == 0 {
-        a.abs()
-    } else {
-        common_divisor(b, a % b)
-    }
-}
-
-fn common_multiple(a: i64, b: i64) -> i64 {
-    a / common_divisor(a, b) * b
-}
-
-/// The least number above 0 that makes a whole number of `number` over `by`.
-fn whole_from(number: i64, by: i64) -> i64 {
-    by / common_divisor(by, number)
-}
-
 /// Grid lines in units; with 108 sides in tens, so that multipliers that undo strength rows are small.
 fn coordinates(random: &mut Random, cells: usize, sides: i64) -> Vec<i64> {
     let mut at = random.between(0, 2);
@@ -101,7 +76,8 @@ fn coordinates(random: &mut Random, cells: usize, sides: i64) -> Vec<i64> {
     all.iter().map(|step| step * unit).collect()
 }
 
-fn soil(random: &mut Random) -> Vec<i64> {
+/// A soil, of kind 1 at times; its forces are columns 5 to 8.
+fn soil(random: &mut Random, with_kinds: bool) -> Vec<i64> {
     let mut line = random.pick(&FRICTION).to_vec();
     line.push(random.between(0, 10_000));
     line.extend((0..4).map(|_| {
@@ -111,18 +87,20 @@ fn soil(random: &mut Random) -> Vec<i64> {
             0
         }
     }));
+    line.push(i64::from(with_kinds && random.one_in(3)));
+    line.push(random.between(0, 10_000));
     line
 }
 
 /// Up to four soils; one may have the forces of the one before it, so that a layer can have both.
-fn soils(random: &mut Random) -> Lines {
-    let mut all = vec![soil(random)];
+fn soils(random: &mut Random, sides: i64) -> Lines {
+    let with_kinds = sides != 108 && random.one_in(2);
+    let mut all = vec![soil(random, with_kinds)];
     for k in 0..random.below(4) {
-        all.push(soil(random));
+        all.push(soil(random, with_kinds));
         if random.one_in(2) {
-            let forces = all[k][4..].to_vec();
-            all[k + 1].truncate(4);
-            all[k + 1].extend(forces);
+            let forces = all[k][4..8].to_vec();
+            all[k + 1][4..8].copy_from_slice(&forces);
         }
     }
     all
@@ -212,7 +190,7 @@ impl Grid {
     fn of(random: &mut Random, columns: usize, rows: usize, sides: i64) -> Grid {
         let xs = coordinates(random, columns, sides);
         let ys = coordinates(random, rows, sides);
-        let soils = soils(random);
+        let soils = soils(random, sides);
         let layer_soil: Vec<usize> = (0..rows).map(|_| random.below(soils.len())).collect();
         let forces = |k: usize| -> Vec<[i64; 2]> {
             layer_soil
@@ -338,7 +316,7 @@ impl Grid {
 
     /// A soil with the forces of this one.
     fn twin(&self, random: &mut Random, soil: usize) -> usize {
-        let same = |k: &usize| self.soils[*k][4..] == self.soils[soil][4..];
+        let same = |k: &usize| self.soils[*k][4..8] == self.soils[soil][4..8];
         let twins: Vec<usize> = (0..self.soils.len()).filter(same).collect();
         random.pick(&twins)
     }
@@ -482,94 +460,6 @@ impl Grid {
             line[4] = 0;
         }
         line
-    }
-
-    fn field(&self, n: i64, l: i64) -> Lines {
-        let at = |part: [i64; 2]| n * part[0] + l * part[1];
-        let line = |&spot: &Spot| self.stress(spot).map(at).to_vec();
-        self.spots.iter().map(line).collect()
-    }
-
-    /// Zero multipliers, a line for each element, edge, jump and pair.
-    fn zero_multipliers(&self) -> Lines {
-        let mut lines = vec![vec![0; 2]; self.elements.len()];
-        lines.extend(vec![vec![0; 4]; self.edges.len() + self.jumps.len()]);
-        lines.extend(vec![vec![0; self.sides as usize]; self.pairs().len()]);
-        lines
-    }
-
-    /// Strength multipliers at the upper right corner on the two sides next to (r, 0), where sx - sy is
-    /// largest, or next to (-r, 0); the right side's and the top's normal rows undo them.
-    fn add_corner(&self, random: &mut Random, lines: &mut Lines) {
-        let half = self.sides as usize / 2;
-        let rows = if random.one_in(2) {
-            [0, 2 * half - 1]
-        } else {
-            [half - 1, half]
-        };
-        let corner = self.corner((self.columns - 1, self.rows - 1), 1, 1);
-        let pairs = self.pairs();
-        let pair = pairs
-            .iter()
-            .rposition(|&(node, _)| node == corner)
-            .expect("a pair");
-        let soil = &self.soils[pairs[pair].1 as usize - 1];
-        let (r, rise) = radius_and_rise(self.sides);
-        let sign = if rows[0] == 0 { 1 } else { -1 };
-        let (difference, friction) = (2 * r * soil[2] * rise * sign, 2 * soil[0] * r * rise);
-        let right = self.ys[self.rows] - self.ys[self.rows - 1];
-        let top = self.xs[self.columns] - self.xs[self.columns - 1];
-        let (across, down) = (difference + friction, friction - difference);
-        let y = common_multiple(
-            whole_from(across, right * right),
-            whole_from(down, top * top),
-        ) * random.between(1, 2);
-        let (elements, first) = (self.elements.len(), lines.len() - pairs.len());
-        rows.iter().for_each(|&row| lines[first + pair][row] += y);
-        lines[elements][2] -= y * across / (right * right);
-        lines[elements + self.rows][0] -= y * down / (top * top);
-    }
-
-    /// A rigid step (a, b) of the whole grid; every outer side has an edge with both parts fixed, or a
-    /// jump, whose rows undo the step on both of its sides.
-    fn add_rigid(&self, random: &mut Random, lines: &mut Lines) {
-        let (a, b) = (400 * random.between(-9, 9), 400 * random.between(-9, 9));
-        let elements = self.elements.len();
-        let at = |node: i64| {
-            let spot = self.spots[node as usize - 1];
-            (self.xs[spot.column], self.ys[spot.row])
-        };
-        lines[..elements].fill(vec![a, b]);
-        let outer = self.edges.iter().chain(&self.jumps);
-        for (line, side) in lines[elements..].iter_mut().zip(outer) {
-            let (from, to) = (at(side[0]), at(side[1]));
-            let (u, w) = (to.0 - from.0, to.1 - from.1);
-            let size = u * u + w * w;
-            for end in [0, 2] {
-                line[end] -= (a * w - b * u) / size;
-                line[end + 1] -= (a * u + b * w) / size;
-            }
-        }
-    }
-
-    fn claim(&self, random: &mut Random) -> Lines {
-        let parts = random.pick(&[[1, 0], [0, 1], [1, 1], [1, 1]]);
-        let mut claim = vec![vec![parts[0], parts[1], 0, 0]];
-        if parts[0] == 1 {
-            let n = random.between(1, 50) * random.pick(&[1, 1, 1, 40, 2000]);
-            let l = n * random.between(-9, 9) + random.between(-50, 50);
-            claim[0][2..].copy_from_slice(&[n, l]);
-            claim.extend(self.field(n, l));
-        }
-        if parts[1] == 1 {
-            let mut lines = self.zero_multipliers();
-            self.add_corner(random, &mut lines);
-            if self.edges.iter().all(|edge| edge[2] == 3) {
-                self.add_rigid(random, &mut lines);
-            }
-            claim.extend(lines);
-        }
-        claim
     }
 }
 
