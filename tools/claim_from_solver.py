@@ -6,7 +6,7 @@ import argparse
 from fractions import Fraction
 
 import linear_program
-import mesh_rows
+import rows as exact
 import whole_numbers
 
 MARGINS = (1e-4, 3e-4, 1e-3, 3e-3, 1e-2, 3e-2)
@@ -47,26 +47,23 @@ def make_multipliers(mesh, rows, spread):
 
 
 def limit(rows, multipliers):
-    w = sum(row.right * y for row, y in zip(rows, multipliers))
-    m = sum(row.live * y for row, y in zip(rows, multipliers))
-    return Fraction(w, m)
+    return Fraction(exact.right_sum(rows, multipliers), exact.load_sum(rows, multipliers))
 
 
-def make_claim(lines, part="both", margin=0.0, spread=0.0):
-    """The lines of a claim for a mesh's lines, and a word on how each part was made."""
-    mesh = mesh_rows.mesh_of(lines)
-    if mesh_rows.folded(mesh):
-        raise SystemExit(f"elements {mesh_rows.folded(mesh)} have a corner that is no left turn")
-    rows = mesh_rows.rows_of(mesh)
-    field = multipliers = None
-    notes = []
+def make_claim(text, part="both", margin=0.0, spread=0.0):
+    """The lines of a claim for a mesh file's bytes, and a word on how each part was made."""
+    try:
+        mesh, rows = exact.judged_mesh(exact.FileLines(text, 1))
+    except exact.Refused as refusal:
+        raise SystemExit(f"the mesh is refused: {refusal}") from None
+    n, l, stresses, multipliers, notes = 0, 0, None, None, []
     if part in ("field", "both"):
-        field, how = make_field(mesh, rows, margin)
-        notes.append(f"field carries {float(Fraction(field[1], field[0])):.9g} ({how})")
+        (n, l, stresses), how = make_field(mesh, rows, margin)
+        notes.append(f"field carries {l / n:.9g} ({how})")
     if part in ("multipliers", "both"):
         multipliers, how = make_multipliers(mesh, rows, spread)
         notes.append(f"multipliers allow {float(limit(rows, multipliers)):.9g} ({how})")
-    return mesh_rows.claim_lines(mesh, field, multipliers), "; ".join(notes)
+    return exact.claim_lines(mesh, exact.Claim(n, l, stresses, multipliers)), "; ".join(notes)
 
 
 def main():
@@ -77,8 +74,9 @@ def main():
     parser.add_argument("--margin", type=float, default=0.0, help="tighten the field's strength rows by this fraction")
     parser.add_argument("--spread", type=float, default=0.0, help="add this much to every strength multiplier")
     words = parser.parse_args()
-    lines, note = make_claim(mesh_rows.read_lines(words.mesh), words.part, words.margin, words.spread)
-    mesh_rows.write_lines(words.claim, lines)
+    lines, note = make_claim(exact.read(words.mesh), words.part, words.margin, words.spread)
+    with open(words.claim, "wb") as file:
+        file.write(exact.text_of(lines))
     print(note)
 
 

@@ -30,7 +30,7 @@ def program_text(rows, columns, margin, spread):
     """CPLEX LP format. Strength rows are tightened by `margin`, a fraction of their right side."""
     lines = ["Maximize", " load: l" + objective(rows, spread), "Subject To"]
     for number, row in enumerate(rows):
-        if row.kind == "unfixed":
+        if not row.fixed:
             continue
         scale = row_scale(row)
         terms = [f"{c / scale:+.17g} s{k}" for k, c in row.entries.items() if c]

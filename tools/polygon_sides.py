@@ -6,7 +6,7 @@ its columns only through the vector V = Σ y·S and the number Z = Σ y·K (docu
 import functools
 import heapq
 
-from mesh_rows import corners
+from rows import corners
 
 
 @functools.cache

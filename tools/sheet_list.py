@@ -22,21 +22,26 @@ def outline(i, j, size=1):
     return [(i, j), (i + size, j), (i + size, j + size), (i, j + size)]
 
 
-def mesh_lines(cells, at, soil_of, edge_of, soils, sides):
-    """A mesh of grid cells (i, j): `at` places its points, `soil_of` names the soil of a cell, and
-    `edge_of` gives an outer side from point a to point b its fixing and loads, or None."""
-    points = sorted({point for cell in cells for point in outline(*cell)}, key=lambda p: (p[1], p[0]))
+def polygon_mesh(polygons, at, edge_of, soils, sides):
+    """A mesh of polygons, each its points counterclockwise and a soil; three points make a triangle, which
+    repeats its third node. `at` places a point, and `edge_of` gives an outer side from point a to point b its
+    fixing and loads, or None."""
+    points = sorted({point for corner, _ in polygons for point in corner}, key=lambda p: (p[1], p[0], *p[2:]))
     number = {point: k + 1 for k, point in enumerate(points)}
     elements, directed = [], []
-    for cell in cells:
-        corner = outline(*cell)
-        elements.append([number[point] for point in corner] + [soil_of(*cell[:2])])
+    for corner, soil in polygons:
+        elements.append([number[point] for point in (*corner, corner[-1])[:4]] + [soil])
         directed += zip(corner, corner[1:] + corner[:1])
     outer = [(a, b) for a, b in directed if (b, a) not in set(directed)]
     loads = [(a, b, edge_of(a, b)) for a, b in outer]
     edges = [[number[a], number[b], *load] for a, b, load in loads if load]
     header = [len(points), len(elements), len(soils), len(edges), sides]
     return [header, *soils, *([*at(*point)] for point in points), *elements, *edges]
+
+
+def mesh_lines(cells, at, soil_of, edge_of, soils, sides):
+    """A mesh of grid cells (i, j): `soil_of` names the soil of a cell."""
+    return polygon_mesh([(outline(*cell), soil_of(*cell[:2])) for cell in cells], at, edge_of, soils, sides)
 
 
 def block_cells(columns, rows):
@@ -172,6 +177,44 @@ def largest(soils, sides):
 
     soil_of = lambda i, j: (i + j) % len(soils) + 1
     return mesh_lines(block_cells(9, 9) + double, scaled(65), soil_of, edge, soils, sides)
+
+
+def plate_edge(width, height, confining=0):
+    """The edges of a block between smooth plates, by points that are coordinates."""
+
+    def edge(a, b):
+        if a[1] == b[1] == height:
+            return 3, 0, 0, -1, 0
+        if a[0] == b[0] == width:
+            return 3, -confining, 0, 0, 0
+        return SMOOTH
+
+    return edge
+
+
+def triangle_block(size, soils, sides, confining=0):
+    """A block between smooth plates, cut into two triangles that repeat one node."""
+    a, b, c, d = (0, 0), (size, 0), (size, size), (0, size)
+    return polygon_mesh([([a, b, c], 1), ([d, a, c], 1)], scaled(1), plate_edge(size, size, confining), soils, sides)
+
+
+def fan_footing(size, right, deep, soils, sides):
+    """Half of a smooth strip footing, two cells wide, with a fan of eight triangles at its edge: the fan fills
+    four cells by two, and `right` columns beside it and `deep` rows below it are cells. As in `footing`, the
+    side right of the footing's edge has no edge line."""
+    top, apex = deep + 2, (2, deep + 2)
+    ring = [(0, top), (0, top - 1), (0, deep), (1, deep), (2, deep), (3, deep), (4, deep), (4, top - 1), (4, top)]
+    fan = [([a, b, apex], 1) for a, b in zip(ring, ring[1:])]
+    cells = [(i, j) for i, j in block_cells(4 + right, top) if i >= 4 or j < deep]
+
+    def edge(a, b):
+        if a[1] == b[1] == top:
+            if max(a[0], b[0]) <= 2:
+                return 3, 0, 0, -1, 0
+            return None if min(a[0], b[0]) <= 2 else FREE
+        return SMOOTH if a[0] == b[0] == 0 else None
+
+    return polygon_mesh(fan + [(outline(*cell), 1) for cell in cells], scaled(size), edge, soils, sides)
 
 
 def moved(mesh, shifts):
@@ -328,4 +371,14 @@ def corner_sheets():
     ]
 
 
-SHEETS = paper_sheets() + known_sheets() + other_sheets() + load_sheets() + corner_sheets()
+def triangle_sheets():
+    """Triangles (document 02, N1)."""
+    return [
+        Sheet("triangle_block", triangle_block(10, [clay(10)], 12)),
+        Sheet("triangle_block_sand", triangle_block(10, [sand(3, 4, 5, 10)], 20, 10)),
+        Sheet("fan_footing_12", fan_footing(10, 1, 1, [clay(10)], 12)),
+        Sheet("fan_footing_20", fan_footing(50, 2, 2, [clay(10)], 20)),
+    ]
+
+
+SHEETS = paper_sheets() + known_sheets() + other_sheets() + load_sheets() + corner_sheets() + triangle_sheets()

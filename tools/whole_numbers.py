@@ -8,14 +8,12 @@ The rows hold exactly or not at all, so rounding must not disturb an equality. T
 import math
 from fractions import Fraction
 
-from mesh_rows import node_soils, radius
+import rows as exact
 from polygon_sides import node_multipliers
 
-LARGEST_N = 100_000
-LARGEST_LOAD = 100_000_000
-LARGEST_STRESS = 1_000_000_000
-LARGEST_EQUALITY = 100_000
-LARGEST_STRENGTH = 10_000
+LARGEST_N = exact.CLAIM_HEADER[2][-1]
+LARGEST_LOAD = exact.CLAIM_HEADER[3][-1]
+LARGEST_STRESS = exact.STRESS[-1]
 
 
 def field_fits(rows, field):
@@ -25,26 +23,18 @@ def field_fits(rows, field):
         return False
     if any(abs(stress) > LARGEST_STRESS for stress in stresses):
         return False
-    for row in rows:
-        left = sum(c * stresses[k] for k, c in row.entries.items()) + l * row.live
-        if row.kind == "strength" and left > n * row.right:
-            return False
-        if row.kind == "equality" and left != n * row.right:
-            return False
-    return True
+    return not any(exact.failing(rows, exact.Claim(n, l, stresses, None)))
 
 
 def multipliers_fit(rows, columns, multipliers):
     """The multipliers are within the limits, every column sum is 0, and m is above 0."""
-    sums, m = [0] * columns, 0
-    for row, y in zip(rows, multipliers):
-        low, high = (0, LARGEST_STRENGTH) if row.kind == "strength" else (-LARGEST_EQUALITY, LARGEST_EQUALITY)
-        if not low <= y <= high or row.kind == "unfixed" and y:
-            return False
-        m += y * row.live
-        for k, c in row.entries.items():
-            sums[k] += y * c
-    return m > 0 and not any(sums)
+    if any(y not in row.limits for row, y in zip(rows, multipliers)):
+        return False
+    try:
+        exact.judge_multipliers(rows, columns, multipliers)
+    except exact.Refused:
+        return False
+    return True
 
 
 def common_denominator(values, largest):
@@ -71,7 +61,7 @@ def largest_scale(rows, multipliers):
     scale = 10**9
     for row, y in zip(rows, multipliers):
         if abs(y) > 1e-12:
-            scale = min(scale, (LARGEST_STRENGTH if row.kind == "strength" else LARGEST_EQUALITY) / abs(y))
+            scale = min(scale, row.limits[-1] / abs(y))
     return scale
 
 
@@ -142,7 +132,8 @@ def add_multiple(entries, others, factor):
 
 def rounded_field(rows, columns, stresses, load):
     """The field with its free unknowns rounded; the last unknown is the load."""
-    equations = [({**row.entries, columns: row.live}, row.right) for row in rows if row.kind == "equality"]
+    asked = [row for row in rows if row.kind != "strength" and row.fixed]
+    equations = [({**row.entries, columns: row.live}, row.right) for row in asked]
     equalities = Equalities(equations)
     sizes = [abs(value) for value in stresses] + [10 * abs(load), 1]
     n = min(LARGEST_N, int(LARGEST_STRESS / (2 * max(sizes))))
@@ -155,30 +146,54 @@ def rounded_field(rows, columns, stresses, load):
     return field if field_fits(rows, field) else None
 
 
+def flow_rows(rows):
+    """The numbers of the equality rows that ask something: their multipliers are the motion of the mesh."""
+    return [number for number, row in enumerate(rows) if row.kind != "strength" and row.fixed]
+
+
+def soils_around(mesh):
+    """For each node the pairs' (number, soil)."""
+    around = [[] for _ in mesh.nodes]
+    for number, (node, soil) in enumerate(exact.strength_pairs(mesh)):
+        around[node].append((number, mesh.soils[soil]))
+    return around
+
+
 def multiplier_unit(mesh, rows):
     """Equality multipliers that are multiples of this give every node a whole V and Z."""
     divisors = [0] * len(mesh.nodes)
-    for row in rows:
-        if row.kind == "equality":
-            for k, c in row.entries.items():
-                divisors[k // 3] = math.gcd(divisors[k // 3], c)
+    for number in flow_rows(rows):
+        for k, c in rows[number].entries.items():
+            divisors[k // 3] = math.gcd(divisors[k // 3], c)
     unit = 1
-    for soil, divisor in zip(node_soils(mesh), divisors):
-        needed = math.lcm(4 * radius(mesh.sides) * soil.h, 4 * soil.p or 1)
-        unit = math.lcm(unit, needed // math.gcd(needed, divisor))
+    for pairs, divisor in zip(soils_around(mesh), divisors):
+        for _, soil in pairs:
+            needed = math.lcm(4 * exact.radius(mesh.sides) * soil.h, 4 * soil.p or 1)
+            unit = math.lcm(unit, needed // math.gcd(needed, divisor))
     return unit
 
 
 def trace_equations(mesh, rows):
     """At a node without friction the sums of sx and of sy are opposite: the flow keeps its volume."""
     equations = [{} for _ in mesh.nodes]
-    for number, row in enumerate(rows):
-        if row.kind == "equality":
-            for k, c in row.entries.items():
-                if k % 3 < 2:
-                    entries = equations[k // 3]
-                    entries[number] = entries.get(number, 0) + c
-    return [(entries, 0) for entries, soil in zip(equations, node_soils(mesh)) if soil.p == 0]
+    for number in flow_rows(rows):
+        for k, c in rows[number].entries.items():
+            if k % 3 < 2:
+                entries = equations[k // 3]
+                entries[number] = entries.get(number, 0) + c
+    around = soils_around(mesh)
+    return [(entries, 0) for entries, pairs in zip(equations, around) if any(soil.p == 0 for _, soil in pairs)]
+
+
+def cheapest(mesh, pairs, sums):
+    """(pair, its strength multipliers) that undo a node's column sums at the least W, or None."""
+    found = []
+    for number, soil in pairs:
+        y = node_multipliers(mesh.sides, exact.radius(mesh.sides), soil, sums)
+        if y is not None:
+            rights = (right for _, right in exact.polygon_rows(mesh, 0, soil))
+            found.append((sum(a * b for a, b in zip(y, rights)), number, y))
+    return min(found)[1:] if found else None
 
 
 def rounded_multipliers(mesh, rows, multipliers, filling):
@@ -188,20 +203,18 @@ def rounded_multipliers(mesh, rows, multipliers, filling):
     equalities = Equalities(trace_equations(mesh, rows))
     unit = multiplier_unit(mesh, rows)
     scale = filling * largest_scale(rows, multipliers)
-    unknowns = [number for number, row in enumerate(rows) if row.kind == "equality"]
+    unknowns = flow_rows(rows)
     wanted = {number: scale * multipliers[number] / unit for number in unknowns}
     whole = [0] * len(rows)
     for number, value in zip(unknowns, equalities.whole(unknowns, wanted, 0, equalities.unit)):
         whole[number] = unit * value
-    sums = [0] * (3 * len(mesh.nodes))
-    for number in unknowns:
-        for k, c in rows[number].entries.items():
-            sums[k] += whole[number] * c
+    columns = 3 * len(mesh.nodes)
+    sums = exact.column_sums(rows, whole, columns)
     first = next(number for number, row in enumerate(rows) if row.kind == "strength")
-    for node, soil in enumerate(node_soils(mesh)):
-        y = node_multipliers(mesh.sides, radius(mesh.sides), soil, sums[3 * node : 3 * node + 3])
-        if y is None:
+    for node, pairs in enumerate(soils_around(mesh)):
+        found = cheapest(mesh, pairs, sums[3 * node : 3 * node + 3])
+        if found is None:
             return None
-        start = first + node * mesh.sides
-        whole[start : start + mesh.sides] = y
-    return whole if multipliers_fit(rows, 3 * len(mesh.nodes), whole) else None
+        start = first + found[0] * mesh.sides
+        whole[start : start + mesh.sides] = found[1]
+    return whole if multipliers_fit(rows, columns, whole) else None

@@ -1,0 +1,61 @@
+#!/usr/bin/env python3
+"""Holds rows.py to sheets/expected and to cases of another make: rows_test.py [FOLDER..], each folder with
+`expected` (name, number, place, report line, kind of place, room, decimals) and the files that it names."""
+
+import os
+import sys
+
+import rows
+
+HERE = os.path.dirname(os.path.abspath(__file__))
+SHEETS = os.path.join(HERE, "..", "sheets")
+
+
+def lines_of(*path):
+    with open(os.path.join(*path), encoding="ascii") as file:
+        return file.read().splitlines()
+
+
+def sheet_line(folder, name):
+    mesh, claim = (rows.read(os.path.join(folder, name + end)) for end in (".mesh", ".claim"))
+    return name + " " + rows.check(mesh, claim)[1].decode("ascii").rstrip("\n")
+
+
+def differing_sheets(folder):
+    for line in lines_of(folder, "expected"):
+        if sheet_line(folder, line.split()[0]) != line:
+            yield line.split()[0]
+
+
+def differing_files(folder):
+    for line in lines_of(folder, "expected"):
+        name, number, place, text, kind, room, _ = line.split("\t")[:7]
+        mesh, claim = (rows.read(os.path.join(folder, name + end)) for end in (".mesh", ".claim"))
+        verdict, written = rows.check(mesh, claim, int(room))
+        told = "-" if written is None else written.decode("ascii").rstrip("\n")
+        if [str(verdict.number), str(verdict.place), told, verdict.kind] != [number, place, text, kind]:
+            yield f"{name}: {verdict}, expected {line}"
+
+
+def differing_numbers(folder):
+    for line in lines_of(folder, "expected"):
+        name, *expected = line.split("\t")
+        mesh, claim = ([int(n) for n in text.split()] for text in lines_of(folder, name + ".txt")[:2])
+        verdict = rows.check_numbers(mesh, claim)
+        if ["-" if part is None else str(part) for part in verdict] != expected:
+            yield f"{name}: {verdict}, expected {line}"
+
+
+def main():
+    differing = [f"sheet {name}" for name in differing_sheets(SHEETS)]
+    count = len(lines_of(SHEETS, "expected"))
+    for folder in sys.argv[1:]:
+        for part, compare in (("", differing_files), ("numbers", differing_numbers)):
+            differing += [f"{folder}/{part} {words}" for words in compare(os.path.join(folder, part))]
+            count += len(lines_of(folder, part, "expected"))
+    print("\n".join(differing + [f"{count} cases, {len(differing)} differ"]))
+    sys.exit(bool(differing))
+
+
+if __name__ == "__main__":
+    main()
