@@ -191,7 +191,7 @@ def cheapest(mesh, pairs, sums):
     for number, soil in pairs:
         y = node_multipliers(mesh.sides, exact.radius(mesh.sides), soil, sums)
         if y is not None:
-            rights = (right for _, right in exact.polygon_rows(mesh, 0, soil))
+            rights = (right for _, right in exact.soil_rows(mesh.sides, 0, soil))
             found.append((sum(a * b for a, b in zip(y, rights)), number, y))
     return min(found)[1:] if found else None
 
