@@ -1,9 +1,9 @@
 #!/usr/bin/env python3
 """Makes the sheets of this repository again: make_sheets.py FOLDER writes NAME.mesh, NAME.claim and,
-where there is one, NAME.table for every sheet, and FOLDER/expected with the report line of each, worked out by rows.py; where
-sheet_list.py says the line, the two are compared. FOLDER/decimals has lines with other decimals,
-FOLDER/runs the runs. Needs glpsol; the sheets are kept in sheets/, so that checking them needs no
-solver."""
+where there is one, NAME.table for every sheet, and FOLDER/expected with the report line of each,
+worked out by rows.py; where sheet_list.py says the line, the two are compared. FOLDER/decimals has
+lines with other decimals, FOLDER/runs the runs. Needs glpsol; the sheets are kept in sheets/, so
+that checking them needs no solver."""
 
 import os
 import sys
@@ -18,13 +18,21 @@ def write(folder, name, data):
         file.write(data)
 
 
+def solved(mesh, table, *how):
+    """The claim's bytes for a mesh file, and a word on how it was made."""
+    read, claim, notes = claim_from_solver.make_claim(mesh, table, *how)
+    if any(note.startswith("no ") for note in notes):
+        raise SystemExit("; ".join(notes))
+    return rows.text_of(rows.claim_lines(read, claim)), "; ".join(notes)
+
+
 def write_sheet(folder, sheet):
     """One sheet; returns its line."""
     mesh, table, note = rows.text_of(sheet.mesh), rows.text_of(sheet.table), "by hand"
-    claim = sheet.claim
-    if claim is None:
-        claim, note = claim_from_solver.make_claim(mesh, table, *sheet.how)
-    claim = rows.text_of(claim)
+    if sheet.claim is None:
+        claim, note = solved(mesh, table, *sheet.how)
+    else:
+        claim = rows.text_of(sheet.claim)
     verdict, line = rows.check(mesh, table, claim)
     line = line.decode("ascii")
     if sheet.line is None and verdict.number or sheet.line is not None and line.split() != sheet.line:
@@ -48,8 +56,7 @@ def write_run(folder, run):
     """One run; returns its line: name, bytes of the buffer, reports, bytes taken."""
     mesh, claims = rows.text_of(run.mesh), b""
     for claim in run.claims:
-        lines = claim_from_solver.make_claim(mesh, b"", *claim)[0] if isinstance(claim, tuple) else claim
-        claims += rows.text_of(lines)
+        claims += solved(mesh, b"", *claim)[0] if isinstance(claim, tuple) else rows.text_of(claim)
     claims = claims[: len(claims) - run.short]
     written, reports, taken = rows.check_run(mesh, b"", claims, run.room)
     for end, data in ((".mesh", mesh), (".claims", claims), (".out", written)):

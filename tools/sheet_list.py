@@ -444,6 +444,9 @@ def known_sheets():
 def other_sheets():
     """One and several soils, dead and live forces, fixed and unfixed parts, parts alone."""
     weight, sideways = (0, -1), (1, 0)
+    heavy = [clay(30, dead=weight), clay(50, dead=weight)]
+    soft_above = [clay(60, live=weight), clay(100, live=weight)]
+    several = [sand(3, 4, 5, 1), sand(4, 3, 5, 2), clay(90)]
     layers = lambda i, j: 1 if j >= 2 else 2
     columns = lambda i, j: 1 + i % 3
     return [
@@ -455,11 +458,11 @@ def other_sheets():
         Sheet("bank_shaken", slope(3, 2, 10, 10, [clay(90, dead=weight, live=sideways)], 12)),
         Sheet("bank_face_normal", slope(3, 2, 10, 10, [clay(60, live=weight)], 12, 1)),
         Sheet("layers_footing", footing(5, 4, 10, 1, [clay(10), clay(25)], 12, layers)),
-        Sheet("layers_footing_weight", footing(5, 4, 10, 1, [clay(30, dead=weight), clay(50, dead=weight)], 12, layers, 5)),
-        Sheet("layers_cut", cut(4, 4, 10, 2, 2, [clay(60, live=weight), clay(100, live=weight)], 20, layers), ("field",)),
+        Sheet("layers_footing_weight", footing(5, 4, 10, 1, heavy, 12, layers, 5)),
+        Sheet("layers_cut", cut(4, 4, 10, 2, 2, soft_above, 20, layers), ("field",)),
         Sheet("pieces_sixteen_soils", pieces([clay(30 + k * 7 % 16) for k in range(16)], 36, 15)),
         Sheet("soils_block", block(3, 2, 5, [clay(10), clay(14), clay(12)], 12, 2, columns)),
-        Sheet("soils_sand_block", block(3, 2, 5, [sand(3, 4, 5, 1), sand(4, 3, 5, 2), clay(90)], 12, 3, columns), ("field",)),
+        Sheet("soils_sand_block", block(3, 2, 5, several, 12, 3, columns), ("field",)),
         Sheet("footing_field", footing(8, 6, 50, 2, [clay(12)], 20), ("field", 0.05)),
         Sheet("footing_multipliers", footing(8, 6, 50, 2, [clay(12)], 20), ("multipliers",)),
         Sheet("footing_sand_field", footing(9, 4, 10, 1, [sand(7, 24, 25, 10)], 12), ("field", 0.01)),
@@ -531,11 +534,12 @@ def pair_sheets():
     top = lambda i, j: 1 if j >= 2 else 2
     between = seam(10, clay(30), clay(10), 12)
     fault = printed("1 0 1 60" + " / 0 -60 0" * 8)
+    order = [7 * k % 16 + 1 for k in range(16)]
     return [
         Sheet("seam", between),
         Sheet("seam_fault", between, claim=fault, line=["22", "37", "none", "none"]),
         Sheet("fill_on_clay", by_soil(footing(3, 3, 10, 1, [sand(3, 4, 5, 5), clay(10)], 12, top))),
-        Sheet("wheel_sixteen_soils", wheel(5, [clay(20 + k) for k in range(16)], 12, [7 * k % 16 + 1 for k in range(16)])),
+        Sheet("wheel_sixteen_soils", wheel(5, [clay(20 + k) for k in range(16)], 12, order)),
     ]
 
 
@@ -668,5 +672,5 @@ RUNS = runs()
 
 # Sheets and decimals (document 02, N5): 43 for -1 and 8, a claim that is refused, the widest loads.
 DECIMALS = [(name, decimals) for name in ("third_below_zero", "two_thirds") for decimals in (0, 3, 7)]
-DECIMALS += [("widest_limit", 0), ("widest_limit", 7), ("widest_108", 7), ("lowest_limit", 7), ("one_in_three_million", 7)]
-DECIMALS += [("worked_above", 3), ("worked", -1), ("worked", 8)]
+DECIMALS += [("widest_limit", 0), ("widest_limit", 7), ("widest_108", 7), ("lowest_limit", 7)]
+DECIMALS += [("one_in_three_million", 7), ("worked_above", 3), ("worked", -1), ("worked", 8)]
