@@ -27,19 +27,19 @@ use Rattle.scope.specs.Columns.{between, within, at, hasField, hasMultipliers}
 use Rattle.scope.specs.Claim.{ifThere, multiplier}
 use Rattle.scope.specs.NumberRanges.{ClaimFacts}
 use Rattle.scope.specs.Mesh.{nodes, elements, edges, sides, edgeEntry, fromNode, toNode, equalityCount}
-use Rattle.scope.specs.Rows.{Kind, asked, unfixed, strength, Row, fixedIf, balanceX, balanceY, normalRow, shearRow, equalityRows, rowsOf}
+use Rattle.scope.specs.Rows.{Kind, asked, unfixed, strength, Row, pairCount, fixedIf, balanceX, balanceY, normalRow, shearRow, equalityRows, rowsOf}
 use Rattle.scope.specs.Sums.{coefficient, columnSum, liveSum, limitSum, zeroIfUnfixed}
 use Rattle.scope.specs.Verdict.{multipliersCheck, upperLoad}
 use Rattle.scope.specs.Phases.{checkPhase, checkPhases}
-use Rattle.scope.specs.Refusals.{multiplierPart}
+use Rattle.scope.specs.Refusals.{unfixedPhase, columnsPhase, livePhase, multiplierPart}
 use Rattle.scope.proofs.Checks.{lowest-cong}
 use Rattle.scope.proofs.RowCounts.{equality-count}
 use Rattle.rows.specs.declared.multiplier_sums.Sums.{Sums}
 use Rattle.rows.specs.declared.multiplier_checks.Limit.{Limit}
 use Rattle.rows.specs.declared.multiplier_checks.Limit.the-variants as L
 use Rattle.rows.specs.RowContracts.{Listed, multipliersFrom, rowSum}
-use Rattle.rows.specs.MultiplierContracts.{Multipliers, NodesSummed, nodeFirst}
-use Rattle.rows.specs.LimitContracts.{isAsked, unfixedCheck, columnsCheck, limitOf, sumsLimit, multipliersLimit}
+use Rattle.rows.specs.MultiplierContracts.{Multipliers, PairsSummed, pairFirst}
+use Rattle.rows.specs.LimitContracts.{isAsked, limitOf, sumsLimit, multipliersLimit}
 use Rattle.scope.specs.Tests.{rowAt}
 use Rattle.lines.specs.SearchContracts.{firstFailing}
 use Rattle.rows.proofs.ClaimLaws.{multiplier-is, rest-is, equality-within, strength-within, with-multipliers}
@@ -129,12 +129,12 @@ abbrev pub unfixedTest : List ℤ → List ℤ → ℕ → Bool
 unfixedTest m y k = zeroIfUnfixed (at y k) (rowAt (equalityRows m) k)
 
 module _ (m y : List ℤ) {k rows : ℕ} (e : k ≡ firstFailing (unfixedTest m y) rows) (all : rows ≡ equalityCount m) where
-  pub unfixed-fails : k < rows → Refused 31 (P.Row (k + 1)) ≡ unfixedCheck (equalityRows m) (at y)
-  unfolding unfixedCheck
+  pub unfixed-fails : k < rows → Refused 31 (P.Row (k + 1)) ≡ checkPhase (unfixedPhase (equalityRows m) (at y))
+  unfolding checkPhase
   unfixed-fails l = phase-fails (unfixedTest m y) 31 (λ i. P.Row (suc i)) (length (equalityRows m)) e (all ∙ sym (equality-count m)) l (ap P.Row (add-one k))
 
-  pub unfixed-done : rows ≤ k → Passed ≡ unfixedCheck (equalityRows m) (at y)
-  unfolding unfixedCheck
+  pub unfixed-done : rows ≤ k → Passed ≡ checkPhase (unfixedPhase (equalityRows m) (at y))
+  unfolding checkPhase
   unfixed-done l = phase-done (unfixedTest m y) 31 (λ i. P.Row (suc i)) (length (equalityRows m)) e (all ∙ sym (equality-count m)) l
 
 -- from 0 to 0 is 0
@@ -149,36 +149,40 @@ abbrev zeroTest : List ℤ → ℕ → Bool
 zeroTest columns j = within (between (pos 0) (pos 0)) (at columns j)
 
 module _ (columns : List ℤ) (n : ℕ) {j : ℕ} (e : j ≡ firstFailing (zeroTest columns) n) where
-  zero-columns : Phase (zeroTest columns) 32 (λ i. P.Column (suc i)) n ≡ columnsCheck (at columns) n
-  unfolding columnsCheck
+  zero-columns : Phase (zeroTest columns) 32 (λ i. P.Column (suc i)) n ≡ checkPhase (columnsPhase (at columns) n)
+  unfolding checkPhase
   zero-columns = lowest-cong _ _ n (λ i l. ap (λ b. demand b 32 (P.Column (suc i))) (sym (zero-within (at columns i))))
 
-  pub column-fails : j < n → Refused 32 (P.Column (j + 1)) ≡ columnsCheck (at columns) n
+  pub column-fails : j < n → Refused 32 (P.Column (j + 1)) ≡ checkPhase (columnsPhase (at columns) n)
   column-fails l = phase-fails (zeroTest columns) 32 (λ i. P.Column (suc i)) n e refl l (ap P.Column (add-one j)) ∙ zero-columns
 
-  pub columns-done : n ≤ j → Passed ≡ columnsCheck (at columns) n
+  pub columns-done : n ≤ j → Passed ≡ checkPhase (columnsPhase (at columns) n)
   columns-done l = phase-done (zeroTest columns) 32 (λ i. P.Column (suc i)) n e refl l ∙ zero-columns
 
 -- ---- 32 and 33
 
+live-check : (z : ℤ) → checkPhase (livePhase z) ≡ demand (ltZ (pos 0) z) 33 (P.Column 0)
+unfolding checkPhase lowest
+live-check z = refl
+
 module _ (f : ℕ → ℤ) (n : ℕ) (sums : Sums) where
-  pub column-refused : {k : ℕ} {p : Place} → columnsCheck f n ≡ Refused k p → L.Refused k p ≡ sumsLimit f n sums
-  unfolding sumsLimit
+  pub column-refused : {k : ℕ} {p : Place} → checkPhase (columnsPhase f n) ≡ Refused k p → L.Refused k p ≡ sumsLimit f n sums
+  unfolding sumsLimit checkPhases
   column-refused e = sym (rw e)
 
-  pub live-refused : columnsCheck f n ≡ Passed → ltZ (pos 0) (sums .m) ≡ false → L.Refused 33 (P.Column 0) ≡ sumsLimit f n sums
-  unfolding sumsLimit
-  live-refused e g = sym (rw (e, g))
+  pub live-refused : checkPhase (columnsPhase f n) ≡ Passed → ltZ (pos 0) (sums .m) ≡ false → L.Refused 33 (P.Column 0) ≡ sumsLimit f n sums
+  unfolding sumsLimit checkPhases
+  live-refused e g = sym (rw (e, live-check (sums .m), g))
 
-  pub limit-there : {a b : ℤ} → columnsCheck f n ≡ Passed → ltZ (pos 0) (sums .m) ≡ true → a ≡ sums .w → b ≡ sums .m → L.Exact a b ≡ sumsLimit f n sums
-  unfolding sumsLimit
-  limit-there e g ew em = ap₂ L.Exact ew em ∙ sym (rw (e, g))
+  pub limit-there : {a b : ℤ} → checkPhase (columnsPhase f n) ≡ Passed → ltZ (pos 0) (sums .m) ≡ true → a ≡ sums .w → b ≡ sums .m → L.Exact a b ≡ sumsLimit f n sums
+  unfolding sumsLimit checkPhases
+  limit-there e g ew em = ap₂ L.Exact ew em ∙ sym (rw (e, live-check (sums .m), g))
 
 -- ---- the sums over all rows
 
-module _ (m y : List ℤ) (listed : Listed (sides m)) {columns : List ℤ} {sums : Sums} (h : NodesSummed m y (nodes m) columns sums) where
-  whole : (F : Row → ℤ) → rowSum F (at y) (rowsOf m) (nodeFirst m (nodes m)) ≡ rowSum F (at y) (rowsOf m) (length (rowsOf m))
-  unfolding nodeFirst
+module _ (m y : List ℤ) (listed : Listed (sides m)) {columns : List ℤ} {sums : Sums} (h : PairsSummed m y (pairCount m) columns sums) where
+  whole : (F : Row → ℤ) → rowSum F (at y) (rowsOf m) (pairFirst m (pairCount m)) ≡ rowSum F (at y) (rowsOf m) (length (rowsOf m))
+  unfolding pairFirst
   whole F = ap (rowSum F (at y) (rowsOf m)) (sym (row-count m listed))
 
   column-is : (j : ℕ) → at columns j ≡ columnSum (at y) (rowsOf m) j
@@ -194,15 +198,15 @@ module _ (m y : List ℤ) (listed : Listed (sides m)) {columns : List ℤ} {sums
   limit-is = h .limitIs .same ∙ whole (λ r. r .right) ∙ sym (weighed-sum (λ r. r .right) (at y) (rowsOf m))
 
   -- 31 has passed
-  limit-whole : unfixedCheck (equalityRows m) (at y) ≡ Passed → sumsLimit (at columns) (3 * nodes m) sums ≡ multipliersLimit m (at y)
-  unfolding sumsLimit multipliersLimit multipliersCheck unfixedCheck columnsCheck checkPhases checkPhase lowest
+  limit-whole : checkPhase (unfixedPhase (equalityRows m) (at y)) ≡ Passed → sumsLimit (at columns) (3 * nodes m) sums ≡ multipliersLimit m (at y)
+  unfolding sumsLimit multipliersLimit multipliersCheck checkPhases
   limit-whole e = rw (e, fun-ext column-is, live-is, limit-is)
 
-  pub limit-found : {n : ℕ} {r : Limit} → unfixedCheck (equalityRows m) (at y) ≡ Passed → n ≡ nodes m → r ≡ sumsLimit (at columns) (3 * n) sums → r ≡ multipliersLimit m (at y)
+  pub limit-found : {n : ℕ} {r : Limit} → checkPhase (unfixedPhase (equalityRows m) (at y)) ≡ Passed → n ≡ nodes m → r ≡ sumsLimit (at columns) (3 * n) sums → r ≡ multipliersLimit m (at y)
   limit-found e d s = s ∙ ap (λ k. sumsLimit (at columns) (3 * k) sums) d ∙ limit-whole e
 
-pub unfixed-refused : (m : List ℤ) (w : ℕ → ℤ) {k : ℕ} {p : Place} → unfixedCheck (equalityRows m) w ≡ Refused k p → L.Refused k p ≡ multipliersLimit m w
-unfolding multipliersLimit multipliersCheck unfixedCheck checkPhases checkPhase
+pub unfixed-refused : (m : List ℤ) (w : ℕ → ℤ) {k : ℕ} {p : Place} → checkPhase (unfixedPhase (equalityRows m) w) ≡ Refused k p → L.Refused k p ≡ multipliersLimit m w
+unfolding multipliersLimit multipliersCheck checkPhases
 unfixed-refused m w e = sym (rw e)
 
 -- ---- a claim's multipliers

@@ -10,19 +10,20 @@ ghost use Rattle.scope.specs.Rows.{equalityRows};
 ghost use Rattle.scope.specs.Sums.{zeroIfUnfixed};
 ghost use Rattle.scope.specs.Tests.{rowAt};
 ghost use Rattle.scope.specs.Verdict.{upperLoad};
-ghost use Rattle.scope.specs.Phases.{checkPhases};
+ghost use Rattle.scope.specs.Phases.{checkPhase, checkPhases};
+ghost use Rattle.scope.specs.Refusals.{unfixedPhase, columnsPhase, multiplierPart};
 ghost use Rattle.scope.specs.Bounds.{mostMultiplier, mostColumn};
 ghost use Rattle.mesh.specs.MeshContracts.{Sized};
 ghost use Rattle.rows.specs.RowContracts.{Judged, MeshSteps};
 ghost use Rattle.rows.specs.MultiplierContracts.{Multipliers, RowsGiven, WholeSumsFit};
-ghost use Rattle.rows.specs.LimitContracts.{isAsked, unfixedCheck, columnsCheck, limitOf, sumsLimit, multipliersLimit};
+ghost use Rattle.rows.specs.LimitContracts.{isAsked, limitOf, sumsLimit, multipliersLimit};
 use crate::equality_rows::fixes;
-ghost use Rattle.scope.specs.Refusals.{multiplierPart};
 use crate::multiplier_sums::Sums;
 use crate::multiplier_sums::row_sums;
 use lines::layout::has_part;
 use lines::layout::if_there;
 use lines::line_checks::first_outside;
+use mesh::sizes::MOST_NODES;
 use mesh::sizes::Sizes;
 use mesh::sizes::edge_entry;
 use mesh::sizes::equality_count;
@@ -31,7 +32,7 @@ use scope::Outcome;
 use scope::Place;
 
 // Three columns for each of the most nodes.
-const COLUMNS: usize = 3 * 100;
+const COLUMNS: usize = 3 * MOST_NODES;
 
 // What a claim's multipliers come to: none are there, the limit w/m, or a refusal.
 pub enum Limit {
@@ -71,7 +72,7 @@ pub fn zero_if_unfixed(m: &[i64], s: Sizes, y: &[i64], k: usize) -> bool
 // 31: the lowest unfixed row with a multiplier that is not 0.
 fn unfixed_check(m: &[i64], s: Sizes, y: &[i64]) -> Outcome
     requires { ⌜ Sized (now m) s ⌝ ∗ ⌜ Multipliers (now m) (now y) ⌝ }
-    ensures { λ r. ⌜ r ≡ unfixedCheck (equalityRows (now (m .entry))) (at (now (y .entry))) ⌝ }
+    ensures { λ r. ⌜ r ≡ checkPhase (unfixedPhase (equalityRows (now (m .entry))) (at (now (y .entry)))) ⌝ }
 {
     let rows = equality_count(s);
     let mut k: usize = 0;
@@ -90,7 +91,7 @@ fn unfixed_check(m: &[i64], s: Sizes, y: &[i64]) -> Outcome
 // 32: the lowest column whose sum is not 0.
 fn columns_check(columns: &[i64], n: usize) -> Outcome
     requires { ⌜ n ≤ length (now columns) ⌝ ∗ ⌜ n ≤ 3 * mostNodes ⌝ ∗ ⌜ AllWithin mostColumn (now columns) ⌝ }
-    ensures { λ r. ⌜ r ≡ columnsCheck (at (now (columns .entry))) n ⌝ }
+    ensures { λ r. ⌜ r ≡ checkPhase (columnsPhase (at (now (columns .entry))) n) ⌝ }
 {
     let j = first_outside(columns, 0, 0, n);
     if j < n {
@@ -125,8 +126,8 @@ fn sums_limit(columns: &[i64], n: usize, sums: Sums) -> Limit
 }
 
 // 31, 32 and 33 of the multipliers y.
-fn multipliers_limit(m: &[i64], s: Sizes, node_soils: &[u8], steps: &[i64], y: &[i64]) -> Limit
-    requires { ⌜ RowsGiven (now m) s (now «node_soils») (now steps) (now y) ⌝ }
+fn multipliers_limit(m: &[i64], s: Sizes, pairs: &[u8], steps: &[i64], y: &[i64]) -> Limit
+    requires { ⌜ RowsGiven (now m) s (now pairs) (now steps) (now y) ⌝ }
     ensures { λ r. ⌜ r ≡ multipliersLimit (now (m .entry)) (at (now (y .entry))) ⌝ }
 {
     let unfixed = unfixed_check(m, s, y);
@@ -134,7 +135,7 @@ fn multipliers_limit(m: &[i64], s: Sizes, node_soils: &[u8], steps: &[i64], y: &
         return Limit::Refused { number, place };
     }
     let mut columns: [i64; COLUMNS] = [0; COLUMNS];
-    let sums = row_sums(m, s, node_soils, steps, y, &mut columns);
+    let sums = row_sums(m, s, pairs, steps, y, &mut columns);
     sums_limit(&columns, 3 * s.nodes, sums)
 }
 
@@ -147,13 +148,13 @@ pub fn multipliers_from(c: &[i64], nodes: usize) -> usize
 }
 
 // The limit of a claim whose lines have passed.
-pub fn claim_limit(m: &[i64], c: &[i64], s: Sizes, node_soils: &[u8], steps: &[i64]) -> Limit
-    requires { ⌜ Judged (now m) (now c) s (now «node_soils») ⌝ ∗ ⌜ MeshSteps (now m) (now steps) ⌝ }
+pub fn claim_limit(m: &[i64], c: &[i64], s: Sizes, pairs: &[u8], steps: &[i64]) -> Limit
+    requires { ⌜ Judged (now m) (now c) s (now pairs) ⌝ ∗ ⌜ MeshSteps (now m) (now steps) ⌝ }
     ensures { λ r. ⌜ r ≡ limitOf (checkPhases (multiplierPart (now (m .entry)) (now (c .entry)))) (upperLoad (now (m .entry)) (now (c .entry))) ⌝ }
 {
     if number_at(c, 1) == 1 {
         let from = multipliers_from(c, s.nodes);
-        return multipliers_limit(m, s, node_soils, steps, &c[from..]);
+        return multipliers_limit(m, s, pairs, steps, &c[from..]);
     }
     Limit::Absent
 }

@@ -6,6 +6,7 @@ ghost use Rattle.integer.specs.Bounds.{Within, AllWithin, Is};
 ghost use Rattle.scope.specs.Polygon.{polygonOf};
 ghost use Rattle.scope.specs.Bounds.{mostRadius};
 ghost use Rattle.rows.specs.RowContracts.{Listed, next, Table, CornerIs, SideIs, StepIs, StepsFrom, Steps};
+use mesh::sizes::MOST_SIDES;
 use mesh::sizes::number_at;
 
 // "counterclockwise from (r, 0)": x, y, x, y, ..
@@ -155,7 +156,7 @@ const THIRTY_SIX: [i64; 72] = [
 ];
 
 // Three numbers for each side of the largest polygon.
-const STEP_NUMBERS: usize = 3 * 36;
+const STEP_NUMBERS: usize = 3 * MOST_SIDES;
 
 // A corner of a polygon.
 struct Corner {

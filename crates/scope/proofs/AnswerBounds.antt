@@ -13,15 +13,16 @@ use Rattle.scope.specs.Columns.{hasField, hasMultipliers, n, l}
 use Rattle.scope.specs.Layout.{Layout, groupAt, numbersAt, groups, lineCount, linesBefore}
 use Rattle.scope.specs.Mesh.{meshHeader, soilLines, nodeLines, elementLines, edgeLines, meshLayout, meshGroups, nodes, elements, soils, edges, sides, edgeLine}
 use Rattle.scope.specs.Claim.{claimHeader, stressLines, elementMultipliers, edgeMultipliers, strengthMultipliers, claimLayout, stress, multiplier}
-use Rattle.scope.specs.Rows.{equalityRows, strengthRows, rowsOf}
-use Rattle.scope.specs.Statements.{LineSound}
+use Rattle.scope.specs.Rows.{pairCount, equalityRows, strengthRows, rowsOf}
+use Rattle.scope.specs.Statements.{LineSound, MeshSound}
 use Rattle.scope.specs.Phases.{Below, AllHold}
 use Rattle.scope.specs.Refusals.{lineSteps, linePhases, shapePhases, meshPhases, fieldPhases, multiplierPhases, fieldPart, multiplierPart, partPhases, claimPhases, Refusal}
 use Rattle.scope.specs.NumberRanges.{Counts}
 use Rattle.scope.proofs.NumberRanges.{header-counts, mesh-facts}
 use Rattle.scope.proofs.Phases.{EachIn, each-refusal, each-join, each-part, own-number}
 use Rattle.scope.proofs.Refusals.{line-sound, lines-sound, mesh-sound}
-use Rattle.scope.proofs.Exactly.{there-most, each-number}
+use Rattle.scope.proofs.Exactly.{OfMesh, there-most, each-number}
+use Rattle.scope.proofs.Pairs.{few-pairs}
 use Rattle.scope.proofs.RowCounts.{equality-count, strength-count}
 
 -- the lines of a mesh whose header has passed
@@ -29,14 +30,15 @@ mesh-lines : (m : List ℤ) → Counts m → lineCount (groups meshLayout m) ≤
 unfolding meshLayout groups meshHeader soilLines nodeLines elementLines edgeLines lineCount
 mesh-lines m c = omega (arith, c)
 
-claim-lines : (m c : List ℤ) → Counts m → lineCount (groups (claimLayout m) c) ≤ 361
+claim-lines : (m c : List ℤ) → MeshSound m → lineCount (groups (claimLayout m) c) ≤ 361
 unfolding claimLayout groups claimHeader stressLines elementMultipliers edgeMultipliers strengthMultipliers lineCount
-claim-lines m c k =
+claim-lines m c s =
     omega (
       arith,
-      k,
+      mesh-facts m (s .lines) .counts,
+      few-pairs m s,
       there-most (hasField c) (nodes m),
-      there-most (hasMultipliers c) (nodes m),
+      there-most (hasMultipliers c) (pairCount m),
       there-most (hasMultipliers c) (elements m),
       there-most (hasMultipliers c) (edges m),
     )
@@ -61,19 +63,26 @@ unfolding edgeLine meshGroups meshLayout groups meshHeader soilLines nodeLines e
 edge-line m g = omega arith
 
 -- at most 3,600 strength rows
-pub few-strengths : (m : List ℤ) → Counts m → length (strengthRows m) ≤ 3600
-few-strengths m c = by (c .sidesListed)
+pub few-strengths : (m : List ℤ) → MeshSound m → length (strengthRows m) ≤ 3600
+few-strengths m s = by (mesh-facts m (s .lines) .counts .sidesListed)
   where
     by : (sides m ≡ 12) ⊎ ((sides m ≡ 20) ⊎ (sides m ≡ 36)) → length (strengthRows m) ≤ 3600
-    by (inl e) = omega (arith, strength-count m (inl e), ap (λ (k : ℕ). nodes m * k) e, c .nodesMost)
-    by (inr (inl e)) = omega (arith, strength-count m (inr (inl e)), ap (λ (k : ℕ). nodes m * k) e, c .nodesMost)
-    by (inr (inr e)) = omega (arith, strength-count m (inr (inr e)), ap (λ (k : ℕ). nodes m * k) e, c .nodesMost)
+    by (inl e) = omega (arith, strength-count m (inl e), ap (λ (k : ℕ). pairCount m * k) e, few-pairs m s)
+    by (inr (inl e)) = omega (arith, strength-count m (inr (inl e)), ap (λ (k : ℕ). pairCount m * k) e, few-pairs m s)
+    by (inr (inr e)) = omega (arith, strength-count m (inr (inr e)), ap (λ (k : ℕ). pairCount m * k) e, few-pairs m s)
 
 -- ---- numbers
 
-numbers-most : (m c : List ℤ) → EachIn (λ k p. k ≤ 33) (meshPhases m ++ claimPhases m c)
+mesh-most : {k : ℕ} → OfMesh k → k ≤ 42
+mesh-most {k} e = by (e .1)
+  where
+    by : (k ≤ 13) ⊎ (k ≡ 42) → k ≤ 42
+    by (inl l) = omega arith
+    by (inr l) = omega arith
+
+numbers-most : (m c : List ℤ) → EachIn (λ k p. k ≤ 42) (meshPhases m ++ claimPhases m c)
 numbers-most m c =
-    each-number (λ k p. k ≤ 33) m c (λ k p e. omega (arith, e .1))
+    each-number (λ k p. k ≤ 42) m c (λ k p e. mesh-most e)
     (λ k n h l r. omega (arith, own-number {k = 21} refl r), λ e. (λ k n h l r. omega (arith, own-number {k = 22} refl r), λ i. tt))
     (λ a b d. (
       λ k n h l r. omega (arith, own-number {k = 31} refl r),
@@ -91,18 +100,22 @@ places-most m c =
       λ k n h b r. omega (arith, counts),
       λ e. (
         λ k n h b r. omega (arith, counts),
-        λ e. (λ k n h b r. omega (arith, counts), λ e. (λ g n h b r. omega (arith, counts, edge-line m g), λ i. tt)),
+        λ e. (
+          λ k n h b r. omega (arith, counts),
+          λ e. (λ g n h b r. omega (arith, counts, edge-line m g), λ e. (λ k n h b r. omega (arith, counts), λ i. tt)),
+        ),
       ),
     )))
     (λ a.
-    let counts = mesh-facts m (mesh-sound m a .lines) .counts in
+    let sound = mesh-sound m a in
+    let counts = mesh-facts m (sound .lines) .counts in
     each-join Q (linePhases (claimLayout m) c) (partPhases m c)
-    (line-places {B = 361} (omega arith) (omega arith) (λ z. claim-lines m c counts))
+    (line-places {B = 361} (omega arith) (omega arith) (λ z. claim-lines m c sound))
     (λ b.
     each-join Q (fieldPart m c) (multiplierPart m c)
     (each-part Q (hasField c) (fieldPhases (equalityRows m) (strengthRows m) (stress m c) (l c) (n c)) (
       λ k n h b r. omega (arith, equality-count m, counts),
-      λ e. (λ k n h b r. omega (arith, few-strengths m counts), λ i. tt),
+      λ e. (λ k n h b r. omega (arith, few-strengths m sound), λ i. tt),
     ))
     (λ d. each-part Q (hasMultipliers c) (multiplierPhases (equalityRows m) (rowsOf m) (3 * nodes m) (multiplier m c)) (
       λ k n h b r. omega (arith, equality-count m, counts),
@@ -112,6 +125,6 @@ places-most m c =
     Q : ℕ → Place → Type 0
     Q k p = placeNumber p ≤ 3601
 
--- the number of a refusal is at most 33, its place at most 3,601
-pub refusal-bounds : {m c : List ℤ} {k : ℕ} {p : Place} → Refusal m c k p → (k ≤ 33) × (placeNumber p ≤ 3601)
-refusal-bounds {m} {c} r = (each-refusal (λ k p. k ≤ 33) (meshPhases m ++ claimPhases m c) (numbers-most m c) (r .by), each-refusal (λ k p. placeNumber p ≤ 3601) (meshPhases m ++ claimPhases m c) (places-most m c) (r .by))
+-- the number of a refusal is at most 42, its place at most 3,601
+pub refusal-bounds : {m c : List ℤ} {k : ℕ} {p : Place} → Refusal m c k p → (k ≤ 42) × (placeNumber p ≤ 3601)
+refusal-bounds {m} {c} r = (each-refusal (λ k p. k ≤ 42) (meshPhases m ++ claimPhases m c) (numbers-most m c) (r .by), each-refusal (λ k p. placeNumber p ≤ 3601) (meshPhases m ++ claimPhases m c) (places-most m c) (r .by))

@@ -1,7 +1,7 @@
--- What the machine has of a mesh's elements and edges is what the checks of its shape ask: corners, turns, lines, outer edges.
-use mathlib.Core.Path.{_≡_, sym, _∙_, ap, ap₂, subst}
+-- What the machine has of a mesh's elements and edges is what the checks of its shape ask: corners, turns, lines, outer edges; and what the checks say in their order.
+use mathlib.Core.Path.{_≡_, refl, sym, _∙_, ap, ap₂, subst}
 use mathlib.Core.Bool.{Bool}
-use mathlib.Core.List.{List}
+use mathlib.Core.List.{List, [], _∷_}
 use Prim.Native.Nat.{ℕ, suc, _+_, _*_, _-_, _%_, _≤_, _<_}
 use native.Mathlib.Omega.{arith}
 use lib.IntN.{ℤ, pos, _-ℤ_, _*ℤ_}
@@ -9,10 +9,18 @@ use lib.Signed.{ltZ}
 use Rattle.integer.specs.Bounds.{Is}
 use Rattle.mesh.specs.declared.sizes.Sizes.{Sizes}
 use Rattle.scope.specs.Layout.{groups, linesBefore}
-use Rattle.scope.specs.Mesh.{meshHeader, soilLines, nodeLines, elementLines, edgeLines, meshLayout, meshGroups, nodes, elements, soils, edges, corner, cornerCount, around, fromNode, toNode, edgeLine}
+use Rattle.scope.specs.Mesh.{mostNodes, mostElements, mostSoils, mostEdges, meshHeader, soilLines, nodeLines, elementLines, edgeLines, meshLayout, meshGroups, nodes, elements, soils, edges, corner, cornerCount, around, fromNode, toNode, edgeLine}
 use Rattle.mesh.specs.MeshContracts.{Sized}
 use Rattle.scope.specs.Tests.{turn, leftTurnAt}
+use Rattle.scope.specs.declared.Place.{Place}
+use Rattle.scope.specs.declared.Outcome.{Outcome}
+use Rattle.scope.specs.declared.Outcome.the-variants.{Passed, Refused}
+use Rattle.scope.specs.Checks.{_then_}
+use Rattle.scope.specs.Phases.{Phase, checkPhase, checkPhases}
+use Rattle.scope.specs.Refusals.{turnsPhase, ownSidesPhase, nodesPhase, edgesPhase, pairsPhase, shapePhases}
+use Rattle.scope.proofs.Phases.{check-join}
 use Rattle.scope.proofs.Triangles.{some-corners, around-below, around-is}
+use Rattle.lines.proofs.Loops.{then-refuses, then-goes-on}
 
 -- ---- the corners of an element
 
@@ -29,11 +37,11 @@ pub around-there : {m : List ℤ} {s : Sizes} → Sized m s → {e : ℕ} → e 
 unfolding around
 around-there {m} k {e} l i = k .facts .element e l .cornerThere (i % cornerCount m e) (around-below m e i)
 
-pub corner-below : {m : List ℤ} {s : Sizes} → Sized m s → {a e i : ℕ} → e < elements m → i < 4 → a ≡ corner m e i → a < 100
+pub corner-below : {m : List ℤ} {s : Sizes} → Sized m s → {a e i : ℕ} → e < elements m → i < 4 → a ≡ corner m e i → a < mostNodes
 corner-below k {e = e} {i = i} l j d = omega (arith, k .facts .element e l .cornerThere i j, k .facts .counts .nodesMost)
 
 -- the place of a side in a table
-pub side-fits : {m : List ℤ} {s : Sizes} → Sized m s → {a b e n : ℕ} → e < elements m → (i : ℕ) → nodes m * 100 ≤ n → a ≡ around m e i → b ≡ around m e (i + 1) → a * 100 + b < n
+pub side-fits : {m : List ℤ} {s : Sizes} → Sized m s → {a b e n : ℕ} → e < elements m → (i : ℕ) → nodes m * mostNodes ≤ n → a ≡ around m e i → b ≡ around m e (i + 1) → a * mostNodes + b < n
 side-fits k l i r d f = omega (arith, around-there k l i, around-there k l (i + 1), k .facts .counts .nodesMost)
 
 -- a cross product of numbers that the machine has
@@ -51,7 +59,7 @@ left-turn-from m e i n d f g h = h ∙ ap (ltZ (pos 0)) (ap₃ (d ∙ ap (λ (k 
 
 module _ (m : List ℤ) where
   -- the place of an edge's side in a table, and of the reverse
-  pub edge-fits : {s : Sizes} → Sized m s → {g a b n : ℕ} → g < edges m → nodes m * 100 ≤ n → a ≡ fromNode m g → b ≡ toNode m g → (a * 100 + b < n) × (b * 100 + a < n)
+  pub edge-fits : {s : Sizes} → Sized m s → {g a b n : ℕ} → g < edges m → nodes m * mostNodes ≤ n → a ≡ fromNode m g → b ≡ toNode m g → (a * mostNodes + b < n) × (b * mostNodes + a < n)
   edge-fits k {g} l r d e =
       let f = k .facts .edge g l in
       (omega (arith, f .fromThere, f .toThere, k .facts .counts .nodesMost), omega (arith, f .fromThere, f .toThere, k .facts .counts .nodesMost))
@@ -60,5 +68,25 @@ module _ (m : List ℤ) where
   unfolding edgeLine linesBefore meshGroups groups meshLayout meshHeader soilLines nodeLines elementLines edgeLines
   edge-line k g e = omega (arith, k .soilsAre, k .nodesAre, k .elementsAre)
 
-  pub edge-line-fits : {s : Sizes} → Sized m s → {g : ℕ} → g < s .edges → s .soils + s .nodes + s .elements + g < 1000
+  pub edge-line-fits : {s : Sizes} → Sized m s → {g : ℕ} → g < s .edges → s .soils + s .nodes + s .elements + g < mostSoils + mostNodes + mostElements + mostEdges
   edge-line-fits k l = let c = k .facts .counts in omega (arith, k .soilsAre, k .nodesAre, k .elementsAre, k .edgesAre, c .soilsMost, c .nodesMost, c .elementsMost, c .edgesMost)
+
+-- ---- the phases in their order
+
+module _ (m : List ℤ) where
+  abbrev sidesNodesEdges : List Phase
+  sidesNodesEdges = ownSidesPhase m ∷ nodesPhase m ∷ edgesPhase m ∷ []
+
+  shape-checked : checkPhases (shapePhases m) ≡ checkPhase (turnsPhase m) then (checkPhases sidesNodesEdges then checkPhase (pairsPhase m))
+  unfolding checkPhases
+  shape-checked = ap (λ (o : Outcome). checkPhase (turnsPhase m) then o) (check-join sidesNodesEdges (pairsPhase m ∷ []))
+
+  pub turns-refuse : {k : ℕ} {p : Place} → checkPhase (turnsPhase m) ≡ Refused k p → Refused k p ≡ checkPhases (shapePhases m)
+  turns-refuse e = then-refuses _ e ∙ sym shape-checked
+
+  module _ (e : checkPhase (turnsPhase m) ≡ Passed) where
+    pub rest-refuses : {k : ℕ} {p : Place} → checkPhases sidesNodesEdges ≡ Refused k p → Refused k p ≡ checkPhases (shapePhases m)
+    rest-refuses f = then-goes-on e (then-refuses _ f) ∙ sym shape-checked
+
+    pub pairs-last : checkPhases sidesNodesEdges ≡ Passed → checkPhase (pairsPhase m) ≡ checkPhases (shapePhases m)
+    pairs-last f = then-goes-on e (then-goes-on f refl) ∙ sym shape-checked

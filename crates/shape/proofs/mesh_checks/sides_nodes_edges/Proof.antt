@@ -1,6 +1,8 @@
 -- `sides_nodes_edges` meets its contract: either table has room for the sides of all nodes.
+use Prim.Native.Nat.{_*_}
 use native.Mathlib.Omega.{arith}
 use borrow.Author.Needs.{needs}
+use Rattle.scope.specs.Mesh.{mostNodes}
 use Rattle.shape.proofs.SideTables.{no-sides}
 use Rattle.shape.proofs.mesh_checks.sides_nodes_edges.Statement.{statement}
 use Rattle.shape.proofs.mesh_checks.sides_nodes_edges.Tie as tie
@@ -9,7 +11,7 @@ slice-aggregate-checks-by-table : tie.Need-slice-aggregate-checks-by-table
 slice-aggregate-checks-by-table c = search needs
 
 checks-by-table-requires : tie.Need-checks-by-table-requires
-checks-by-table-requires c κs = let k = c .before .before .before .before .pre in (k .0, k .1, no-sides _ 1600 (omega (arith, k .0 .nodesAre)))
+checks-by-table-requires c κs = let k = c .before .before .before .pre in (k .0, k .1, no-sides _ (16 * mostNodes) (omega (arith, k .0 .nodesAre)))
 
 returns : tie.Need-returns
 returns c = search needs
@@ -18,7 +20,7 @@ slice-aggregate-checks-by-table-2 : tie.Need-slice-aggregate-checks-by-table-2
 slice-aggregate-checks-by-table-2 c = search needs
 
 checks-by-table-requires-2 : tie.Need-checks-by-table-requires-2
-checks-by-table-requires-2 c κs = let k = c .before .before .before .before .pre in (k .0, k .1, no-sides _ 10000 (omega (arith, k .0 .facts .counts .nodesMost)))
+checks-by-table-requires-2 c κs = let k = c .before .before .before .pre in (k .0, k .1, no-sides _ (mostNodes * mostNodes) (omega (arith, k .0 .facts .counts .nodesMost)))
 
 returns-2 : tie.Need-returns-2
 returns-2 c = search needs
