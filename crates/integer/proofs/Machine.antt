@@ -63,6 +63,10 @@ Is-Within {C = C} h l = subst (Within C) (sym (h .same)) (Within-le (h .inside) 
 pub Is-as : {v p q : ℤ} {B C : ℕ} → Is v p B → B ≤ C → p ≡ q → Is v q C
 Is-as {C = C} h l e = record { same = h .same ∙ e; inside = subst (Within C) e (Within-le (h .inside) l) }
 
+-- a variable that took the bits m on the way that the code came
+pub Is-came : {m n : ℕ} {p : ℤ} {B : ℕ} → n ≡ m → Is (toZ w64 m) p B → Is (toZ w64 n) p B
+Is-came e h = record { same = ap (toZ w64) e ∙ h .same; inside = h .inside }
+
 pub Is-within : {B : ℕ} {x : ℤ} → Within B x → Is x x B
 Is-within h = record { same = refl; inside = h }
 
