@@ -19,7 +19,7 @@ use Rattle.reader.specs.declared.column.Kept.{Kept}
 use Rattle.reader.specs.declared.column.Reading.{Reading}
 use Rattle.reader.specs.declared.column.Reading.the-variants.{Number, Malformed}
 use Rattle.reader.specs.Spelling.{unsigned, negated, signed, readColumn}
-use Rattle.reader.specs.OnePass.{Phase, bad, blank, sign, nought, up, down, turn, digitOf, phaseAfter, valueOver, meant, shift, Table, Stepped, Said, After, Partway, OnlySpaces, Joined, FourBytes, FourStepped, readingOf}
+use Rattle.reader.specs.OnePass.{Phase, bad, blank, sign, nought, up, down, turn, digitOf, phaseAfter, valueOver, meant, shift, Table, Stepped, Said, After, Partway, OnlySpaces, readingOf, InOnePass}
 
 -- ---- from each phase, the bytes that follow
 
@@ -306,41 +306,13 @@ blank-stepped e = rw e (record { phase = by; below = omega arith; value = refl }
     by up e = absurd (omega arith)
     by down e = absurd (omega arith)
 
--- ---- four bytes at once
+-- ---- the promise
 
-pub bytes-joined : {a b c d : ℕ} → a < 256 → b < 256 → c < 256 → d < 256 → Joined a b c d (a + b * 256 + c * 65536 + d * 16777216)
-bytes-joined la lb lc ld = record { below = omega arith; first = omega arith; second = omega arith; third = omega arith; fourth = omega arith }
-
--- each step makes the value at most ten times as large, and nine more
-pub step-most : {c r : Kept} {b k : ℕ} → Stepped c b r → c .value < k → r .value < k * 10
-step-most {b = b} s h = omega (arith, s .value, digit-small b)
-
-pub four-most : {c r : Kept} {n : ℕ} → FourStepped c n r → r .value < (c .value + 1) * 10000
-four-most {c} s =
-    let v = step-most (s .fourth) (step-most (s .third) (step-most (s .second) (step-most {k = c .value + 1} (s .first) (omega arith)))) in
-    omega (arith, v)
-
-module _ {bs : List ℕ} {at i : ℕ} {c : Kept} (h : Partway bs at i c) where
-  -- one byte more, whose place is j
-  at-next : {r : Kept} {b : ℕ} (j : ℕ) → j ≡ at + i → i < 12 → j < length bs → b ≡ getD bs j 0 → Stepped c b r → Partway bs at (i + 1) r
-  at-next {r} j e m l d s = part-next h m (omega arith) (subst (λ b. Stepped c b r) (d ∙ ap (λ k. getD bs k 0) e) s)
-
-pub four-next : {bs : List ℕ} {at i : ℕ} {c r : Kept} {n : ℕ} (j : ℕ) → Partway bs at i c → j ≡ at + i → i + 4 ≤ 12 → j + 4 ≤ length bs → FourBytes bs j n → FourStepped c n r → Partway bs at (i + 1 + 1 + 1 + 1) r
-four-next j h e m l f s =
-    let a = at-next h j e (omega arith) (omega arith) (f .first) (s .first) in
-    let b = at-next a (j + 1) (omega arith) (omega arith) (omega arith) (f .second) (s .second) in
-    let c = at-next b (j + 2) (omega arith) (omega arith) (omega arith) (f .third) (s .third) in
-    at-next c (j + 3) (omega arith) (omega arith) (omega arith) (f .fourth) (s .fourth)
-
-pub four-spaces-next : {bs : List ℕ} {at i : ℕ} {n : ℕ} (j : ℕ) → OnlySpaces bs at i → j ≡ at + i → i + 4 ≤ 12 → j + 4 ≤ length bs → FourBytes bs j n → n ≡ 538976288 → OnlySpaces bs at (i + 1 + 1 + 1 + 1)
-four-spaces-next {n = n} j h e m l f z =
-    four-next j h e m l f
-    (record {
-      one = record { phase = 6; value = 0 };
-      two = record { phase = 6; value = 0 };
-      three = record { phase = 6; value = 0 };
-      first = blank-stepped (ap (λ k. k % 256) z);
-      second = blank-stepped (ap (λ k. k / 256 % 256) z);
-      third = blank-stepped (ap (λ k. k / 65536 % 256) z);
-      fourth = blank-stepped (ap (λ k. k / 16777216) z);
-    })
+pub in-one-pass : InOnePass
+unfolding phaseAfter valueOver
+in-one-pass = record {
+  starts = refl;
+  goes-on = λ bs b. rw (phase-more blank bs b, value-more 0 bs b);
+  fixed-size = value-below;
+  says = λ bs h. one-pass bs;
+}

@@ -1,13 +1,14 @@
 -- A column read in one pass, each byte taken once, front to back: what is kept after some of its bytes, and how the program keeps it.
 use mathlib.Core.Path.{_≡_}
 use mathlib.Core.Bool.{true, false, cond}
-use mathlib.Core.List.{List, [], _∷_}
+use mathlib.Core.List.{List, [], _∷_, _++_}
 use mathlib.Core.Option.{Option, none, some}
 use Prim.Native.Nat.{ℕ, _+_, _*_, _-_, _/_, _%_, _^_, _≤_, _<_}
 use lib.Dec.{eqb}
 use lib.IntN.{ℤ, pos, negℤ}
-use lib.ListN.{getD, take, drop}
+use lib.ListN.{length, getD, take, drop}
 use Rattle.integer.specs.Decimal.{isDigit}
+use Rattle.reader.specs.Spelling.{readColumn}
 use Rattle.reader.specs.declared.column.Kept.{Kept}
 use Rattle.reader.specs.declared.column.Reading.{Reading}
 use Rattle.reader.specs.declared.column.Reading.the-variants.{Number, Malformed}
@@ -99,26 +100,19 @@ pub record Partway (bs : List ℕ) (at i : ℕ) (c : Kept) : Type 0 where
 abbrev pub OnlySpaces : List ℕ → ℕ → ℕ → Type 0
 OnlySpaces bs at i = Partway bs at i (record { phase = 6; value = 0 })
 
--- ---- four bytes at once
+-- ---- what document 02 promises of the reading (N4)
 
--- the number n is the bytes a, b, c, d, the first the lowest
-pub record Joined (a b c d n : ℕ) : Type 0 where
-  pub below : n < 4294967296
-  pub first : n % 256 ≡ a
-  pub second : n / 256 % 256 ≡ b
-  pub third : n / 65536 % 256 ≡ c
-  pub fourth : n / 16777216 ≡ d
+-- "a kept state of fixed size that copies none of them": the state after some bytes of a column
+abbrev pub stateAfter : List ℕ → Phase × ℕ
+stateAfter bs = (phaseAfter blank bs, valueOver 0 bs)
 
--- it is the four bytes from a place on
-abbrev pub FourBytes : List ℕ → ℕ → ℕ → Type 0
-FourBytes bs at n = Joined (getD bs at 0) (getD bs (at + 1) 0) (getD bs (at + 2) 0) (getD bs (at + 3) 0) n
+-- the state s, after the byte b
+abbrev pub nextState : Phase × ℕ → ℕ → Phase × ℕ
+nextState s b = (turn (s .0) b, s .1 * 10 + digitOf b)
 
--- the program's state c becomes r by the four bytes of the number n, one after another
-pub record FourStepped (c : Kept) (n : ℕ) (r : Kept) : Type 0 where
-  pub one : Kept
-  pub two : Kept
-  pub three : Kept
-  pub first : Stepped c (n % 256) one
-  pub second : Stepped one (n / 256 % 256) two
-  pub third : Stepped two (n / 65536 % 256) three
-  pub fourth : Stepped three (n / 16777216) r
+-- "a column's bytes are to be taken once each, front to back ..; after the twelfth, spelling and value follow from that state, with no byte read again. For every twelve bytes they are shown to be document 01's."
+pub record InOnePass : Type 0 where
+  pub starts : stateAfter [] ≡ (blank, 0)
+  pub goes-on : (bs : List ℕ) (b : ℕ) → stateAfter (bs ++ (b ∷ [])) ≡ nextState (stateAfter bs) b
+  pub fixed-size : (bs : List ℕ) → length bs ≤ 12 → stateAfter bs .1 < 10 ^ 12
+  pub says : (bs : List ℕ) → length bs ≡ 12 → meant (stateAfter bs .0) (stateAfter bs .1) ≡ readColumn bs

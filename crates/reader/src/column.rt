@@ -3,7 +3,7 @@ ghost use mathlib.Core.Path.{_≡_};
 ghost use Prim.Native.Nat.{_+_, _≤_, _<_};
 ghost use lib.ListN.{length, take, drop};
 ghost use Rattle.reader.specs.Spelling.{readColumn};
-ghost use Rattle.reader.specs.OnePass.{Table, Stepped, Said, Partway, OnlySpaces, Joined, FourBytes, FourStepped, readingOf};
+ghost use Rattle.reader.specs.OnePass.{Table, Stepped, Said, Partway, readingOf};
 
 // What is kept of the bytes so far: the phase, which says what they spell, and the value of their digits.
 struct Kept {
@@ -60,9 +60,6 @@ const EIGHT: u64 = DIGIT + (8 << 60);
 
 const NINE: u64 = DIGIT + (9 << 60);
 
-// Four spaces as one number.
-const FOUR_SPACES: u64 = 538976288;
-
 // The entries of all bytes, made once for a file and lent.
 pub fn table() -> [u64; 256]
     ensures { λ r. ⌜ Table r ⌝ }
@@ -116,60 +113,21 @@ fn rest_of(table: &[u64; 256], bytes: &[u8], at: usize, from: usize, c: Kept) ->
     ensures { λ r. ⌜ r ≡ readingOf (readColumn (take 12 (drop at (now (bytes .entry))))) ⌝ }
 {
     let mut kept = c;
-    let mut i = from;
-    while i < 12 {
-        kept = step(table, kept, bytes[at + i]);
-        i += 1;
+    let mut j = from;
+    while j < 12 {
+        kept = step(table, kept, bytes[at + j]);
+        j += 1;
     }
     said(kept)
 }
 
-// Four bytes as one number.
-fn joined(a: u8, b: u8, c: u8, d: u8) -> u64
-    ensures { λ r. ⌜ Joined a b c d r ⌝ }
-{
-    a as u64 + b as u64 * 256 + c as u64 * 65536 + d as u64 * 16777216
-}
-
-// Four bytes of a column, taken at once.
-fn four_bytes(bytes: &[u8], at: usize) -> u64
-    requires { ⌜ at + 4 ≤ length (now bytes) ⌝ }
-    ensures { λ r. ⌜ FourBytes (now (bytes .entry)) at r ⌝ }
-{
-    joined(bytes[at], bytes[at + 1], bytes[at + 2], bytes[at + 3])
-}
-
-// The state after four bytes more.
-fn four_steps(table: &[u64; 256], c: Kept, four: u64) -> Kept
-    requires { ⌜ Table (now table) ⌝ ∗ ⌜ c .phase < 64 ⌝ ∗ ⌜ c .value < 100000000 ⌝ ∗ ⌜ four < 4294967296 ⌝ }
-    ensures { λ r. ⌜ FourStepped c four r ⌝ }
-{
-    let one = step(table, c, (four % 256) as u8);
-    let two = step(table, one, (four / 256 % 256) as u8);
-    let three = step(table, two, (four / 65536 % 256) as u8);
-    step(table, three, (four / 16777216) as u8)
-}
-
-// A column of which the first eight bytes are taken, as two numbers.
-fn wide(table: &[u64; 256], bytes: &[u8], at: usize, first: u64, second: u64) -> Reading
-    requires { ⌜ Table (now table) ⌝ ∗ ⌜ at + 12 ≤ length (now bytes) ⌝ ∗ ⌜ FourBytes (now bytes) at first ⌝ ∗ ⌜ FourBytes (now bytes) (at + 4) second ⌝ }
+// The column whose first byte has the place `at`: each byte is indexed once, front to back.
+// Spaces leave the first state as it is, so for speed a loop of its own passes over them; the first other byte is stepped from the local that was compared.
+pub fn column(table: &[u64; 256], bytes: &[u8], at: usize) -> Reading
+    requires { ⌜ Table (now table) ⌝ ∗ ⌜ at + 12 ≤ length (now bytes) ⌝ }
     ensures { λ r. ⌜ r ≡ readingOf (readColumn (take 12 (drop at (now (bytes .entry))))) ⌝ }
 {
-    let blank = Kept {
-        phase: BLANK,
-        value: 0,
-    };
-    let c = four_steps(table, blank, first);
-    let d = four_steps(table, c, second);
-    rest_of(table, bytes, at, 8, d)
-}
-
-// A column of which the first eight bytes are spaces. Spaces leave the state as it is, so for speed the others are passed over too.
-fn narrow(table: &[u64; 256], bytes: &[u8], at: usize) -> Reading
-    requires { ⌜ Table (now table) ⌝ ∗ ⌜ at + 12 ≤ length (now bytes) ⌝ ∗ ⌜ OnlySpaces (now bytes) at 8 ⌝ }
-    ensures { λ r. ⌜ r ≡ readingOf (readColumn (take 12 (drop at (now (bytes .entry))))) ⌝ }
-{
-    let mut i: usize = 8;
+    let mut i: usize = 0;
     while i < 12 {
         let b = bytes[at + i];
         if b != 32 {
@@ -183,20 +141,4 @@ fn narrow(table: &[u64; 256], bytes: &[u8], at: usize) -> Reading
         i += 1;
     }
     Reading::Malformed
-}
-
-// The column whose first byte has the place `at`. Most bytes of a large claim are spaces, so for speed eight are taken at once.
-pub fn column(table: &[u64; 256], bytes: &[u8], at: usize) -> Reading
-    requires { ⌜ Table (now table) ⌝ ∗ ⌜ at + 12 ≤ length (now bytes) ⌝ }
-    ensures { λ r. ⌜ r ≡ readingOf (readColumn (take 12 (drop at (now (bytes .entry))))) ⌝ }
-{
-    let first = four_bytes(bytes, at);
-    let second = four_bytes(bytes, at + 4);
-    if first != FOUR_SPACES {
-        return wide(table, bytes, at, first, second);
-    }
-    if second != FOUR_SPACES {
-        return wide(table, bytes, at, first, second);
-    }
-    narrow(table, bytes, at)
 }

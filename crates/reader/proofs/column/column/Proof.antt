@@ -1,57 +1,64 @@
--- `reader::column::column` meets its contract: eight bytes are taken, and either all are spaces or they are stepped through.
-use Prim.Native.Nat.{_+_}
+-- `reader::column::column` meets its contract. The loop's invariant: the bytes passed are spaces, so the state is the first one.
+use Prim.Native.Nat.{_-_}
 use native.Mathlib.Omega.{arith}
-use Rattle.reader.proofs.OnePass.{part-first, four-spaces-next}
+use Rattle.reader.specs.OnePass.{OnlySpaces}
+use Rattle.reader.proofs.OnePass.{part-first, part-phase, part-value, part-next, part-last, blank-stepped, said-malformed}
 use Rattle.reader.proofs.column.column.Statement.{statement}
 use Rattle.reader.proofs.column.column.Tie as tie
 
-four-bytes-requires : tie.Need-four-bytes-requires
-four-bytes-requires c κs = omega arith
+abbrev Inv-loop : tie.InvT-loop
+Inv-loop table bytes at i₀ i = OnlySpaces bytes at i
 
-add-four-bytes : tie.Need-add-four-bytes
-add-four-bytes c = omega arith
+abbrev μ-loop : tie.MeasureT-loop
+μ-loop table bytes at i₀ i = 12 - i
 
-four-bytes-requires-2 : tie.Need-four-bytes-requires-2
-four-bytes-requires-2 c κs = omega arith
+loop-holds : tie.Need-loop-holds Inv-loop μ-loop
+loop-holds c = part-first (c .before .args .bytes .now) (c .before .args .at)
 
-wide-requires : tie.Need-wide-requires
-wide-requires c κs =
-    let f = c .before .before in
-    let s = f .before .before in
-    (s .pre .0, (s .pre .1, (f .four-bytes .ensures, c .before .four-bytes2 .ensures)))
+add-b : tie.Need-add-b Inv-loop μ-loop
+add-b c = omega arith
 
-returns : tie.Need-returns
-returns c = c .wide .ensures
+shared-slice-read-b : tie.Need-shared-slice-read-b Inv-loop μ-loop
+shared-slice-read-b c = omega arith
 
-wide-requires-2 : tie.Need-wide-requires-2
-wide-requires-2 c κs =
-    let f = c .before .before .before in
-    let s = f .before .before in
-    (s .pre .0, (s .pre .1, (f .four-bytes .ensures, c .before .before .four-bytes2 .ensures)))
+step-requires : tie.Need-step-requires Inv-loop μ-loop
+step-requires c κs = (c .before .before .before .before .before .pre .0, (part-phase (c .before .before .before .loop .inv), part-value (c .before .before .before .loop .inv)))
 
-returns-2 : tie.Need-returns-2
-returns-2 c = c .wide2 .ensures
+add-rest-of : tie.Need-add-rest-of Inv-loop μ-loop
+add-rest-of c = omega arith
 
-narrow-requires : tie.Need-narrow-requires
-narrow-requires c κs =
-    let f = c .before .before .before in
-    let s = f .before .before in
-    let h = four-spaces-next (s .args .at) (part-first (s .args .bytes .now) (s .args .at)) (omega arith) (omega arith) (omega arith) (f .four-bytes .ensures) (c .before .if1 .left) in
-    (s .pre .0, (s .pre .1, four-spaces-next (s .args .at + 4) h (omega arith) (omega arith) (omega arith) (c .before .before .four-bytes2 .ensures) (c .if2 .left)))
+rest-of-requires : tie.Need-rest-of-requires Inv-loop μ-loop
+rest-of-requires c κs = (c .before .before .before .before .before .before .pre .0, (c .before .before .before .before .before .before .pre .1, part-next (c .before .before .before .before .loop .inv) (omega arith) (omega arith) (c .step .ensures)))
 
-returns-3 : tie.Need-returns-3
-returns-3 c = c .narrow .ensures
+returns : tie.Need-returns Inv-loop μ-loop
+returns c = c .rest-of .ensures
+
+add-i : tie.Need-add-i Inv-loop μ-loop
+add-i c = omega arith
+
+loop-less : tie.Need-loop-less Inv-loop μ-loop
+loop-less c = omega arith
+
+loop-again : tie.Need-loop-again Inv-loop μ-loop
+loop-again c = part-next (c .before .before .before .loop .inv) (omega arith) (omega arith) (blank-stepped (omega arith))
+
+returns-2 : tie.Need-returns-2 Inv-loop μ-loop
+returns-2 c = part-last (c .before .loop .inv) (omega arith) (said-malformed (record { phase = 6; value = 0 }) (omega arith))
 
 pub column-spec : {M : Type 1} → statement M
 column-spec =
     tie.close
     (tie.spec
-    four-bytes-requires
-    add-four-bytes
-    four-bytes-requires-2
-    wide-requires
+    Inv-loop
+    μ-loop
+    loop-holds
+    add-b
+    shared-slice-read-b
+    step-requires
+    add-rest-of
+    rest-of-requires
     returns
-    wide-requires-2
-    returns-2
-    narrow-requires
-    returns-3)
+    add-i
+    loop-less
+    loop-again
+    returns-2)

@@ -1,4 +1,4 @@
--- `reader::column::rest_of` meets its contract. The loop's invariant: the state is that after the first i bytes of the column.
+-- `reader::column::rest_of` meets its contract. The loop's invariant: the state is that after the first j bytes of the column.
 use Prim.Native.Nat.{_-_}
 use native.Mathlib.Omega.{arith}
 use Rattle.reader.specs.OnePass.{Partway}
@@ -7,10 +7,10 @@ use Rattle.reader.proofs.column.rest_of.Statement.{statement}
 use Rattle.reader.proofs.column.rest_of.Tie as tie
 
 abbrev Inv-loop : tie.InvT-loop
-Inv-loop table bytes at from kept₀ i₀ kept i = Partway bytes at i kept
+Inv-loop table bytes at from kept₀ j₀ kept j = Partway bytes at j kept
 
 abbrev μ-loop : tie.MeasureT-loop
-μ-loop table bytes at from kept₀ i₀ kept i = 12 - i
+μ-loop table bytes at from kept₀ j₀ kept j = 12 - j
 
 loop-holds : tie.Need-loop-holds Inv-loop μ-loop
 loop-holds c = c .before .pre .1 .1
@@ -24,8 +24,8 @@ shared-slice-read-step c = omega arith
 step-requires : tie.Need-step-requires Inv-loop μ-loop
 step-requires c κs = (c .before .before .before .before .pre .0, (part-phase (c .before .before .loop .inv), part-value (c .before .before .loop .inv)))
 
-add-i : tie.Need-add-i Inv-loop μ-loop
-add-i c = omega arith
+add-j : tie.Need-add-j Inv-loop μ-loop
+add-j c = omega arith
 
 loop-less : tie.Need-loop-less Inv-loop μ-loop
 loop-less c = omega arith
@@ -49,7 +49,7 @@ rest-of-spec =
     add-step
     shared-slice-read-step
     step-requires
-    add-i
+    add-j
     loop-less
     loop-again
     said-requires
