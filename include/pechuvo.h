@@ -1,8 +1,6 @@
 /* The check of load factor certificates on quadrilateral soil meshes, for C.
 
-   Two archives, each with one call:
-     rt staticlib pechuvo    target/staticlib/libpechuvo.a   pechuvo_check
-     rt staticlib numbers    target/staticlib/libnumbers.a      pechuvo_check_numbers
+   One archive has both calls: target/staticlib/libpechuvo.a, which rt staticlib pechuvo builds.
 
    Both calls take every input, whatever its bytes or numbers, and answer in bounded time. They
    read only what is lent, keep nothing from call to call, allocate nothing and write nothing but

@@ -1,4 +1,4 @@
--- What a caller that hands over numbers may rely on: demands 2 and 3 for `pechuvo_check_numbers`, each promise a plain statement about the answer r to the numbers m of a mesh and c of a claim.
+-- What a caller that hands over numbers may rely on: demands 2 and 3 for `check`, which C calls as `pechuvo_check_numbers`, each promise a plain statement about the answer r to the numbers m of a mesh and c of a claim.
 -- Each is proved of every answer (`proofs/Promises.antt`) and applied to document 01's sheet (`proofs/PromisesApplied.antt`). Those about the number and the place alone serve the check of two files too.
 use mathlib.Core.Path.{_≡_}
 use mathlib.Core.Logic.{_↔_, _⊎_, _≢_}
@@ -32,7 +32,7 @@ use Rattle.verdict.specs.JudgeContracts.{MeshAnswered}
 use Rattle.numbers.specs.declared.numbers_answer.NumbersAnswer.{NumbersAnswer}
 use Rattle.numbers.specs.NumbersAnswer.{answerOf}
 
--- the contract of `pechuvo_check_numbers`
+-- the contract of `check`, and of `pechuvo_check_numbers`
 abbrev pub Answers : List ℤ → List ℤ → NumbersAnswer → Type 0
 Answers m c r = r ≡ answerOf (verdict m c)
 

@@ -1,4 +1,4 @@
-// numbers
+// The check of numbers handed over (document 01, 'What the product does': "The row arithmetic serves the solver as well, without the file reader"): a mesh's and a claim's numbers into the verdict as C reads it.
 
 pub mod numbers_answer;
 
@@ -9,9 +9,8 @@ use crate::numbers_answer::NumbersAnswer;
 use crate::numbers_answer::answer_of;
 use verdict::check_numbers;
 
-// The same for a solver that calls from C.
-#[no_mangle]
-pub extern "C" fn pechuvo_check_numbers(m: &[i64], c: &[i64]) -> NumbersAnswer
+// The answer to the numbers of a mesh and of a claim.
+pub fn check(m: &[i64], c: &[i64]) -> NumbersAnswer
     ensures { λ r. ⌜ r ≡ answerOf (verdict (now (m .entry)) (now (c .entry))) ⌝ }
 {
     answer_of(check_numbers(m, c))

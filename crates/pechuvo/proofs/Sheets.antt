@@ -10,7 +10,7 @@ use Rattle.report.specs.Report.{loadText, lowerText, upperText, openText, fourC
 use Rattle.judge.specs.Judge.{meshNumbers, claimNumbers, fileWidth, filesVerdict}
 use Rattle.pechuvo.specs.Check.{reportBytes, check}
 use Rattle.pechuvo.specs.Bytes.{bytes, withWord, numbersAfter, numbers}
-use Rattle.pechuvo.specs.Sheets.{sheet, printed, starred, noticing, workedMesh}
+use Rattle.pechuvo.specs.Sheets.{sheet, printed, starred, unitSquare, noticing, workedMesh}
 use Rattle.pechuvo.specs.Shipped.{asFiles, shipped}
 
 -- for proofs by computation: every definition between the bytes of two files and the bytes of the line is open
@@ -23,7 +23,7 @@ unfolding computedLine
 starred-sheets = refl
 
 pub noticing-sheets : map printed noticing ≡ map (λ s. s .line) noticing
-unfolding computedLine noticing
+unfolding computedLine unitSquare noticing
 noticing-sheets = refl
 
 -- the files that ship are the ones that the definition writes

@@ -80,6 +80,10 @@ starred =
 
 -- ---- sheets of our own
 
+unfoldable pub unitSquare : String
+unitSquare = "4 1 1 0 12 / 0 1 1 10 0 0 0 0 / 0 0 / 1 0 / 1 1 / 0 1 / 1 2 3 4 1"
+
+-- each field and each rule of the mesh and the claim that the starred sheets leave at 0 or do not reach
 unfoldable pub noticing : List Sheet
 noticing =
     -- a dead and a live body force, on an element with no parallel sides, with stresses linear in x and y
@@ -90,6 +94,10 @@ noticing =
     ∷ sheet "4 1 1 1 12 / 0 1 1 10000 0 0 0 0 / 0 0 / 4 1 / 6 5 / 1 3 / 1 2 3 4 1 / 2 3 3 4 0 0 7"
     "1 0 1 1 / 10 0 5 / 10 0 5 / 10 0 5 / 10 0 5"
     "                           0                        none                    1.000000                        none\n"
+    -- a dead and a live pull and shear, all different, on that side
+    ∷ sheet "4 1 1 1 12 / 0 1 1 10000 0 0 0 0 / 0 0 / 4 1 / 6 5 / 1 3 / 1 2 3 4 1 / 2 3 3 3 5 2 1"
+    "1 0 2 3 / 22 0 7 / 22 0 7 / 22 0 7 / 22 0 7"
+    "                           0                        none                    1.500000                        none\n"
     -- friction: at its strength, and one unit beyond it
     ∷ sheet "4 1 1 0 12 / 3 4 5 10 0 0 0 0 / 0 0 / 1 0 / 1 1 / 0 1 / 1 2 3 4 1"
     "1 0 1 0 / -10 -80 0 / -10 -80 0 / -10 -80 0 / -10 -80 0"
@@ -126,4 +134,55 @@ noticing =
     ∷ sheet "4 1 1 0 12 / 0 1 1 10 0 0 0 0 / 0 0 / 1 0 / 1 1 / 0 1 / 1 4 3 2 1"
     ""
     "                           5                           1                        none                        none\n"
+    -- 101 nodes: 2, line 1
+    ∷ sheet "101 1 1 0 12"
+    ""
+    "                           2                           1                        none                        none\n"
+    -- an element names a node that isn't there: 4, line 7
+    ∷ sheet "4 1 1 0 12 / 0 1 1 10 0 0 0 0 / 0 0 / 1 0 / 1 1 / 0 1 / 1 2 3 5 1"
+    ""
+    "                           4                           7                        none                        none\n"
+    -- a dart, whose fourth corner turns right: 5, element 1
+    ∷ sheet "4 1 1 0 12 / 0 1 1 10 0 0 0 0 / 0 0 / 4 0 / 0 4 / 1 1 / 1 2 3 4 1"
+    ""
+    "                           5                           1                        none                        none\n"
+    -- one element twice: 6, element 2; and a third one clockwise, which 5 finds first: element 3
+    ∷ sheet "4 2 1 0 12 / 0 1 1 10 0 0 0 0 / 0 0 / 1 0 / 1 1 / 0 1 / 1 2 3 4 1 / 1 2 3 4 1"
+    ""
+    "                           6                           2                        none                        none\n"
+    ∷ sheet "4 3 1 0 12 / 0 1 1 10 0 0 0 0 / 0 0 / 1 0 / 1 1 / 0 1 / 1 2 3 4 1 / 1 2 3 4 1 / 1 4 3 2 1"
+    ""
+    "                           5                           3                        none                        none\n"
+    -- a fifth node in no element, beside an edge that is no side: 7, node 5
+    ∷ sheet "5 1 1 1 12 / 0 1 1 10 0 0 0 0 / 0 0 / 1 0 / 1 1 / 0 1 / 2 2 / 1 2 3 4 1 / 3 2 3 0 0 0 0"
+    ""
+    "                           7                           5                        none                        none\n"
+    -- one edge twice: 8, line 9
+    ∷ sheet "4 1 1 2 12 / 0 1 1 10 0 0 0 0 / 0 0 / 1 0 / 1 1 / 0 1 / 1 2 3 4 1 / 3 4 3 0 0 0 0 / 3 4 3 0 0 0 0"
+    ""
+    "                           8                           9                        none                        none\n"
+    -- a claim that breaks off in its third line: 11, line 3
+    ∷ sheet unitSquare
+    "1 0 1 0 / 0 0 0 / 0"
+    "                          11                           3                        none                        none\n"
+    -- one number left over: 11, line 6
+    ∷ sheet unitSquare
+    "1 0 1 0 / 0 0 0 / 0 0 0 / 0 0 0 / 0 0 0 / 0"
+    "                          11                           6                        none                        none\n"
+    -- n beyond its limit: 12, line 1
+    ∷ sheet unitSquare
+    "1 0 100001 0"
+    "                          12                           1                        none                        none\n"
+    -- no field, and l not 0: 13, line 1
+    ∷ sheet unitSquare
+    "0 1 0 5"
+    "                          13                           1                        none                        none\n"
+    -- all multipliers 0: 33, column 0
+    ∷ sheet unitSquare
+    "0 1 0 0 / 0 0 / 0 0 0 0 0 0 0 0 0 0 0 0 / 0 0 0 0 0 0 0 0 0 0 0 0 / 0 0 0 0 0 0 0 0 0 0 0 0 / 0 0 0 0 0 0 0 0 0 0 0 0"
+    "                          33                           0                        none                        none\n"
+    -- stresses at their limit
+    ∷ sheet unitSquare
+    "1 0 1 0 / 1000000000 1000000000 0 / 1000000000 1000000000 0 / 1000000000 1000000000 0 / 1000000000 1000000000 0"
+    "                           0                        none                    0.000000                        none\n"
     ∷ []

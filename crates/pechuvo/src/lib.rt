@@ -1,11 +1,14 @@
-// The check of a mesh file and a claim file, as C calls it: two byte strings into a report line and the verdict's numbers.
+// Every call that C makes: the check of a mesh file and a claim file, two byte strings into a report line and the verdict's numbers; and the check of the numbers themselves.
 
 use judge::judge_files;
+use numbers::numbers_answer::NumbersAnswer;
 use report::Reported;
 use report::write_report;
 use scope::Verdict;
 use scope::place_number;
 ghost use mathlib.Core.Path.{_≡_};
+ghost use Rattle.scope.specs.Verdict.{verdict};
+ghost use Rattle.numbers.specs.NumbersAnswer.{answerOf};
 ghost use Rattle.report.specs.Buffer.{reportedNumber, reportedPlace};
 ghost use Rattle.pechuvo.specs.Answers.{Answers};
 
@@ -46,4 +49,12 @@ pub extern "C" fn pechuvo_check(mesh: &[u8], claim: &[u8], report: &mut [u8]) ->
     let v = judge_files(mesh, claim);
     let reported = write_report(v, report);
     answer_of(v, reported)
+}
+
+// The same check of the numbers of a mesh and of a claim, for a solver that writes no files.
+#[no_mangle]
+pub extern "C" fn pechuvo_check_numbers(m: &[i64], c: &[i64]) -> NumbersAnswer
+    ensures { λ r. ⌜ r ≡ answerOf (verdict (now (m .entry)) (now (c .entry))) ⌝ }
+{
+    numbers::check(m, c)
 }

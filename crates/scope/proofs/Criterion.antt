@@ -19,8 +19,8 @@ use Rattle.scope.specs.Mesh.{nodes, sides, p, q, h, cohesion}
 use Rattle.scope.specs.Polygon.{Point, point, Polygon, Side, sidesTo, polygonSides, polygonOf}
 use Rattle.scope.specs.Rows.{sx, sy, t, countFrom, Pair, nodeSoil, strengthPairs, cross}
 use Rattle.scope.specs.PolygonRule.{OnCircle, OnceAround, PolygonRule}
-use Rattle.scope.specs.Printed.{deviator, scaledRadius, MeetsPrinted}
-use Rattle.scope.specs.Criterion.{WithinCriterion, CriterionAt, OnePairEach}
+use Rattle.scope.specs.Printed.{deviator, MeetsPrinted}
+use Rattle.scope.specs.Criterion.{circleRadius, WithinCriterion, CriterionAt, OnePairEach}
 
 -- ---- a side with P between its corners
 
@@ -139,7 +139,7 @@ criterion {g} rule p q h C n sx sy t rows =
     let s = at .side in
     let on = sides-ends (g .corners) s (at .listed) in
     let both =
-    inside (g .radius) (scaledRadius p q C n sx sy) (s .from) (s .to) (P h sx sy t) (<ℤ→≤ℤ (rule .has-radius))
+    inside (g .radius) (circleRadius p q C n sx sy) (s .from) (s .to) (P h sx sy t) (<ℤ→≤ℤ (rule .has-radius))
     (rule .on-circle (s .from) (on .from-corner)) (rule .on-circle (s .to) (on .to-corner)) (rule .left-turns s (at .listed)) (at .before) (at .after)
     (rw (in-row h sx sy t (g .radius) s) at (rows s (at .listed))) in
     record { radius-not-below-0 = both .0; squares = rw (in-criterion h sx sy t) at (both .1) }

@@ -12,12 +12,13 @@ use Rattle.integer.specs.Ring.{ring, ring-from, sides as both-sides, terms}
 use Rattle.integer.specs.Order.{by-pos, +ℤ-mono-<, *ℤ-pos, *ℤ-cancel, <ℤ→≤ℤ}
 use Rattle.scope.proofs.Decides.{First, first-where}
 use Rattle.scope.proofs.Sound.{corner-of}
-use Rattle.scope.specs.Mesh.{elements, x, y, corner, fromNode, toNode}
+use Rattle.scope.specs.Mesh.{elements, x, y, corner, edgeEntry, fromNode, toNode}
 use Rattle.scope.specs.Polygon.{Side}
 use Rattle.scope.specs.Rows.{node, crossAt, twiceArea, stepX, stepY, firstWhere, hasCorner, nodeSoil, cross}
 use Rattle.scope.specs.Verdict.{turn}
-use Rattle.scope.specs.Printed.{deviator, scaledRadius}
-use Rattle.scope.specs.Meaning.{doubledArea, Divergence, Area, Balanced, Tractions, Inward, OutwardNormal, SideMeaning, HasCorner, LowestElement}
+use Rattle.scope.specs.Printed.{deviator}
+use Rattle.scope.specs.Criterion.{circleRadius}
+use Rattle.scope.specs.Meaning.{doubledArea, Divergence, Area, Balanced, Tractions, Pressure, Inward, OutwardNormal, SideMeaning, HasCorner, LowestElement}
 
 -- ---- balance
 
@@ -62,6 +63,9 @@ tractions u w sx sy t = record {
   shear = ring (u ∷ w ∷ sx ∷ sy ∷ t ∷ []) (search terms depth 100) refl;
 }
 
+pub pressure : (m : List ℤ) (s : ℕ → ℤ) (l n : ℤ) (g v : ℕ) → Pressure m s l n g v
+pressure m s l n g v a b c fixed = rw (a, b, c) (ring (stepX m g ∷ stepY m g ∷ n ∷ l ∷ edgeEntry m g 3 ∷ edgeEntry m g 5 ∷ []) (search terms depth 100) refl)
+
 -- a node to the left of the edge lies inward
 inward : (m : List ℤ) (g a b z : ℕ) → fromNode m g ≡ a → toNode m g ≡ b → pos 0 <ℤ turn m a b z → Inward m g z
 unfolding turn stepX stepY
@@ -99,7 +103,7 @@ at-corner r h sx sy t R a b s e f = split (s .to .px -ℤ s .from .px) (s .to .p
 pub side-meaning : (r : ℤ) (s : Side) (p q h C n sx sy t : ℤ) → SideMeaning r s p q h C n sx sy t
 unfolding cross
 side-meaning r s p q h C n sx sy t =
-    let R : ℤ = scaledRadius p q C n sx sy in
+    let R : ℤ = circleRadius p q C n sx sy in
     record {
       at-from = λ k. at-corner r h sx sy t R (s .from .px) (s .from .py) s (k .along) (k .across) ∙ from-corner R;
       at-to = λ k. at-corner r h sx sy t R (s .to .px) (s .to .py) s (k .along) (k .across) ∙ to-corner R;

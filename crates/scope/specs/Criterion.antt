@@ -14,12 +14,15 @@ use Rattle.scope.specs.Members.{_∈_}
 use Rattle.scope.specs.Mesh.{nodes, p, q, h, cohesion}
 use Rattle.scope.specs.Polygon.{Polygon, Side, polygonSides}
 use Rattle.scope.specs.Rows.{sx, sy, t, Pair, nodeSoil, strengthPairs}
-use Rattle.scope.specs.Printed.{scaledRadius, Strength}
+use Rattle.scope.specs.Printed.{Strength}
 
--- `scaledRadius` is 2·q·C·n - p·(sx + sy), h·n times that radius
+-- h·n times that radius, from 001 and not from the rows: a slip in theirs must not be one here
+abbrev pub circleRadius : (p q C n sx sy : ℤ) → ℤ
+circleRadius p q C n sx sy = pos 2 *ℤ q *ℤ C *ℤ n -ℤ p *ℤ (sx +ℤ sy)
+
 pub record Criterion (p q h C n sx sy t : ℤ) : Type 0 where
-  pub radius-not-below-0 : pos 0 ≤ℤ scaledRadius p q C n sx sy
-  pub squares : (h *ℤ h *ℤ ((sx -ℤ sy) *ℤ (sx -ℤ sy) +ℤ (pos 2 *ℤ t) *ℤ (pos 2 *ℤ t))) ≤ℤ (scaledRadius p q C n sx sy *ℤ scaledRadius p q C n sx sy)
+  pub radius-not-below-0 : pos 0 ≤ℤ circleRadius p q C n sx sy
+  pub squares : (h *ℤ h *ℤ ((sx -ℤ sy) *ℤ (sx -ℤ sy) +ℤ (pos 2 *ℤ t) *ℤ (pos 2 *ℤ t))) ≤ℤ (circleRadius p q C n sx sy *ℤ circleRadius p q C n sx sy)
 
 -- stresses that meet all rows of a polygon meet the criterion
 abbrev pub WithinCriterion : Polygon → Type 0

@@ -24,8 +24,8 @@ pub mod RowNumbers
 pub mod Printed
 pub mod PrintedColumns
 pub mod RefusedRows
-pub mod Meaning
 pub mod Criterion
+pub mod Meaning
 pub mod AcceptedField
 pub mod Bracket
 pub mod Fractions

@@ -5,12 +5,13 @@ use mathlib.Core.List.{List}
 use Prim.Native.Nat.{ℕ, _+_, _<_}
 use lib.IntN.{ℤ, pos, _+ℤ_, _-ℤ_, _*ℤ_, negℤ}
 use lib.Signed.{_<ℤ_}
-use Rattle.scope.specs.Mesh.{elements, x, y, corner, elementSoil, fromNode, toNode}
+use Rattle.scope.specs.Mesh.{elements, x, y, corner, elementSoil, edgeEntry, fromNode, toNode}
 use Rattle.scope.specs.Polygon.{Point, Side}
-use Rattle.scope.specs.Rows.{node, twiceArea, stepX, stepY, nodeSoil, cross}
+use Rattle.scope.specs.Rows.{sx, sy, t, node, twiceArea, stepX, stepY, nodeSoil, cross}
 use Rattle.scope.specs.Verdict.{turn}
 use Rattle.scope.specs.Sound.{LeftTurns}
-use Rattle.scope.specs.Printed.{next, cornerSum, forceX, forceY, BalanceX, BalanceY, normalForce, shearForce, deviator, scaledRadius, resistance}
+use Rattle.scope.specs.Printed.{next, cornerSum, forceX, forceY, BalanceX, BalanceY, normalForce, shearForce, NormalAt, deviator, resistance}
+use Rattle.scope.specs.Criterion.{circleRadius}
 
 -- ---- balance
 
@@ -54,6 +55,12 @@ pub record Tractions (u w sx sy t : ℤ) : Type 0 where
   pub normal : normalForce u w sx sy t ≡ tractionX u w sx t *ℤ w +ℤ tractionY u w sy t *ℤ negℤ u
   pub shear : shearForce u w sx sy t ≡ tractionX u w sx t *ℤ u +ℤ tractionY u w sy t *ℤ w
 
+-- a uniform pressure presses on every side as it is: where sx and sy are n·dead + l·live and t is 0, edge g's normal row holds at v
+abbrev pub Pressure : List ℤ → (ℕ → ℤ) → ℤ → ℤ → ℕ → ℕ → Type 0
+Pressure m s l n g v =
+    let P : ℤ = n *ℤ edgeEntry m g 3 +ℤ l *ℤ edgeEntry m g 5 in
+    s (sx v) ≡ P → s (sy v) ≡ P → s (t v) ≡ pos 0 → NormalAt m s l n g v
+
 -- "outward normal (w, -u)": from the from-node of edge g the node z lies inward
 abbrev pub Inward : List ℤ → ℕ → ℕ → Type 0
 Inward m g z = (stepY m g *ℤ (x m z -ℤ x m (fromNode m g)) +ℤ negℤ (stepX m g) *ℤ (y m z -ℤ y m (fromNode m g))) <ℤ pos 0
@@ -66,16 +73,16 @@ OutwardNormal m g e =
 
 -- ---- strength
 
--- (h·(sx-sy), h·2t) is the corner v scaled from r to R = 2qCn - p(sx+sy)
+-- (h·(sx-sy), h·2t) is the corner v scaled from r to the criterion's radius
 pub record AtCorner (r : ℤ) (v : Point) (p q h C n sx sy t : ℤ) : Type 0 where
-  pub along : r *ℤ (h *ℤ (sx -ℤ sy)) ≡ scaledRadius p q C n sx sy *ℤ v .px
-  pub across : r *ℤ (h *ℤ (pos 2 *ℤ t)) ≡ scaledRadius p q C n sx sy *ℤ v .py
+  pub along : r *ℤ (h *ℤ (sx -ℤ sy)) ≡ circleRadius p q C n sx sy *ℤ v .px
+  pub across : r *ℤ (h *ℤ (pos 2 *ℤ t)) ≡ circleRadius p q C n sx sy *ℤ v .py
 
 -- the row of a side holds with equality at its two corners, and with strength to spare at the centre
 pub record SideMeaning (r : ℤ) (s : Side) (p q h C n sx sy t : ℤ) : Type 0 where
   pub at-from : AtCorner r (s .from) p q h C n sx sy t → deviator r s h sx sy t ≡ resistance s p q C n sx sy
   pub at-to : AtCorner r (s .to) p q h C n sx sy t → deviator r s h sx sy t ≡ resistance s p q C n sx sy
-  pub at-centre : sx ≡ sy → t ≡ pos 0 → pos 0 <ℤ cross (s .from) (s .to) → pos 0 <ℤ scaledRadius p q C n sx sy → deviator r s h sx sy t <ℤ resistance s p q C n sx sy
+  pub at-centre : sx ≡ sy → t ≡ pos 0 → pos 0 <ℤ cross (s .from) (s .to) → pos 0 <ℤ circleRadius p q C n sx sy → deviator r s h sx sy t <ℤ resistance s p q C n sx sy
 
 -- ---- a node's soil
 

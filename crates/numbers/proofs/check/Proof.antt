@@ -1,9 +1,9 @@
--- `pechuvo_check_numbers` meets its contract: the verdict as C reads it.
+-- `check` meets its contract: the verdict as C reads it.
 use mathlib.Core.Path.{_∙_, ap}
 use Rattle.numbers.specs.NumbersAnswer.{answerOf}
 use borrow.Author.Needs.{needs}
-use Rattle.numbers.proofs.pechuvo_check_numbers.Statement.{statement}
-use Rattle.numbers.proofs.pechuvo_check_numbers.Tie as tie
+use Rattle.numbers.proofs.check.Statement.{statement}
+use Rattle.numbers.proofs.check.Tie as tie
 
 check-numbers-requires : tie.Need-check-numbers-requires
 check-numbers-requires c κs = search needs
@@ -14,8 +14,8 @@ answer-of-requires c κs = search needs
 returns : tie.Need-returns
 returns c = c .answer-of .ensures ∙ ap answerOf (c .before .check-numbers .ensures)
 
-pub pechuvo-check-numbers-spec : {M : Type 1} → statement M
-pechuvo-check-numbers-spec =
+pub check-spec : {M : Type 1} → statement M
+check-spec =
     tie.close
     (tie.spec
     check-numbers-requires
