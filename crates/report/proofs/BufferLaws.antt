@@ -1,13 +1,19 @@
 -- The line in the buffer: each column is put behind those before it, and the bytes after the line stay.
 use mathlib.Core.Path.{_≡_, sym, ap, ap₂, _∙_}
+use mathlib.Core.Bool.{true, false}
 use mathlib.Core.List.{List, _∷_, _++_, append-assoc}
 use Prim.Native.Nat.{ℕ, _+_, _≤_, _<_}
 use native.Mathlib.Omega.{arith}
+use lib.IntN.{ℤ, pos, negsuc, natAbs}
+use lib.Signed.{_≤ℤ_, _<ℤ_, leZ}
+use lib.Ieee.Bits.{is-true, is-false}
 use lib.ListN.{length, take, drop, set, getD, length-append, length-set, length-drop}
 use lib.Seq.{take-at, drop-at, drop-drop, drop-cons, set-at, length-take-le}
 use borrow.Author.Tests.{lt-ltb, le-ltb}
 use borrow.Rule.Slice.PartMut.{midOf, postOf, putMid, same-len-mid}
 use Rattle.integer.specs.Decimal.{digits, rightJustified}
+use Rattle.integer.specs.Order.{≤ℤ-pos}
+use Rattle.integer.specs.Tests.{yes-leZ, no-leZ}
 use Rattle.scope.specs.declared.Place.{Place}
 use Rattle.scope.specs.declared.Load.{Load}
 use Rattle.scope.specs.declared.Load.the-variants.{Absent}
@@ -17,9 +23,9 @@ use Rattle.scope.specs.declared.Verdict.{Verdict}
 use Rattle.scope.specs.declared.Verdict.the-variants.{Accepted, Refused}
 use Rattle.scope.specs.Answer.{placeNumber}
 use Rattle.report.specs.Text.{noneText}
-use Rattle.report.specs.Report.{loadText, lowerText, upperText, openText, fourColumns, reportLine}
-use Rattle.report.specs.declared.Reported.the-variants.{Written, TooShort}
-use Rattle.report.specs.Buffer.{afterReport, reported, Reports}
+use Rattle.report.specs.Report.{loadText, lowerText, upperText, openText, fourColumns, reportLine, Decimals, isDecimals}
+use Rattle.report.specs.declared.Reported.the-variants.{Written, TooShort, OtherDecimals}
+use Rattle.report.specs.Buffer.{reported, afterAnswer, afterReport, Reports}
 
 -- a column behind the `front` that stands already
 behind : (k : ℕ) (front y bytes : List ℕ) → length front ≡ k → putMid k 28 (front ++ drop k bytes) y ≡ (front ++ y) ++ drop (k + 28) bytes
@@ -109,16 +115,38 @@ pub refused-line : (d : ℕ) (v : Verdict) (k n : ℕ) (place : Place) (rest : L
 unfolding reportLine openText lowerText upperText loadText
 refused-line d v k n place rest e m f = rw (e, ← m) f
 
--- ---- by the buffer's length
+-- ---- by the number of decimals and the buffer's length
 
-pub too-short : (d : ℕ) (v : Verdict) (buffer : List ℕ) → length buffer < 113 → Reports d v buffer buffer TooShort
-unfolding afterReport reported
-too-short d v buffer h =
+pub is-decimals : {z : ℤ} → Decimals z → isDecimals z ≡ true
+unfolding isDecimals
+is-decimals {z} h = rw (is-true (leZ (pos 0) z) (yes-leZ (h .from-0)), is-true (leZ z (pos 7)) (yes-leZ (h .to-7)))
+
+pub not-decimals : (z : ℤ) (v : Verdict) (buffer : List ℕ) → isDecimals z ≡ false → Reports z v buffer buffer OtherDecimals
+unfolding afterReport afterAnswer reported
+not-decimals z v buffer t = record { buffer = rw (t, reported); answer = rw (t, reported) }
+
+pub below-0 : {z : ℤ} → z <ℤ pos 0 → isDecimals z ≡ false
+unfolding isDecimals
+below-0 {z} h = rw (is-false (leZ (pos 0) z) (no-leZ h))
+
+pub above-7 : {z : ℤ} → pos 0 ≤ℤ z → pos 7 <ℤ z → isDecimals z ≡ false
+unfolding isDecimals
+above-7 {z} l h = rw (is-true (leZ (pos 0) z) (yes-leZ l), is-false (leZ z (pos 7)) (no-leZ h))
+
+pub too-short : (z : ℤ) (v : Verdict) (buffer : List ℕ) → Decimals z → length buffer < 113 → Reports z v buffer buffer TooShort
+unfolding afterReport afterAnswer reported
+too-short z v buffer d h =
+    let s = is-decimals d in
     let t = lt-ltb (length buffer) 113 h in
-    record { buffer = rw (t, afterReport); answer = rw (t, reported) }
+    record { buffer = rw (s, t, reported); answer = rw (s, t, reported) }
 
-pub written : (d : ℕ) (v : Verdict) (buffer : List ℕ) {after : List ℕ} → 113 ≤ length buffer → after ≡ reportLine d v ++ drop 113 buffer → Reports d v buffer after Written
-unfolding afterReport reported
-written d v buffer h e =
+pub written : (z : ℤ) (v : Verdict) (buffer : List ℕ) {after : List ℕ} → Decimals z → 113 ≤ length buffer → after ≡ reportLine (natAbs z) v ++ drop 113 buffer → Reports z v buffer after Written
+unfolding afterReport afterAnswer reported
+written z v buffer d h e =
+    let s = is-decimals d in
     let t = le-ltb (length buffer) 113 h in
-    record { buffer = rw (t, afterReport) e; answer = rw (t, reported) }
+    record { buffer = rw (s, t, reported) e; answer = rw (s, t, reported) }
+
+pub decimals-small : (z : ℤ) → Decimals z → natAbs z ≤ 7
+decimals-small (pos n) h = ≤ℤ-pos (h .to-7)
+decimals-small (negsuc n) h = absurd (h .from-0 .le)

@@ -15,19 +15,20 @@ ghost use mathlib.Core.List.{_++_};
 ghost use Prim.Native.Nat.{_≤_};
 ghost use lib.ListN.{length, drop};
 ghost use Rattle.integer.specs.Decimal.{digits, rightJustified};
-ghost use Rattle.report.specs.Report.{lowerText, upperText, openText, fourColumns, reportLine, decimals};
+ghost use Rattle.report.specs.Report.{lowerText, upperText, openText, fourColumns, reportLine};
 ghost use Rattle.report.specs.Buffer.{Reports};
 
-// Whether the line was written, or the buffer has no room for it.
+// Whether the line was written, or the buffer has no room for it, or no report has so many decimals.
 pub enum Reported {
     Written,
     TooShort,
+    OtherDecimals,
 }
 
 const LINE: usize = 113;
 
-// "Both loads have six decimals"
-const DECIMALS: usize = 6;
+// "a number of decimals from 0 to 7"
+const MOST_DECIMALS: i64 = 7;
 
 // The open rows, or none where there is no count.
 fn put_open(column: &mut [u8], open_rows: OpenRows)
@@ -74,13 +75,19 @@ fn write_line(v: Verdict, buffer: &mut [u8], d: usize)
     }
 }
 
-// The report of a verdict at the front of the buffer that is lent.
-pub fn write_report(v: Verdict, buffer: &mut [u8]) -> Reported
+// The report of a verdict, with so many decimals, at the front of the buffer that is lent.
+pub fn write_report(v: Verdict, decimals: i64, buffer: &mut [u8]) -> Reported
     ensures { λ r. ⌜ Reports decimals v (now (buffer .entry)) (now (buffer .exit)) r ⌝ }
 {
+    if decimals < 0 {
+        return Reported::OtherDecimals;
+    }
+    if MOST_DECIMALS < decimals {
+        return Reported::OtherDecimals;
+    }
     if buffer.len() < LINE {
         return Reported::TooShort;
     }
-    write_line(v, buffer, DECIMALS);
+    write_line(v, buffer, decimals as usize);
     Reported::Written
 }
