@@ -5,7 +5,7 @@ use pechuvo::pechuvo_check;
 ghost use mathlib.Core.Path.{_≡_};
 ghost use Rattle.io.specs.Counts.{Counts};
 ghost use Rattle.judge.specs.Judge.{fileWidth, filesVerdict};
-ghost use Rattle.report.specs.Report.{reportLine, decimals};
+ghost use Rattle.report.specs.Report.{reportLine, usualDecimals};
 
 // Reads the file that argument i names, as far as `bytes` goes, and answers how many bytes it has. "A file that can't be opened counts as empty"; so does a missing argument, whose name is empty.
 fn read_argument(i: usize, bytes: &mut [u8]) -> usize
@@ -22,12 +22,15 @@ fn read_argument(i: usize, bytes: &mut [u8]) -> usize
     count
 }
 
+// "The desk program and N3's runs go on with six" decimals.
+const DECIMALS: i64 = 6;
+
 // The report line of two files.
 fn report_line(mesh: &[u8], claim: &[u8]) -> [u8; 113]
-    ensures { λ r. ⌜ r ≡ reportLine decimals (filesVerdict fileWidth (now (mesh .entry)) (now (claim .entry))) ⌝ }
+    ensures { λ r. ⌜ r ≡ reportLine usualDecimals (filesVerdict fileWidth (now (mesh .entry)) (now (claim .entry))) ⌝ }
 {
     let mut line = [0u8; 113];
-    pechuvo_check(mesh, claim, &mut line);
+    pechuvo_check(mesh, claim, DECIMALS, &mut line);
     line
 }
 

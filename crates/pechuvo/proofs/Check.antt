@@ -36,6 +36,7 @@ use Rattle.judge.specs.Judge.{fileWidth, meshNumbers, claimNumbers, filesVerdic
 use Rattle.judge.specs.ClaimBytes.{claimBytes}
 use Rattle.judge.proofs.Numbers.{mesh-lines-refused, some-side}
 use Rattle.judge.proofs.ClaimBytes.{claim-bytes}
+use Rattle.report.specs.Report.{isDecimals}
 use Rattle.pechuvo.specs.Check.{reportBytes, check}
 
 -- ---- how long a mesh and a claim can be
@@ -109,12 +110,15 @@ files-cut mesh claim = by (linesCheck meshLayout m) refl
         rw same (mesh-lines-refused m (numbersOf 12 (claimLayout m) (take 65536 claim)) k p e ∙ sym (mesh-lines-refused m (numbersOf 12 (claimLayout m) claim) k p e))
 
 -- the check of two files is the check of each file cut to 65,536 bytes
-pub check-cut : (mesh claim buffer : List ℕ) → check mesh claim buffer ≡ check (take 65536 mesh) (take 65536 claim) buffer
+pub check-cut : (mesh claim : List ℕ) (z : ℤ) (buffer : List ℕ) → check mesh claim z buffer ≡ check (take 65536 mesh) (take 65536 claim) z buffer
 unfolding check fileWidth
-check-cut mesh claim buffer =
+check-cut mesh claim z buffer =
+    cases (isDecimals z)
+    (λ s.
     cases (ltb (length buffer) reportBytes)
-    (λ t. rw (t, check))
-    (λ t. rw (t, check) (rw (files-cut mesh claim)))
+    (λ t. rw (s, check) (rw t))
+    (λ t. rw (s, check) (rw (t, files-cut mesh claim))))
+    (λ s. rw (s, check))
 
 -- ---- a longer file
 
@@ -133,12 +137,15 @@ accepted-short mesh claim e =
     )
 
 -- "a longer file is too long for any mesh or claim": it is never accepted
-pub longer-refused : (mesh claim buffer : List ℕ) → (65536 < length mesh) ⊎ (65536 < length claim) → check mesh claim buffer .number ≢ 0
+pub longer-refused : (mesh claim : List ℕ) (z : ℤ) (buffer : List ℕ) → (65536 < length mesh) ⊎ (65536 < length claim) → check mesh claim z buffer .number ≢ 0
 unfolding check fileWidth
-longer-refused mesh claim buffer l e =
+longer-refused mesh claim z buffer l e =
+    cases (isDecimals z)
+    (λ s.
     cases (ltb (length buffer) reportBytes)
-    (λ t. let z : _≡_ {A = ℕ} 41 0 = rw (t, check) at e in omega arith)
-    (λ t. by l (accepted-short mesh claim (rw (t, check) at e)))
+    (λ t. let x : _≡_ {A = ℕ} 41 0 = rw t at (rw (s, check) at e) in omega arith)
+    (λ t. by l (accepted-short mesh claim (rw t at (rw (s, check) at e)))))
+    (λ s. let x : _≡_ {A = ℕ} 43 0 = rw (s, check) at e in omega arith)
   where
     by : (65536 < length mesh) ⊎ (65536 < length claim) → (length mesh < 65536) × (length claim < 65536) → ⊥
     by (inl g) h = omega arith

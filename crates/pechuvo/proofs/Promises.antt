@@ -7,10 +7,10 @@ use mathlib.Core.Option.{some}
 use Prim.Native.Nat.{ℕ, suc, _^_, _≤_, _<_}
 use native.Mathlib.Omega.{arith}
 use lib.Dec.{ltb}
-use lib.IntN.{ℤ, pos, _+ℤ_, _-ℤ_}
+use lib.IntN.{ℤ, pos, natAbs, _+ℤ_, _-ℤ_}
 use lib.Signed.{_<ℤ_, <ℤ-irrefl, <ℤ-≤ℤ-trans}
 use lib.Ieee.Bits.{is-true}
-use lib.ListN.{length, take, drop, replicate, length-append, length-drop}
+use lib.ListN.{length, take, drop, length-append, length-drop}
 use lib.Seq.{take-at, drop-at}
 use borrow.Author.Tests.{ltb-true, ltb-false}
 use borrow.Table.Steps.{cases}
@@ -46,9 +46,11 @@ use Rattle.numbers.specs.Promises as Handed-over
 use Rattle.numbers.specs.Promises.{Returned, TellsField}
 use Rattle.numbers.proofs.Promises.{returned, returns-zero-exactly, refuses-exactly, rows-refused, field-exactly, multipliers-exactly, criterion-at-each-node, fractions-allowed}
 use Rattle.report.specs.Text.{Said, number as shows}
-use Rattle.report.specs.Report.{reportLine, decimals}
+use Rattle.report.specs.Report.{reportLine, Decimals, isDecimals, usualDecimals}
 use Rattle.report.specs.Says.{LoadSays, no-load, rounded, Says, says-accepted, says-refused, LineSays}
-use Rattle.report.proofs.Line.{line-says, lower-within, upper-within}
+use Rattle.report.proofs.Line.{line-says, lower-within, upper-within, lower-short, upper-short}
+use Rattle.report.proofs.BufferLaws.{decimals-told, other-told, decimals-small}
+use Rattle.report.proofs.Text.{minus-said}
 use Rattle.judge.specs.Judge.{meshNumbers, claimNumbers, fileWidth, filesVerdict}
 use Rattle.reader.proofs.Regular.{mesh-regular, claim-regular}
 use Rattle.reader.proofs.WrittenBack.{written-back}
@@ -56,12 +58,12 @@ use Rattle.judge.specs.Handed.{Handed, meshOf, claimOf}
 use Rattle.judge.proofs.Numbers.{some-side, numbers-verdict, width-there}
 use Rattle.judge.proofs.Form as Form
 use Rattle.judge.proofs.Handed.{handed-bracket}
-use Rattle.pechuvo.specs.Check.{reportBytes, check}
+use Rattle.pechuvo.specs.Check.{Answered, reportBytes, check}
 use Rattle.pechuvo.specs.Sheets.{Sheet, printed, starred}
 use Rattle.pechuvo.specs.Answers.{Answers}
-use Rattle.pechuvo.specs.Promises.{meshIn, claimIn, AnyCall, LongFiles, OnFiles, FormExactly, LowerPrinted, UpperPrinted, Prints, OpenRowsPrinted, Call, on-files, on-numbers, AcceptedFiles, TwoCalls, CallAndMultipliers, FractionsAndCall, AsAFile, Written}
+use Rattle.pechuvo.specs.Promises.{meshIn, claimIn, Room, AnyCall, LongFiles, OnFiles, FormExactly, LowerPrinted, UpperPrinted, Prints, TextsFit, OpenRowsPrinted, Call, on-files, on-numbers, AcceptedFiles, TwoCalls, CallAndMultipliers, FractionsAndCall, AsAFile, Written}
 use Rattle.pechuvo.proofs.Check.{check-cut, longer-refused}
-use Rattle.pechuvo.proofs.Held.{held}
+use Rattle.pechuvo.proofs.Held.{held, lower-held, upper-held}
 use Rattle.pechuvo.proofs.Words.{lower-word, upper-word, rows-word}
 use Rattle.pechuvo.proofs.OpenColumn.{open-column}
 use Rattle.pechuvo.proofs.Sheets.{starred-sheets}
@@ -72,34 +74,59 @@ use Rattle.pechuvo.proofs.Sheets.{starred-sheets}
 abbrev fileVerdict : List ℕ → List ℕ → Verdict
 fileVerdict mesh claim = verdict (meshIn mesh) (claimIn mesh claim)
 
-is-short : (mesh claim before : List ℕ) → ltb (length before) 113 ≡ true → check mesh claim before ≡ record { number = 41; place = 0; buffer = before }
-unfolding check reportBytes
-is-short mesh claim before t = rw (t, check)
+pub record OtherDecimals (z : ℤ) (before : List ℕ) (number place : ℕ) (after : List ℕ) : Type 0 where
+  pub other : ¬ Decimals z
+  pub number-43 : number ≡ 43
+  pub place-0 : place ≡ 0
+  pub untouched : after ≡ before
 
-is-line : (mesh claim before : List ℕ) → ltb (length before) 113 ≡ false → check mesh claim before ≡ record { number = numberOf (fileVerdict mesh claim); place = placeOf (fileVerdict mesh claim); buffer = reportLine decimals (fileVerdict mesh claim) ++ drop 113 before }
-unfolding check reportBytes filesVerdict
-is-line mesh claim before t = rw (t, check)
-
-pub record TooShort (before : List ℕ) (number place : ℕ) (after : List ℕ) : Type 0 where
+pub record TooShort (z : ℤ) (before : List ℕ) (number place : ℕ) (after : List ℕ) : Type 0 where
+  pub decimals : Decimals z
   pub short : length before < 113
   pub number-41 : number ≡ 41
   pub place-0 : place ≡ 0
   pub untouched : after ≡ before
 
-pub record LineWritten (mesh claim before : List ℕ) (number place : ℕ) (after : List ℕ) : Type 0 where
-  pub room : 113 ≤ length before
+pub record LineWritten (mesh claim : List ℕ) (z : ℤ) (before : List ℕ) (number place : ℕ) (after : List ℕ) : Type 0 where
+  pub room : Room z before
   pub returns : Returned (meshIn mesh) (claimIn mesh claim) number place
-  pub writes : after ≡ reportLine decimals (fileVerdict mesh claim) ++ drop 113 before
+  pub writes : after ≡ reportLine (natAbs z) (fileVerdict mesh claim) ++ drop 113 before
 
-two-cases : {mesh claim before : List ℕ} {number place : ℕ} {after : List ℕ} → Answers mesh claim before number place after → TooShort before number place after ⊎ LineWritten mesh claim before number place after
-two-cases {mesh} {claim} {before} h =
+pub data Cases (mesh claim : List ℕ) (z : ℤ) (before : List ℕ) (number place : ℕ) (after : List ℕ) : Type 0 where
+  not-so-many : OtherDecimals z before number place after → Cases mesh claim z before number place after
+  no-room : TooShort z before number place after → Cases mesh claim z before number place after
+  with-line : LineWritten mesh claim z before number place after → Cases mesh claim z before number place after
+
+-- what is returned, where the check is known
+module _ {mesh claim : List ℕ} {z : ℤ} {before : List ℕ} {number place : ℕ} {after : List ℕ} (h : Answers mesh claim z before number place after) (r : Answered) (e : check mesh claim z before ≡ r) where
+  number-is : number ≡ r .number
+  number-is = h .numberIs ∙ ap (λ x. x .number) e
+
+  place-is : place ≡ r .place
+  place-is = h .placeIs ∙ ap (λ x. x .place) e
+
+  buffer-is : after ≡ r .buffer
+  buffer-is = h .bufferIs ∙ ap (λ x. x .buffer) e
+
+by-cases : {mesh claim : List ℕ} {z : ℤ} {before : List ℕ} {number place : ℕ} {after : List ℕ} → Answers mesh claim z before number place after → Cases mesh claim z before number place after
+unfolding check reportBytes filesVerdict
+by-cases {mesh} {claim} {z} {before} h =
+    cases (isDecimals z)
+    (λ s.
     cases (ltb (length before) 113)
     (λ t.
-    let e = is-short mesh claim before t in
-    inl (record { short = ltb-true (length before) 113 t; number-41 = h .numberIs ∙ ap (λ x. x .number) e; place-0 = h .placeIs ∙ ap (λ x. x .place) e; untouched = h .bufferIs ∙ ap (λ x. x .buffer) e }))
+    let r : Answered = record { number = 41; place = 0; buffer = before } in
+    let e : check mesh claim z before ≡ r = rw (s, check) (rw t) in
+    no-room (record { decimals = decimals-told z s; short = ltb-true (length before) 113 t; number-41 = number-is h r e; place-0 = place-is h r e; untouched = buffer-is h r e }))
     (λ t.
-    let e = is-line mesh claim before t in
-    inr (record { room = ltb-false (length before) 113 t; returns = record { numberIs = h .numberIs ∙ ap (λ x. x .number) e; placeIs = h .placeIs ∙ ap (λ x. x .place) e }; writes = h .bufferIs ∙ ap (λ x. x .buffer) e }))
+    let v : Verdict = fileVerdict mesh claim in
+    let r : Answered = record { number = numberOf v; place = placeOf v; buffer = reportLine (natAbs z) v ++ drop 113 before } in
+    let e : check mesh claim z before ≡ r = rw (s, check) (rw t) in
+    with-line (record { room = record { decimals = decimals-told z s; bytes = ltb-false (length before) 113 t }; returns = record { numberIs = number-is h r e; placeIs = place-is h r e }; writes = buffer-is h r e })))
+    (λ s.
+    let r : Answered = record { number = 43; place = 0; buffer = before } in
+    let e : check mesh claim z before ≡ r = rw (s, check) in
+    not-so-many (record { other = other-told z s; number-43 = number-is h r e; place-0 = place-is h r e; untouched = buffer-is h r e }))
 
 -- every number of a verdict is at most 33
 at-most-33 : (m c : List ℤ) → numberOf (verdict m c) ≤ 33
@@ -110,9 +137,8 @@ at-most-33 m c = by (verdict-cases m c)
     by (inr e) = rw e (omega arith)
 
 -- the line that is printed
-says-line : (m c : List ℤ) → LineSays decimals (verdict m c) (reportLine decimals (verdict m c))
-unfolding decimals
-says-line m c = line-says 6 (verdict m c) (omega arith) (held m c)
+says-line : (d : ℕ) → d ≤ 7 → (m c : List ℤ) → LineSays d (verdict m c) (reportLine d (verdict m c))
+says-line d h m c = line-says d (verdict m c) h (held m c)
 
 -- ---- what the columns of a verdict's line say
 
@@ -151,109 +177,125 @@ module _ (m c : List ℤ) where
   accepted : numberOf (verdict m c) ≡ 0 → verdict m c ≡ Accepted (openCount m c) (lowerLoad c) (upperLoad m c)
   accepted z = accepted-exactly m c .1 (returns-zero m c .0 z)
 
-  prints-lower : numberOf (verdict m c) ≡ 0 → HasField c → LowerPrinted c (reportLine decimals (verdict m c))
-  unfolding decimals carried
-  prints-lower z f =
-      let line = says-line m c in
-      let says : LoadSays Floor 6 (Exact (l c) (n c)) (line .third) = subst (λ (x : Load). LoadSays Floor 6 x (line .third)) (lower-exact f) (third-says (subst (λ (v : Verdict). Says 6 v (line .first) (line .second) (line .third) (line .fourth)) (accepted z) (line .says))) in
-      let (v, e, a, b) = floor-says (field-n m c (claim-by-parts m c .0 (returns-zero m c .0 z) .2 f)) says in
-      record { millionths = v; reads = line .readThird ∙ ap some e; at-most = a; within = b }
+  module _ (d : ℕ) (h : d ≤ 7) where
+    prints-lower : numberOf (verdict m c) ≡ 0 → HasField c → LowerPrinted d c (reportLine d (verdict m c))
+    unfolding carried
+    prints-lower z f =
+        let line = says-line d h m c in
+        let says : LoadSays Floor d (Exact (l c) (n c)) (line .third) = subst (λ (x : Load). LoadSays Floor d x (line .third)) (lower-exact f) (third-says (subst (λ (v : Verdict). Says d v (line .first) (line .second) (line .third) (line .fourth)) (accepted z) (line .says))) in
+        let (v, e, a, b) = floor-says (field-n m c (claim-by-parts m c .0 (returns-zero m c .0 z) .2 f)) says in
+        record { units = v; reads = line .readThird ∙ ap some e; at-most = a; within = b }
 
-  prints-upper : numberOf (verdict m c) ≡ 0 → HasMultipliers c → UpperPrinted m c (reportLine decimals (verdict m c))
-  unfolding decimals allowed
-  prints-upper z f =
-      let line = says-line m c in
-      let says : LoadSays Ceil 6 (Exact (limitSum (multiplier m c) (rowsOf m)) (liveSum (multiplier m c) (rowsOf m))) (line .fourth) = subst (λ (x : Load). LoadSays Ceil 6 x (line .fourth)) (upper-exact f) (fourth-says (subst (λ (v : Verdict). Says 6 v (line .first) (line .second) (line .third) (line .fourth)) (accepted z) (line .says))) in
-      let (v, e, a, b) = ceil-says (returns-zero m c .0 z .multipliersMeet f .live) says in
-      record { millionths = v; reads = line .readFourth ∙ ap some e; at-least = a; within = b }
+    prints-upper : numberOf (verdict m c) ≡ 0 → HasMultipliers c → UpperPrinted d m c (reportLine d (verdict m c))
+    unfolding allowed
+    prints-upper z f =
+        let line = says-line d h m c in
+        let says : LoadSays Ceil d (Exact (limitSum (multiplier m c) (rowsOf m)) (liveSum (multiplier m c) (rowsOf m))) (line .fourth) = subst (λ (x : Load). LoadSays Ceil d x (line .fourth)) (upper-exact f) (fourth-says (subst (λ (v : Verdict). Says d v (line .first) (line .second) (line .third) (line .fourth)) (accepted z) (line .says))) in
+        let (v, e, a, b) = ceil-says (returns-zero m c .0 z .multipliersMeet f .live) says in
+        record { units = v; reads = line .readFourth ∙ ap some e; at-least = a; within = b }
 
-  prints : Prints m c (numberOf (verdict m c)) (placeOf (verdict m c)) (reportLine decimals (verdict m c))
-  unfolding decimals
-  prints =
-      let line = says-line m c in
-      record {
-        first = line .readFirst ∙ ap some (first-says (line .says));
-        refused = λ z. line .readSecond ∙ ap some (second-refused (line .says) z);
-        lower = prints-lower;
-        lower-none = lower-word m c 6 (omega arith);
-        upper = prints-upper;
-        upper-none = upper-word m c 6 (omega arith);
-        rows-none = rows-word m c 6 (omega arith);
-      }
+    prints : Prints d m c (numberOf (verdict m c)) (placeOf (verdict m c)) (reportLine d (verdict m c))
+    prints =
+        let line = says-line d h m c in
+        record {
+          first = line .readFirst ∙ ap some (first-says (line .says));
+          refused = λ z. line .readSecond ∙ ap some (second-refused (line .says) z);
+          lower = prints-lower;
+          lower-none = lower-word m c d h;
+          upper = prints-upper;
+          upper-none = upper-word m c d h;
+          rows-none = rows-word m c d h;
+        }
 
-  prints-open : numberOf (verdict m c) ≡ 0 → HasField c → HasMultipliers c → OpenRowsPrinted m c (reportLine decimals (verdict m c))
-  unfolding decimals
-  prints-open z f w =
-      let a : ClaimAccepted m c = returns-zero m c .0 z in
-      let parts = claim-by-parts m c .0 a in
-      let count = open-rows-count m c (parts .2 f) (parts .3 w) in
-      record {
-        number = openRows (stress m c) (l c) (n c) (multiplier m c) (rowsOf m);
-        reads = open-column 6 m c (omega arith) a f w;
-        count = count .number;
-        closed = count .none;
-      }
+    prints-open : numberOf (verdict m c) ≡ 0 → HasField c → HasMultipliers c → OpenRowsPrinted m c (reportLine d (verdict m c))
+    prints-open z f w =
+        let a : ClaimAccepted m c = returns-zero m c .0 z in
+        let parts = claim-by-parts m c .0 a in
+        let count = open-rows-count m c (parts .2 f) (parts .3 w) in
+        record {
+          number = openRows (stress m c) (l c) (n c) (multiplier m c) (rowsOf m);
+          reads = open-column d m c h a f w;
+          count = count .number;
+          closed = count .none;
+        }
 
 -- ==== Demand 1
 
-module _ (mesh claim before : List ℕ) (number place : ℕ) (after : List ℕ) (h : Answers mesh claim before number place after) where
-  never-short : {X : Type 0} → 113 ≤ length before → TooShort before number place after → X
-  never-short b s = absurd (omega (arith, s .short))
-
-  written : 113 ≤ length before → LineWritten mesh claim before number place after
-  written b = by (two-cases h)
+module _ (mesh claim : List ℕ) (z : ℤ) (before : List ℕ) (number place : ℕ) (after : List ℕ) (h : Answers mesh claim z before number place after) where
+  written : Room z before → LineWritten mesh claim z before number place after
+  written b = by (by-cases h)
     where
-      by : TooShort before number place after ⊎ LineWritten mesh claim before number place after → LineWritten mesh claim before number place after
-      by (inl s) = never-short b s
-      by (inr w) = w
+      by : Cases mesh claim z before number place after → LineWritten mesh claim z before number place after
+      by (not-so-many s) = absurd (s .other (b .decimals))
+      by (no-room s) = absurd (omega (arith, s .short, b .bytes))
+      by (with-line w) = w
 
-  line-bytes : length (reportLine decimals (fileVerdict mesh claim)) ≡ 113
-  line-bytes = says-line (meshIn mesh) (claimIn mesh claim) .bytes
+  few : Decimals z → natAbs z ≤ 7
+  few d = decimals-small z d
 
-  line-is : 113 ≤ length before → take 113 after ≡ reportLine decimals (fileVerdict mesh claim)
-  line-is b = ap (take 113) (written b .writes) ∙ take-at (reportLine decimals (fileVerdict mesh claim)) (drop 113 before) 113 line-bytes
+  line-bytes : Decimals z → length (reportLine (natAbs z) (fileVerdict mesh claim)) ≡ 113
+  line-bytes d = says-line (natAbs z) (few d) (meshIn mesh) (claimIn mesh claim) .bytes
 
-  pub any-call : AnyCall mesh claim before number place after
+  line-is : Room z before → take 113 after ≡ reportLine (natAbs z) (fileVerdict mesh claim)
+  line-is b = ap (take 113) (written b .writes) ∙ take-at (reportLine (natAbs z) (fileVerdict mesh claim)) (drop 113 before) 113 (line-bytes (b .decimals))
+
+  pub any-call : AnyCall mesh claim z before number place after
   unfolding filesVerdict
   any-call = record {
-    too-short = λ b. short b (two-cases h);
-    only-then = λ e. forty-one e (two-cases h);
+    other-decimals = λ n. other n (by-cases h);
+    only-then-43 = λ e. forty-three e (by-cases h);
+    too-short = λ d b. short d b (by-cases h);
+    only-then = λ e. forty-one e (by-cases h);
     returns = λ b. written b .returns;
     line = line-is;
-    says = λ b. rw (line-is b) (says-line (meshIn mesh) (claimIn mesh claim));
-    rest = beyond (two-cases h);
-    size = as-long (two-cases h);
+    says = λ b. rw (line-is b) (says-line (natAbs z) (few (b .decimals)) (meshIn mesh) (claimIn mesh claim));
+    rest = beyond (by-cases h);
+    size = as-long (by-cases h);
   }
     where
-      short : length before < 113 → TooShort before number place after ⊎ LineWritten mesh claim before number place after → (number ≡ 41) × (place ≡ 0) × (after ≡ before)
-      short b (inl s) = (s .number-41, s .place-0, s .untouched)
-      short b (inr w) = absurd (omega (arith, w .room))
+      other : ¬ Decimals z → Cases mesh claim z before number place after → (number ≡ 43) × (place ≡ 0) × (after ≡ before)
+      other n (not-so-many s) = (s .number-43, s .place-0, s .untouched)
+      other n (no-room s) = absurd (n (s .decimals))
+      other n (with-line w) = absurd (n (w .room .decimals))
 
-      forty-one : number ≡ 41 → TooShort before number place after ⊎ LineWritten mesh claim before number place after → length before < 113
-      forty-one e (inl s) = s .short
-      forty-one e (inr w) = absurd (omega (arith, w .returns .numberIs, at-most-33 (meshIn mesh) (claimIn mesh claim)))
+      forty-three : number ≡ 43 → Cases mesh claim z before number place after → ¬ Decimals z
+      forty-three e (not-so-many s) = s .other
+      forty-three e (no-room s) = absurd (omega (arith, s .number-41))
+      forty-three e (with-line w) = absurd (omega (arith, w .returns .numberIs, at-most-33 (meshIn mesh) (claimIn mesh claim)))
 
-      beyond : TooShort before number place after ⊎ LineWritten mesh claim before number place after → drop 113 after ≡ drop 113 before
-      beyond (inl s) = ap (drop 113) (s .untouched)
-      beyond (inr w) = ap (drop 113) (w .writes) ∙ drop-at (reportLine decimals (fileVerdict mesh claim)) (drop 113 before) 113 line-bytes
+      short : Decimals z → length before < 113 → Cases mesh claim z before number place after → (number ≡ 41) × (place ≡ 0) × (after ≡ before)
+      short d b (not-so-many s) = absurd (s .other d)
+      short d b (no-room s) = (s .number-41, s .place-0, s .untouched)
+      short d b (with-line w) = absurd (omega (arith, w .room .bytes))
 
-      as-long : TooShort before number place after ⊎ LineWritten mesh claim before number place after → length after ≡ length before
-      as-long (inl s) = ap length (s .untouched)
-      as-long (inr w) = omega (arith, ap length (w .writes), length-append (reportLine decimals (fileVerdict mesh claim)) (drop 113 before), line-bytes, length-drop 113 before, w .room)
+      forty-one : number ≡ 41 → Cases mesh claim z before number place after → Decimals z × (length before < 113)
+      forty-one e (not-so-many s) = absurd (omega (arith, s .number-43))
+      forty-one e (no-room s) = (s .decimals, s .short)
+      forty-one e (with-line w) = absurd (omega (arith, w .returns .numberIs, at-most-33 (meshIn mesh) (claimIn mesh claim)))
 
-  pub long-files : LongFiles mesh claim before number place after
+      beyond : Cases mesh claim z before number place after → drop 113 after ≡ drop 113 before
+      beyond (not-so-many s) = ap (drop 113) (s .untouched)
+      beyond (no-room s) = ap (drop 113) (s .untouched)
+      beyond (with-line w) = ap (drop 113) (w .writes) ∙ drop-at (reportLine (natAbs z) (fileVerdict mesh claim)) (drop 113 before) 113 (line-bytes (w .room .decimals))
+
+      as-long : Cases mesh claim z before number place after → length after ≡ length before
+      as-long (not-so-many s) = ap length (s .untouched)
+      as-long (no-room s) = ap length (s .untouched)
+      as-long (with-line w) = omega (arith, ap length (w .writes), length-append (reportLine (natAbs z) (fileVerdict mesh claim)) (drop 113 before), line-bytes (w .room .decimals), length-drop 113 before, w .room .bytes)
+
+  pub long-files : LongFiles mesh claim z before number place after
   long-files = record {
     cut = record {
-      numberIs = h .numberIs ∙ ap (λ x. x .number) (check-cut mesh claim before);
-      placeIs = h .placeIs ∙ ap (λ x. x .place) (check-cut mesh claim before);
-      bufferIs = h .bufferIs ∙ ap (λ x. x .buffer) (check-cut mesh claim before);
+      numberIs = h .numberIs ∙ ap (λ x. x .number) (check-cut mesh claim z before);
+      placeIs = h .placeIs ∙ ap (λ x. x .place) (check-cut mesh claim z before);
+      bufferIs = h .bufferIs ∙ ap (λ x. x .buffer) (check-cut mesh claim z before);
     };
-    never-accepted = λ b e. longer-refused mesh claim before b (sym (h .numberIs) ∙ e);
+    never-accepted = λ b e. longer-refused mesh claim z before b (sym (h .numberIs) ∙ e);
   }
 
   -- ==== Demand 2
 
-  pub on-numbers-read : 113 ≤ length before → OnFiles mesh claim number place
+  pub on-numbers-read : Room z before → OnFiles mesh claim number place
   on-numbers-read b =
       let r : Returned (meshIn mesh) (claimIn mesh claim) number place = written b .returns in
       record {
@@ -265,7 +307,7 @@ module _ (mesh claim before : List ℕ) (number place : ℕ) (after : List ℕ) 
         criterion = criterion-at-each-node (meshIn mesh) (claimIn mesh claim) number place r;
       }
 
-  pub form-exactly : 113 ≤ length before → FormExactly mesh claim number place
+  pub form-exactly : Room z before → FormExactly mesh claim number place
   unfolding placeFor filesVerdict
   form-exactly b =
       let refuses = on-numbers-read b .refuses .exactly in
@@ -275,43 +317,46 @@ module _ (mesh claim before : List ℕ) (number place : ℕ) (after : List ℕ) 
       }
 
   -- what is accepted passes the checks of its lines, so its bytes are those of its numbers
-  pub accepted-files : 113 ≤ length before → AcceptedFiles mesh claim number
+  pub accepted-files : Room z before → AcceptedFiles mesh claim number
   unfolding meshNumbers claimNumbers
   accepted-files b =
       let accepted : number ≡ 0 → ClaimAccepted (meshIn mesh) (claimIn mesh claim) = on-numbers-read b .returns-zero .exactly .0 in
       record {
-        mesh-file = λ z. written-back fileWidth meshLayout mesh-regular mesh (lines-passed meshLayout (meshIn mesh) .passed (accepted z .mesh .lines));
-        claim-file = λ z.
-            let mesh-lines = lines-passed meshLayout (meshIn mesh) .passed (accepted z .mesh .lines) in
-            written-back fileWidth (claimLayout (meshIn mesh)) (claim-regular (meshIn mesh) (some-side (meshIn mesh) mesh-lines)) claim (lines-passed (claimLayout (meshIn mesh)) (claimIn mesh claim) .passed (accepted z .lines));
+        mesh-file = λ e. written-back fileWidth meshLayout mesh-regular mesh (lines-passed meshLayout (meshIn mesh) .passed (accepted e .mesh .lines));
+        claim-file = λ e.
+            let mesh-lines = lines-passed meshLayout (meshIn mesh) .passed (accepted e .mesh .lines) in
+            written-back fileWidth (claimLayout (meshIn mesh)) (claim-regular (meshIn mesh) (some-side (meshIn mesh) mesh-lines)) claim (lines-passed (claimLayout (meshIn mesh)) (claimIn mesh claim) .passed (accepted e .lines));
       }
 
-  pub prints-columns : 113 ≤ length before → Prints (meshIn mesh) (claimIn mesh claim) number place (take 113 after)
-  prints-columns b = let r = written b .returns in rw (r .numberIs, r .placeIs, line-is b) (prints (meshIn mesh) (claimIn mesh claim))
+  pub prints-columns : Room z before → Prints (natAbs z) (meshIn mesh) (claimIn mesh claim) number place (take 113 after)
+  prints-columns b = let r = written b .returns in rw (r .numberIs, r .placeIs, line-is b) (prints (meshIn mesh) (claimIn mesh claim) (natAbs z) (few (b .decimals)))
 
   -- ==== Demand 3
 
-  pub prints-open-rows : 113 ≤ length before → number ≡ 0 → HasField (claimIn mesh claim) → HasMultipliers (claimIn mesh claim) → OpenRowsPrinted (meshIn mesh) (claimIn mesh claim) (take 113 after)
-  prints-open-rows b z f w = rw (line-is b) (prints-open (meshIn mesh) (claimIn mesh claim) (sym (written b .returns .numberIs) ∙ z) f w)
+  pub prints-open-rows : Room z before → number ≡ 0 → HasField (claimIn mesh claim) → HasMultipliers (claimIn mesh claim) → OpenRowsPrinted (meshIn mesh) (claimIn mesh claim) (take 113 after)
+  prints-open-rows b e f w = rw (line-is b) (prints-open (meshIn mesh) (claimIn mesh claim) (natAbs z) (few (b .decimals)) (sym (written b .returns .numberIs) ∙ e) f w)
 
 -- an accepted field, and accepted multipliers, of a call on files or on numbers
 call-field : {a : Handed} {i : ℕ} → Call a i → TellsField (claimOf a) i → FieldAccepted (meshOf a) (claimOf a)
 unfolding meshOf claimOf
-call-field (on-files mesh claim before number place after h) t = by (two-cases h) (t .1)
+call-field (on-files mesh claim z before number place after h) t = by (by-cases h) (t .1)
   where
-    by : TooShort before number place after ⊎ LineWritten mesh claim before number place after → (number ≡ 0) ⊎ ((31 ≤ number) × (number ≤ 33)) → FieldAccepted (meshIn mesh) (claimIn mesh claim)
-    by (inl s) (inl z) = absurd (omega (arith, s .number-41))
-    by (inl s) (inr z) = absurd (omega (arith, s .number-41, z .1))
-    by (inr w) z = field-exactly (meshIn mesh) (claimIn mesh claim) number place (w .returns) .told .1 (t .0, z)
+    by : Cases mesh claim z before number place after → (number ≡ 0) ⊎ ((31 ≤ number) × (number ≤ 33)) → FieldAccepted (meshIn mesh) (claimIn mesh claim)
+    by (not-so-many s) (inl e) = absurd (omega (arith, s .number-43))
+    by (not-so-many s) (inr e) = absurd (omega (arith, s .number-43, e .1))
+    by (no-room s) (inl e) = absurd (omega (arith, s .number-41))
+    by (no-room s) (inr e) = absurd (omega (arith, s .number-41, e .1))
+    by (with-line w) e = field-exactly (meshIn mesh) (claimIn mesh claim) number place (w .returns) .told .1 (t .0, e)
 call-field (on-numbers m c r h) t = field-exactly m c (r .number) (r .place) (returned h) .told .1 t
 
 call-multipliers : {a : Handed} {i : ℕ} → Call a i → HasMultipliers (claimOf a) → i ≡ 0 → MultipliersAccepted (meshOf a) (claimOf a)
 unfolding meshOf claimOf
-call-multipliers (on-files mesh claim before number place after h) t z = by (two-cases h)
+call-multipliers (on-files mesh claim z before number place after h) t e = by (by-cases h)
   where
-    by : TooShort before number place after ⊎ LineWritten mesh claim before number place after → MultipliersAccepted (meshIn mesh) (claimIn mesh claim)
-    by (inl s) = absurd (omega (arith, s .number-41))
-    by (inr w) = multipliers-exactly (meshIn mesh) (claimIn mesh claim) number place (w .returns) .told .0 (t, z) .0
+    by : Cases mesh claim z before number place after → MultipliersAccepted (meshIn mesh) (claimIn mesh claim)
+    by (not-so-many s) = absurd (omega (arith, s .number-43))
+    by (no-room s) = absurd (omega (arith, s .number-41))
+    by (with-line w) = multipliers-exactly (meshIn mesh) (claimIn mesh claim) number place (w .returns) .told .0 (t, e) .0
 call-multipliers (on-numbers m c r h) t z = multipliers-exactly m c (r .number) (r .place) (returned h) .told .0 (t, z) .0
 
 -- the field of one call and the multipliers of another or of the same, each on files or on numbers, on meshes with the same rows
@@ -336,13 +381,22 @@ same-at : {A B : Type 0} (f g : A → B) (xs : List A) → map f xs ≡ map g xs
 same-at f g (a ∷ xs) e x (List·Memᴰ·head p) = let h : f a ≡ g a = cc in rw p h
 same-at f g (a ∷ xs) e x (List·Memᴰ·tail t) = let h : map f xs ≡ map g xs = cc in same-at f g xs h x t
 
-printed-line : (s : Sheet) → printed s ≡ reportLine decimals (fileVerdict (s .mesh) (s .claim))
-unfolding printed reportBytes
-printed-line s = ap (λ x. x .buffer) (is-line (s .mesh) (s .claim) (replicate 113 0) refl) ∙ append-nil (reportLine decimals (fileVerdict (s .mesh) (s .claim)))
+six : Decimals (pos usualDecimals)
+unfolding usualDecimals
+six = record { from-0 = record { le = tt }; to-7 = record { le = tt } }
+
+printed-line : (s : Sheet) → printed s ≡ reportLine usualDecimals (fileVerdict (s .mesh) (s .claim))
+unfolding printed reportBytes check filesVerdict isDecimals usualDecimals
+printed-line s = append-nil (reportLine 6 (fileVerdict (s .mesh) (s .claim)))
 
 -- the starred sheets, as one table
 pub starred-written : (s : Sheet) → s ∈ starred → Written s
 starred-written s i before after number place h b =
-    line-is (s .mesh) (s .claim) before number place after h b
+    line-is (s .mesh) (s .claim) (pos usualDecimals) before number place after h (record { decimals = six; bytes = b })
     ∙ sym (printed-line s)
     ∙ same-at printed (λ s. s .line) starred starred-sheets s i
+
+-- ---- the printed texts
+
+pub texts-fit : (d : ℕ) → d ≤ 7 → (m c : List ℤ) → ClaimAccepted m c → TextsFit d m c
+texts-fit d h m c a = record { lower = lower-short d (lowerLoad c) h (lower-held m c a); upper = upper-short d (upperLoad m c) h (upper-held m c a); no-minus-zero = minus-said }

@@ -4,15 +4,15 @@ use mathlib.Core.Path.{_≡_}
 use mathlib.Core.Logic.{_↔_, _⊎_, _≢_}
 use mathlib.Core.List.{List}
 use mathlib.Core.Option.{some}
-use Prim.Native.Nat.{ℕ, suc, _≤_, _<_}
-use lib.IntN.{ℤ, pos, _+ℤ_, _-ℤ_}
+use Prim.Native.Nat.{ℕ, suc, _^_, _≤_, _<_}
+use lib.IntN.{ℤ, pos, natAbs, _+ℤ_, _-ℤ_}
 use lib.ListN.{length, take, drop}
 use Rattle.integer.specs.Fraction.{_over_, _≈ᶠ_, _≤ᶠ_, _<ᶠ_}
 use Rattle.scope.specs.Columns.{n, l}
 use Rattle.scope.specs.Mesh.{meshLayout}
 use Rattle.scope.specs.Rows.{rowsOf}
 use Rattle.scope.specs.Claim.{claimLayout, stress, multiplier}
-use Rattle.scope.specs.Verdict.{rowAt}
+use Rattle.scope.specs.Verdict.{rowAt, lowerLoad, upperLoad}
 use Rattle.scope.specs.Sound.{MeshSound}
 use Rattle.scope.specs.Refusals.{HasField, HasMultipliers}
 use Rattle.scope.specs.Bracket.{Open}
@@ -23,8 +23,8 @@ use Rattle.numbers.specs.Promises.{Returned, ReturnsZero, RefusesExactly, Tells
 use Rattle.numbers.specs.NumbersAnswer.{answerOf}
 use Rattle.reader.specs.File.{fileOf}
 use Rattle.reader.specs.WellFormed.{Fit, FormFails}
-use Rattle.report.specs.Text.{word, number as shows, said}
-use Rattle.report.specs.Report.{reportLine, decimals}
+use Rattle.report.specs.Text.{word, number as shows, said, MinusSaid}
+use Rattle.report.specs.Report.{reportLine, lowerText, upperText, Decimals, usualDecimals}
 use Rattle.report.specs.Says.{columnOf, LineSays}
 use Rattle.judge.specs.Judge.{meshNumbers, claimNumbers, fileWidth, filesVerdict}
 use Rattle.judge.specs.Handed.{Handed, files, numbers, meshOf, claimOf, HasAcceptedMultipliers, OnTheSameMesh, HandedBracket}
@@ -40,24 +40,32 @@ claimIn mesh claim = claimNumbers fileWidth (meshIn mesh) claim
 
 -- ==== Demand 1: what any call returns and writes
 
-pub record AnyCall (mesh claim before : List ℕ) (number place : ℕ) (after : List ℕ) : Type 0 where
-  -- "41, place 0, untouched: buffer under 113 bytes", and 41 in no other case
-  pub too-short : length before < 113 → (number ≡ 41) × (place ≡ 0) × (after ≡ before)
-  pub only-then : number ≡ 41 → length before < 113
+-- a call that is answered with a line: the number of decimals is from 0 to 7, and the buffer has 113 bytes
+pub record Room (z : ℤ) (before : List ℕ) : Type 0 where
+  pub decimals : Decimals z
+  pub bytes : 113 ≤ length before
+
+pub record AnyCall (mesh claim : List ℕ) (z : ℤ) (before : List ℕ) (number place : ℕ) (after : List ℕ) : Type 0 where
+  -- "Refused: 43, place 0, buffer untouched, for any other number", and 43 in no other case (document 02, N5)
+  pub other-decimals : ¬ Decimals z → (number ≡ 43) × (place ≡ 0) × (after ≡ before)
+  pub only-then-43 : number ≡ 43 → ¬ Decimals z
+  -- "41, place 0, untouched: buffer under 113 bytes", and 41 in no other case: 43 is "checked before 41"
+  pub too-short : Decimals z → length before < 113 → (number ≡ 41) × (place ≡ 0) × (after ≡ before)
+  pub only-then : number ≡ 41 → Decimals z × (length before < 113)
   -- else the verdict's number and place, and its line: "four columns of 28, right-justified, and byte 10"
-  pub returns : 113 ≤ length before → Returned (meshIn mesh) (claimIn mesh claim) number place
-  pub line : 113 ≤ length before → take 113 after ≡ reportLine decimals (filesVerdict fileWidth mesh claim)
-  pub says : 113 ≤ length before → LineSays decimals (filesVerdict fileWidth mesh claim) (take 113 after)
+  pub returns : Room z before → Returned (meshIn mesh) (claimIn mesh claim) number place
+  pub line : Room z before → take 113 after ≡ reportLine (natAbs z) (filesVerdict fileWidth mesh claim)
+  pub says : Room z before → LineSays (natAbs z) (filesVerdict fileWidth mesh claim) (take 113 after)
   -- "Bytes beyond 113 are never written"
   pub rest : drop 113 after ≡ drop 113 before
   pub size : length after ≡ length before
 
 -- "at most 65,536 bytes of each ..; a longer file is too long for any mesh or claim and is refused as its first 65,536 bytes are"
-pub record LongFiles (mesh claim before : List ℕ) (number place : ℕ) (after : List ℕ) : Type 0 where
-  pub cut : Answers (take 65536 mesh) (take 65536 claim) before number place after
+pub record LongFiles (mesh claim : List ℕ) (z : ℤ) (before : List ℕ) (number place : ℕ) (after : List ℕ) : Type 0 where
+  pub cut : Answers (take 65536 mesh) (take 65536 claim) z before number place after
   pub never-accepted : (65536 < length mesh) ⊎ (65536 < length claim) → number ≢ 0
 
--- ==== Demand 2: what is accepted, what is refused, what is printed; where the buffer has 113 bytes
+-- ==== Demand 2: what is accepted, what is refused, what is printed; where a line is written (`Room`)
 
 -- 0 exactly when, each refusal with its place exactly when, each part accepted exactly when, and the criterion at each node
 pub record OnFiles (mesh claim : List ℕ) (number place : ℕ) : Type 0 where
@@ -78,27 +86,34 @@ pub record AcceptedFiles (mesh claim : List ℕ) (number : ℕ) : Type 0 where
   pub mesh-file : number ≡ 0 → mesh ≡ fileOf fileWidth meshLayout (meshIn mesh)
   pub claim-file : number ≡ 0 → claim ≡ fileOf fileWidth (claimLayout (meshIn mesh)) (claimIn mesh claim)
 
--- "Both loads have six decimals .. The lower goes towards minus infinity": the third column reads as v millionths, v/10^6 ≤ l/n < (v + 1)/10^6
-pub record LowerPrinted (c : List ℤ) (line : List ℕ) : Type 0 where
-  pub millionths : ℤ
-  pub reads : said (columnOf 2 line) ≡ some (shows millionths 6)
-  pub at-most : millionths over pos 1000000 ≤ᶠ carried c
-  pub within : carried c <ᶠ (millionths +ℤ pos 1) over pos 1000000
+-- "each load is still rounded once in its own direction and is off by less than one in the last place" (document 02, N5): "The lower goes towards minus infinity".
+-- The third column, with d decimals, reads as v in the last place, v/10^d ≤ l/n < (v + 1)/10^d; with six decimals, as millionths
+pub record LowerPrinted (d : ℕ) (c : List ℤ) (line : List ℕ) : Type 0 where
+  pub units : ℤ
+  pub reads : said (columnOf 2 line) ≡ some (shows units d)
+  pub at-most : units over pos (10 ^ d) ≤ᶠ carried c
+  pub within : carried c <ᶠ (units +ℤ pos 1) over pos (10 ^ d)
 
--- ".. the upper towards plus infinity": the fourth column, (v - 1)/10^6 < W/m ≤ v/10^6
-pub record UpperPrinted (m c : List ℤ) (line : List ℕ) : Type 0 where
-  pub millionths : ℤ
-  pub reads : said (columnOf 3 line) ≡ some (shows millionths 6)
-  pub at-least : allowed m c ≤ᶠ millionths over pos 1000000
-  pub within : (millionths -ℤ pos 1) over pos 1000000 <ᶠ allowed m c
+-- ".. the upper towards plus infinity": the fourth column, (v - 1)/10^d < W/m ≤ v/10^d
+pub record UpperPrinted (d : ℕ) (m c : List ℤ) (line : List ℕ) : Type 0 where
+  pub units : ℤ
+  pub reads : said (columnOf 3 line) ≡ some (shows units d)
+  pub at-least : allowed m c ≤ᶠ units over pos (10 ^ d)
+  pub within : (units -ℤ pos 1) over pos (10 ^ d) <ᶠ allowed m c
+
+-- "in the same 28 characters": no load of an accepted claim is longer, at any number of decimals, and "a zero has no minus"
+pub record TextsFit (d : ℕ) (m c : List ℤ) : Type 0 where
+  pub lower : length (lowerText d (lowerLoad c)) ≤ 28
+  pub upper : length (upperText d (upperLoad m c)) ≤ 28
+  pub no-minus-zero : MinusSaid
 
 -- the four columns: "Accepted .. reports: 0; the open rows ..; l/n; W/m"; "Refused: number, place, none, none"; "Whichever part the claim lacks gives the four letters none"
-pub record Prints (m c : List ℤ) (number place : ℕ) (line : List ℕ) : Type 0 where
+pub record Prints (d : ℕ) (m c : List ℤ) (number place : ℕ) (line : List ℕ) : Type 0 where
   pub first : said (columnOf 0 line) ≡ some (shows (pos number) 0)
   pub refused : number ≢ 0 → said (columnOf 1 line) ≡ some (shows (pos place) 0)
-  pub lower : number ≡ 0 → HasField c → LowerPrinted c line
+  pub lower : number ≡ 0 → HasField c → LowerPrinted d c line
   pub lower-none : (said (columnOf 2 line) ≡ some word) ↔ ((number ≢ 0) ⊎ (¬ HasField c))
-  pub upper : number ≡ 0 → HasMultipliers c → UpperPrinted m c line
+  pub upper : number ≡ 0 → HasMultipliers c → UpperPrinted d m c line
   pub upper-none : (said (columnOf 3 line) ≡ some word) ↔ ((number ≢ 0) ⊎ (¬ HasMultipliers c))
   pub rows-none : number ≡ 0 → (said (columnOf 1 line) ≡ some word) ↔ ((¬ HasField c) ⊎ (¬ HasMultipliers c))
 
@@ -113,7 +128,7 @@ pub record OpenRowsPrinted (m c : List ℤ) (line : List ℕ) : Type 0 where
 
 -- a call that was made, on two files or on numbers, and the number that it returned
 pub data Call : Handed → ℕ → Type 0 where
-  on-files : (mesh claim before : List ℕ) (number place : ℕ) (after : List ℕ) → Answers mesh claim before number place after → Call (files mesh claim) number
+  on-files : (mesh claim : List ℕ) (z : ℤ) (before : List ℕ) (number place : ℕ) (after : List ℕ) → Answers mesh claim z before number place after → Call (files mesh claim) number
   on-numbers : (m c : List ℤ) (r : NumbersAnswer) → Handed-over.Answers m c r → Call (numbers m c) (r .number)
 
 -- "Parts are on the same mesh when they are judged against the same rows": the field of one call and the multipliers of another or of the same, each on files or on numbers
@@ -135,6 +150,6 @@ pub record AsAFile (m c : List ℤ) (r : NumbersAnswer) : Type 0 where
 
 -- ==== The sheets
 
--- each sheet's line stands at the front of the buffer
+-- each sheet's line, which has six decimals, stands at the front of the buffer
 abbrev pub Written : Sheet → Type 0
-Written s = (before after : List ℕ) (number place : ℕ) → Answers (s .mesh) (s .claim) before number place after → 113 ≤ length before → take 113 after ≡ s .line
+Written s = (before after : List ℕ) (number place : ℕ) → Answers (s .mesh) (s .claim) (pos usualDecimals) before number place after → 113 ≤ length before → take 113 after ≡ s .line

@@ -3,11 +3,13 @@
 use mathlib.Core.List.{List, [], _∷_}
 use Prim.Native.Nat.{ℕ}
 use Prim.Native.String.{String}
+use lib.IntN.{pos}
 use lib.ListN.{replicate}
 use Rattle.scope.specs.Mesh.{meshLayout}
 use Rattle.scope.specs.Claim.{claimLayout}
 use Rattle.reader.specs.File.{fileOf}
 use Rattle.judge.specs.Judge.{fileWidth}
+use Rattle.report.specs.Report.{usualDecimals}
 use Rattle.pechuvo.specs.Bytes.{bytes, numbers}
 use Rattle.pechuvo.specs.Check.{reportBytes, check}
 
@@ -27,7 +29,7 @@ sheet m c line = record {
 
 -- what the check writes into a buffer of 113 bytes
 unfoldable pub printed : Sheet → List ℕ
-printed s = check (s .mesh) (s .claim) (replicate reportBytes 0) .buffer
+printed s = check (s .mesh) (s .claim) (pos usualDecimals) (replicate reportBytes 0) .buffer
 
 -- ---- the starred sheets
 

@@ -1,11 +1,12 @@
 -- The line in the buffer: each column is put behind those before it, and the bytes after the line stay.
-use mathlib.Core.Path.{_≡_, sym, ap, ap₂, _∙_}
-use mathlib.Core.Bool.{true, false}
+use mathlib.Core.Path.{_≡_, sym, ap, ap₂, subst, _∙_}
+use mathlib.Core.Bool.{Bool, true, false, _&&_}
 use mathlib.Core.List.{List, _∷_, _++_, append-assoc}
 use Prim.Native.Nat.{ℕ, _+_, _≤_, _<_}
 use native.Mathlib.Omega.{arith}
 use lib.IntN.{ℤ, pos, negsuc, natAbs}
 use lib.Signed.{_≤ℤ_, _<ℤ_, leZ}
+use lib.Dec.{T}
 use lib.Ieee.Bits.{is-true, is-false}
 use lib.ListN.{length, take, drop, set, getD, length-append, length-set, length-drop}
 use lib.Seq.{take-at, drop-at, drop-drop, drop-cons, set-at, length-take-le}
@@ -150,3 +151,14 @@ written z v buffer d h e =
 pub decimals-small : (z : ℤ) → Decimals z → natAbs z ≤ 7
 decimals-small (pos n) h = ≤ℤ-pos (h .to-7)
 decimals-small (negsuc n) h = absurd (h .from-0 .le)
+
+both : (a b : Bool) → (a && b) ≡ true → T a × T b
+both true b e = (tt, subst T (sym e) tt)
+both false b e = let z : _≡_ {A = ℕ} 0 1 = cc in absurd (omega arith)
+
+pub decimals-told : (z : ℤ) → isDecimals z ≡ true → Decimals z
+unfolding isDecimals
+decimals-told z e = let t = both (leZ (pos 0) z) (leZ z (pos 7)) e in record { from-0 = record { le = t .0 }; to-7 = record { le = t .1 } }
+
+pub other-told : (z : ℤ) → isDecimals z ≡ false → ¬ Decimals z
+other-told z e d = let t = is-decimals d in let n : _≡_ {A = ℕ} 0 1 = cc in omega arith

@@ -142,6 +142,13 @@ upper-fits : (d : ℕ) → d ≤ 7 → (load : Load) → HeldLoad load → (s : 
 unfolding upperText
 upper-fits = load-fits Ceil ceilDiv ceil-small (λ z den p. ceilDiv-is z p)
 
+-- "in the same 28 characters": 19 digits, a minus, a point and seven decimals
+pub lower-short : (d : ℕ) (load : Load) → d ≤ 7 → HeldLoad load → length (lowerText d load) ≤ 28
+lower-short d load h x = lower-fits d h load x .1 .room
+
+pub upper-short : (d : ℕ) (load : Load) → d ≤ 7 → HeldLoad load → length (upperText d load) ≤ 28
+upper-short d load h x = upper-fits d h load x .1 .room
+
 rows-fit : (o : OpenRows) → HeldRows o → (s : Said) × Fits (openText o) s × RowsSay o s
 unfolding openText
 rows-fit NoCount x = (word, fits-none, no-rows)

@@ -6,10 +6,15 @@ use scope::OpenRows;
 use scope::Place;
 use scope::Verdict;
 
-fn show(v: Verdict) {
+// With so many decimals.
+fn show_with(v: Verdict, decimals: i64) {
     let mut buffer = [b'#'; 113];
-    write_report(v, &mut buffer);
+    write_report(v, decimals, &mut buffer);
     io::write_all(STDOUT_FILENO, &buffer);
+}
+
+fn show(v: Verdict) {
+    show_with(v, 6);
 }
 
 // The same load as lower and as upper.
@@ -31,11 +36,11 @@ fn refused() -> Verdict {
 // One byte too few, and some too many.
 fn other_buffers() {
     let mut short = [b'#'; 112];
-    write_report(refused(), &mut short);
+    write_report(refused(), 6, &mut short);
     io::write_all(STDOUT_FILENO, &short);
     io::write_all(STDOUT_FILENO, b"\n");
     let mut long = [b'#'; 120];
-    write_report(refused(), &mut long);
+    write_report(refused(), 6, &mut long);
     io::write_all(STDOUT_FILENO, &long);
     io::write_all(STDOUT_FILENO, b"\n");
 }
