@@ -9,13 +9,13 @@ use lib.Seq.{getD-take}
 use Rattle.scope.specs.declared.Outcome.the-variants.{Passed}
 use Rattle.scope.specs.Columns.{at, hasField, hasMultipliers}
 use Rattle.scope.specs.Mesh.{meshLayout, nodes, elements, edges, sides, elementRows, edgeRows}
+use Rattle.scope.specs.Rows.{pairCount}
 use Rattle.scope.specs.Claim.{claimHeaderColumns, stressColumns, claimLayout, claimHeader, ifThere, stressLines, elementMultipliers, edgeMultipliers, strengthMultipliers}
 use Rattle.scope.specs.Verdict.{meshCheck, linesCheck}
 use Rattle.scope.proofs.Refusals.{lines-passed, mesh-passed}
 use Rattle.mesh.specs.declared.sizes.Sizes.{Sizes}
 use Rattle.lines.specs.declared.layout.Group as Code
-use Rattle.mesh.specs.MeshContracts.{Sized}
-use Rattle.mesh.proofs.Places.{as-sizes}
+use Rattle.mesh.specs.MeshContracts.{Counted}
 use Rattle.lines.specs.Table.{Tabled, claimBody}
 use Rattle.lines.proofs.GroupLaws.{claim-body}
 use Rattle.scope.specs.Layout.{Group}
@@ -30,7 +30,7 @@ use Rattle.judge.specs.ClaimBytes.{claimBytes}
 use Rattle.judge.proofs.Numbers.{some-side}
 
 -- the bytes, counted
-pub claim-bytes : (m c : List ℤ) → claimBytes m c ≡ (claimHeaderColumns * fileWidth + 1) + ifThere (hasField c) (nodes m) * (stressColumns * fileWidth + 1) + ifThere (hasMultipliers c) (elements m) * (elementRows * fileWidth + 1) + ifThere (hasMultipliers c) (edges m) * (edgeRows * fileWidth + 1) + ifThere (hasMultipliers c) (nodes m) * (sides m * fileWidth + 1)
+pub claim-bytes : (m c : List ℤ) → claimBytes m c ≡ (claimHeaderColumns * fileWidth + 1) + ifThere (hasField c) (nodes m) * (stressColumns * fileWidth + 1) + ifThere (hasMultipliers c) (elements m) * (elementRows * fileWidth + 1) + ifThere (hasMultipliers c) (edges m) * (edgeRows * fileWidth + 1) + ifThere (hasMultipliers c) (pairCount m) * (sides m * fileWidth + 1)
 unfolding claimBytes claimLayout claimHeader stressLines elementMultipliers edgeMultipliers strengthMultipliers lineBytes
 claim-bytes m c = simp (group-bytes, no-bytes, length-replicate) (omega arith)
 
@@ -47,7 +47,7 @@ claim-length m claim s e =
     passed-length fileWidth (claimLayout m) (claim-regular m (some-side m p)) claim e
 
 -- the bytes of the header's line, and those of the table
-pub table-bytes : {m : List ℤ} (h : List ℤ) {s : Sizes} {gs : List Code.Group} → Sized m s → Tabled s gs (claimBody s (hasField h) (hasMultipliers h)) → (claimHeaderColumns * fileWidth + 1) + bytesIn gs ≡ claimBytes m h
+pub table-bytes : {m : List ℤ} (h : List ℤ) {s : Sizes} {gs : List Code.Group} → Counted m s → Tabled s gs (claimBody s (hasField h) (hasMultipliers h)) → (claimHeaderColumns * fileWidth + 1) + bytesIn gs ≡ claimBytes m h
 unfolding claimBytes lineBytes claimLayout claimHeader
-table-bytes h z t =
-    ap (λ (k : ℕ). (claimHeaderColumns * fileWidth + 1) + k) (bytes-meant t ∙ ap (λ (ks : List Group). bytesOf fileWidth (widths ks)) (claim-body (as-sizes z) h))
+table-bytes h k t =
+    ap (λ (n : ℕ). (claimHeaderColumns * fileWidth + 1) + n) (bytes-meant t ∙ ap (λ (ks : List Group). bytesOf fileWidth (widths ks)) (claim-body k h))

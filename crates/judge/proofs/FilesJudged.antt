@@ -15,11 +15,10 @@ use Rattle.scope.specs.Claim.{claimLayout}
 use Rattle.scope.specs.Verdict.{claimVerdict, answer, verdict}
 use Rattle.verdict.specs.declared.MeshAnswer.{MeshAnswer}
 use Rattle.mesh.specs.declared.sizes.Sizes.{Sizes}
-use Rattle.mesh.specs.MeshContracts.{Sized}
+use Rattle.mesh.specs.MeshContracts.{Counted}
 use Rattle.verdict.specs.JudgeContracts.{MeshAnswered, SoundMesh}
 use Rattle.mesh.proofs.Places.{as-sizes}
 use Rattle.reader.proofs.Most.{numbers-by-length, mesh-most, claim-most}
-use Rattle.scope.specs.NumberRanges.{Counts}
 use Rattle.verdict.proofs.VerdictLaws.{sound-mesh}
 use Rattle.reader.specs.File.{fileWidth, numbersOf}
 use Rattle.reader.specs.Listed.{Listed, ClaimListed}
@@ -42,7 +41,7 @@ pub claim-by-length : (m : List ℤ) (claim : List ℕ) → length (claimNumbers
 unfolding claimNumbers
 claim-by-length m claim = numbers-by-length (claimLayout m) claim
 
-pub claim-fits : {m : List ℤ} → Counts m → (claim : List ℕ) → length (claimNumbers fileWidth m claim) ≤ claimRoom
+pub claim-fits : {m : List ℤ} {s : Sizes} → Counted m s → (claim : List ℕ) → length (claimNumbers fileWidth m claim) ≤ claimRoom
 unfolding claimNumbers
 claim-fits k claim = claim-most k claim
 
@@ -69,15 +68,19 @@ judged-listed j = record { count = j .count; list = j .numbers }
 
 -- ---- a claim
 
-pub claim-listed : {m before after : List ℤ} {s : Sizes} {claim : List ℕ} {r : ℕ} → Sized m s → ClaimListed claim s before r after → Listed (claimNumbers fileWidth m claim) before r after
+-- the sizes of a mesh that passes have its pairs counted
+pub sound-counted : {m : List ℤ} {s : Sizes} {pairs : List ℕ} → SoundMesh m s pairs → Counted m s
+sound-counted h = record { sizes = as-sizes (h .sized); pairsAre = h .pairsAre }
+
+pub claim-listed : {m before after : List ℤ} {s : Sizes} {pairs claim : List ℕ} {r : ℕ} → SoundMesh m s pairs → ClaimListed claim s before r after → Listed (claimNumbers fileWidth m claim) before r after
 unfolding claimNumbers
-claim-listed {m} z l = l .against m (as-sizes z)
+claim-listed {m} h l = l .against m (sound-counted h)
 
 -- ---- two files
 
 module _ {mesh : List ℕ} {before after : List ℤ} {r : JudgedMesh} (j : MeshJudged mesh before r after) where
-  pub judged-sound : r .answer .outcome ≡ Passed → SoundMesh (take (r .count) after) (r .answer .«node_soils»)
-  judged-sound e = subst (λ (m : List ℤ). SoundMesh m (r .answer .«node_soils»)) (sym (front (judged-listed j))) (sound-mesh (j .answer) e)
+  pub judged-sound : r .answer .outcome ≡ Passed → SoundMesh (take (r .count) after) (r .answer .sizes) (r .answer .pairs)
+  judged-sound e = subst (λ (m : List ℤ). SoundMesh m (r .answer .sizes) (r .answer .pairs)) (sym (front (judged-listed j))) (sound-mesh (j .answer) e)
 
   pub files-refused : (claim : List ℕ) {k : ℕ} {p : Place} → r .answer .outcome ≡ Fails k p → Refused k p ≡ filesVerdict fileWidth mesh claim
   unfolding filesVerdict verdict answer

@@ -2,7 +2,7 @@
 
 use lines::layout::claim_groups;
 use lines::layout::has_part;
-use mesh::sizes::sizes_of;
+use mesh::sizes::Sizes;
 use reader::CLAIM_HEADER_BYTES;
 use reader::CLAIM_ROOM;
 use reader::MESH_ROOM;
@@ -16,9 +16,12 @@ use verdict::MeshAnswer;
 use verdict::judge_claim;
 use verdict::judge_mesh;
 ghost use mathlib.Core.Path.{_≡_};
+ghost use mathlib.Core.List.{List};
 ghost use Prim.Native.Nat.{_≤_};
+ghost use lib.IntN.{ℤ};
 ghost use lib.ListN.{length};
-ghost use Rattle.scope.specs.Verdict.{meshCheck, claimVerdict};
+ghost use Rattle.scope.specs.Verdict.{claimVerdict};
+ghost use Rattle.mesh.specs.MeshContracts.{FewThings, Counted};
 ghost use Rattle.verdict.specs.JudgeContracts.{SoundMesh};
 ghost use Rattle.reader.specs.File.{fileWidth};
 ghost use Rattle.judge.specs.Judge.{meshNumbers, claimNumbers, filesVerdict};
@@ -48,32 +51,31 @@ pub fn judge_mesh_file(mesh: &[u8], numbers: &mut [i64]) -> JudgedMesh
     JudgedMesh { count, answer }
 }
 
-// The verdict on a claim file on a judged mesh with the numbers m, with room for the claim's numbers.
-fn judge_claim_in(m: &[i64], node_soils: &[u8], claim: &[u8], numbers: &mut [i64]) -> Verdict
-    requires { ⌜ SoundMesh (now m) (now «node_soils») ⌝ ∗ ⌜ length (claimNumbers fileWidth (now m) (now claim)) ≤ length (now numbers) ⌝ }
+// The verdict on a claim file on a judged mesh with the numbers m, these sizes and these pairs, with room for the claim's numbers.
+fn judge_claim_in(m: &[i64], s: Sizes, pairs: &[u8], claim: &[u8], numbers: &mut [i64]) -> Verdict
+    requires { ⌜ SoundMesh (now m) s (now pairs) ⌝ ∗ ⌜ length (claimNumbers fileWidth (now m) (now claim)) ≤ length (now numbers) ⌝ }
     ensures { λ r. ⌜ r ≡ claimVerdict (now (m .entry)) (claimNumbers fileWidth (now (m .entry)) (now (claim .entry))) ⌝ }
 {
-    let s = sizes_of(m);
     let count = read_claim(claim, s, numbers);
-    judge_claim(m, node_soils, &numbers[..count])
+    judge_claim(m, s, pairs, &numbers[..count])
 }
 
-// The verdict on a claim file on a judged mesh with the numbers m.
-pub fn judge_claim_file(m: &[i64], node_soils: &[u8], claim: &[u8]) -> Verdict
-    requires { ⌜ SoundMesh (now m) (now «node_soils») ⌝ }
+// The verdict on a claim file on a judged mesh with the numbers m, these sizes and these pairs.
+pub fn judge_claim_file(m: &[i64], s: Sizes, pairs: &[u8], claim: &[u8]) -> Verdict
+    requires { ⌜ SoundMesh (now m) s (now pairs) ⌝ }
     ensures { λ r. ⌜ r ≡ claimVerdict (now (m .entry)) (claimNumbers fileWidth (now (m .entry)) (now (claim .entry))) ⌝ }
 {
     let room = most_numbers(claim.len());
     if room <= SMALL_ROOM {
         let mut small = [0i64; SMALL_ROOM];
-        return judge_claim_in(m, node_soils, claim, &mut small);
+        return judge_claim_in(m, s, pairs, claim, &mut small);
     }
     if room <= MIDDLE_CLAIM {
         let mut middle = [0i64; MIDDLE_CLAIM];
-        return judge_claim_in(m, node_soils, claim, &mut middle);
+        return judge_claim_in(m, s, pairs, claim, &mut middle);
     }
     let mut large = [0i64; CLAIM_ROOM];
-    judge_claim_in(m, node_soils, claim, &mut large)
+    judge_claim_in(m, s, pairs, claim, &mut large)
 }
 
 // The verdict on a mesh file and a claim file, with room for the mesh's numbers.
@@ -89,7 +91,7 @@ fn judge_files_in(mesh: &[u8], claim: &[u8], numbers: &mut [i64]) -> Verdict
         Outcome::Refused { number, place } => Verdict::Refused { number, place },
         Outcome::Passed => {
             let m = &numbers[..count];
-            judge_claim_file(m, &answer.node_soils, claim)
+            judge_claim_file(m, answer.sizes, &answer.pairs, claim)
         }
     }
 }
@@ -111,11 +113,11 @@ pub fn judge_files(mesh: &[u8], claim: &[u8]) -> Verdict
     judge_files_in(mesh, claim, &mut large)
 }
 
-// The bytes of a claim file that begins with these numbers, on a judged mesh with the numbers m.
-pub fn claim_bytes(m: &[i64], header: &[i64]) -> usize
-    requires { ⌜ meshCheck (now m) ≡ Outcome.Passed ⌝ }
-    ensures { λ r. ⌜ r ≡ claimBytes (now (m .entry)) (now (header .entry)) ⌝ }
+// The bytes of a claim file that begins with these numbers: for every mesh with these sizes and so many pairs.
+pub fn claim_bytes(s: Sizes, header: &[i64]) -> usize
+    requires { ⌜ FewThings s ⌝ }
+    ensures { λ r. ⌜ ((m : List ℤ) → Counted m s → r ≡ claimBytes m (now (header .entry))) ⌝ }
 {
-    let groups = claim_groups(sizes_of(m), has_part(header, 0), has_part(header, 1));
+    let groups = claim_groups(s, has_part(header, 0), has_part(header, 1));
     CLAIM_HEADER_BYTES + body_bytes(groups)
 }

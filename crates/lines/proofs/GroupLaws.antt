@@ -26,7 +26,7 @@ use Rattle.scope.specs.Layout.{Group, Layout, Placed, width, groups, lineCount,
 use Rattle.scope.specs.Verdict.{lineCheck, lineAt, linesCheck}
 use Rattle.scope.specs.Mesh.{meshHeaderColumns, meshHeader, meshLayout, soilLines, elementLines, edgeLines}
 use Rattle.scope.specs.Claim.{claimHeaderColumns, claimHeader, claimLayout, ifThere}
-use Rattle.mesh.specs.MeshContracts.{SizesAre, HeaderThere}
+use Rattle.mesh.specs.MeshContracts.{SizesAre, Counted, HeaderThere}
 use Rattle.lines.specs.Table.{ruledLines, meshBody, claimBody}
 use Rattle.lines.specs.LineContracts.{lineStep, groupCheck, groupsCheck, numbered, NumberedFrom}
 use Rattle.scope.proofs.Checks.{then-assoc, lowest-all, all-lowest, first-refused, below-suc, lowest-add, lowest-cong}
@@ -201,9 +201,9 @@ pub mesh-body : {m : List ℤ} {s : Sizes} → SizesAre m s → meshBody s ≡ m
 unfolding meshLayout meshBody
 mesh-body k = rw (k .nodesAre, k .elementsAre, k .soilsAre, k .edgesAre)
 
-pub claim-body : {m : List ℤ} {s : Sizes} → SizesAre m s → (c : List ℤ) → claimBody s (hasField c) (hasMultipliers c) ≡ claimLayout m .body c
+pub claim-body : {m : List ℤ} {s : Sizes} → Counted m s → (c : List ℤ) → claimBody s (hasField c) (hasMultipliers c) ≡ claimLayout m .body c
 unfolding claimLayout claimBody
-claim-body k c = rw (k .nodesAre, k .elementsAre, k .edgesAre, k .sidesAre)
+claim-body k c = rw (k .sizes .nodesAre, k .sizes .elementsAre, k .sizes .edgesAre, k .sizes .sidesAre, k .pairsAre)
 
 -- only the numbers of its refusals matter of a file
 pub mesh-starts : (m : List ℤ) → Reached (linesCheck meshLayout m) (numbered 1) (meshHeader ∷ meshLayout .body m) m 1

@@ -15,7 +15,7 @@ use Rattle.scope.specs.Layout.{Group, width}
 use Rattle.scope.specs.Mesh.{mostNodes, mostSides, soilLines, nodeLines, elementLines, edgeLines}
 use Rattle.scope.specs.Claim.{ifThere, stressLines, elementMultipliers, edgeMultipliers, strengthMultipliers}
 
--- how many groups a file has after its header; the most lines of a group, which are a node's or an element's, and the most columns of a line, which are a polygon's sides
+-- how many groups a file has after its header; the most lines of a group, which are a node's, an element's or a pair's, and the most columns of a line, which are a polygon's sides
 abbrev pub groupCount : ℕ
 groupCount = 4
 
@@ -84,7 +84,7 @@ claimBody s field multipliers =
     stressLines (ifThere field (s .nodes))
     ∷ elementMultipliers (ifThere multipliers (s .elements))
     ∷ edgeMultipliers (ifThere multipliers (s .edges))
-    ∷ strengthMultipliers (ifThere multipliers (s .nodes)) (s .sides)
+    ∷ strengthMultipliers (ifThere multipliers (s .pairs)) (s .sides)
     ∷ []
 
 -- ---- what is counted over some groups of the code

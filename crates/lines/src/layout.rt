@@ -21,7 +21,7 @@ ghost use Rattle.scope.specs.Claim.{ifThere};
 ghost use Rattle.mesh.specs.MeshContracts.{FewThings};
 ghost use Rattle.lines.specs.Table.{Tabled, meshBody, claimBody};
 
-// The groups of lines after a header: in a mesh soils, nodes, elements, edges; in a claim stresses, and multipliers of elements, of edges and of nodes.
+// The groups of lines after a header: in a mesh soils, nodes, elements, edges; in a claim stresses, and multipliers of elements, of edges and of node-and-soil pairs.
 pub const GROUPS: usize = 4;
 
 // The columns of a claim's header, and of a node's stresses.
@@ -135,7 +135,7 @@ pub fn if_there(there: bool, k: usize) -> usize
     0
 }
 
-// The groups of a claim on a mesh with these sizes, with a field and with multipliers or without.
+// The groups of a claim on a mesh with these sizes and so many pairs, with a field and with multipliers or without.
 pub fn claim_groups(s: Sizes, field: bool, multipliers: bool) -> [Group; GROUPS]
     requires { ⌜ FewThings s ⌝ }
     ensures { λ r. ⌜ Tabled s r (claimBody s field multipliers) ⌝ }
@@ -167,7 +167,7 @@ pub fn claim_groups(s: Sizes, field: bool, multipliers: bool) -> [Group; GROUPS]
         },
         Group {
             kind: Kind::Even { lo: 0, hi: 10000 },
-            lines: if_there(multipliers, s.nodes),
+            lines: if_there(multipliers, s.pairs),
             columns: s.sides,
         },
     ]

@@ -33,7 +33,7 @@ ghost use Rattle.scope.specs.Layout.{width};
 ghost use Rattle.scope.specs.Verdict.{lineCheck, lineAt, linesCheck};
 ghost use Rattle.scope.specs.Mesh.{mostSides, meshLayout};
 ghost use Rattle.scope.specs.Claim.{claimHeaderColumns, claimHeader, claimLayout};
-ghost use Rattle.mesh.specs.MeshContracts.{FewThings, SizesAre};
+ghost use Rattle.mesh.specs.MeshContracts.{FewThings, Counted};
 ghost use Rattle.lines.specs.Table.{evenLines, ruledLines, meant, Good, Table};
 ghost use Rattle.lines.specs.SearchContracts.{firstFailing};
 ghost use Rattle.lines.specs.LineContracts.{groupCheck, groupsCheck, numbered, mostForm, mostLine, FewLines, FewColumns};
@@ -246,10 +246,10 @@ pub fn mesh_lines(m: &[i64]) -> Outcome
     groups_check(rest(m, MESH_HEADER), mesh_groups(s), s, 1)
 }
 
-// The lines of a claim on a mesh with these sizes: refusals 11 to 13.
+// The lines of a claim on a mesh with these sizes, whose pairs are counted: refusals 11 to 13.
 pub fn claim_lines(c: &[i64], s: Sizes) -> Outcome
     requires { ⌜ FewThings s ⌝ }
-    ensures { λ r. ⌜ ((m : List ℤ) → SizesAre m s → r ≡ linesCheck (claimLayout m) (now (c .entry))) ⌝ }
+    ensures { λ r. ⌜ ((m : List ℤ) → Counted m s → r ≡ linesCheck (claimLayout m) (now (c .entry))) ⌝ }
 {
     let header = claim_header(c);
     if let Outcome::Refused { .. } = header {

@@ -63,19 +63,19 @@ module _ {m : List ℤ} (f : HeaderThere m) where
   sides-there = (omega (arith, f .there), counted (at m 4) (some-sides (f .counts)))
 
   -- the sizes that are made of the counts
-  pub sizes-are : {a b c d e : ℕ} → a ≡ count (at m 0) → b ≡ count (at m 1) → c ≡ count (at m 2) → d ≡ count (at m 3) → e ≡ count (at m 4) → SizesAre m (record { nodes = a; elements = b; soils = c; edges = d; sides = e })
+  pub sizes-are : {a b c d e : ℕ} → a ≡ count (at m 0) → b ≡ count (at m 1) → c ≡ count (at m 2) → d ≡ count (at m 3) → e ≡ count (at m 4) → SizesAre m (record { nodes = a; elements = b; soils = c; edges = d; sides = e; pairs = 0 })
   unfolding nodes elements soils edges sides
-  sizes-are ea eb ec ed ee = record { counts = f .counts; nodesAre = ea; elementsAre = eb; soilsAre = ec; edgesAre = ed; sidesAre = ee }
+  sizes-are ea eb ec ed ee = record { counts = f .counts; nodesAre = ea; elementsAre = eb; soilsAre = ec; edgesAre = ed; sidesAre = ee; pairsFew = omega arith }
 
 -- the lines of a mesh that are sound begin with a header
 pub header-there : {m : List ℤ} → MeshFacts m → HeaderThere m
 header-there f = record { there = omega (arith, f .size); counts = f .counts }
 
 pub sized : {m : List ℤ} {s : Sizes} → MeshFacts m → SizesAre m s → Sized m s
-sized f k = record { facts = f; nodesAre = k .nodesAre; elementsAre = k .elementsAre; soilsAre = k .soilsAre; edgesAre = k .edgesAre; sidesAre = k .sidesAre }
+sized f k = record { facts = f; nodesAre = k .nodesAre; elementsAre = k .elementsAre; soilsAre = k .soilsAre; edgesAre = k .edgesAre; sidesAre = k .sidesAre; pairsFew = k .pairsFew }
 
 pub as-sizes : {m : List ℤ} {s : Sizes} → Sized m s → SizesAre m s
-as-sizes k = record { counts = k .facts .counts; nodesAre = k .nodesAre; elementsAre = k .elementsAre; soilsAre = k .soilsAre; edgesAre = k .edgesAre; sidesAre = k .sidesAre }
+as-sizes k = record { counts = k .facts .counts; nodesAre = k .nodesAre; elementsAre = k .elementsAre; soilsAre = k .soilsAre; edgesAre = k .edgesAre; sidesAre = k .sidesAre; pairsFew = k .pairsFew }
 
 pub few-sizes : {m : List ℤ} {s : Sizes} → SizesAre m s → FewThings s
 few-sizes {m} k =
@@ -87,6 +87,7 @@ few-sizes {m} k =
       fewEdges = omega (arith, k .edgesAre, k .counts .edgesMost);
       someSide = omega (arith, k .sidesAre, polygon .someSides);
       fewSides = omega (arith, k .sidesAre, polygon .fewSides);
+      fewPairs = k .pairsFew;
     }
 
 pub few-things : {m : List ℤ} {s : Sizes} → Sized m s → FewThings s

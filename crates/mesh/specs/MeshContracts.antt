@@ -1,12 +1,12 @@
--- What contracts say of the counts of a mesh and of what is read of it: the sizes of its header, where its groups begin, a node that is there, the soil of each node.
+-- What contracts say of the counts of a mesh and of what is read of it: the sizes of its header, where its groups begin, a node that is there, its node-and-soil pairs.
 use mathlib.Core.Path.{_≡_}
 use mathlib.Core.List.{List}
 use Prim.Native.Nat.{ℕ, _+_, _*_, _≤_, _<_}
 use lib.IntN.{ℤ}
 use lib.ListN.{length, getD}
 use Rattle.mesh.specs.declared.sizes.Sizes.{Sizes}
-use Rattle.scope.specs.Mesh.{mostNodes, mostElements, mostSoils, mostEdges, mostSides, meshHeaderColumns, soilColumns, nodeColumns, elementColumns, nodes, elements, soils, edges, sides}
-use Rattle.scope.specs.Rows.{nodeSoil, node}
+use Rattle.scope.specs.Mesh.{mostNodes, mostElements, mostSoils, mostEdges, mostSides, mostPairs, meshHeaderColumns, soilColumns, nodeColumns, elementColumns, nodes, elements, soils, edges, sides}
+use Rattle.scope.specs.Rows.{pairCount, pairAt}
 use Rattle.scope.specs.NumberRanges.{MeshFacts, Counts}
 
 -- ---- sizes: the counts of a mesh whose lines have passed, and where its groups begin
@@ -18,6 +18,7 @@ pub record Sized (m : List ℤ) (s : Sizes) : Type 0 where
   pub soilsAre : s .soils ≡ soils m
   pub edgesAre : s .edges ≡ edges m
   pub sidesAre : s .sides ≡ sides m
+  pub pairsFew : s .pairs ≤ mostPairs
 
 -- the header of a mesh is there, and its counts are within their limits
 pub record HeaderThere (m : List ℤ) : Type 0 where
@@ -32,6 +33,7 @@ pub record SizesAre (m : List ℤ) (s : Sizes) : Type 0 where
   pub soilsAre : s .soils ≡ soils m
   pub edgesAre : s .edges ≡ edges m
   pub sidesAre : s .sides ≡ sides m
+  pub pairsFew : s .pairs ≤ mostPairs
 
 -- counts so small that no place of a number leaves 64 bits
 pub record FewThings (s : Sizes) : Type 0 where
@@ -41,6 +43,7 @@ pub record FewThings (s : Sizes) : Type 0 where
   pub fewEdges : s .edges ≤ mostEdges
   pub someSide : 0 < s .sides
   pub fewSides : s .sides ≤ mostSides
+  pub fewPairs : s .pairs ≤ mostPairs
 
 -- the place of the first number of the nodes, of the elements and of the edges
 abbrev pub nodesFrom : Sizes → ℕ
@@ -58,8 +61,18 @@ pub record NodeAt (r : ℕ) (m : List ℤ) (v : ℕ) : Type 0 where
   pub there : r < nodes m
   pub few : nodes m ≤ mostNodes
 
--- the soil of each node, which is there
-pub record NodeSoils (m : List ℤ) (t : List ℕ) : Type 0 where
-  pub size : length t ≡ mostNodes
-  pub says : (v : ℕ) → v < nodes m → getD t v 0 ≡ nodeSoil m v
-  pub there : (v : ℕ) → v < nodes m → nodeSoil m v < soils m
+-- ---- pairs (document 02, N2)
+
+abbrev pub paired : Sizes → ℕ → Sizes
+paired s k = record { nodes = s .nodes; elements = s .elements; soils = s .soils; edges = s .edges; sides = s .sides; pairs = k }
+
+-- the sizes of a mesh with its node-and-soil pairs counted: what the lines of a claim go by
+pub record Counted (m : List ℤ) (s : Sizes) : Type 0 where
+  pub sizes : SizesAre m s
+  pub pairsAre : s .pairs ≡ pairCount m
+
+-- the pairs as bytes, two for each: the node of pair a stands at 2·a, its soil after it
+pub record PairTable (m : List ℤ) (t : List ℕ) : Type 0 where
+  pub size : length t ≡ 2 * mostPairs
+  pub node : (a : ℕ) → a < pairCount m → getD t (2 * a) 0 ≡ pairAt m a .at
+  pub soil : (a : ℕ) → a < pairCount m → getD t (2 * a + 1) 0 ≡ pairAt m a .soil

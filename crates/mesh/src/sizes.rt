@@ -9,9 +9,9 @@ ghost use lib.ListN.{length};
 ghost use Rattle.integer.specs.Bounds.{Is};
 ghost use Rattle.scope.specs.Columns.{at};
 ghost use Rattle.scope.specs.Layout.{count};
-ghost use Rattle.scope.specs.Mesh.{soilColumns, edgeColumns, mostEqualityRows, nodes, elements, soils, edges, x, y, corner, elementSoil, soilEntry, edgeEntry, fromNode, toNode, equalityCount};
+ghost use Rattle.scope.specs.Mesh.{mostPairs, soilColumns, edgeColumns, mostEqualityRows, nodes, elements, soils, edges, x, y, corner, elementSoil, soilEntry, edgeEntry, fromNode, toNode, equalityCount};
 ghost use Rattle.scope.specs.NumberRanges.{MeshFacts};
-ghost use Rattle.mesh.specs.MeshContracts.{Sized, SizesAre, HeaderThere, FewThings, NodeAt, nodesFrom, elementsFrom, edgesFrom};
+ghost use Rattle.mesh.specs.MeshContracts.{Sized, SizesAre, paired, HeaderThere, FewThings, NodeAt, nodesFrom, elementsFrom, edgesFrom};
 
 // The most that a header may count.
 pub const MOST_NODES: usize = 100;
@@ -23,6 +23,9 @@ pub const MOST_SOILS: usize = 16;
 pub const MOST_EDGES: usize = 60;
 
 pub const MOST_SIDES: usize = 36;
+
+// "Pairs are at most 100" (document 02, N2).
+pub const MOST_PAIRS: usize = 100;
 
 // The columns of each line: of the header, of a soil, of a node, of an element, of an edge.
 pub const MESH_HEADER: usize = 5;
@@ -40,13 +43,14 @@ pub const ELEMENT_ROWS: usize = 2;
 
 pub const EDGE_ROWS: usize = 4;
 
-// The counts of the header.
+// The counts of the header, and how many node-and-soil pairs the mesh has: 0 as long as they are not counted.
 pub struct Sizes {
     pub nodes: usize,
     pub elements: usize,
     pub soils: usize,
     pub edges: usize,
     pub sides: usize,
+    pub pairs: usize,
 }
 
 // Number k of a list.
@@ -81,6 +85,22 @@ pub fn header_sizes(m: &[i64]) -> Sizes
         soils,
         edges,
         sides,
+        pairs: 0,
+    }
+}
+
+// The same sizes with so many pairs.
+pub fn with_pairs(s: Sizes, pairs: usize) -> Sizes
+    requires { ⌜ pairs ≤ mostPairs ⌝ }
+    ensures { λ r. ⌜ r ≡ paired s pairs ⌝ }
+{
+    Sizes {
+        nodes: s.nodes,
+        elements: s.elements,
+        soils: s.soils,
+        edges: s.edges,
+        sides: s.sides,
+        pairs,
     }
 }
 

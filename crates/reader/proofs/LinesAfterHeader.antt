@@ -18,7 +18,7 @@ use Rattle.scope.specs.Layout.{Group, groups, lineOf, lineNumbers}
 use Rattle.scope.specs.Verdict.{lineCheck, lineAt}
 use Rattle.scope.specs.Mesh.{meshHeaderColumns, meshLayout, meshHeader}
 use Rattle.scope.specs.Claim.{claimHeaderColumns, claimLayout, claimHeader}
-use Rattle.mesh.specs.MeshContracts.{SizesAre, HeaderThere}
+use Rattle.mesh.specs.MeshContracts.{SizesAre, Counted, HeaderThere}
 use Rattle.lines.specs.Table.{meant, AllGood, Known, Tabled, meshBody, claimBody, lineWidths}
 use Rattle.lines.proofs.TableLaws.{lines-meant}
 use Rattle.lines.proofs.GroupLaws.{mesh-body, claim-body, header-counts}
@@ -120,10 +120,10 @@ module _ (bs : List ℕ) (out : List ℤ) {p : Progress} {after : List ℤ} wher
       unfolding claimLayout claimHeader
       claim-refused r = record { against = λ m k. rw claim-numbers (header-refused (claimLayout m) bs out (h m) (sym (claim-says m e) ∙ r)) }
 
-      same-lines : (m : List ℤ) → SizesAre m s → widths (claimBody s (hasField after) (hasMultipliers after)) ≡ widths (claimLayout m .body (take claimHeaderColumns after))
+      same-lines : (m : List ℤ) → Counted m s → widths (claimBody s (hasField after) (hasMultipliers after)) ≡ widths (claimLayout m .body (take claimHeaderColumns after))
       same-lines m k = ap₂ (λ (a b : Bool). widths (claimBody s a b)) (sym same-field) (sym same-multipliers) ∙ ap widths (claim-body k (take claimHeaderColumns after))
 
-      pub claim-room : o ≡ Passed → (m : List ℤ) → SizesAre m s → length (numbersOf fileWidth (claimLayout m) bs) ≤ length after → Room bs (widths (claimBody s (hasField after) (hasMultipliers after))) p after
+      pub claim-room : o ≡ Passed → (m : List ℤ) → Counted m s → length (numbersOf fileWidth (claimLayout m) bs) ≤ length after → Room bs (widths (claimBody s (hasField after) (hasMultipliers after))) p after
       unfolding claimLayout claimHeader
       claim-room r m k l = rw (same-lines m k) (header-room (claimLayout m) bs out (h m) (sym (claim-says m e) ∙ r) l)
 

@@ -15,11 +15,12 @@ use Rattle.scope.specs.declared.Outcome.the-variants.{Passed}
 use Rattle.scope.specs.Columns.{hasField, hasMultipliers}
 use Rattle.scope.specs.Layout.{Group, Layout, width, numberCount}
 use Rattle.scope.specs.Verdict.{lineCheck}
-use Rattle.scope.specs.Mesh.{mostNodes, mostSides, meshHeaderColumns, meshLayout, meshHeader, soilLines, nodeLines, elementLines, edgeLines, nodes, elements, soils, edges, sides, elementRows, edgeRows}
+use Rattle.scope.specs.Mesh.{mostSides, mostPairs, meshHeaderColumns, meshLayout, meshHeader, soilLines, nodeLines, elementLines, edgeLines, nodes, elements, soils, edges, sides, elementRows, edgeRows}
 use Rattle.scope.specs.Claim.{claimHeaderColumns, stressColumns, claimLayout, claimHeader, ifThere, stressLines, elementMultipliers, edgeMultipliers, strengthMultipliers}
 use Rattle.scope.proofs.Exactly.{there-most}
 use Rattle.mesh.specs.declared.sizes.Sizes.{Sizes}
-use Rattle.scope.specs.NumberRanges.{Counts}
+use Rattle.scope.specs.Rows.{pairCount}
+use Rattle.mesh.specs.MeshContracts.{Counted}
 use Rattle.mesh.proofs.Places.{few-sizes}
 use Rattle.lines.proofs.LineLaws.{mesh-header-line}
 use Rattle.lines.proofs.GroupLaws.{header-counts}
@@ -132,27 +133,28 @@ mesh-most = numbers-most fileWidth meshLayout meshRoom (omega arith) told
         let counts = header-counts h (sym (mesh-header-line h) ∙ ap (λ (line : List ℤ). lineCheck meshLayout meshHeader line (Line 1)) whole ∙ e) .counts in
         omega (arith, mesh-count h, counts .soilsMost, counts .nodesMost, counts .elementsMost, counts .edgesMost)
 
-claim-count : (m c : List ℤ) → numberCount (claimLayout m .body c) ≡ ifThere (hasField c) (nodes m) * stressColumns + ifThere (hasMultipliers c) (elements m) * elementRows + ifThere (hasMultipliers c) (edges m) * edgeRows + ifThere (hasMultipliers c) (nodes m) * sides m
+claim-count : (m c : List ℤ) → numberCount (claimLayout m .body c) ≡ ifThere (hasField c) (nodes m) * stressColumns + ifThere (hasMultipliers c) (elements m) * elementRows + ifThere (hasMultipliers c) (edges m) * edgeRows + ifThere (hasMultipliers c) (pairCount m) * sides m
 unfolding numberCount claimLayout stressLines elementMultipliers edgeMultipliers strengthMultipliers
 claim-count m c = simp length-replicate (omega arith)
 
--- a claim file on a mesh with such counts
-pub claim-most : {m : List ℤ} → Counts m → (bs : List ℕ) → length (numbersOf fileWidth (claimLayout m) bs) ≤ claimRoom
+-- a claim file on a mesh whose counts and pairs are within their limits
+pub claim-most : {m : List ℤ} {s : Sizes} → Counted m s → (bs : List ℕ) → length (numbersOf fileWidth (claimLayout m) bs) ≤ claimRoom
 unfolding claimLayout claimHeader
 claim-most {m} k = numbers-most fileWidth (claimLayout m) claimRoom (omega arith) (λ c n e. told c)
   where
-    s : Sizes
-    s = record { nodes = nodes m; elements = elements m; soils = soils m; edges = edges m; sides = sides m }
-
     few-sides : sides m ≤ mostSides
-    few-sides = few-sizes {s = s} (record { counts = k; nodesAre = refl; elementsAre = refl; soilsAre = refl; edgesAre = refl; sidesAre = refl }) .fewSides
+    few-sides = omega (arith, k .sizes .sidesAre, few-sizes (k .sizes) .fewSides)
+
+    few-pairs : pairCount m ≤ mostPairs
+    few-pairs = omega (arith, k .pairsAre, k .sizes .pairsFew)
 
     told : (c : List ℤ) → claimHeaderColumns + numberCount (claimLayout m .body c) + 1 ≤ claimRoom
     told c =
         let a = there-most (hasField c) (nodes m) in
         let b = there-most (hasMultipliers c) (elements m) in
         let d = there-most (hasMultipliers c) (edges m) in
-        let e = there-most (hasMultipliers c) (nodes m) in
-        let rows : ifThere (hasMultipliers c) (nodes m) * sides m ≤ mostNodes * mostSides =
-        mul-le-mul {n₂ = mostNodes} {m₂ = mostSides} (omega (arith, e, k .nodesMost)) few-sides in
-        omega (arith, claim-count m c, k .nodesMost, k .elementsMost, k .edgesMost)
+        let e = there-most (hasMultipliers c) (pairCount m) in
+        let rows : ifThere (hasMultipliers c) (pairCount m) * sides m ≤ mostPairs * mostSides =
+        mul-le-mul {n₂ = mostPairs} {m₂ = mostSides} (omega (arith, e, few-pairs)) few-sides in
+        let counts = k .sizes .counts in
+        omega (arith, claim-count m c, counts .nodesMost, counts .elementsMost, counts .edgesMost)

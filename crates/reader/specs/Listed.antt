@@ -5,7 +5,7 @@ use Prim.Native.Nat.{ℕ, _≤_}
 use lib.IntN.{ℤ}
 use lib.ListN.{length, drop}
 use Rattle.mesh.specs.declared.sizes.Sizes.{Sizes}
-use Rattle.mesh.specs.MeshContracts.{SizesAre}
+use Rattle.mesh.specs.MeshContracts.{Counted}
 use Rattle.scope.specs.Claim.{claimLayout}
 use Rattle.reader.specs.File.{fileWidth, numbersOf}
 
@@ -14,12 +14,12 @@ pub record Listed (zs before : List ℤ) (r : ℕ) (after : List ℤ) : Type 0 w
   pub count : r ≡ length zs
   pub list : after ≡ zs ++ drop r before
 
--- the numbers of the claim file bs, read against a mesh with these sizes, have room in the list `out`
+-- the numbers of the claim file bs, read against a mesh with these sizes and so many pairs, have room in the list `out`
 pub record ClaimRoom (bs : List ℕ) (s : Sizes) (out : List ℤ) : Type 0 where
   pub mesh : List ℤ
-  pub sized : SizesAre mesh s
+  pub counted : Counted mesh s
   pub fits : length (numbersOf fileWidth (claimLayout mesh) bs) ≤ length out
 
--- so stand the numbers of the claim file bs, whichever mesh with these sizes it is read against
+-- so stand the numbers of the claim file bs, whichever mesh with these sizes and so many pairs it is read against
 pub record ClaimListed (bs : List ℕ) (s : Sizes) (before : List ℤ) (r : ℕ) (after : List ℤ) : Type 0 where
-  pub against : (m : List ℤ) → SizesAre m s → Listed (numbersOf fileWidth (claimLayout m) bs) before r after
+  pub against : (m : List ℤ) → Counted m s → Listed (numbersOf fileWidth (claimLayout m) bs) before r after

@@ -1,6 +1,6 @@
 -- How many numbers a file has at most: by its bytes, and by the lines that a mesh and a claim can have.
 use Prim.Native.Nat.{ℕ, _+_, _*_, _/_}
-use Rattle.scope.specs.Mesh.{mostNodes, mostElements, mostSoils, mostEdges, mostSides, meshHeaderColumns, soilColumns, nodeColumns, elementColumns, edgeColumns, elementRows, edgeRows}
+use Rattle.scope.specs.Mesh.{mostNodes, mostElements, mostSoils, mostEdges, mostSides, mostPairs, meshHeaderColumns, soilColumns, nodeColumns, elementColumns, edgeColumns, elementRows, edgeRows}
 use Rattle.scope.specs.Claim.{claimHeaderColumns, stressColumns}
 use Rattle.reader.specs.File.{fileWidth}
 
@@ -13,4 +13,4 @@ abbrev pub meshRoom : ℕ
 meshRoom = meshHeaderColumns + mostSoils * soilColumns + mostNodes * nodeColumns + mostElements * elementColumns + mostEdges * edgeColumns + 1
 
 abbrev pub claimRoom : ℕ
-claimRoom = claimHeaderColumns + mostNodes * stressColumns + mostElements * elementRows + mostEdges * edgeRows + mostNodes * mostSides + 1
+claimRoom = claimHeaderColumns + mostNodes * stressColumns + mostElements * elementRows + mostEdges * edgeRows + mostPairs * mostSides + 1

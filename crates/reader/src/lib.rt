@@ -24,6 +24,7 @@ use mesh::sizes::MESH_HEADER;
 use mesh::sizes::MOST_EDGES;
 use mesh::sizes::MOST_ELEMENTS;
 use mesh::sizes::MOST_NODES;
+use mesh::sizes::MOST_PAIRS;
 use mesh::sizes::MOST_SIDES;
 use mesh::sizes::MOST_SOILS;
 use mesh::sizes::NODE_COLUMNS;
@@ -57,7 +58,7 @@ pub const CLAIM_ROOM: usize = CLAIM_HEADER
     + MOST_NODES * STRESS_COLUMNS
     + MOST_ELEMENTS * ELEMENT_ROWS
     + MOST_EDGES * EDGE_ROWS
-    + MOST_NODES * MOST_SIDES
+    + MOST_PAIRS * MOST_SIDES
     + 1;
 
 // The bytes of a claim's header: a column takes `COLUMN_BYTES`, and a line one more.
@@ -105,7 +106,7 @@ fn claim_body(table: &[u64; 256], bytes: &[u8], p: Progress, s: Sizes, out: &mut
     read_groups(table, bytes, p, groups, out)
 }
 
-// The numbers of a claim file, and how many they are: for every mesh of these sizes.
+// The numbers of a claim file, and how many they are: for every mesh with these sizes and so many pairs.
 pub fn read_claim(bytes: &[u8], s: Sizes, out: &mut [i64]) -> usize
     requires { ⌜ ClaimRoom (now bytes) s (now out) ⌝ }
     ensures { λ r. ⌜ ClaimListed (now (bytes .entry)) s (now (out .entry)) r (now (out .exit)) ⌝ }

@@ -16,6 +16,7 @@ use Rattle.scope.specs.Bounds.{mostScale, mostLoad, mostStress, mostMultiplier,
 use Rattle.scope.specs.Columns.{at, hasField, hasMultipliers, n, l}
 use Rattle.scope.specs.Layout.{groups, numbersBefore}
 use Rattle.scope.specs.Mesh.{nodes, elements, edges, sides, equalityCount}
+use Rattle.scope.specs.Rows.{pairCount}
 use Rattle.scope.specs.Claim.{claimHeader, claimLayout, ifThere, stressLines, stress, multiplier}
 use Rattle.scope.specs.NumberRanges.{ClaimFacts}
 use Rattle.scope.proofs.SumBounds.{between, from-0}
@@ -78,17 +79,17 @@ module _ {m c : List ℤ} (f : ClaimFacts m c) where
   pub equality-within : at c 1 ≡ pos 1 → (k : ℕ) → k < equalityCount m → Within mostMultiplier (at c (multipliersFrom m c + k))
   equality-within e k h = subst (Within mostMultiplier) (multiplier-at k) (between (f .equalityRange e k h))
 
-  pub strength-within : at c 1 ≡ pos 1 → (k : ℕ) → k < nodes m * sides m → Within (strengthMultiplier (sides m)) (at c (multipliersFrom m c + (equalityCount m + k)))
+  pub strength-within : at c 1 ≡ pos 1 → (k : ℕ) → k < pairCount m * sides m → Within (strengthMultiplier (sides m)) (at c (multipliersFrom m c + (equalityCount m + k)))
   strength-within e k h = subst (Within (strengthMultiplier (sides m))) (multiplier-at _) (from-0 (f .strengthRange e k h))
 
   -- where the multipliers begin and where the claim ends
-  pub with-multipliers : at c 1 ≡ pos 1 → length c ≡ multipliersFrom m c + (equalityCount m) + nodes m * sides m
+  pub with-multipliers : at c 1 ≡ pos 1 → length c ≡ multipliersFrom m c + equalityCount m + pairCount m * sides m
   unfolding multipliersFrom
-  with-multipliers e = f .size ∙ rw (multipliers-there e (elements m), multipliers-there e (edges m), multipliers-there e (nodes m)) (omega arith)
+  with-multipliers e = f .size ∙ rw (multipliers-there e (elements m), multipliers-there e (edges m), multipliers-there e (pairCount m)) (omega arith)
 
   without-multipliers : at c 1 ≡ pos 0 → length c ≡ multipliersFrom m c
   unfolding multipliersFrom
-  without-multipliers e = f .size ∙ rw (multipliers-not e (elements m), multipliers-not e (edges m), multipliers-not e (nodes m)) (omega (arith, zero-mul (sides m)))
+  without-multipliers e = f .size ∙ rw (multipliers-not e (elements m), multipliers-not e (edges m), multipliers-not e (pairCount m)) (omega (arith, zero-mul (sides m)))
 
   stress-part : (i : ℕ) → 4 ≤ i → i < multipliersFrom m c → Within mostStress (at c i)
   unfolding multipliersFrom

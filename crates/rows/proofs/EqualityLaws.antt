@@ -21,7 +21,7 @@ use Rattle.integer.proofs.Ring.{ring, terms}
 use Rattle.scope.specs.Mesh.{nodes, elements, x, y, corner, elementSoil, soilEntry, liveX, liveY, deadX, deadY, edges, edgeEntry, fromNode, toNode}
 use Rattle.scope.specs.Rows.{Row, equalityRows, joined, countFrom, node, sx, sy, t, riseAcross, runAcross, twiceArea, balanceX, balanceY, stepX, stepY, stepSquare, fixedIf, normalRow, shearRow}
 use Rattle.scope.specs.NumberRanges.{MeshFacts}
-use Rattle.rows.specs.RowContracts.{pairs, rowOf, RowFits, Filled, cornerColumns, balancedOf, SquaresAre, SquaresFit, normalOf, shearOf}
+use Rattle.rows.specs.RowContracts.{withColumns, rowOf, RowFits, Filled, cornerColumns, balancedOf, SquaresAre, SquaresFit, normalOf, shearOf}
 use Rattle.scope.specs.Bounds.{mostCoordinate, mostTraction, mostSquare, mostCoefficient, equalityRight}
 use Rattle.scope.proofs.SumBounds.{area-is}
 use Rattle.scope.specs.Tests.{rowAt}
@@ -54,13 +54,13 @@ module _ (m : List ℤ) (e : ℕ) where
 
   balanceX-is : (live right : ℤ) → live ≡ twiceArea m e *ℤ liveX m (elementSoil m e) → right ≡ negℤ (twiceArea m e *ℤ deadX m (elementSoil m e))
       → rowOf (balancedOf (riseAcross m e 0) (riseAcross m e 1) (runAcross m e 0) (runAcross m e 1) (cornerColumns m e 0) live right) ≡ balanceX m e
-  unfolding rowOf balancedOf pairs cornerColumns balanceX joined countFrom node sx t
+  unfolding rowOf balancedOf withColumns cornerColumns balanceX joined countFrom node sx t
   balanceX-is live right el er =
       rw (el, er, rise-opposite, rise-next-opposite, run-opposite, run-next-opposite, add-zero (3 * corner m e 0), add-zero (3 * corner m e 1), add-zero (3 * corner m e 2), add-zero (3 * corner m e 3))
 
   balanceY-is : (live right : ℤ) → live ≡ twiceArea m e *ℤ liveY m (elementSoil m e) → right ≡ negℤ (twiceArea m e *ℤ deadY m (elementSoil m e))
       → rowOf (balancedOf (runAcross m e 0) (runAcross m e 1) (riseAcross m e 0) (riseAcross m e 1) (cornerColumns m e 1) live right) ≡ balanceY m e
-  unfolding rowOf balancedOf pairs cornerColumns balanceY joined countFrom node sy t
+  unfolding rowOf balancedOf withColumns cornerColumns balanceY joined countFrom node sy t
   balanceY-is live right el er = rw (el, er, rise-opposite, rise-next-opposite, run-opposite, run-next-opposite)
 
 -- ---- the bounds of a row
@@ -165,11 +165,11 @@ pub record SquaresRead (uu uw ww square u w : ℤ) : Type 0 where
 
 module _ (m : List ℤ) (g v : ℕ) {uu uw ww square : ℤ} (h : SquaresRead uu uw ww square (stepX m g) (stepY m g)) where
   normal-is : rowOf (normalOf uu uw ww square (3 * v) (edgeEntry m g 3) (edgeEntry m g 5) (eqZ (edgeEntry m g 2) (pos 1) || eqZ (edgeEntry m g 2) (pos 3))) ≡ normalRow m g v
-  unfolding rowOf normalOf pairs normalRow stepSquare fixedIf sx sy t
+  unfolding rowOf normalOf withColumns normalRow stepSquare fixedIf sx sy t
   normal-is = rw (h .uuIs .same, h .uwIs .same, h .wwIs .same, h .squareIs .same, ← *ℤ-assoc (pos 2) (stepX m g) (stepY m g))
 
   shear-is : rowOf (shearOf uu uw ww square (3 * v) (edgeEntry m g 4) (edgeEntry m g 6) (eqZ (edgeEntry m g 2) (pos 2) || eqZ (edgeEntry m g 2) (pos 3))) ≡ shearRow m g v
-  unfolding rowOf shearOf pairs shearRow stepSquare fixedIf sx sy t
+  unfolding rowOf shearOf withColumns shearRow stepSquare fixedIf sx sy t
   shear-is = rw (h .uuIs .same, h .uwIs .same, h .wwIs .same, h .squareIs .same)
 
 pub squares-read : {q : Squares} {u w : ℤ} → SquaresAre q u w → SquaresRead (toZ w64 (ofZ w64 (q .uu))) (toZ w64 (ofZ w64 (q .uw))) (toZ w64 (ofZ w64 (q .ww))) (toZ w64 (ofZ w64 (q .square))) u w

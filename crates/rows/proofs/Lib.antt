@@ -6,6 +6,6 @@ pub mod ClaimLaws
 pub mod EqualityLaws
 pub mod StrengthLaws
 pub mod MultiplierLaws
-pub mod NodeLaws
+pub mod PairLaws
 pub mod LimitLaws
 pub mod OpenLaws

@@ -27,7 +27,7 @@ use Rattle.scope.specs.Columns.{between, within, at, hasField, hasMultipliers}
 use Rattle.scope.specs.Claim.{ifThere, multiplier}
 use Rattle.scope.specs.NumberRanges.{ClaimFacts}
 use Rattle.scope.specs.Mesh.{nodes, elements, edges, sides, edgeEntry, fromNode, toNode, equalityCount}
-use Rattle.scope.specs.Rows.{Kind, asked, unfixed, strength, Row, fixedIf, balanceX, balanceY, normalRow, shearRow, equalityRows, rowsOf}
+use Rattle.scope.specs.Rows.{Kind, asked, unfixed, strength, Row, pairCount, fixedIf, balanceX, balanceY, normalRow, shearRow, equalityRows, rowsOf}
 use Rattle.scope.specs.Sums.{coefficient, columnSum, liveSum, limitSum, zeroIfUnfixed}
 use Rattle.scope.specs.Verdict.{multipliersCheck, upperLoad}
 use Rattle.scope.specs.Phases.{checkPhase, checkPhases}
@@ -38,7 +38,7 @@ use Rattle.rows.specs.declared.multiplier_sums.Sums.{Sums}
 use Rattle.rows.specs.declared.multiplier_checks.Limit.{Limit}
 use Rattle.rows.specs.declared.multiplier_checks.Limit.the-variants as L
 use Rattle.rows.specs.RowContracts.{Listed, multipliersFrom, rowSum}
-use Rattle.rows.specs.MultiplierContracts.{Multipliers, NodesSummed, nodeFirst}
+use Rattle.rows.specs.MultiplierContracts.{Multipliers, PairsSummed, pairFirst}
 use Rattle.rows.specs.LimitContracts.{isAsked, limitOf, sumsLimit, multipliersLimit}
 use Rattle.scope.specs.Tests.{rowAt}
 use Rattle.lines.specs.SearchContracts.{firstFailing}
@@ -180,9 +180,9 @@ module _ (f : ℕ → ℤ) (n : ℕ) (sums : Sums) where
 
 -- ---- the sums over all rows
 
-module _ (m y : List ℤ) (listed : Listed (sides m)) {columns : List ℤ} {sums : Sums} (h : NodesSummed m y (nodes m) columns sums) where
-  whole : (F : Row → ℤ) → rowSum F (at y) (rowsOf m) (nodeFirst m (nodes m)) ≡ rowSum F (at y) (rowsOf m) (length (rowsOf m))
-  unfolding nodeFirst
+module _ (m y : List ℤ) (listed : Listed (sides m)) {columns : List ℤ} {sums : Sums} (h : PairsSummed m y (pairCount m) columns sums) where
+  whole : (F : Row → ℤ) → rowSum F (at y) (rowsOf m) (pairFirst m (pairCount m)) ≡ rowSum F (at y) (rowsOf m) (length (rowsOf m))
+  unfolding pairFirst
   whole F = ap (rowSum F (at y) (rowsOf m)) (sym (row-count m listed))
 
   column-is : (j : ℕ) → at columns j ≡ columnSum (at y) (rowsOf m) j

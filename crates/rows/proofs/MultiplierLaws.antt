@@ -1,4 +1,4 @@
--- Multipliers against the columns: what one row, one node and all rows add to the sums, and the checks of the sums.
+-- Multipliers against the columns: what one row, one pair and all rows add to the sums, and the checks of the sums.
 use mathlib.Core.Path.{_≡_, refl, sym, _∙_, ap, subst}
 use mathlib.Core.List.{List, [], _∷_}
 use Prim.Native.Nat.{ℕ, zero, suc, _+_, _*_, _-_, _≤_, zero-le}
@@ -18,18 +18,18 @@ use Rattle.scope.specs.Columns.{at}
 use Rattle.scope.specs.Rows.{equalityRows, rowsOf}
 use Rattle.scope.specs.Sums.{weightedSum, unit, coefficient}
 use Rattle.scope.specs.Tests.{rowAt}
-use Rattle.rows.specs.RowContracts.{pairs, rowOf, RowFits, Filled, SumsAre, Grown, sumBelow, rowSum}
+use Rattle.rows.specs.RowContracts.{withColumns, rowOf, RowFits, Filled, SumsAre, Grown, sumBelow, rowSum}
 use Rattle.rows.specs.MultiplierContracts.{SumsFit, RowSummed, NoSums, Summed}
 use Rattle.rows.proofs.SumLaws.{one-entry-more, unit-within, sums-within, sumBelow-next}
 
 -- ---- one equality row
 
 module _ {r : EqualityRow} {n : ℕ} (fit : RowFits r n) (j : ℕ) where
-  entries-within : (i : ℕ) → i ≤ mostEntries → Within (i * mostCoefficient) (weightedSum (unit j) (pairs (take i (r .coefficients)) (take i (r .columns))))
-  unfolding weightedSum pairs
+  entries-within : (i : ℕ) → i ≤ mostEntries → Within (i * mostCoefficient) (weightedSum (unit j) (withColumns (take i (r .coefficients)) (take i (r .columns))))
+  unfolding weightedSum withColumns
   entries-within zero h = record { within = zero-le }
   entries-within (suc i) h =
-      subst (λ z. Within (suc i * mostCoefficient) z) (sym (one-entry-more (unit j) (r .coefficients) (r .columns) i (omega (arith, fit .entries .long)) (omega (arith, fit .entries .wide))) ∙ ap (λ k. weightedSum (unit j) (pairs (take k (r .coefficients)) (take k (r .columns)))) (add-one i))
+      subst (λ z. Within (suc i * mostCoefficient) z) (sym (one-entry-more (unit j) (r .coefficients) (r .columns) i (omega (arith, fit .entries .long)) (omega (arith, fit .entries .wide))) ∙ ap (λ k. weightedSum (unit j) (withColumns (take k (r .coefficients)) (take k (r .columns)))) (add-one i))
       (Within-le (Within-+ℤ (entries-within i (omega arith)) (Within-*ℤ (fit .entries .coefficientsFit .each i) (unit-within j (getD (r .columns) i 0)))) (omega arith))
 
   coefficient-within : Within (mostEntries * mostCoefficient) (coefficient j (rowOf r))

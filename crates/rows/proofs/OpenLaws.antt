@@ -1,4 +1,4 @@
--- The open rows: an equality row is never open, and the sides of a node are counted one by one, by their slack.
+-- The open rows: an equality row is never open, and the sides of a pair are counted one by one, by their slack.
 use mathlib.Core.Path.{_≡_, refl, sym, _∙_, ap, ap₂}
 use mathlib.Core.Bool.{Bool, true, false, _&&_, and-false}
 use mathlib.Core.List.{List}
@@ -12,22 +12,22 @@ use lib.ListN.{length, take, drop}
 use Rattle.integer.specs.Tests.{eqZ}
 use Rattle.integer.proofs.TestLaws.{no-eqZ, yes-ltZ, no-ltZ}
 use Rattle.scope.specs.declared.OpenRows.the-variants.{Absent as NoCount, Count}
-use Rattle.scope.specs.Mesh.{mostSides, mostEqualityRows, nodes, sides, equalityCount}
+use Rattle.scope.specs.Mesh.{mostSides, mostPairs, mostEqualityRows, sides, equalityCount}
 use Rattle.scope.specs.Bounds.{mostStrengthRows}
 use Rattle.scope.specs.Columns.{at, hasField, hasMultipliers, n, l}
 use Rattle.scope.specs.Claim.{stress}
 use Rattle.scope.specs.NumberRanges.{Counts, ClaimFacts}
-use Rattle.scope.specs.Rows.{Kind, asked, unfixed, strength, Row, equalityRows, rowsOf}
+use Rattle.scope.specs.Rows.{Kind, asked, unfixed, strength, Row, pairCount, equalityRows, rowsOf}
 use Rattle.scope.specs.Sums.{leftSide, rightSide, isOpen, openRows}
 use Rattle.scope.specs.Verdict.{openCount}
 use Rattle.scope.proofs.RowCounts.{equality-count, equality-kind}
 use Rattle.scope.proofs.Lists.{row-in}
-use Rattle.rows.specs.RowContracts.{Listed, NodeState, MeshSteps, sideSlack, multipliersFrom, countBelow}
-use Rattle.rows.specs.MultiplierContracts.{nodeFirst}
+use Rattle.rows.specs.RowContracts.{Listed, PairState, MeshSteps, sideSlack, multipliersFrom, countBelow}
+use Rattle.rows.specs.MultiplierContracts.{pairFirst}
 use Rattle.rows.specs.OpenContracts.{oneIfOpen, sideOpen}
 use Rattle.rows.proofs.RowLaws.{equality-among, row-count}
 use Rattle.rows.proofs.LimitLaws.{multiplier-lent}
-use Rattle.rows.proofs.NodeLaws.{few-rows, next-first, node-row-at}
+use Rattle.rows.proofs.PairLaws.{few-rows, next-first, pair-row-at}
 use Rattle.rows.proofs.StrengthLaws.{open-test}
 use Rattle.rows.proofs.SumLaws.{one-most, weighed-count, countBelow-next, countBelow-cong, countBelow-add, countBelow-none, countBelow-most}
 use Rattle.scope.specs.Tests.{rowAt}
@@ -77,41 +77,41 @@ module _ (m c y : List ℤ) where
   abbrev pub openTest : ℕ → Bool
   openTest k = isOpen (stress m c) (l c) (n c) (at y k, rowAt (rowsOf m) k)
 
-  pub no-node-open : countBelow openTest (nodeFirst m 0) ≡ 0
-  unfolding nodeFirst
-  no-node-open = countBelow-none openTest (nodeFirst m 0) (λ k h. none k (omega (arith, zero-mul (sides m))))
+  pub no-pair-open : countBelow openTest (pairFirst m 0) ≡ 0
+  unfolding pairFirst
+  no-pair-open = countBelow-none openTest (pairFirst m 0) (λ k h. none k (omega (arith, zero-mul (sides m))))
     where
       none : (k : ℕ) → k < equalityCount m → openTest k ≡ false
       none k h =
           ap (λ (r : Row). isOpen (stress m c) (l c) (n c) (at y k, r)) (equality-among m k h)
           ∙ never-open (stress m c) (l c) (n c) (at y k) (rowAt (equalityRows m) k) (equality-kind m (rowAt (equalityRows m) k) (row-in (equalityRows m) k (omega (arith, equality-count m))))
 
-  one-node-open : (v : ℕ) {d tab : List ℤ} {count r : ℕ} → v < nodes m → Listed (sides m) → NodeState d m c v → MeshSteps m tab
-      → count ≡ countBelow openTest (nodeFirst m v) → r ≡ countBelow (sideOpen d tab y (nodeFirst m v)) (sides m) → count + r ≡ countBelow openTest (nodeFirst m (v + 1))
+  one-pair-open : (a : ℕ) {d tab : List ℤ} {count r : ℕ} → a < pairCount m → Listed (sides m) → PairState d m c a → MeshSteps m tab
+      → count ≡ countBelow openTest (pairFirst m a) → r ≡ countBelow (sideOpen d tab y (pairFirst m a)) (sides m) → count + r ≡ countBelow openTest (pairFirst m (a + 1))
   unfolding sideOpen
-  one-node-open v {d} {tab} h listed state steps e f =
+  one-pair-open a {d} {tab} h listed state steps e f =
       ap₂ _+_ e (f ∙ countBelow-cong _ _ (sides m) (λ i g. sym (side i g)))
-      ∙ sym (countBelow-add openTest (nodeFirst m v) (sides m))
-      ∙ ap (countBelow openTest) (next-first m v)
+      ∙ sym (countBelow-add openTest (pairFirst m a) (sides m))
+      ∙ ap (countBelow openTest) (next-first m a)
     where
-      side : (i : ℕ) → i < sides m → openTest (nodeFirst m v + i) ≡ (ltZ (pos 0) (at y (nodeFirst m v + i)) && ltZ (pos 0) (sideSlack d tab i))
+      side : (i : ℕ) → i < sides m → openTest (pairFirst m a + i) ≡ (ltZ (pos 0) (at y (pairFirst m a + i)) && ltZ (pos 0) (sideSlack d tab i))
       side i g =
-          ap (λ (r : Row). isOpen (stress m c) (l c) (n c) (at y (nodeFirst m v + i), r)) (node-row-at m v h listed i g)
-          ∙ open-test m c v i state steps g (l c) (at y (nodeFirst m v + i))
+          ap (λ (r : Row). isOpen (stress m c) (l c) (n c) (at y (pairFirst m a + i), r)) (pair-row-at m a h listed i g)
+          ∙ open-test m c a i state steps g (l c) (at y (pairFirst m a + i))
 
   -- the number of sides and the place of the first as the code has them
-  pub one-more-node : (v : ℕ) {d tab : List ℤ} {count r s first : ℕ} → v < nodes m → Listed (sides m) → NodeState d m c v → MeshSteps m tab
-      → count ≡ countBelow openTest (nodeFirst m v) → s ≡ sides m → first ≡ nodeFirst m v → r ≡ countBelow (sideOpen d tab y first) s → count + r ≡ countBelow openTest (nodeFirst m (v + 1))
-  one-more-node v {d} {tab} h listed state steps e es ef f = one-node-open v h listed state steps e (f ∙ ap₂ (λ a b. countBelow (sideOpen d tab y a) b) ef es)
+  pub one-more-pair : (a : ℕ) {d tab : List ℤ} {count r s first : ℕ} → a < pairCount m → Listed (sides m) → PairState d m c a → MeshSteps m tab
+      → count ≡ countBelow openTest (pairFirst m a) → s ≡ sides m → first ≡ pairFirst m a → r ≡ countBelow (sideOpen d tab y first) s → count + r ≡ countBelow openTest (pairFirst m (a + 1))
+  one-more-pair a {d} {tab} h listed state steps e es ef f = one-pair-open a h listed state steps e (f ∙ ap₂ (λ f n. countBelow (sideOpen d tab y f) n) ef es)
 
-  pub count-small : Counts m → (v : ℕ) {count : ℕ} → v ≤ nodes m → count ≡ countBelow openTest (nodeFirst m v) → count ≤ mostEqualityRows + mostStrengthRows
-  unfolding nodeFirst
-  count-small counts v h e =
-      omega (arith, e, countBelow-most openTest (nodeFirst m v), few-rows counts v h, counts .elementsMost, counts .edgesMost)
+  pub count-small : Counts m → pairCount m ≤ mostPairs → (a : ℕ) {count : ℕ} → a ≤ pairCount m → count ≡ countBelow openTest (pairFirst m a) → count ≤ mostEqualityRows + mostStrengthRows
+  unfolding pairFirst
+  count-small counts few a h e =
+      omega (arith, e, countBelow-most openTest (pairFirst m a), few-rows counts few a h, counts .elementsMost, counts .edgesMost)
 
-  pub all-nodes-open : Listed (sides m) → (v : ℕ) {count : ℕ} → v ≡ nodes m → count ≡ countBelow openTest (nodeFirst m v) → count ≡ openRows (stress m c) (l c) (n c) (at y) (rowsOf m)
-  unfolding openRows nodeFirst
-  all-nodes-open listed v e f =
+  pub all-pairs-open : Listed (sides m) → (a : ℕ) {count : ℕ} → a ≡ pairCount m → count ≡ countBelow openTest (pairFirst m a) → count ≡ openRows (stress m c) (l c) (n c) (at y) (rowsOf m)
+  unfolding openRows pairFirst
+  all-pairs-open listed a e f =
       f
       ∙ ap (countBelow openTest) (ap (λ k. equalityCount m + k * sides m) e ∙ sym (row-count m listed))
       ∙ sym (weighed-count (isOpen (stress m c) (l c) (n c)) (at y) (rowsOf m))

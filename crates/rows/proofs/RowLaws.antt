@@ -5,17 +5,17 @@ use Prim.Native.Nat.{ℕ, _+_, _*_, _≤_, _<_}
 use native.Mathlib.Nat.{le-trans}
 use lib.IntN.{ℤ}
 use lib.ListN.{length}
-use Rattle.scope.specs.Mesh.{nodes, elements, edges, sides, p, q, h, cohesion, fromNode, toNode, equalityCount}
+use Rattle.scope.specs.Mesh.{elements, edges, sides, fromNode, toNode, equalityCount}
 use Rattle.scope.specs.Polygon.{Side, polygonOf}
-use Rattle.scope.specs.Rows.{Row, balanceX, balanceY, normalRow, shearRow, nodeSoil, strengthRow, strengthRows, equalityRows, rowsOf}
+use Rattle.scope.specs.Rows.{Row, pairCount, pairAt, balanceX, balanceY, normalRow, shearRow, strengthRows, equalityRows, rowsOf}
 use Rattle.scope.specs.Tests.{rowAt}
 use Rattle.scope.specs.RowNumbers as S
 use Rattle.rows.specs.RowContracts.{Listed, sideAt, EntriesFit}
 use Rattle.scope.proofs.RowNumbers as N
 
--- the strength row of a node and a side
-unfoldable pub nodeRow : List ℤ → ℕ → Side → Row
-nodeRow m v s = strengthRow (polygonOf (sides m) .radius) (p m (nodeSoil m v)) (q m (nodeSoil m v)) (h m (nodeSoil m v)) (cohesion m (nodeSoil m v)) v s
+-- the strength row of pair a and a side
+unfoldable pub rowOfPair : List ℤ → ℕ → Side → Row
+rowOfPair m a s = S.pairRow m (pairAt m a) s
 
 module _ (m : List ℤ) where
   pub balance-at : (e i : ℕ) → e < elements m → i < 2 → rowAt (equalityRows m) (e * 2 + i) ≡ rowAt (balanceX m e ∷ balanceY m e ∷ []) i
@@ -30,12 +30,12 @@ module _ (m : List ℤ) where
   pub strength-among : (k : ℕ) → rowAt (rowsOf m) (equalityCount m + k) ≡ rowAt (strengthRows m) k
   strength-among = N.strength-among m
 
-  pub row-count : Listed (sides m) → length (rowsOf m) ≡ equalityCount m + nodes m * sides m
+  pub row-count : Listed (sides m) → length (rowsOf m) ≡ equalityCount m + pairCount m * sides m
   row-count l = N.row-count m (l .listed)
 
 module _ (m : List ℤ) (listed : Listed (sides m)) where
-  pub strength-at : (v k : ℕ) → v < nodes m → k < sides m → rowAt (strengthRows m) (v * sides m + k) ≡ nodeRow m v (sideAt (polygonOf (sides m)) k)
-  unfolding nodeRow sideAt S.sideAt
+  pub strength-at : (a k : ℕ) → a < pairCount m → k < sides m → rowAt (strengthRows m) (a * sides m + k) ≡ rowOfPair m a (sideAt (polygonOf (sides m)) k)
+  unfolding rowOfPair sideAt S.sideAt
   strength-at = N.strength-at m (listed .listed)
 
 pub fits-wider : {coefficients : List ℤ} {columns : List ℕ} {count a b : ℕ} → EntriesFit coefficients columns count a → a ≤ b → EntriesFit coefficients columns count b

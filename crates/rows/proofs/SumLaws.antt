@@ -19,23 +19,23 @@ use Rattle.scope.specs.Columns.{at}
 use Rattle.scope.specs.Rows.{Row}
 use Rattle.scope.specs.Sums.{weightedSum, weighed, unit, howMany}
 use Rattle.scope.specs.Tests.{rowAt}
-use Rattle.rows.specs.RowContracts.{pairs, entriesOf, SumsAre, sumBelow, countBelow, rowSum}
+use Rattle.rows.specs.RowContracts.{withColumns, entriesOf, SumsAre, sumBelow, countBelow, rowSum}
 
 -- ---- the entries of a row
 
 pub one-entry-more : (f : ℕ → ℤ) (cs : List ℤ) (js : List ℕ) (i : ℕ) → i < length cs → i < length js
-    → weightedSum f (pairs (take (i + 1) cs) (take (i + 1) js)) ≡ weightedSum f (pairs (take i cs) (take i js)) +ℤ getD cs i (pos 0) *ℤ f (getD js i 0)
-unfolding weightedSum pairs
-one-entry-more f cs js i h k = ap (λ n. weightedSum f (pairs (take n cs) (take n js))) (add-one i) ∙ go cs js i h k
+    → weightedSum f (withColumns (take (i + 1) cs) (take (i + 1) js)) ≡ weightedSum f (withColumns (take i cs) (take i js)) +ℤ getD cs i (pos 0) *ℤ f (getD js i 0)
+unfolding weightedSum withColumns
+one-entry-more f cs js i h k = ap (λ n. weightedSum f (withColumns (take n cs) (take n js))) (add-one i) ∙ go cs js i h k
   where
     go : (cs : List ℤ) (js : List ℕ) (i : ℕ) → i < length cs → i < length js
-        → weightedSum f (pairs (take (suc i) cs) (take (suc i) js)) ≡ weightedSum f (pairs (take i cs) (take i js)) +ℤ getD cs i (pos 0) *ℤ f (getD js i 0)
+        → weightedSum f (withColumns (take (suc i) cs) (take (suc i) js)) ≡ weightedSum f (withColumns (take i cs) (take i js)) +ℤ getD cs i (pos 0) *ℤ f (getD js i 0)
     go [] js i h k = absurd (omega arith)
     go (c ∷ cs) [] i h k = absurd (omega arith)
     go (c ∷ cs) (j ∷ js) zero h k = +ℤ-idr (c *ℤ f j) ∙ sym (+ℤ-idl (c *ℤ f j))
     go (c ∷ cs) (j ∷ js) (suc i) h k =
         ap (λ z. c *ℤ f j +ℤ z) (go cs js i (omega arith) (omega arith))
-        ∙ sym (+ℤ-assoc (c *ℤ f j) (weightedSum f (pairs (take i cs) (take i js))) (getD cs i (pos 0) *ℤ f (getD js i 0)))
+        ∙ sym (+ℤ-assoc (c *ℤ f j) (weightedSum f (withColumns (take i cs) (take i js))) (getD cs i (pos 0) *ℤ f (getD js i 0)))
 
 -- ---- sums of columns
 
@@ -79,7 +79,7 @@ sums-add s i c l k h = record {
 
 -- y times the first entries of a row, added to the sums s₀
 abbrev addedUpTo : List ℤ → ℤ → List ℤ → List ℕ → ℕ → ℕ → ℤ
-addedUpTo s₀ y cs js i j = at s₀ j +ℤ y *ℤ weightedSum (unit j) (pairs (take i cs) (take i js))
+addedUpTo s₀ y cs js i j = at s₀ j +ℤ y *ℤ weightedSum (unit j) (withColumns (take i cs) (take i js))
 
 -- what one entry adds at most
 abbrev pub equalityEntry : ℕ
@@ -91,7 +91,7 @@ pub record Adding (s₀ : List ℤ) (y : ℤ) (cs : List ℤ) (js : List ℕ) (i
 
 module _ (s₀ : List ℤ) (y : ℤ) (cs : List ℤ) (js : List ℕ) where
   pub none-added : AllWithin mostColumn s₀ → Adding s₀ y cs js 0 s₀
-  unfolding weightedSum pairs
+  unfolding weightedSum withColumns
   none-added h = record { size = refl; sums = sums-as (sums-of h) (omega arith) (λ j. ring (at s₀ j ∷ y ∷ []) (search terms depth 100) refl) }
 
   pub entry-added : (i : ℕ) (s : List ℤ) {s′ : List ℤ} {c : ℤ} → Adding s₀ y cs js i s → i < length cs → i < length js → getD js i 0 < length s₀
@@ -104,7 +104,7 @@ module _ (s₀ : List ℤ) (y : ℤ) (cs : List ℤ) (js : List ℕ) where
     where
       same : (j : ℕ) → addedUpTo s₀ y cs js i j +ℤ c *ℤ unit j (getD js i 0) ≡ addedUpTo s₀ y cs js (i + 1) j
       same j = rw (e .same, one-entry-more (unit j) cs js i l k)
-          (ring (at s₀ j ∷ y ∷ weightedSum (unit j) (pairs (take i cs) (take i js)) ∷ getD cs i (pos 0) ∷ unit j (getD js i 0) ∷ []) (search terms depth 100) refl)
+          (ring (at s₀ j ∷ y ∷ weightedSum (unit j) (withColumns (take i cs) (take i js)) ∷ getD cs i (pos 0) ∷ unit j (getD js i 0) ∷ []) (search terms depth 100) refl)
 
   pub all-added : (i count : ℕ) {s : List ℤ} → i ≡ count → i ≤ mostEntries → Adding s₀ y cs js i s → SumsAre (mostColumn + equalityColumn) s (λ j. at s₀ j +ℤ y *ℤ weightedSum (unit j) (entriesOf cs js count))
   all-added i count e l h = sums-as (h .sums) (omega arith) (λ j. rw e)

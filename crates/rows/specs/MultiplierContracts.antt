@@ -1,4 +1,5 @@
--- What the sums over multipliers hand around: rows summed one after the other, the sides of a node, and the records that their functions require and ensure.
+-- What the sums over multipliers hand around: rows summed one after the other, the sides of a pair of a node and a
+-- soil, and the records that their functions require and ensure.
 use mathlib.Core.Path.{_≡_}
 use mathlib.Core.Bool.{Bool, cond}
 use mathlib.Core.List.{List}
@@ -6,31 +7,33 @@ use Prim.Native.Nat.{ℕ, zero, suc, _+_, _*_, _≤_, _<_}
 use lib.IntN.{ℤ, pos, _+ℤ_, _-ℤ_, _*ℤ_, negℤ}
 use lib.ListN.{length}
 use Rattle.integer.specs.Bounds.{Within, AllWithin, Is}
-use Rattle.scope.specs.Mesh.{mostNodes, mostSides, nodes, sides, equalityCount}
-use Rattle.scope.specs.Bounds.{mostMultiplier, strengthMultiplier, weightedStep, weightedCross, equalityColumn, equalitySum, equalityColumns, equalitySums, strengthSum, nodeColumn, mostColumn, mostSum}
+use Rattle.scope.specs.Mesh.{mostNodes, mostSides, mostPairs, sides, equalityCount}
+use Rattle.scope.specs.Bounds.{mostMultiplier, strengthMultiplier, weightedStep, weightedCross, equalityColumn, equalitySum, equalityColumns, equalitySums, strengthSum, pairColumn, mostColumn, mostSum}
 use Rattle.scope.specs.Columns.{at}
-use Rattle.scope.specs.Rows.{sx, sy, t, rowsOf}
+use Rattle.scope.specs.Rows.{pairCount, pairAt, sx, sy, t, rowsOf}
 use Rattle.scope.specs.Sums.{unit, coefficient}
 use Rattle.scope.specs.Tests.{rowAt}
 use Rattle.rows.specs.declared.multiplier_sums.Sums.{Sums}
 use Rattle.rows.specs.declared.multiplier_sums.SideSums.{SideSums}
-use Rattle.rows.specs.declared.multiplier_sums.NodeSums.{NodeSums}
+use Rattle.rows.specs.declared.multiplier_sums.PairSums.{PairSums}
 use Rattle.mesh.specs.declared.sizes.Sizes.{Sizes}
-use Rattle.mesh.specs.MeshContracts.{Sized, NodeSoils}
+use Rattle.mesh.specs.MeshContracts.{Sized, PairTable}
 use Rattle.rows.specs.RowContracts.{MeshSteps, SumsAre, sumBelow, rowSum, partSum, Grown}
 
 -- ---- a claim's multipliers
 
 -- the multipliers of all rows are there, those of the strength rows after those of the equality rows
 pub record Multipliers (m y : List ℤ) : Type 0 where
-  pub long : equalityCount m + nodes m * sides m ≤ length y
+  pub long : equalityCount m + pairCount m * sides m ≤ length y
   pub bounds : AllWithin mostMultiplier y
-  pub strengthBounds : (k : ℕ) → k < nodes m * sides m → Within (strengthMultiplier (sides m)) (at y (equalityCount m + k))
+  pub strengthBounds : (k : ℕ) → k < pairCount m * sides m → Within (strengthMultiplier (sides m)) (at y (equalityCount m + k))
 
--- what the sums over all rows require: a mesh, the soil of each node, the sides of its polygon, and the multipliers
+-- what the sums over all rows require: a mesh, its node-and-soil pairs, the sides of its polygon, and the multipliers
 pub record RowsGiven (m : List ℤ) (s : Sizes) (t : List ℕ) (steps y : List ℤ) : Type 0 where
   pub sized : Sized m s
-  pub nodeSoils : NodeSoils m t
+  pub pairsAre : s .pairs ≡ pairCount m
+  pub few : pairCount m ≤ mostPairs
+  pub pairTable : PairTable m t
   pub sidesGiven : MeshSteps m steps
   pub multipliers : Multipliers m y
 
@@ -64,7 +67,7 @@ pub record SummedTo (m y : List ℤ) (k C B : ℕ) (columns : List ℤ) (sums : 
 abbrev pub Summed : List ℤ → List ℤ → ℕ → List ℤ → Sums → Type 0
 Summed m y k columns sums = SummedTo m y k (k * equalityColumn) (k * equalitySum) columns sums
 
--- ---- the sides of a node
+-- ---- the sides of a pair
 
 -- side k of the table t with its multiplier w: their products are bounded, not each by itself, for a polygon with larger steps has smaller multipliers
 pub record SideWeighted (t : List ℤ) (k : ℕ) (w : ℤ) : Type 0 where
@@ -98,39 +101,41 @@ pub record SideSumsAre (a : SideSums) (t y : List ℤ) (first n : ℕ) : Type 0 
   pub rise : Is (a .rise) (sideSum (λ i. at t (3 * i + 1)) y first n) (n * weightedStep)
   pub cross : Is (a .cross) (sideSum (λ i. at t (3 * i + 2)) y first n) (n * weightedCross)
 
--- ---- the strength rows of a node
+-- ---- the strength rows of a pair
 
 -- what they add up to, from the sums over the sides and the numbers k of the soil: r·h, p and 2qC
-pub record NodeSumsAre (r : NodeSums) (a : SideSums) (k : List ℤ) : Type 0 where
-  pub sxIs : Is (r .sx) (at k 1 *ℤ a .cross +ℤ at k 0 *ℤ a .rise) nodeColumn
-  pub syIs : Is (r .sy) (at k 1 *ℤ a .cross -ℤ at k 0 *ℤ a .rise) nodeColumn
-  pub tIs : Is (r .t) (negℤ (pos 2 *ℤ at k 0 *ℤ a .run)) nodeColumn
+pub record PairSumsAre (r : PairSums) (a : SideSums) (k : List ℤ) : Type 0 where
+  pub sxIs : Is (r .sx) (at k 1 *ℤ a .cross +ℤ at k 0 *ℤ a .rise) pairColumn
+  pub syIs : Is (r .sy) (at k 1 *ℤ a .cross -ℤ at k 0 *ℤ a .rise) pairColumn
+  pub tIs : Is (r .t) (negℤ (pos 2 *ℤ at k 0 *ℤ a .run)) pairColumn
   pub rightIs : Is (r .right) (at k 2 *ℤ a .cross) (mostSides * strengthSum)
 
-pub record NodeSumsFit (r : NodeSums) : Type 0 where
-  pub sxFits : Within nodeColumn (r .sx)
-  pub syFits : Within nodeColumn (r .sy)
-  pub tFits : Within nodeColumn (r .t)
+pub record PairSumsFit (r : PairSums) : Type 0 where
+  pub sxFits : Within pairColumn (r .sx)
+  pub syFits : Within pairColumn (r .sy)
+  pub tFits : Within pairColumn (r .t)
   pub rightFits : Within (mostSides * strengthSum) (r .right)
 
--- the number of a node's first row, from 0
-unfoldable pub nodeFirst : List ℤ → ℕ → ℕ
-nodeFirst m v = equalityCount m + v * sides m
+-- the number of a pair's first row, from 0
+unfoldable pub pairFirst : List ℤ → ℕ → ℕ
+pairFirst m a = equalityCount m + a * sides m
 
--- all equality rows, and the rows of the nodes before node v
-abbrev pub NodesSummed : List ℤ → List ℤ → ℕ → List ℤ → Sums → Type 0
-NodesSummed m y v columns sums = SummedTo m y (nodeFirst m v) (equalityColumns + v * (3 * nodeColumn)) (equalitySums + v * sides m * strengthSum) columns sums
+-- all equality rows, and the rows of the pairs before pair a
+abbrev pub PairsSummed : List ℤ → List ℤ → ℕ → List ℤ → Sums → Type 0
+PairsSummed m y a columns sums = SummedTo m y (pairFirst m a) (equalityColumns + a * (3 * pairColumn)) (equalitySums + a * sides m * strengthSum) columns sums
 
--- the sums over the rows of node v
-pub record NodePart (r : NodeSums) (m y : List ℤ) (v : ℕ) : Type 0 where
-  pub columns : (j : ℕ) → partSum (coefficient j) (at y) (rowsOf m) (nodeFirst m v) (sides m) ≡ r .sx *ℤ unit j (sx v) +ℤ r .sy *ℤ unit j (sy v) +ℤ r .t *ℤ unit j (t v)
-  pub limit : partSum (λ r. r .right) (at y) (rowsOf m) (nodeFirst m v) (sides m) ≡ r .right
-  pub live : partSum (λ r. r .live) (at y) (rowsOf m) (nodeFirst m v) (sides m) ≡ pos 0
-  pub fits : NodeSumsFit r
+-- the sums over the rows of pair a: the columns are those of its node
+pub record PairPart (r : PairSums) (m y : List ℤ) (a : ℕ) : Type 0 where
+  pub columns : (j : ℕ)
+      → partSum (coefficient j) (at y) (rowsOf m) (pairFirst m a) (sides m)
+      ≡ r .sx *ℤ unit j (sx (pairAt m a .at)) +ℤ r .sy *ℤ unit j (sy (pairAt m a .at)) +ℤ r .t *ℤ unit j (t (pairAt m a .at))
+  pub limit : partSum (λ r. r .right) (at y) (rowsOf m) (pairFirst m a) (sides m) ≡ r .right
+  pub live : partSum (λ r. r .live) (at y) (rowsOf m) (pairFirst m a) (sides m) ≡ pos 0
+  pub fits : PairSumsFit r
   pub limitFits : Within (sides m * strengthSum) (r .right)
 
 -- a sum for each of three columns from `column` on is added
-abbrev pub threeAdded : List ℤ → ℕ → NodeSums → ℕ → ℤ
+abbrev pub threeAdded : List ℤ → ℕ → PairSums → ℕ → ℤ
 threeAdded before column r j = at before j +ℤ r .sx *ℤ unit j column +ℤ r .sy *ℤ unit j (column + 1) +ℤ r .t *ℤ unit j (column + 2)
 
 -- ---- all rows

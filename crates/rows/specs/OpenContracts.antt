@@ -1,4 +1,4 @@
--- What the count of open rows says of one side of a node.
+-- What the count of open rows says of one side of a pair of a node and a soil.
 use mathlib.Core.Bool.{Bool, cond, _&&_}
 use mathlib.Core.List.{List}
 use Prim.Native.Nat.{ℕ, _+_}
@@ -11,6 +11,6 @@ use Rattle.rows.specs.RowContracts.{sideSlack}
 unfoldable pub oneIfOpen : ℤ → ℤ → ℕ
 oneIfOpen w z = cond (ltZ (pos 0) w && ltZ (pos 0) z) 1 0
 
--- "multiplier above 0 and left side below right": side k, from the numbers d of the node and t of the sides
+-- "multiplier above 0 and left side below right": side k, from the numbers d of the pair and t of the sides
 unfoldable pub sideOpen : List ℤ → List ℤ → List ℤ → ℕ → ℕ → Bool
 sideOpen d t y first k = ltZ (pos 0) (at y (first + k)) && ltZ (pos 0) (sideSlack d t k)

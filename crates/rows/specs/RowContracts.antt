@@ -16,15 +16,15 @@ use Rattle.rows.specs.declared.equality_rows.EqualityRow.{EqualityRow}
 use Rattle.rows.specs.declared.equality_rows.Corners.{Corners}
 use Rattle.rows.specs.declared.equality_rows.Span.{Span}
 use Rattle.rows.specs.declared.equality_rows.Squares.{Squares}
-use Rattle.scope.specs.Mesh.{mostSides, nodes, sides, corner, p, q, h, cohesion}
+use Rattle.scope.specs.Mesh.{mostSides, mostPairs, nodes, sides, corner, p, q, h, cohesion}
 use Rattle.scope.specs.Bounds.{mostCoordinate, mostFriction, mostScale, mostLoad, mostStress, mostRadius, mostStep, mostCross, mostSquare, mostEntries, mostCoefficient, equalityRight, mostLever, twiceStrength, mostSpread, mostReserve}
 use Rattle.scope.specs.Columns.{at, hasField, n, l}
 use Rattle.scope.specs.Claim.{ifThere, stress}
 use Rattle.scope.specs.Polygon.{Point, point, Side, Polygon, polygonSides, polygonOf}
-use Rattle.scope.specs.Rows.{asked, unfixed, Row, strengthRows, sx, sy, t, nodeSoil, cross, riseAcross, runAcross}
+use Rattle.scope.specs.Rows.{asked, unfixed, Row, pairCount, pairAt, strengthRows, sx, sy, t, cross, riseAcross, runAcross}
 use Rattle.scope.specs.Sums.{rowHolds}
 use Rattle.scope.specs.NumberRanges.{ClaimFacts}
-use Rattle.mesh.specs.MeshContracts.{Sized, NodeAt, NodeSoils}
+use Rattle.mesh.specs.MeshContracts.{Sized, NodeAt, PairTable}
 use Rattle.scope.specs.Checks.{allBelow}
 use Rattle.scope.specs.Tests.{rowAt}
 
@@ -120,14 +120,14 @@ MeshSteps m t = Steps (polygonOf (sides m)) (sides m) t
 -- ---- rows as numbers
 
 -- coefficients with their columns, as far as both lists go
-unfoldable pub pairs : List ℤ → List ℕ → List (ℤ × ℕ)
-pairs [] js = []
-pairs (c ∷ cs) [] = []
-pairs (c ∷ cs) (j ∷ js) = (c, j) ∷ pairs cs js
+unfoldable pub withColumns : List ℤ → List ℕ → List (ℤ × ℕ)
+withColumns [] js = []
+withColumns (c ∷ cs) [] = []
+withColumns (c ∷ cs) (j ∷ js) = (c, j) ∷ withColumns cs js
 
 -- the first coefficients of a row, with their columns
 abbrev pub entriesOf : List ℤ → List ℕ → ℕ → List (ℤ × ℕ)
-entriesOf coefficients columns count = pairs (take count coefficients) (take count columns)
+entriesOf coefficients columns count = withColumns (take count coefficients) (take count columns)
 
 -- the row that the numbers say
 unfoldable pub rowOf : EqualityRow → Row
@@ -244,7 +244,7 @@ pub record FieldFits (m x : List ℤ) (l n : ℤ) : Type 0 where
   pub load : Within mostLoad l
   pub scale : Within mostScale n
 
--- ---- the strength rows of a node
+-- ---- the strength rows of a pair of a node and a soil
 
 -- r·h, p and 2qC of a soil
 pub record SoilNumbers (k m : List ℤ) (soil : ℕ) (r : ℤ) : Type 0 where
@@ -260,22 +260,22 @@ pub record SoilFits (k : List ℤ) : Type 0 where
   pub right : Within twiceStrength (at k 2)
 
 -- r·h, sx - sy, 2t and 2qCn - p(sx + sy)
-pub record NodeOf (d : List ℤ) (l f c x y z n : ℤ) : Type 0 where
+pub record PairOf (d : List ℤ) (l f c x y z n : ℤ) : Type 0 where
   pub size : length d ≡ 4
   pub lever : Is (at d 0) l mostLever
   pub spread : Is (at d 1) (x -ℤ y) mostSpread
   pub twist : Is (at d 2) (pos 2 *ℤ z) mostSpread
   pub reserve : Is (at d 3) (c *ℤ n -ℤ f *ℤ (x +ℤ y)) mostReserve
 
--- the same of node v, from the numbers of its soil
-pub record NodeNumbers (d k x : List ℤ) (v : ℕ) (n : ℤ) : Type 0 where
+-- the same of node v, from the numbers k of the soil
+pub record PairNumbers (d k x : List ℤ) (v : ℕ) (n : ℤ) : Type 0 where
   pub size : length d ≡ 4
   pub lever : Is (at d 0) (at k 0) mostLever
   pub spread : Is (at d 1) (at x (3 * v) -ℤ at x (3 * v + 1)) mostSpread
   pub twist : Is (at d 2) (pos 2 *ℤ at x (3 * v + 2)) mostSpread
   pub reserve : Is (at d 3) (at k 2 *ℤ n -ℤ at k 1 *ℤ (at x (3 * v) +ℤ at x (3 * v + 1))) mostReserve
 
-pub record NodeFits (d : List ℤ) : Type 0 where
+pub record PairFits (d : List ℤ) : Type 0 where
   pub size : length d ≡ 4
   pub lever : Within mostLever (at d 0)
   pub spread : Within mostSpread (at d 1)
@@ -294,7 +294,7 @@ pub record StepsFit (t : List ℤ) (n : ℕ) : Type 0 where
   pub most : n ≤ mostSides
   pub each : (k : ℕ) → k < n → StepFits t k
 
--- "r·h·[(d-b)(sx-sy) - 2(c-a)t] ≤ (ad-bc)·[2qCn - p(sx+sy)]": the right side less the left, from the numbers of a node and of side k
+-- "r·h·[(d-b)(sx-sy) - 2(c-a)t] ≤ (ad-bc)·[2qCn - p(sx+sy)]": the right side less the left, from the numbers of a pair and of side k
 unfoldable pub sideSlack : List ℤ → List ℤ → ℕ → ℤ
 sideSlack d t k = at t (3 * k + 2) *ℤ at d 3 -ℤ at d 0 *ℤ (at t (3 * k + 1) *ℤ at d 1 -ℤ at t (3 * k) *ℤ at d 2)
 
@@ -304,23 +304,30 @@ sideSlack d t k = at t (3 * k + 2) *ℤ at d 3 -ℤ at d 0 *ℤ (at t (3 * k + 1
 unfoldable pub multipliersFrom : List ℤ → List ℤ → ℕ
 multipliersFrom m c = 4 + ifThere (hasField c) (nodes m) * 3
 
--- what the check of a part requires: a mesh and a claim whose lines have passed, and the soil of each node
+-- what the check of a part requires: a mesh and a claim whose lines have passed, and the mesh's node-and-soil pairs,
+-- which are counted and few
 pub record Judged (m c : List ℤ) (s : Sizes) (t : List ℕ) : Type 0 where
   pub sized : Sized m s
+  pub pairsAre : s .pairs ≡ pairCount m
+  pub few : pairCount m ≤ mostPairs
   pub claim : ClaimFacts m c
-  pub nodeSoils : NodeSoils m t
+  pub pairTable : PairTable m t
 
--- the numbers of node v at the claim's field
-pub record NodeState (d m c : List ℤ) (v : ℕ) : Type 0 where
+-- the numbers of pair a at the claim's field: the stresses of its node, and what they are held against of its soil
+pub record PairState (d m c : List ℤ) (a : ℕ) : Type 0 where
   pub size : length d ≡ 4
-  pub lever : Is (at d 0) (polygonOf (sides m) .radius *ℤ h m (nodeSoil m v)) mostLever
-  pub spread : Is (at d 1) (stress m c (sx v) -ℤ stress m c (sy v)) mostSpread
-  pub twist : Is (at d 2) (pos 2 *ℤ stress m c (t v)) mostSpread
-  pub reserve : Is (at d 3) (pos 2 *ℤ q m (nodeSoil m v) *ℤ cohesion m (nodeSoil m v) *ℤ n c -ℤ p m (nodeSoil m v) *ℤ (stress m c (sx v) +ℤ stress m c (sy v))) mostReserve
+  pub lever : Is (at d 0) (polygonOf (sides m) .radius *ℤ h m (pairAt m a .soil)) mostLever
+  pub spread : Is (at d 1) (stress m c (sx (pairAt m a .at)) -ℤ stress m c (sy (pairAt m a .at))) mostSpread
+  pub twist : Is (at d 2) (pos 2 *ℤ stress m c (t (pairAt m a .at))) mostSpread
+  pub reserve :
+      Is (at d 3)
+      (pos 2 *ℤ q m (pairAt m a .soil) *ℤ cohesion m (pairAt m a .soil) *ℤ n c
+      -ℤ p m (pairAt m a .soil) *ℤ (stress m c (sx (pairAt m a .at)) +ℤ stress m c (sy (pairAt m a .at))))
+      mostReserve
 
--- each strength row of node v holds at the claim's field
-unfoldable pub nodeHolds : List ℤ → List ℤ → ℕ → Bool
-nodeHolds m c v = allBelow (λ k. rowHolds (stress m c) (l c) (n c) (rowAt (strengthRows m) (v * sides m + k))) (sides m)
+-- each strength row of pair a holds at the claim's field
+unfoldable pub pairHolds : List ℤ → List ℤ → ℕ → Bool
+pairHolds m c a = allBelow (λ k. rowHolds (stress m c) (l c) (n c) (rowAt (strengthRows m) (a * sides m + k))) (sides m)
 
 -- ---- sums
 

@@ -126,8 +126,8 @@ fn sums_limit(columns: &[i64], n: usize, sums: Sums) -> Limit
 }
 
 // 31, 32 and 33 of the multipliers y.
-fn multipliers_limit(m: &[i64], s: Sizes, node_soils: &[u8], steps: &[i64], y: &[i64]) -> Limit
-    requires { ⌜ RowsGiven (now m) s (now «node_soils») (now steps) (now y) ⌝ }
+fn multipliers_limit(m: &[i64], s: Sizes, pairs: &[u8], steps: &[i64], y: &[i64]) -> Limit
+    requires { ⌜ RowsGiven (now m) s (now pairs) (now steps) (now y) ⌝ }
     ensures { λ r. ⌜ r ≡ multipliersLimit (now (m .entry)) (at (now (y .entry))) ⌝ }
 {
     let unfixed = unfixed_check(m, s, y);
@@ -135,7 +135,7 @@ fn multipliers_limit(m: &[i64], s: Sizes, node_soils: &[u8], steps: &[i64], y: &
         return Limit::Refused { number, place };
     }
     let mut columns: [i64; COLUMNS] = [0; COLUMNS];
-    let sums = row_sums(m, s, node_soils, steps, y, &mut columns);
+    let sums = row_sums(m, s, pairs, steps, y, &mut columns);
     sums_limit(&columns, 3 * s.nodes, sums)
 }
 
@@ -148,13 +148,13 @@ pub fn multipliers_from(c: &[i64], nodes: usize) -> usize
 }
 
 // The limit of a claim whose lines have passed.
-pub fn claim_limit(m: &[i64], c: &[i64], s: Sizes, node_soils: &[u8], steps: &[i64]) -> Limit
-    requires { ⌜ Judged (now m) (now c) s (now «node_soils») ⌝ ∗ ⌜ MeshSteps (now m) (now steps) ⌝ }
+pub fn claim_limit(m: &[i64], c: &[i64], s: Sizes, pairs: &[u8], steps: &[i64]) -> Limit
+    requires { ⌜ Judged (now m) (now c) s (now pairs) ⌝ ∗ ⌜ MeshSteps (now m) (now steps) ⌝ }
     ensures { λ r. ⌜ r ≡ limitOf (checkPhases (multiplierPart (now (m .entry)) (now (c .entry)))) (upperLoad (now (m .entry)) (now (c .entry))) ⌝ }
 {
     if number_at(c, 1) == 1 {
         let from = multipliers_from(c, s.nodes);
-        return multipliers_limit(m, s, node_soils, steps, &c[from..]);
+        return multipliers_limit(m, s, pairs, steps, &c[from..]);
     }
     Limit::Absent
 }

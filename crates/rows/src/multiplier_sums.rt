@@ -5,14 +5,17 @@ ghost use mathlib.Core.Path.{_≡_};
 ghost use lib.IntN.{_+ℤ_, _*ℤ_};
 ghost use Rattle.integer.specs.Bounds.{Within, AllWithin};
 ghost use Rattle.scope.specs.Mesh.{nodes, sides, equalityCount};
-ghost use Rattle.scope.specs.Bounds.{mostMultiplier, equalityRight, equalitySums, nodeColumn, mostColumn};
+ghost use Rattle.scope.specs.Rows.{pairCount};
+ghost use Rattle.scope.specs.Bounds.{mostMultiplier, equalityRight, equalitySums, pairColumn, mostColumn};
 ghost use Rattle.mesh.specs.MeshContracts.{Sized};
 ghost use Rattle.rows.specs.RowContracts.{SumsAre, SoilFits, StepsFit, StepFits};
-ghost use Rattle.rows.specs.MultiplierContracts.{Multipliers, RowsGiven, SumsFit, RowSummed, NoSums, Summed, NodesSummed, SideWeighted, SideMultipliers, SideSumsFit, SideAdded, SideSumsAre, NodeSumsAre, NodeSumsFit, NodePart, threeAdded};
+ghost use Rattle.rows.specs.MultiplierContracts.{Multipliers, RowsGiven, SumsFit, RowSummed, NoSums, Summed, PairsSummed, SideWeighted, SideMultipliers, SideSumsFit, SideAdded, SideSumsAre, PairSumsAre, PairSumsFit, PairPart, threeAdded};
 use crate::equality_rows::add_at;
 use crate::equality_rows::add_row;
 use crate::equality_rows::equality_row;
 use crate::polygons::radius_of;
+use crate::strength_rows::pair_node;
+use crate::strength_rows::pair_soil;
 use crate::strength_rows::soil_numbers;
 use mesh::sizes::Sizes;
 use mesh::sizes::equality_count;
@@ -68,7 +71,7 @@ fn equality_sums(m: &[i64], s: Sizes, y: &[i64], columns: &mut [i64]) -> Sums
 
 // ---- strength rows
 
-// What the multipliers of a node's sides add up to, each times what a strength row reads of its side.
+// What the multipliers of a pair's sides add up to, each times what a strength row reads of its side.
 pub struct SideSums {
     pub run: i64,
     pub rise: i64,
@@ -93,7 +96,7 @@ fn add_side(steps: &[i64], k: usize, w: i64, a: SideSums) -> SideSums
     }
 }
 
-// All sides of a node whose first multiplier stands at `first`. For speed they are summed first, and multiplied by r·h and p once.
+// All sides of a pair whose first multiplier stands at `first`. For speed they are summed first, and multiplied by r·h and p once.
 fn side_sums(steps: &[i64], sides: usize, y: &[i64], first: usize) -> SideSums
     requires { ⌜ StepsFit (now steps) sides ⌝ ∗ ⌜ SideMultipliers (now steps) (now y) first sides ⌝ }
     ensures { λ r. ⌜ SideSumsAre r (now (steps .entry)) (now (y .entry)) first sides ⌝ }
@@ -112,8 +115,9 @@ fn side_sums(steps: &[i64], sides: usize, y: &[i64], first: usize) -> SideSums
     sums
 }
 
-// What a node's strength rows add up to, each times its multiplier: for the columns of its sx, sy and t, and for W. They add nothing to m.
-pub struct NodeSums {
+// What a pair's strength rows add up to, each times its multiplier: for the columns of its node's sx, sy and t, and for
+// W. They add nothing to m.
+pub struct PairSums {
     pub sx: i64,
     pub sy: i64,
     pub t: i64,
@@ -121,16 +125,16 @@ pub struct NodeSums {
 }
 
 // The same, from the sums over the sides and the numbers of the soil.
-fn node_sums(a: SideSums, k: &[i64]) -> NodeSums
+fn pair_sums(a: SideSums, k: &[i64]) -> PairSums
     requires { ⌜ SideSumsFit a ⌝ ∗ ⌜ SoilFits (now k) ⌝ }
-    ensures { λ r. ⌜ NodeSumsAre r a (now (k .entry)) ⌝ }
+    ensures { λ r. ⌜ PairSumsAre r a (now (k .entry)) ⌝ }
 {
     let lever = number_at(k, 0);
     let friction = number_at(k, 1);
     let cohesion = number_at(k, 2);
     let rise = lever * a.rise;
     let push = friction * a.cross;
-    NodeSums {
+    PairSums {
         sx: push + rise,
         sy: push - rise,
         t: -(2 * lever * a.run),
@@ -138,47 +142,48 @@ fn node_sums(a: SideSums, k: &[i64]) -> NodeSums
     }
 }
 
-// The same, for node v.
-fn node_part(m: &[i64], s: Sizes, node_soils: &[u8], steps: &[i64], y: &[i64], v: usize) -> NodeSums
-    requires { ⌜ RowsGiven (now m) s (now «node_soils») (now steps) (now y) ⌝ ∗ ⌜ v < nodes (now m) ⌝ }
-    ensures { λ r. ⌜ NodePart r (now (m .entry)) (now (y .entry)) v ⌝ }
+// The same, for pair a.
+fn pair_part(m: &[i64], s: Sizes, pairs: &[u8], steps: &[i64], y: &[i64], a: usize) -> PairSums
+    requires { ⌜ RowsGiven (now m) s (now pairs) (now steps) (now y) ⌝ ∗ ⌜ a < pairCount (now m) ⌝ }
+    ensures { λ r. ⌜ PairPart r (now (m .entry)) (now (y .entry)) a ⌝ }
 {
     let sides = s.sides;
-    let first = equality_count(s) + v * sides;
-    let a = side_sums(steps, sides, y, first);
-    let soil = node_soils[v] as usize;
+    let first = equality_count(s) + a * sides;
+    let over_sides = side_sums(steps, sides, y, first);
+    let soil = pair_soil(pairs, a);
     let radius = radius_of(sides);
     let k = soil_numbers(m, s, soil, radius);
-    node_sums(a, &k)
+    pair_sums(over_sides, &k)
 }
 
-// Adds a node's sums to its three columns, from `column` on.
-fn add_columns(columns: &mut [i64], column: usize, a: NodeSums)
-    requires { ⌜ column + 2 < length (now columns) ⌝ ∗ ⌜ AllWithin mostColumn (now columns) ⌝ ∗ ⌜ NodeSumsFit a ⌝ }
-    ensures { λ _. ⌜ SumsAre (mostColumn + 3 * nodeColumn) (now (columns .exit)) (threeAdded (now (columns .entry)) column a) ⌝ }
+// Adds a pair's sums to the three columns of its node, from `column` on.
+fn add_columns(columns: &mut [i64], column: usize, a: PairSums)
+    requires { ⌜ column + 2 < length (now columns) ⌝ ∗ ⌜ AllWithin mostColumn (now columns) ⌝ ∗ ⌜ PairSumsFit a ⌝ }
+    ensures { λ _. ⌜ SumsAre (mostColumn + 3 * pairColumn) (now (columns .exit)) (threeAdded (now (columns .entry)) column a) ⌝ }
 {
     add_at(columns, column, a.sx);
     add_at(columns, column + 1, a.sy);
     add_at(columns, column + 2, a.t);
 }
 
-// Adds the strength rows of node v, each times its multiplier.
-fn add_node(
+// Adds the strength rows of pair a, each times its multiplier.
+fn add_pair(
     m: &[i64],
     s: Sizes,
-    node_soils: &[u8],
+    pairs: &[u8],
     steps: &[i64],
     y: &[i64],
-    v: usize,
+    a: usize,
     columns: &mut [i64],
     sums: Sums,
 ) -> Sums
-    requires { ⌜ RowsGiven (now m) s (now «node_soils») (now steps) (now y) ⌝ ∗ ⌜ v < nodes (now m) ⌝ ∗ ⌜ NodesSummed (now m) (now y) v (now columns) sums ⌝ }
-    ensures { λ r. ⌜ NodesSummed (now (m .entry)) (now (y .entry)) (v + 1) (now (columns .exit)) r ⌝ }
+    requires { ⌜ RowsGiven (now m) s (now pairs) (now steps) (now y) ⌝ ∗ ⌜ a < pairCount (now m) ⌝ ∗ ⌜ PairsSummed (now m) (now y) a (now columns) sums ⌝ }
+    ensures { λ r. ⌜ PairsSummed (now (m .entry)) (now (y .entry)) (a + 1) (now (columns .exit)) r ⌝ }
 {
-    let a = node_part(m, s, node_soils, steps, y, v);
-    let right = a.right;
-    add_columns(columns, 3 * v, a);
+    let part = pair_part(m, s, pairs, steps, y, a);
+    let right = part.right;
+    let v = pair_node(pairs, a);
+    add_columns(columns, 3 * v, part);
     Sums {
         w: sums.w + right,
         m: sums.m,
@@ -189,21 +194,21 @@ fn add_node(
 fn strength_sums(
     m: &[i64],
     s: Sizes,
-    node_soils: &[u8],
+    pairs: &[u8],
     steps: &[i64],
     y: &[i64],
     columns: &mut [i64],
     equalities: Sums,
 ) -> Sums
-    requires { ⌜ RowsGiven (now m) s (now «node_soils») (now steps) (now y) ⌝ ∗ ⌜ Summed (now m) (now y) (equalityCount (now m)) (now columns) equalities ⌝ }
-    ensures { λ r. ⌜ NodesSummed (now (m .entry)) (now (y .entry)) (nodes (now (m .entry))) (now (columns .exit)) r ⌝ }
+    requires { ⌜ RowsGiven (now m) s (now pairs) (now steps) (now y) ⌝ ∗ ⌜ Summed (now m) (now y) (equalityCount (now m)) (now columns) equalities ⌝ }
+    ensures { λ r. ⌜ PairsSummed (now (m .entry)) (now (y .entry)) (pairCount (now (m .entry))) (now (columns .exit)) r ⌝ }
 {
-    let nodes = s.nodes;
+    let all = s.pairs;
     let mut sums = equalities;
-    let mut v: usize = 0;
-    while v < nodes {
-        sums = add_node(m, s, node_soils, steps, y, v, columns, sums);
-        v += 1;
+    let mut a: usize = 0;
+    while a < all {
+        sums = add_pair(m, s, pairs, steps, y, a, columns, sums);
+        a += 1;
     }
     sums
 }
@@ -212,14 +217,14 @@ fn strength_sums(
 pub fn row_sums(
     m: &[i64],
     s: Sizes,
-    node_soils: &[u8],
+    pairs: &[u8],
     steps: &[i64],
     y: &[i64],
     columns: &mut [i64],
 ) -> Sums
-    requires { ⌜ RowsGiven (now m) s (now «node_soils») (now steps) (now y) ⌝ ∗ ⌜ NoSums (now columns) ⌝ }
-    ensures { λ r. ⌜ NodesSummed (now (m .entry)) (now (y .entry)) (nodes (now (m .entry))) (now (columns .exit)) r ⌝ }
+    requires { ⌜ RowsGiven (now m) s (now pairs) (now steps) (now y) ⌝ ∗ ⌜ NoSums (now columns) ⌝ }
+    ensures { λ r. ⌜ PairsSummed (now (m .entry)) (now (y .entry)) (pairCount (now (m .entry))) (now (columns .exit)) r ⌝ }
 {
     let equalities = equality_sums(m, s, y, columns);
-    strength_sums(m, s, node_soils, steps, y, columns, equalities)
+    strength_sums(m, s, pairs, steps, y, columns, equalities)
 }

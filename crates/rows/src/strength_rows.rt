@@ -1,20 +1,44 @@
-// The strength rows of a node: what they read of its soil, of its stresses and of its multipliers, and the sides one by one.
+// The strength rows of a pair of a node and a soil: what they read of the soil, of the node's stresses and of the
+// multipliers, and the sides one by one.
 ghost use mathlib.Core.Path.{_≡_};
 ghost use Prim.Native.Nat.{_+_, _*_, _<_};
-ghost use lib.ListN.{length};
+ghost use lib.ListN.{length, getD};
 ghost use lib.IntN.{pos, _-ℤ_, _*ℤ_};
 ghost use lib.Signed.{leZ};
 ghost use Rattle.integer.specs.Bounds.{Is, Within, AllWithin};
 ghost use Rattle.scope.specs.Checks.{allBelow};
 ghost use Rattle.scope.specs.Columns.{at};
-ghost use Rattle.scope.specs.Mesh.{nodes, soils};
+ghost use Rattle.scope.specs.Mesh.{mostPairs, soils};
+ghost use Rattle.scope.specs.Rows.{pairCount};
 ghost use Rattle.scope.specs.Bounds.{mostRadius, mostStep, mostCross, mostFriction, mostScale, mostStress, mostLever, twiceStrength, mostSpread, mostReserve, mostSlack};
 ghost use Rattle.mesh.specs.MeshContracts.{Sized};
-ghost use Rattle.rows.specs.RowContracts.{SoilNumbers, SoilFits, NodeOf, NodeNumbers, NodeFits, StepFits, StepsFit, MeshSteps, sideSlack, Judged, NodeState, nodeHolds};
+ghost use Rattle.rows.specs.RowContracts.{SoilNumbers, SoilFits, PairOf, PairNumbers, PairFits, StepFits, StepsFit, MeshSteps, sideSlack, Judged, PairState, pairHolds};
 use crate::polygons::radius_of;
 use mesh::sizes::Sizes;
 use mesh::sizes::number_at;
 use mesh::sizes::soil_entry;
+
+// A byte as a number.
+fn wide(byte: u8) -> usize
+    ensures { λ r. ⌜ r ≡ byte ⌝ }
+{
+    byte as usize
+}
+
+// The node of pair a, and its soil, in the table of a mesh's pairs: two bytes for each pair.
+pub fn pair_node(pairs: &[u8], a: usize) -> usize
+    requires { ⌜ a < mostPairs ⌝ ∗ ⌜ length (now pairs) ≡ 2 * mostPairs ⌝ }
+    ensures { λ r. ⌜ r ≡ getD (now (pairs .entry)) (2 * a) 0 ⌝ }
+{
+    wide(pairs[2 * a])
+}
+
+pub fn pair_soil(pairs: &[u8], a: usize) -> usize
+    requires { ⌜ a < mostPairs ⌝ ∗ ⌜ length (now pairs) ≡ 2 * mostPairs ⌝ }
+    ensures { λ r. ⌜ r ≡ getD (now (pairs .entry)) (2 * a + 1) 0 ⌝ }
+{
+    wide(pairs[2 * a + 1])
+}
 
 // What they read of a soil: r·h, p and 2qC.
 pub fn soil_numbers(m: &[i64], s: Sizes, soil: usize, radius: i64) -> [i64; 3]
@@ -28,19 +52,19 @@ pub fn soil_numbers(m: &[i64], s: Sizes, soil: usize, radius: i64) -> [i64; 3]
     [radius * h, p, 2 * q * cohesion]
 }
 
-// What they read of a node: r·h, sx - sy, 2t and 2qCn - p(sx + sy).
-fn node_of(lever: i64, friction: i64, right: i64, sx: i64, sy: i64, t: i64, n: i64) -> [i64; 4]
+// What they read of a pair: r·h, sx - sy, 2t and 2qCn - p(sx + sy).
+fn pair_of(lever: i64, friction: i64, right: i64, sx: i64, sy: i64, t: i64, n: i64) -> [i64; 4]
     requires { ⌜ Within mostLever lever ⌝ ∗ ⌜ Within mostFriction friction ⌝ ∗ ⌜ Within twiceStrength right ⌝ }
     requires { ⌜ Within mostStress sx ⌝ ∗ ⌜ Within mostStress sy ⌝ ∗ ⌜ Within mostStress t ⌝ ∗ ⌜ Within mostScale n ⌝ }
-    ensures { λ r. ⌜ NodeOf r lever friction right sx sy t n ⌝ }
+    ensures { λ r. ⌜ PairOf r lever friction right sx sy t n ⌝ }
 {
     [lever, sx - sy, 2 * t, right * n - friction * (sx + sy)]
 }
 
-// The same, for node v of a field, from the numbers k of its soil.
-pub fn node_numbers(k: &[i64], x: &[i64], v: usize, n: i64) -> [i64; 4]
+// The same, for node v of a field, from the numbers k of the soil.
+pub fn pair_numbers(k: &[i64], x: &[i64], v: usize, n: i64) -> [i64; 4]
     requires { ⌜ SoilFits (now k) ⌝ ∗ ⌜ 3 * v + 2 < length (now x) ⌝ ∗ ⌜ AllWithin mostStress (now x) ⌝ ∗ ⌜ Within mostScale n ⌝ }
-    ensures { λ r. ⌜ NodeNumbers r (now (k .entry)) (now (x .entry)) v n ⌝ }
+    ensures { λ r. ⌜ PairNumbers r (now (k .entry)) (now (x .entry)) v n ⌝ }
 {
     let sx = number_at(x, 3 * v);
     let sy = number_at(x, 3 * v + 1);
@@ -48,10 +72,10 @@ pub fn node_numbers(k: &[i64], x: &[i64], v: usize, n: i64) -> [i64; 4]
     let lever = number_at(k, 0);
     let friction = number_at(k, 1);
     let right = number_at(k, 2);
-    node_of(lever, friction, right, sx, sy, t, n)
+    pair_of(lever, friction, right, sx, sy, t, n)
 }
 
-// The right side of a strength row less its left side, from the numbers of the side and of the node.
+// The right side of a strength row less its left side, from the numbers of the side and of the pair.
 fn slack(run: i64, rise: i64, cross: i64, lever: i64, spread: i64, twist: i64, reserve: i64) -> i64
     requires { ⌜ Within mostStep run ⌝ ∗ ⌜ Within mostStep rise ⌝ ∗ ⌜ Within mostCross cross ⌝ }
     requires { ⌜ Within mostLever lever ⌝ ∗ ⌜ Within mostSpread spread ⌝ ∗ ⌜ Within mostSpread twist ⌝ ∗ ⌜ Within mostReserve reserve ⌝ }
@@ -62,7 +86,7 @@ fn slack(run: i64, rise: i64, cross: i64, lever: i64, spread: i64, twist: i64, r
 
 // The same for side k.
 pub fn side_slack(steps: &[i64], k: usize, d: &[i64]) -> i64
-    requires { ⌜ StepFits (now steps) k ⌝ ∗ ⌜ NodeFits (now d) ⌝ }
+    requires { ⌜ StepFits (now steps) k ⌝ ∗ ⌜ PairFits (now d) ⌝ }
     ensures { λ r. ⌜ Is r (sideSlack (now (d .entry)) (now (steps .entry)) k) mostSlack ⌝ }
 {
     let run = number_at(steps, 3 * k);
@@ -77,27 +101,28 @@ pub fn side_slack(steps: &[i64], k: usize, d: &[i64]) -> i64
 
 // The strength row of side k holds: its right side is not below its left.
 pub fn side_holds(steps: &[i64], k: usize, d: &[i64]) -> bool
-    requires { ⌜ StepFits (now steps) k ⌝ ∗ ⌜ NodeFits (now d) ⌝ }
+    requires { ⌜ StepFits (now steps) k ⌝ ∗ ⌜ PairFits (now d) ⌝ }
     ensures { λ r. ⌜ r ≡ leZ (pos 0) (sideSlack (now (d .entry)) (now (steps .entry)) k) ⌝ }
 {
     0 <= side_slack(steps, k, d)
 }
 
-// The numbers of node v at a claim's field.
-pub fn node_state(m: &[i64], c: &[i64], s: Sizes, node_soils: &[u8], v: usize) -> [i64; 4]
-    requires { ⌜ Judged (now m) (now c) s (now «node_soils») × (at (now c) 0 ≡ pos 1) ⌝ ∗ ⌜ v < nodes (now m) ⌝ }
-    ensures { λ r. ⌜ NodeState r (now (m .entry)) (now (c .entry)) v ⌝ }
+// The numbers of pair a at a claim's field.
+pub fn pair_state(m: &[i64], c: &[i64], s: Sizes, pairs: &[u8], a: usize) -> [i64; 4]
+    requires { ⌜ Judged (now m) (now c) s (now pairs) × (at (now c) 0 ≡ pos 1) ⌝ ∗ ⌜ a < pairCount (now m) ⌝ }
+    ensures { λ r. ⌜ PairState r (now (m .entry)) (now (c .entry)) a ⌝ }
 {
-    let soil = node_soils[v] as usize;
+    let v = pair_node(pairs, a);
+    let soil = pair_soil(pairs, a);
     let radius = radius_of(s.sides);
     let k = soil_numbers(m, s, soil, radius);
     let n = number_at(c, 2);
-    node_numbers(&k, &c[4..], v, n)
+    pair_numbers(&k, &c[4..], v, n)
 }
 
-// Each strength row of a node holds. For speed this loop has nothing else in it; which row fails is for the search to say.
+// Each strength row of a pair holds. For speed this loop has nothing else in it; which row fails is for the search to say.
 fn sides_hold(steps: &[i64], sides: usize, d: &[i64]) -> bool
-    requires { ⌜ StepsFit (now steps) sides ⌝ ∗ ⌜ NodeFits (now d) ⌝ }
+    requires { ⌜ StepsFit (now steps) sides ⌝ ∗ ⌜ PairFits (now d) ⌝ }
     ensures { λ r. ⌜ r ≡ allBelow (λ k. leZ (pos 0) (sideSlack (now (d .entry)) (now (steps .entry)) k)) sides ⌝ }
 {
     let mut k: usize = 0;
@@ -110,18 +135,11 @@ fn sides_hold(steps: &[i64], sides: usize, d: &[i64]) -> bool
     true
 }
 
-// 22 at node v: each of its strength rows holds at a claim's field.
-pub fn node_holds(
-    m: &[i64],
-    c: &[i64],
-    s: Sizes,
-    node_soils: &[u8],
-    steps: &[i64],
-    v: usize,
-) -> bool
-    requires { ⌜ Judged (now m) (now c) s (now «node_soils») × (at (now c) 0 ≡ pos 1) × MeshSteps (now m) (now steps) × (v < nodes (now m)) ⌝ }
-    ensures { λ r. ⌜ r ≡ nodeHolds (now (m .entry)) (now (c .entry)) v ⌝ }
+// 22 at pair a: each of its strength rows holds at a claim's field.
+pub fn pair_holds(m: &[i64], c: &[i64], s: Sizes, pairs: &[u8], steps: &[i64], a: usize) -> bool
+    requires { ⌜ Judged (now m) (now c) s (now pairs) × (at (now c) 0 ≡ pos 1) × MeshSteps (now m) (now steps) × (a < pairCount (now m)) ⌝ }
+    ensures { λ r. ⌜ r ≡ pairHolds (now (m .entry)) (now (c .entry)) a ⌝ }
 {
-    let d = node_state(m, c, s, node_soils, v);
+    let d = pair_state(m, c, s, pairs, a);
     sides_hold(steps, s.sides, &d)
 }

@@ -1,6 +1,6 @@
--- The theorems applied to document 01's sheet: antt computes that its mesh and parts pass, and the theorems say the rest.
+-- The theorems applied to document 01's sheet and to fill over clay: antt computes what passes, and the theorems say the rest.
 use mathlib.Core.Path.{_≡_, refl, sym, _∙_, ap}
-use mathlib.Core.List.{List}
+use mathlib.Core.List.{List, [], _∷_}
 use Prim.Native.Nat.{ℕ, suc, _*_}
 use native.Mathlib.Omega.{arith}
 use mathlib.Core.Bool.{Bool}
@@ -8,12 +8,12 @@ use lib.Dec.{lt→ltb}
 use lib.IntN.{ℤ, pos, _*ℤ_, _-ℤ_}
 use lib.Signed.{ltZ-yes}
 use Rattle.integer.specs.Fraction.{_over_, _≈ᶠ_, _≤ᶠ_, Positive}
-use Rattle.scope.specs.declared.Place.the-variants.{Column}
+use Rattle.scope.specs.declared.Place.the-variants.{Column, Row as PlaceRow}
 use Rattle.scope.specs.declared.Outcome.the-variants.{Passed}
 use Rattle.scope.specs.declared.Verdict.the-variants.{Refused}
 use Rattle.scope.specs.Columns.{n, l}
 use Rattle.scope.specs.Mesh.{nodes}
-use Rattle.scope.specs.Rows.{Row, t, equalityRows, strengthRows, rowsOf}
+use Rattle.scope.specs.Rows.{Row, t, strengthPairs, equalityRows, strengthRows, rowsOf}
 use Rattle.scope.specs.Sums.{weightedSum, weighed, liveSum, limitSum, openRows}
 use Rattle.scope.specs.Claim.{claimLayout, stress, multiplier}
 use Rattle.scope.specs.Verdict.{meshCheck, fieldCheck, multipliersCheck, verdict, linesCheck}
@@ -22,11 +22,12 @@ use Rattle.scope.specs.Accepted.{FieldAccepted, MultipliersAccepted}
 use Rattle.scope.specs.PrintedColumns.{printedColumn, printedLive, printedLimit}
 use Rattle.scope.specs.Bracket.{toSpare}
 use Rattle.scope.specs.Parts.{carried, allowed, SameRows, PartsBracket}
-use Rattle.scope.specs.Worked.{zeros, workedMesh, workedStresses, workedMultipliers, workedClaim, multipliersAlone, sheet, sheet19, sheet29, nineteenFractions, nineteenSixths, oneEdge, freeShear}
+use Rattle.scope.specs.Worked.{zeros, workedMesh, workedStresses, workedMultipliers, workedClaim, multipliersAlone, sheet, sheet19, sheet29, nineteenFractions, nineteenSixths, oneEdge, freeShear, fillOverClay, overClay}
 use Rattle.scope.specs.Fractions.{FractionField, WrittenOver}
 use Rattle.scope.specs.AcceptedFractions.{MeetsMesh}
 use Rattle.integer.specs.Tests.{eqZ}
 use Rattle.scope.proofs.Decides.{all-below, equalℤ}
+use Rattle.scope.proofs.Pairs.{pairOf}
 use Rattle.scope.proofs.Parts.{parts-bracket, open-rows-count}
 use Rattle.scope.proofs.AcceptedMultipliers.{sums-printed, multipliers-as-printed}
 use Rattle.scope.proofs.AcceptedFractions.{mesh-fractions}
@@ -190,3 +191,19 @@ free-rows = refl
 
 pub free-bracket : PartsBracket (freeShear (pos 0)) sheet19 (freeShear (pos 5)) sheet
 free-bracket = parts-bracket (freeShear (pos 0)) sheet19 (freeShear (pos 5)) sheet free-rows free-field free-multipliers
+
+-- ---- fill over clay: nodes 3 and 4 have two pairs each
+
+pub clay-pairs : strengthPairs fillOverClay
+    ≡ pairOf 0 1 ∷ pairOf 1 1 ∷ pairOf 2 0 ∷ pairOf 2 1 ∷ pairOf 3 0 ∷ pairOf 3 1 ∷ pairOf 4 0 ∷ pairOf 5 0 ∷ []
+unfolding computed zeros fillOverClay
+clay-pairs = refl
+
+-- at 20 the first row that fails is side 1 of the fourth pair, node 3 with the clay: (4-1)·12 + 1; at 10 the clay holds too
+pub clay-refused : verdict fillOverClay (overClay 20) ≡ Refused 22 (PlaceRow 37)
+unfolding computed zeros fillOverClay overClay
+clay-refused = refl
+
+pub clay-accepted : FieldAccepted fillOverClay (overClay 10)
+unfolding computed zeros fillOverClay overClay
+clay-accepted = field-accepted fillOverClay (overClay 10) refl refl refl refl

@@ -16,10 +16,12 @@ use Rattle.integer.proofs.TestLaws.{yes-eqZ, no-eqZ}
 use Rattle.scope.specs.Columns.{Limit, between, free, upTo, at, hasField, hasMultipliers, n, l}
 use Rattle.scope.specs.Layout.{Group, Layout, width, groups, numberCount, numbersBefore, entry}
 use Rattle.scope.specs.Mesh.{nodes, elements, edges, sides, equalityCount}
+use Rattle.scope.specs.Rows.{pairCount}
 use Rattle.scope.specs.Claim.{claimHeader, ifThere, stressLines, elementMultipliers, edgeMultipliers, strengthMultipliers, claimLayout, stress, multiplier}
 use Rattle.scope.specs.Statements.{Within, PartsFit, LinesSound}
 use Rattle.scope.specs.NumberRanges.{Between, MeshFacts, ClaimFacts}
 use Rattle.scope.proofs.NumberRanges.{some-sides}
+use Rattle.scope.proofs.Pairs.{some-pairs}
 use Rattle.scope.proofs.Lines.{group, lineIn, LineFacts, line-facts, at-lineIn}
 
 -- number k of group j, counted from the group's first number
@@ -75,7 +77,7 @@ module _ (m c : List ℤ) (s : LinesSound (claimLayout m) c) where
       let e : numbersBefore (groups (claimLayout m) c) 3 + k ≡ numbersBefore (groups (claimLayout m) c) 2 + (ifThere (hasMultipliers c) (elements m) * 2 + k) = omega arith in
       subst (λ (i : ℕ). Between (negℤ (pos 100000)) (pos 100000) (at c i)) e (record { least = w .0; most = w .1 })
 
-  strengthPart : 0 < sides m → (k : ℕ) → k < ifThere (hasMultipliers c) (nodes m) * sides m → Between (pos 0) (pos 10000) (multiplier m c (ifThere (hasMultipliers c) (elements m) * 2 + ifThere (hasMultipliers c) (edges m) * 4 + k))
+  strengthPart : 0 < sides m → (k : ℕ) → k < ifThere (hasMultipliers c) (pairCount m) * sides m → Between (pos 0) (pos 10000) (multiplier m c (ifThere (hasMultipliers c) (elements m) * 2 + ifThere (hasMultipliers c) (edges m) * 4 + k))
   unfolding claimLayout groups elementMultipliers edgeMultipliers strengthMultipliers upTo multiplier numbersBefore
   strengthPart p k h =
       let w = flat-within (claimLayout m) c s 4 (sides m) k (between (pos 0) (pos 10000)) refl p h in
@@ -108,13 +110,13 @@ module _ (m c : List ℤ) (s : LinesSound (claimLayout m) c) where
 
   -- all numbers are there: the last group with a line is the multipliers', or else the field's
   abbrev Size : Type 0
-  Size = length c ≡ 4 + ifThere (hasField c) (nodes m) * 3 + ifThere (hasMultipliers c) (elements m) * 2 + ifThere (hasMultipliers c) (edges m) * 4 + ifThere (hasMultipliers c) (nodes m) * sides m
+  Size = length c ≡ 4 + ifThere (hasField c) (nodes m) * 3 + ifThere (hasMultipliers c) (elements m) * 2 + ifThere (hasMultipliers c) (edges m) * 4 + ifThere (hasMultipliers c) (pairCount m) * sides m
 
   size-with : MeshFacts m → at c 1 ≡ pos 1 → Size
   unfolding claimLayout groups claimHeader stressLines elementMultipliers edgeMultipliers strengthMultipliers numbersBefore numberCount
   size-with f e =
-      let k : numbersBefore (groups (claimLayout m) c) 4 + ifThere (hasMultipliers c) (nodes m) * width (group (groups (claimLayout m) c) 4) ≤ length c =
-      group-there (claimLayout m) c s 4 (omega (arith, part-is e (nodes m), f .counts .nodesLeast)) (omega (arith, length-replicate (sides m) (between (pos 0) (pos 10000)), some-sides (f .counts))) in
+      let k : numbersBefore (groups (claimLayout m) c) 4 + ifThere (hasMultipliers c) (pairCount m) * width (group (groups (claimLayout m) c) 4) ≤ length c =
+      group-there (claimLayout m) c s 4 (omega (arith, part-is e (pairCount m), some-pairs m f)) (omega (arith, length-replicate (sides m) (between (pos 0) (pos 10000)), some-sides (f .counts))) in
       omega (arith, simp length-replicate at k, simp length-replicate at (s .noneLeft))
 
   size-without : MeshFacts m → ¬ (at c 1 ≡ pos 1) → Size
@@ -128,7 +130,7 @@ module _ (m c : List ℤ) (s : LinesSound (claimLayout m) c) where
         simp length-replicate at (s .noneLeft),
         part-is-not e (elements m),
         part-is-not e (edges m),
-        ap (λ (i : ℕ). i * sides m) (part-is-not e (nodes m)),
+        ap (λ (i : ℕ). i * sides m) (part-is-not e (pairCount m)),
       )
     where
       only : PartsFit c → at c 0 ≡ pos 1
@@ -164,7 +166,7 @@ module _ (m c : List ℤ) (s : LinesSound (claimLayout m) c) where
           subst (λ (i : ℕ). Between (negℤ (pos 100000)) (pos 100000) (multiplier m c i)) (omega (arith, part-is e (elements m)))
           (edgePart (k - elements m * 2) (omega (arith, part-is e (edges m))))
 
-      strength : at c 1 ≡ pos 1 → (k : ℕ) → k < nodes m * sides m → Between (pos 0) (pos 10000) (multiplier m c (equalityCount m + k))
+      strength : at c 1 ≡ pos 1 → (k : ℕ) → k < pairCount m * sides m → Between (pos 0) (pos 10000) (multiplier m c (equalityCount m + k))
       strength e k h =
           subst (λ (i : ℕ). Between (pos 0) (pos 10000) (multiplier m c i)) (omega (arith, part-is e (elements m), part-is e (edges m)))
-          (strengthPart (some-sides (f .counts)) k (subst (λ (i : ℕ). k < i * sides m) (sym (part-is e (nodes m))) h))
+          (strengthPart (some-sides (f .counts)) k (subst (λ (i : ℕ). k < i * sides m) (sym (part-is e (pairCount m))) h))

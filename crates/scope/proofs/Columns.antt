@@ -6,7 +6,7 @@ use native.Mathlib.Omega.{arith}
 use lib.Dec.{lit<}
 use lib.IntN.{ℤ}
 use Rattle.scope.proofs.Lists.{of-count, each-nil, each-cons, each-++, each-map, each-joined}
-use Rattle.scope.proofs.Criterion.{one-pair-each}
+use Rattle.scope.proofs.Pairs.{pairs}
 use Rattle.scope.specs.Members.{_∈_}
 use Rattle.scope.specs.Mesh.{nodes, elements, edges, sides, corner, fromNode, toNode}
 use Rattle.scope.specs.Polygon.{Side, polygonSides, polygonOf}
@@ -63,4 +63,4 @@ module _ (m : List ℤ) where
       let to = edge-in g (toNode m g) (named .tos g k) in
       each-cons RowIn (from .0) (each-cons RowIn (from .1) (each-cons RowIn (to .0) (each-cons RowIn (to .1) (each-nil RowIn)))))))
       (each-joined RowIn _ (strengthPairs m) (λ a j.
-      each-map RowIn _ (polygonSides (polygonOf (sides m) .corners)) (λ d k. strength-in _ _ _ _ _ (a .at) d (one-pair-each m .pairs a .0 j .0))))
+      each-map RowIn _ (polygonSides (polygonOf (sides m) .corners)) (λ d k. strength-in _ _ _ _ _ (a .at) d (pairs m .exactly a .0 j .0))))

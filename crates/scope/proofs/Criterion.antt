@@ -4,23 +4,20 @@
 -- There cross(v, w)²·|P|² + cross(P, w)·cross(v, P)·|v - w|² = r²·(cross(P, w) + cross(v, P))², so |P|² ≤ R².
 use mathlib.Core.Path.{_≡_, refl, _∙_, ap}
 use mathlib.Core.Logic.{⊎-elim}
-use mathlib.Core.List.{List, [], _∷_, _++_, List·Memᴰ·head, List·Memᴰ·tail, Memᴰ·append-left, Memᴰ·append-right, Memᴰ·cast, Memᴰ·map, Memᴰ·of-map}
-use Prim.Native.Nat.{ℕ, zero-le}
-use native.Mathlib.Omega.{arith}
+use mathlib.Core.List.{List, [], _∷_, _++_, List·Memᴰ·head, List·Memᴰ·tail, Memᴰ·append-left, Memᴰ·append-right}
+use Prim.Native.Nat.{ℕ}
 use lib.IntN.{ℤ, pos, negsuc, _+ℤ_, _-ℤ_, _*ℤ_, negℤ}
-use lib.ListN.{length-map}
 use lib.Signed.{_≤ℤ_, _<ℤ_}
 use Rattle.integer.proofs.Ring.{ring, ring-from, terms}
 use Rattle.integer.proofs.Order.{by-nn, nn-diff, ≤ℤ-trans, ≤ℤ-total, <ℤ→≤ℤ, +ℤ-mono, *ℤ-nonneg, square-nonneg, *ℤ-pos, *ℤ-cancel-≤}
-use Rattle.scope.proofs.Lists.{in-count, of-count, count-length}
 use Rattle.scope.proofs.PolygonRule.{polygon-rule}
 use Rattle.scope.specs.Members.{_∈_}
-use Rattle.scope.specs.Mesh.{nodes, sides, p, q, h, cohesion}
+use Rattle.scope.specs.Mesh.{sides, p, q, h, cohesion}
 use Rattle.scope.specs.Polygon.{Point, point, Polygon, Side, sidesTo, polygonSides, polygonOf}
-use Rattle.scope.specs.Rows.{sx, sy, t, countFrom, Pair, nodeSoil, strengthPairs, cross}
+use Rattle.scope.specs.Rows.{sx, sy, t, Pair, strengthPairs, cross}
 use Rattle.scope.specs.PolygonRule.{OnCircle, OnceAround, PolygonRule}
 use Rattle.scope.specs.Printed.{deviator, MeetsPrinted}
-use Rattle.scope.specs.Criterion.{circleRadius, WithinCriterion, CriterionAt, OnePairEach}
+use Rattle.scope.specs.Criterion.{circleRadius, WithinCriterion, CriterionAt}
 
 -- ---- a side with P between its corners
 
@@ -152,16 +149,3 @@ criterion-of k = let (sides, step, product, rule) = polygon-rule k in criterion 
 pub field-criterion : (m : List ℤ) (s : ℕ → ℤ) (l n : ℤ) → MeetsPrinted m s l n → (a : Pair) → a ∈ strengthPairs m → CriterionAt m s n a
 field-criterion m s l n f a k =
     criterion-of (sides m) (p m (a .soil)) (q m (a .soil)) (h m (a .soil)) (cohesion m (a .soil)) n (s (sx (a .at))) (s (sy (a .at))) (s (t (a .at))) (f .strength a k)
-
-pub one-pair-each : (m : List ℤ) → OnePairEach m
-unfolding strengthPairs
-one-pair-each m = record {
-  count = length-map (countFrom 0 (nodes m)) pairOf ∙ count-length 0 (nodes m);
-  pairs = λ a. (
-    λ k. let (v, j, e) = Memᴰ·of-map pairOf (countFrom 0 (nodes m)) k in let i = of-count 0 (nodes m) j in rw (← e) (omega arith, refl),
-    λ k. Memᴰ·cast (λ i. record { at = a .at; soil = k .1 i }) (Memᴰ·map pairOf (in-count 0 (nodes m) zero-le (omega arith))),
-  );
-}
-  where
-    pairOf : ℕ → Pair
-    pairOf v = record { at = v; soil = nodeSoil m v }

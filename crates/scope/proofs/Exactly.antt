@@ -81,11 +81,27 @@ module _ (m c : List ℤ) where
 
 -- ---- what is returned
 
--- the numbers of lines and meshes: 1 to 13
-abbrev pub Early : ℕ → Type 0
-Early c = (0 < c) × (c ≤ 13)
+-- the numbers of lines, 1 to 13; of a mesh and of lines, with 42 besides; of a claim's parts; of its multipliers
+abbrev pub OfLines : ℕ → Type 0
+OfLines c = (0 < c) × (c ≤ 13)
 
-rule-number : (rs : List Rule) (line : List ℤ) (c : ℕ) → FirstFails (ruleSteps rs line) c → Early c
+abbrev pub OfMesh : ℕ → Type 0
+OfMesh c = (0 < c) × ((c ≤ 13) ⊎ (c ≡ 42))
+
+abbrev pub OfParts : ℕ → Type 0
+OfParts c = (21 ≤ c) × (c ≤ 33)
+
+abbrev pub OfMultipliers : ℕ → Type 0
+OfMultipliers c = (31 ≤ c) × (c ≤ 33)
+
+pub not-of-parts : {X : Type 0} {c : ℕ} → OfMesh c → OfParts c → X
+not-of-parts {X} {c} e h = by (e .1)
+  where
+    by : (c ≤ 13) ⊎ (c ≡ 42) → X
+    by (inl l) = absurd (omega arith)
+    by (inr l) = absurd (omega arith)
+
+rule-number : (rs : List Rule) (line : List ℤ) (c : ℕ) → FirstFails (ruleSteps rs line) c → OfLines c
 unfolding ruleNumber
 rule-number [] line c h = absurd h
 rule-number (rightAngle ∷ rs) line c (inl h) = omega (arith, h .1)
@@ -93,37 +109,40 @@ rule-number (naming cs ∷ rs) line c (inl h) = omega (arith, h .1)
 rule-number (parts ∷ rs) line c (inl h) = omega (arith, h .1)
 rule-number (r ∷ rs) line c (inr h) = rule-number rs line c (h .1)
 
-step-number : (f : Layout) (ns : List ℤ) (k c : ℕ) → Early (f .formNumber) → Early (f .limitNumber) → FirstFails (lineSteps f (groupAt f ns k) (numbersAt f ns k)) c → Early c
+step-number : (f : Layout) (ns : List ℤ) (k c : ℕ) → OfLines (f .formNumber) → OfLines (f .limitNumber) → FirstFails (lineSteps f (groupAt f ns k) (numbersAt f ns k)) c → OfLines c
 step-number f ns k c a b (inl h) = omega (arith, h .1, a)
 step-number f ns k c a b (inr (x, inl h)) = omega (arith, h .1, b)
 step-number f ns k c a b (inr (x, inr (y, h))) = rule-number (groupAt f ns k .rules) (numbersAt f ns k) c h
 
-line-numbers : (Q : ℕ → Place → Type 0) (f : Layout) (ns : List ℤ) → Early (f .formNumber) → Early (f .limitNumber) → ((c : ℕ) (p : Place) → Early c → Q c p) → EachIn Q (linePhases f ns)
+line-numbers : (Q : ℕ → Place → Type 0) (f : Layout) (ns : List ℤ) → OfLines (f .formNumber) → OfLines (f .limitNumber) → ((c : ℕ) (p : Place) → OfMesh c → Q c p) → EachIn Q (linePhases f ns)
 line-numbers Q f ns a b q = (
-  λ k c h l r. q c (Line (suc k)) (step-number f ns k c a b r),
-  λ e. (λ k c h l r. q c _ (subst Early (own-number refl r) a), λ i. tt),
+  λ k c h l r. let s = step-number f ns k c a b r in q c (Line (suc k)) (s .0, inl (s .1)),
+  λ e. (λ k c h l r. let s = subst OfLines (own-number refl r) a in q c _ (s .0, inl (s .1)), λ i. tt),
 )
 
-pub mesh-numbers : (Q : ℕ → Place → Type 0) (m : List ℤ) → ((c : ℕ) (p : Place) → Early c → Q c p) → EachIn Q (meshPhases m)
+pub mesh-numbers : (Q : ℕ → Place → Type 0) (m : List ℤ) → ((c : ℕ) (p : Place) → OfMesh c → Q c p) → EachIn Q (meshPhases m)
 unfolding meshLayout
 mesh-numbers Q m q =
     each-join Q (linePhases meshLayout m) (shapePhases m) (line-numbers Q meshLayout m (omega arith) (omega arith) q) (λ a. (
-      λ k c h l r. q c _ (subst Early (own-number refl r) (omega arith)),
+      λ k c h l r. q c _ (subst OfMesh (own-number refl r) (omega arith, inl (omega arith))),
       λ t. (
-        λ k c h l r. q c _ (subst Early (own-number refl r) (omega arith)),
+        λ k c h l r. q c _ (subst OfMesh (own-number refl r) (omega arith, inl (omega arith))),
         λ s. (
-          λ k c h l r. q c _ (subst Early (own-number refl r) (omega arith)),
-          λ v. (λ k c h l r. q c _ (subst Early (own-number refl r) (omega arith)), λ i. tt),
+          λ k c h l r. q c _ (subst OfMesh (own-number refl r) (omega arith, inl (omega arith))),
+          λ v. (
+            λ k c h l r. q c _ (subst OfMesh (own-number refl r) (omega arith, inl (omega arith))),
+            λ g. (λ k c h l r. q c _ (subst OfMesh (own-number refl r) (omega arith, inr refl)), λ i. tt),
+          ),
         ),
       ),
     ))
 
-pub claim-line-numbers : (Q : ℕ → Place → Type 0) (m c : List ℤ) → ((k : ℕ) (p : Place) → Early k → Q k p) → EachIn Q (linePhases (claimLayout m) c)
+pub claim-line-numbers : (Q : ℕ → Place → Type 0) (m c : List ℤ) → ((k : ℕ) (p : Place) → OfMesh k → Q k p) → EachIn Q (linePhases (claimLayout m) c)
 unfolding claimLayout
 claim-line-numbers Q m c q = line-numbers Q (claimLayout m) c (omega arith) (omega arith) q
 
--- what holds of each early number, of 21 and 22, and of 31 to 33 after them, holds of every refusal
-pub each-number : (Q : ℕ → Place → Type 0) (m c : List ℤ) → ((k : ℕ) (p : Place) → Early k → Q k p) → EachIn Q (fieldPhases (equalityRows m) (strengthRows m) (stress m c) (l c) (n c)) → (AllPass (meshPhases m) → AllPass (linePhases (claimLayout m) c) → AllPass (fieldPart m c) → EachIn Q (multiplierPhases (equalityRows m) (rowsOf m) (3 * nodes m) (multiplier m c))) → EachIn Q (meshPhases m ++ claimPhases m c)
+-- what holds of each number of a mesh or of lines, of 21 and 22, and of 31 to 33 after them, holds of every refusal
+pub each-number : (Q : ℕ → Place → Type 0) (m c : List ℤ) → ((k : ℕ) (p : Place) → OfMesh k → Q k p) → EachIn Q (fieldPhases (equalityRows m) (strengthRows m) (stress m c) (l c) (n c)) → (AllPass (meshPhases m) → AllPass (linePhases (claimLayout m) c) → AllPass (fieldPart m c) → EachIn Q (multiplierPhases (equalityRows m) (rowsOf m) (3 * nodes m) (multiplier m c))) → EachIn Q (meshPhases m ++ claimPhases m c)
 each-number Q m c early field after =
     each-join Q (meshPhases m) (claimPhases m c) (mesh-numbers Q m early) (λ a.
     each-join Q (linePhases (claimLayout m) c) (partPhases m c) (claim-line-numbers Q m c early) (λ b.
@@ -180,15 +199,15 @@ claim-by-parts m c = (
 )
 
 -- a claim that has a field and is refused with 31, 32 or 33 has an accepted field
-pub field-before-multipliers : {m c : List ℤ} {k : ℕ} {p : Place} → Refusal m c k p → 31 ≤ k → HasField c → FieldAccepted m c
+pub field-before-multipliers : {m c : List ℤ} {k : ℕ} {p : Place} → Refusal m c k p → OfMultipliers k → HasField c → FieldAccepted m c
 field-before-multipliers {m} {c} r = each-refusal Q (meshPhases m ++ claimPhases m c) all (r .by)
   where
     Q : ℕ → Place → Type 0
-    Q k p = 31 ≤ k → HasField c → FieldAccepted m c
+    Q k p = OfMultipliers k → HasField c → FieldAccepted m c
 
     all : EachIn Q (meshPhases m ++ claimPhases m c)
     all =
-        each-number Q m c (λ k p e h f. absurd (omega (arith, e .1)))
+        each-number Q m c (λ k p e h f. not-of-parts e (omega (arith, h)))
         (λ k n h l r g f. absurd (omega (arith, own-number {k = 21} refl r)), λ e. (λ k n h l r g f. absurd (omega (arith, own-number {k = 22} refl r)), λ i. tt))
         (λ a b d.
         let accepted : HasField c → FieldAccepted m c = λ f. record { mesh = mesh-sound m a; lines = lines-sound (claimLayout m) c b; there = f; meets = field-part-sound m c d f } in (
@@ -203,11 +222,11 @@ there-most true k = omega arith
 there-most false k = omega arith
 
 -- the phases of an accepted field pass, so a refusal is one of the multipliers
-pub refused-after-field : {m c : List ℤ} {k : ℕ} {p : Place} → FieldAccepted m c → Refusal m c k p → 31 ≤ k
+pub refused-after-field : {m c : List ℤ} {k : ℕ} {p : Place} → FieldAccepted m c → Refusal m c k p → OfMultipliers k
 refused-after-field {m} {c} a r = each-refusal Q (meshPhases m ++ claimPhases m c) all (r .by)
   where
     Q : ℕ → Place → Type 0
-    Q k p = 31 ≤ k
+    Q k p = OfMultipliers k
 
     all : EachIn Q (meshPhases m ++ claimPhases m c)
     all =
@@ -218,10 +237,10 @@ refused-after-field {m} {c} a r = each-refusal Q (meshPhases m ++ claimPhases m 
           λ e. (λ k n h l r. omega (arith, own-number {k = 32} refl r), λ e. (λ k n h l r. omega (arith, own-number {k = 33} refl r), λ i. tt)),
         ))))
 
--- a refusal with 21 or more is one of a claim on a mesh that passes
-pub refused-on-mesh : {m c : List ℤ} {k : ℕ} {p : Place} → Refusal m c k p → 13 < k → MeshSound m
+-- a refusal with 21 to 33 is one of a claim on a mesh that passes
+pub refused-on-mesh : {m c : List ℤ} {k : ℕ} {p : Place} → Refusal m c k p → OfParts k → MeshSound m
 refused-on-mesh {m} {c} {k} {p} r h = by (refused-join (meshPhases m) (claimPhases m c) k p (r .by))
   where
     by : RefusedBy (meshPhases m) k p ⊎ (AllPass (meshPhases m) × RefusedBy (claimPhases m c) k p) → MeshSound m
-    by (inl x) = absurd (omega (arith, each-refusal (λ k p. Early k) (meshPhases m) (mesh-numbers (λ k p. Early k) m (λ k p e. e)) x .1))
+    by (inl x) = not-of-parts (each-refusal (λ k p. OfMesh k) (meshPhases m) (mesh-numbers (λ k p. OfMesh k) m (λ k p e. e)) x) h
     by (inr x) = mesh-sound m (x .0)

@@ -12,6 +12,7 @@ pub mod Exactly
 pub mod PlaceKinds
 pub mod LineRefusals
 pub mod NumberRanges
+pub mod Pairs
 pub mod ClaimNumberRanges
 pub mod PolygonRule
 pub mod Lists

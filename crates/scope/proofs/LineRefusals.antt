@@ -27,15 +27,25 @@ line-of-claim {m} {c} {k} {p} s r = record { by = join-refused (meshPhases m) (c
 
 -- ---- the others, by their number
 
-shape-number : (m : List ℤ) (k : ℕ) (p : Place) → RefusedBy (shapePhases m) k p → (5 ≤ k) × (k ≤ 8)
-shape-number m k p r = each-refusal (λ k p. (5 ≤ k) × (k ≤ 8)) (shapePhases m) all r
+-- 5 to 8, or from 21 on: no number of a file's lines
+abbrev pub NotOfLines : ℕ → Type 0
+NotOfLines k = ((5 ≤ k) × (k ≤ 8)) ⊎ (21 ≤ k)
+
+shape-number : (m : List ℤ) (k : ℕ) (p : Place) → RefusedBy (shapePhases m) k p → NotOfLines k
+shape-number m k p r = each-refusal (λ k p. NotOfLines k) (shapePhases m) all r
   where
-    all : EachIn (λ k p. (5 ≤ k) × (k ≤ 8)) (shapePhases m)
+    all : EachIn (λ k p. NotOfLines k) (shapePhases m)
     all = (
-      λ k c h l r. omega (arith, own-number {k = 5} refl r),
+      λ k c h l r. inl (omega (arith, own-number {k = 5} refl r)),
       λ e. (
-        λ k c h l r. omega (arith, own-number {k = 6} refl r),
-        λ e. (λ k c h l r. omega (arith, own-number {k = 7} refl r), λ e. (λ k c h l r. omega (arith, own-number {k = 8} refl r), λ i. tt)),
+        λ k c h l r. inl (omega (arith, own-number {k = 6} refl r)),
+        λ e. (
+          λ k c h l r. inl (omega (arith, own-number {k = 7} refl r)),
+          λ e. (
+            λ k c h l r. inl (omega (arith, own-number {k = 8} refl r)),
+            λ e. (λ k c h l r. inr (omega (arith, own-number {k = 42} refl r)), λ i. tt),
+          ),
+        ),
       ),
     )
 
@@ -61,14 +71,14 @@ part-number m c k p r = each-refusal Q (partPhases m c) all r
         ))
 
 abbrev pub ByLines : List ℤ → List ℤ → ℕ → Place → Type 0
-ByLines m c k p = LineRefusal meshLayout m k p ⊎ ((MeshSound m × LineRefusal (claimLayout m) c k p) ⊎ (((5 ≤ k) × (k ≤ 8)) ⊎ (21 ≤ k)))
+ByLines m c k p = LineRefusal meshLayout m k p ⊎ ((MeshSound m × LineRefusal (claimLayout m) c k p) ⊎ NotOfLines k)
 
 pub by-lines : {m c : List ℤ} {k : ℕ} {p : Place} → Refusal m c k p → ByLines m c k p
 by-lines {m} {c} {k} {p} r = by (refused-join (meshPhases m) (claimPhases m c) k p (r .by))
   where
     of-mesh : RefusedBy (linePhases meshLayout m) k p ⊎ (AllPass (linePhases meshLayout m) × RefusedBy (shapePhases m) k p) → ByLines m c k p
     of-mesh (inl x) = inl (record { by = x })
-    of-mesh (inr x) = inr (inr (inl (shape-number m k p (x .1))))
+    of-mesh (inr x) = inr (inr (shape-number m k p (x .1)))
 
     of-claim : MeshSound m → RefusedBy (linePhases (claimLayout m) c) k p ⊎ (AllPass (linePhases (claimLayout m) c) × RefusedBy (partPhases m c) k p) → ByLines m c k p
     of-claim s (inl x) = inr (inl (s, record { by = x }))

@@ -3,9 +3,9 @@ use mathlib.Core.Path.{_≡_, refl, sym, _∙_, ap, subst}
 use mathlib.Core.Logic.{⊎-elim}
 use mathlib.Core.List.{List, [], _∷_, _++_, List·Memᴰ·head, List·Memᴰ·tail, List·Memᴰ·append-cases, List·Memᴰ·not-nil, Memᴰ·append-left, Memᴰ·append-right, Memᴰ·of-map, map}
 use Prim.Native.Nat.{ℕ, zero, suc, _+_, _≤_, _<_}
-use native.Mathlib.Nat.{add-zero, zero-add, eq-or-lt-of-le}
+use native.Mathlib.Nat.{add-zero, eq-or-lt-of-le}
 use native.Mathlib.Omega.{arith}
-use lib.ListN.{length, getD, length-map}
+use lib.ListN.{length, getD}
 use Rattle.scope.specs.Members.{_∈_}
 use Rattle.scope.specs.Rows.{Row, countFrom, joined}
 use Rattle.scope.specs.Tests.{rowAt}
@@ -39,6 +39,12 @@ unfolding countFrom
 count-length k zero = refl
 count-length k (suc n) = ap suc (count-length (suc k) n)
 
+-- one more number, at the end
+pub count-last : (k n : ℕ) → countFrom k (suc n) ≡ countFrom k n ++ ((k + n) ∷ [])
+unfolding countFrom
+count-last k zero = ap (λ (i : ℕ). i ∷ []) (sym (add-zero k))
+count-last k (suc n) = ap (λ (l : List ℕ). k ∷ l) (count-last (suc k) n ∙ ap (λ (i : ℕ). countFrom (suc k) n ++ (i ∷ [])) (omega arith))
+
 -- ---- a fact of each element, by how the list is made
 
 module _ {A : Type 0} (P : A → Type 0) where
@@ -71,19 +77,16 @@ at-map f [] k a b h = absurd (omega arith)
 at-map f (c ∷ l) zero a b h = refl
 at-map f (c ∷ l) (suc k) a b h = at-map f l k a b (omega arith)
 
-pub at-each : {A : Type 0} (f : ℕ → A) (n i : ℕ) (d : A) → i < n → getD (map f (countFrom 0 n)) i d ≡ f i
-at-each f n i d h = at-map f (countFrom 0 n) i 0 d (omega (arith, count-length 0 n)) ∙ ap f (at-count 0 n i 0 h ∙ zero-add i)
-
-pub length-each : {A : Type 0} (f : ℕ → A) (n : ℕ) → length (map f (countFrom 0 n)) ≡ n
-length-each f n = length-map (countFrom 0 n) f ∙ count-length 0 n
+pub at-in : {A : Type 0} (l : List A) (d : A) (k : ℕ) → k < length l → getD l k d ∈ l
+at-in [] d k h = absurd (omega arith)
+at-in (a ∷ l) d zero h = List·Memᴰ·head refl
+at-in (a ∷ l) d (suc k) h = List·Memᴰ·tail (at-in l d k (omega arith))
 
 -- ---- rows by their place
 
 pub row-in : (rs : List Row) (k : ℕ) → k < length rs → rowAt rs k ∈ rs
 unfolding rowAt
-row-in [] k h = absurd (omega arith)
-row-in (r ∷ rs) zero h = List·Memᴰ·head refl
-row-in (r ∷ rs) (suc k) h = List·Memᴰ·tail (row-in rs k (omega arith))
+row-in rs k h = at-in rs _ k h
 
 pub by-place : (P : Row → Type 0) (rs : List Row) → ((k : ℕ) → k < length rs → P (rowAt rs k)) → (r : Row) → r ∈ rs → P r
 unfolding rowAt

@@ -1,26 +1,24 @@
--- The laws of what the rows mean: ring identities; the element's area and outward normal by its left turns; a node's soil by a search from the lowest element up.
+-- The laws of what the rows mean: ring identities; the element's area and outward normal by its left turns.
 use mathlib.Core.Path.{_≡_, refl, sym, _∙_, ap, subst}
 use mathlib.Core.Logic.{_↔_, _⊎_, inl, inr, ⊎-elim}
 use mathlib.Core.List.{List, [], _∷_}
 use Prim.Native.Nat.{ℕ, zero, suc, _+_, _%_, _<_}
 use native.Mathlib.Omega.{arith}
 use native.Mathlib.Nat.{eq-or-lt-of-le}
-use lib.Dec.{T-not, lit<}
+use lib.Dec.{lit<}
 use lib.IntN.{ℤ, pos, _+ℤ_, _-ℤ_, _*ℤ_, negℤ, +ℤ-idr}
 use lib.Signed.{_<ℤ_}
 use Rattle.integer.proofs.Ring.{ring, ring-from, sides as both-sides, terms}
 use Rattle.integer.proofs.Order.{by-pos, +ℤ-mono-<, *ℤ-pos, *ℤ-cancel, <ℤ→≤ℤ}
-use Rattle.scope.proofs.Decides.{First, first-where}
-use Rattle.scope.proofs.Statements.{corner-of}
 use Rattle.scope.proofs.Triangles.{Shape, triangle, quadrilateral, shape-of, around-is, turn-at, turn-aab}
-use Rattle.scope.specs.Mesh.{elements, x, y, corner, cornerCount, around, edgeEntry, fromNode, toNode}
+use Rattle.scope.specs.Mesh.{x, y, corner, cornerCount, around, edgeEntry, fromNode, toNode}
 use Rattle.scope.specs.Polygon.{Side}
-use Rattle.scope.specs.Rows.{node, crossAt, twiceArea, stepX, stepY, firstWhere, hasCorner, nodeSoil, cross}
+use Rattle.scope.specs.Rows.{node, crossAt, twiceArea, stepX, stepY, cross}
 use Rattle.scope.specs.Tests.{turn}
 use Rattle.scope.specs.Printed.{deviator}
 use Rattle.scope.specs.Criterion.{circleRadius}
 use Rattle.scope.specs.Statements.{LeftTurns}
-use Rattle.scope.specs.Meaning.{doubledArea, Divergence, Area, Balanced, Tractions, Pressure, Inward, OutwardNormal, SideMeaning, HasCorner, LowestElement}
+use Rattle.scope.specs.Meaning.{doubledArea, Divergence, Area, Balanced, Tractions, Pressure, Inward, OutwardNormal, SideMeaning}
 
 -- ---- balance
 
@@ -163,26 +161,3 @@ side-meaning r s p q h C n sx sy t =
 
     centre : sx ≡ sy → t ≡ pos 0 → deviator r s h sx sy t ≡ pos 0
     centre e f = rw (e, f) (ring (s .from .px ∷ s .from .py ∷ s .to .px ∷ s .to .py ∷ r ∷ h ∷ sy ∷ []) (search terms depth 100) refl)
-
--- ---- a node's soil
-
-pub lowest-element : (m : List ℤ) (v e : ℕ) → e < elements m → HasCorner m v e → LowestElement m v
-unfolding nodeSoil
-lowest-element m v e h c =
-    let first = first-where (hasCorner m v) (elements m) in
-    let there = below (firstWhere (hasCorner m v) (elements m)) first in
-    record {
-      element = firstWhere (hasCorner m v) (elements m);
-      in-mesh = there;
-      has-corner = corner-of m v (firstWhere (hasCorner m v) (elements m)) .holds (first .passes there);
-      lowest = λ k below has. T-not (hasCorner m v k) (first .before k below) (corner-of m v k .passes has);
-      soil = refl;
-    }
-  where
-    below : (k : ℕ) → First (hasCorner m v) (elements m) k → k < elements m
-    below k first =
-        let small = first .fits in
-        ⊎-elim
-        (λ p. absurd (T-not (hasCorner m v e) (first .before e (rw p h)) (corner-of m v e .passes c)))
-        (λ l. l)
-        (eq-or-lt-of-le small)

@@ -25,7 +25,7 @@ use Rattle.scope.specs.AnsweredMesh.{MeshExactly}
 use Rattle.scope.proofs.Checks.{passed-is-not-refused}
 use Rattle.scope.proofs.Phases.{EachIn, each-refusal, each-join, each-part, own-number}
 use Rattle.scope.proofs.Refusals.{mesh-exact}
-use Rattle.scope.proofs.Exactly.{Early, mesh-numbers}
+use Rattle.scope.proofs.Exactly.{OfMesh, mesh-numbers}
 
 -- the place is the one for this number
 abbrev Kind : ℕ → Place → Type 0
@@ -62,7 +62,7 @@ unfolding placeFor meshLayout
 mesh-kinds m =
     each-join Kind (linePhases meshLayout m) (shapePhases m) (line-kinds meshLayout m (λ j. refl) (λ j. refl)) (λ a. (
       λ k c h l r. one-kind refl r,
-      λ e. (λ k c h l r. one-kind refl r, λ e. (λ k c h l r. one-kind refl r, λ e. (λ k c h l r. one-kind refl r, λ i. tt))),
+      λ e. (λ k c h l r. one-kind refl r, λ e. (λ k c h l r. one-kind refl r, λ e. (λ k c h l r. one-kind refl r, λ e. (λ k c h l r. one-kind refl r, λ i. tt)))),
     ))
 
 pub all-kinds : (m c : List ℤ) → EachIn Kind (meshPhases m ++ claimPhases m c)
@@ -88,7 +88,7 @@ mesh-place-kind {m} r = each-refusal Kind (meshPhases m) (mesh-kinds m) (r .by)
 
 pub place-number : (k j : ℕ) → placeNumber (placeFor k j) ≡ j
 unfolding placeFor
-place-number k j = by (eqb k 5 || eqb k 6) (eqb k 7) (eqb k 21 || eqb k 22 || eqb k 31) (eqb k 32 || eqb k 33)
+place-number k j = by (eqb k 5 || eqb k 6) (eqb k 7 || eqb k 42) (eqb k 21 || eqb k 22 || eqb k 31) (eqb k 32 || eqb k 33)
   where
     by : (a b c d : Bool) → placeNumber (cond a (Element j) (cond b (Node j) (cond c (Row j) (cond d (Column j) (Line j))))) ≡ j
     by true b c d = refl
@@ -99,8 +99,8 @@ place-number k j = by (eqb k 5 || eqb k 6) (eqb k 7) (eqb k 21 || eqb k 22 || eq
 
 -- ---- a mesh alone
 
-mesh-early : {m : List ℤ} {k : ℕ} {p : Place} → MeshRefusal m k p → Early k
-mesh-early {m} r = each-refusal (λ k p. Early k) (meshPhases m) (mesh-numbers (λ k p. Early k) m (λ k p e. e)) (r .by)
+of-mesh : {m : List ℤ} {k : ℕ} {p : Place} → MeshRefusal m k p → OfMesh k
+of-mesh {m} r = each-refusal (λ k p. OfMesh k) (meshPhases m) (mesh-numbers (λ k p. OfMesh k) m (λ k p e. e)) (r .by)
 
 pub mesh-exactly : (m : List ℤ) (o : Outcome) → o ≡ meshCheck m → MeshExactly m o
 mesh-exactly m Passed e =
@@ -113,8 +113,8 @@ mesh-exactly m Passed e =
 mesh-exactly m (Refused n p) e =
     let r : MeshRefusal m n p = mesh-exact m .refuses .why n p (sym e) in
     record {
-      passes = (λ z. absurd (omega (arith, mesh-early r .0)), λ s. passed-is-not-refused (sym (mesh-exact m .passes .passed s) ∙ sym e));
-      place-zero = λ z. absurd (omega (arith, mesh-early r .0));
+      passes = (λ z. absurd (omega (arith, of-mesh r .0)), λ s. passed-is-not-refused (sym (mesh-exact m .passes .passed s) ∙ sym e));
+      place-zero = λ z. absurd (omega (arith, of-mesh r .0));
       refuses = λ k j nonzero. (
         λ h. subst₂ (MeshRefusal m) (h .0) (mesh-place-kind r ∙ ap (λ i. placeFor i (placeNumber p)) (h .0) ∙ ap (placeFor k) (h .1)) r,
         λ r. let same : Refused n p ≡ Refused k (placeFor k j) = e ∙ mesh-exact m .refuses .refused k (placeFor k j) r in (ap meshNumberOf same, ap meshPlaceOf same ∙ place-number k j),

@@ -22,7 +22,7 @@ use Rattle.scope.specs.Members.{_∈_}
 use Rattle.scope.specs.Polygon.{Point, point, Polygon, Side, sidesTo, polygonSides, quarterTurn, fourQuadrants, twelve, twenty, thirtySix, polygonOf}
 use Rattle.scope.specs.Rows.{cross}
 use Rattle.scope.specs.Mesh.{mostSides}
-use Rattle.scope.specs.Bounds.{mostRadius, mostStep, mostCross, weightedStep, weightedCross, mostStrengthRows, strengthMultiplier, nodesWith}
+use Rattle.scope.specs.Bounds.{mostRadius, mostStep, mostCross, weightedStep, weightedCross, mostStrengthRows, strengthMultiplier, pairsWith}
 use Rattle.scope.specs.PolygonRule.{OnCircle, OnceAround, stepSize, crossSize, Largest, PolygonRule, PolygonFits, ListedPolygon}
 
 -- ---- tests
@@ -280,7 +280,7 @@ boundsTest sides radius step product =
     && leb product mostCross
     && leb (strengthMultiplier sides * step) weightedStep
     && leb (strengthMultiplier sides * product) weightedCross
-    && leb (nodesWith sides * sides) mostStrengthRows
+    && leb (pairsWith sides * sides) mostStrengthRows
 
 bounded : {g : Polygon} {sides step product : ℕ} (radius : ℕ) → PolygonRule g sides step product → g .radius ≡ pos radius
     → T (boundsTest sides radius step product) → PolygonFits g sides radius step product
@@ -295,7 +295,7 @@ bounded {sides = sides} {step = step} {product = product} radius rule e t = reco
   productFits = leb→le product mostCross (search (and-l, and-r) depth 10);
   stepWeighted = leb→le (strengthMultiplier sides * step) weightedStep (search (and-l, and-r) depth 10);
   productWeighted = leb→le (strengthMultiplier sides * product) weightedCross (search (and-l, and-r) depth 10);
-  rowsFit = leb→le (nodesWith sides * sides) mostStrengthRows (search (and-l, and-r) depth 10);
+  rowsFit = leb→le (pairsWith sides * sides) mostStrengthRows (search (and-l, and-r) depth 10);
 }
 
 pub listed-polygon : (k : ℕ) → (k ≡ 12) ⊎ ((k ≡ 20) ⊎ (k ≡ 36)) → ListedPolygon k

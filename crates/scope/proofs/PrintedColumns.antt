@@ -13,12 +13,12 @@ use Rattle.integer.proofs.Ring.{ring, terms}
 use Rattle.integer.specs.Tests.{eqZ}
 use Rattle.scope.specs.Mesh.{nodes, elements, edges, sides, edgeEntry, fromNode, toNode}
 use Rattle.scope.specs.Polygon.{polygonOf}
-use Rattle.scope.specs.Rows.{asked, unfixed, strength, Row, sx, sy, t, balanceX, balanceY, normalRow, shearRow, fixedIf, equalityRows, rowsOf}
+use Rattle.scope.specs.Rows.{asked, unfixed, strength, Row, sx, sy, t, pairCount, pairAt, balanceX, balanceY, normalRow, shearRow, fixedIf, equalityRows, rowsOf}
 use Rattle.scope.specs.Sums.{weightedSum, leftSide, rightSide, weighed, unit, coefficient, columnSum, liveSum, limitSum}
 use Rattle.scope.specs.Statements.{NoneOnUnfixed}
-use Rattle.scope.specs.RowNumbers.{sideAt, pairOf}
+use Rattle.scope.specs.RowNumbers.{sideAt}
 use Rattle.scope.specs.Printed.{FixesNormal, FixesShear}
-use Rattle.scope.specs.PrintedColumns.{lessX, lessY, lessNormal, lessShear, lessStrength, sumBelow, ofElement, ofEdge, ofNode, weighedRows, ColumnsPrinted, MultipliersAsPrinted, MultipliersPrinted}
+use Rattle.scope.specs.PrintedColumns.{lessX, lessY, lessNormal, lessShear, lessStrength, sumBelow, ofElement, ofEdge, ofPair, weighedRows, ColumnsPrinted, MultipliersAsPrinted, MultipliersPrinted}
 use Rattle.scope.proofs.Decides.{Decides, either, equalℤ}
 use Rattle.scope.proofs.Weighted.{weighted-same, weighted-zero, weighted-multiple}
 use Rattle.scope.proofs.Printed.{rows-printed}
@@ -82,25 +82,25 @@ module _ (m : List ℤ) (listed : (sides m ≡ 12) ⊎ ((sides m ≡ 20) ⊎ (si
   edge-term g i h k =
       ap (λ (r : Row). w (elements m * 2 + (g * 4 + i)) *ℤ less r) (equality-among m (elements m * 2 + (g * 4 + i)) (omega arith) ∙ side-at m g i h k)
 
-  node-term : (v k : ℕ) → v < nodes m → k < sides m → term (elements m * 2 + edges m * 4 + (v * sides m + k)) ≡ ofNode m w v k *ℤ lessStrength m s l n (pairOf m v) (sideAt (polygonOf (sides m)) k)
+  pair-term : (a k : ℕ) → a < pairCount m → k < sides m → term (elements m * 2 + edges m * 4 + (a * sides m + k)) ≡ ofPair m w a k *ℤ lessStrength m s l n (pairAt m a) (sideAt (polygonOf (sides m)) k)
   unfolding term less
-  node-term v k h j =
-      ap (λ (r : Row). w (elements m * 2 + edges m * 4 + (v * sides m + k)) *ℤ less r) (strength-among m (v * sides m + k) ∙ strength-at m listed v k h j)
-      ∙ ap (λ z. w (elements m * 2 + edges m * 4 + (v * sides m + k)) *ℤ z) (rows-printed m s l n .strength (pairOf m v) (sideAt (polygonOf (sides m)) k))
+  pair-term a k h j =
+      ap (λ (r : Row). w (elements m * 2 + edges m * 4 + (a * sides m + k)) *ℤ less r) (strength-among m (a * sides m + k) ∙ strength-at m listed a k h j)
+      ∙ ap (λ z. w (elements m * 2 + edges m * 4 + (a * sides m + k)) *ℤ z) (rows-printed m s l n .strength (pairAt m a) (sideAt (polygonOf (sides m)) k))
 
   pub weighed-rows : weightedSum (λ r. leftSide s l r -ℤ rightSide n r) (weighed w (rowsOf m)) ≡ weighedRows m w s l n
   unfolding weighedRows sumBelow term less rowAt
   weighed-rows =
       by-number less w (rowsOf m)
       ∙ ap (sumBelow term) (row-count m listed)
-      ∙ sum-add term (elements m * 2 + edges m * 4) (nodes m * sides m)
+      ∙ sum-add term (elements m * 2 + edges m * 4) (pairCount m * sides m)
       ∙ ap₂ _+ℤ_
       (sum-add term (elements m * 2) (edges m * 4)
       ∙ ap₂ _+ℤ_
       (sum-pieces term 2 (elements m) ∙ sum-same _ _ (elements m) of-element)
       (sum-pieces (λ k. term (elements m * 2 + k)) 4 (edges m) ∙ sum-same _ _ (edges m) of-edge))
-      (sum-pieces (λ k. term (elements m * 2 + edges m * 4 + k)) (sides m) (nodes m)
-      ∙ sum-same _ _ (nodes m) (λ v h. sum-same _ _ (sides m) (λ k j. node-term v k h j)))
+      (sum-pieces (λ k. term (elements m * 2 + edges m * 4 + k)) (sides m) (pairCount m)
+      ∙ sum-same _ _ (pairCount m) (λ a h. sum-same _ _ (sides m) (λ k j. pair-term a k h j)))
     where
       of-element : (e : ℕ) → e < elements m → sumBelow (λ i. term (e * 2 + i)) 2 ≡ ofElement m w e 0 *ℤ lessX m s l n e +ℤ ofElement m w e 1 *ℤ lessY m s l n e
       of-element e h =

@@ -13,13 +13,13 @@ use Rattle.scope.specs.Mesh.{elements, sides, fromNode, toNode}
 use Rattle.scope.specs.Polygon.{polygonOf}
 use Rattle.scope.specs.Claim.{stress}
 use Rattle.scope.specs.Rows as R
-use Rattle.scope.specs.Rows.{equalityRows, strengthRows}
+use Rattle.scope.specs.Rows.{pairAt, equalityRows, strengthRows}
 use Rattle.scope.specs.Meets.{RowMet}
 use Rattle.scope.specs.Refusals.{meshPhases, claimPhases, Refusal}
-use Rattle.scope.specs.RowNumbers.{rowNumbered, sideNumbered, pairOf, RowNumbers}
+use Rattle.scope.specs.RowNumbers.{rowNumbered, sideNumbered, RowNumbers}
 use Rattle.scope.specs.RefusedRows.{EqualityFails, StrengthFails}
 use Rattle.scope.proofs.Phases.{EachIn, each-refusal, own-number}
-use Rattle.scope.proofs.Exactly.{each-number, refused-on-mesh}
+use Rattle.scope.proofs.Exactly.{OfParts, not-of-parts, each-number, refused-on-mesh}
 use Rattle.scope.proofs.NumberRanges.{mesh-facts}
 use Rattle.scope.proofs.Printed.{balance-x, balance-y, normal, shear, strength}
 use Rattle.scope.proofs.RowNumbers.{row-numbers}
@@ -40,7 +40,7 @@ module _ (m c : List ℤ) where
   all : EachIn Q (meshPhases m ++ claimPhases m c)
   unfolding Q met
   all =
-      each-number Q m c (λ k p e. (λ z. absurd (omega (arith, e .1)), λ z. absurd (omega (arith, e .1)))) (
+      each-number Q m c (λ k p e. (λ z. not-of-parts e (omega arith), λ z. not-of-parts e (omega arith))) (
         λ k i h b r. (λ z. here (equalityRows m) k r, λ z. absurd (omega (arith, own-number {k = 21} refl r))),
         λ e. (λ k i h b r. (λ z. absurd (omega (arith, own-number {k = 22} refl r)), λ z. here (strengthRows m) k r), λ i. tt),
       )
@@ -61,7 +61,7 @@ module _ (m c : List ℤ) where
 
   module _ (place : ℕ) where
     -- a mesh whose claim's rows are looked at has 12, 20 or 36 sides
-    numbers : {k : ℕ} → Refusal m c k (Row place) → 13 < k → RowNumbers m
+    numbers : {k : ℕ} → Refusal m c k (Row place) → OfParts k → RowNumbers m
     numbers r h = row-numbers m (mesh-facts m (refused-on-mesh r h .lines) .counts .sidesListed)
 
     pub equality-fails : Refusal m c 21 (Row place) → EqualityFails m c place
@@ -84,5 +84,5 @@ module _ (m c : List ℤ) where
         let f = refused r .1 refl in
         let by = numbers r (omega arith) in
         record {
-          strength = λ v k h j d g. row-fails (strengthRows m) place (v * sides m + suc k) f (by .strength v k h j) d (strength m (stress m c) (l c) (n c) (polygonOf (sides m) .radius) (pairOf m v) (sideNumbered (polygonOf (sides m)) (suc k)) .1 g);
+          strength = λ a k h j d g. row-fails (strengthRows m) place (a * sides m + suc k) f (by .strength a k h j) d (strength m (stress m c) (l c) (n c) (polygonOf (sides m) .radius) (pairAt m a) (sideNumbered (polygonOf (sides m)) (suc k)) .1 g);
         }

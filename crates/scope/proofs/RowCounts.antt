@@ -10,9 +10,9 @@ use lib.IntN.{ℤ, pos}
 use lib.ListN.{length, length-append, length-map}
 use Rattle.integer.specs.Tests.{eqZ}
 use Rattle.scope.specs.Members.{_∈_}
-use Rattle.scope.specs.Mesh.{nodes, elements, edges, sides, edgeEntry, equalityCount}
+use Rattle.scope.specs.Mesh.{elements, edges, sides, edgeEntry, equalityCount}
 use Rattle.scope.specs.Polygon.{Point, sidesTo, polygonSides, polygonOf}
-use Rattle.scope.specs.Rows.{Kind, asked, unfixed, strength, Row, countFrom, joined, balanceX, balanceY, balanceRows, fixedIf, normalRow, shearRow, sideRows, strengthPairs, strengthRow, pairRows, strengthRows, equalityRows}
+use Rattle.scope.specs.Rows.{Kind, asked, unfixed, strength, Row, countFrom, joined, balanceX, balanceY, balanceRows, fixedIf, normalRow, shearRow, sideRows, strengthPairs, pairCount, strengthRow, pairRows, strengthRows, equalityRows}
 use Rattle.scope.proofs.Lists.{count-length, each-nil, each-cons, each-++, each-map, each-joined}
 use Rattle.scope.proofs.PolygonRule.{listed-polygon}
 
@@ -83,11 +83,10 @@ side-of-each (v ∷ vs) = sides-to v v vs
 pub polygon-sides : (k : ℕ) → (k ≡ 12) ⊎ ((k ≡ 20) ⊎ (k ≡ 36)) → length (polygonSides (polygonOf k .corners)) ≡ k
 polygon-sides k h = side-of-each (polygonOf k .corners) ∙ listed-polygon k h .fits .rule .count
 
-pub strength-count : (m : List ℤ) → (sides m ≡ 12) ⊎ ((sides m ≡ 20) ⊎ (sides m ≡ 36)) → length (strengthRows m) ≡ nodes m * sides m
-unfolding strengthRows pairRows strengthPairs
+pub strength-count : (m : List ℤ) → (sides m ≡ 12) ⊎ ((sides m ≡ 20) ⊎ (sides m ≡ 36)) → length (strengthRows m) ≡ pairCount m * sides m
+unfolding strengthRows pairRows pairCount
 strength-count m h =
     length-joined (pairRows (polygonOf (sides m)) m) (sides m) (strengthPairs m) (λ a i. length-map (polygonSides (polygonOf (sides m) .corners)) _ ∙ polygon-sides (sides m) h)
-    ∙ ap (λ (k : ℕ). k * sides m) (length-map (countFrom 0 (nodes m)) _ ∙ count-length 0 (nodes m))
 
 pub strength-kind : (m : List ℤ) (r : Row) → r ∈ strengthRows m → r .kind ≡ strength
 unfolding strengthRows pairRows strengthRow

@@ -8,12 +8,12 @@ use native.Mathlib.Omega.{arith}
 use lib.IntN.{ℤ}
 use lib.ListN.{length, getD, length-append, length-map, List·getD-append}
 use lib.Seq.{getD-append-add}
-use Rattle.scope.specs.Mesh.{nodes, elements, edges, sides, fromNode, toNode}
+use Rattle.scope.specs.Mesh.{elements, edges, sides, fromNode, toNode}
 use Rattle.scope.specs.Polygon.{polygonSides, polygonOf}
-use Rattle.scope.specs.Rows.{Row, Pair, countFrom, joined, balanceX, balanceY, balanceRows, normalRow, shearRow, sideRows, strengthPairs, pairRows, strengthRows, equalityRows, rowsOf}
-use Rattle.scope.specs.RowNumbers.{sideAt, pairRow, pairOf, RowNumbers}
+use Rattle.scope.specs.Rows.{Row, Pair, countFrom, joined, balanceX, balanceY, balanceRows, normalRow, shearRow, sideRows, strengthPairs, pairCount, pairAt, pairRows, strengthRows, equalityRows, rowsOf}
+use Rattle.scope.specs.RowNumbers.{sideAt, pairRow, RowNumbers}
 use Rattle.scope.proofs.RowCounts.{balance-count, equality-count, polygon-sides, strength-count}
-use Rattle.scope.proofs.Lists.{count-length, at-count, at-map, at-each, length-each}
+use Rattle.scope.proofs.Lists.{count-length, at-count, at-map}
 use Rattle.scope.specs.Tests.{rowAt}
 
 -- ---- pieces
@@ -85,22 +85,14 @@ module _ (m : List ℤ) (listed : (sides m ≡ 12) ⊎ ((sides m ≡ 20) ⊎ (si
   unfolding pairRows
   length-pair a = length-map (polygonSides (polygonOf (sides m) .corners)) _ ∙ polygon-sides (sides m) listed
 
-  pair-count : length (strengthPairs m) ≡ nodes m
-  unfolding strengthPairs
-  pair-count = length-each _ (nodes m)
-
-  pair-at : (v : ℕ) (d : Pair) → v < nodes m → getD (strengthPairs m) v d ≡ pairOf m v
-  unfolding strengthPairs
-  pair-at v d l = at-each (λ v. pairOf m v) (nodes m) v d l
-
-  pub strength-at : (v k : ℕ) → v < nodes m → k < sides m → rowAt (strengthRows m) (v * sides m + k) ≡ pairRow m (pairOf m v) (sideAt (polygonOf (sides m)) k)
-  unfolding strengthRows rowAt sideAt pairRows
-  strength-at v k l j =
-      at-joined (pairRows (polygonOf (sides m)) m) (sides m) length-pair (strengthPairs m) (record { at = 0; soil = 0 }) _ v k (omega (arith, pair-count)) j
-      ∙ ap (λ a. rowAt (pairRows (polygonOf (sides m)) m a) k) (pair-at v (record { at = 0; soil = 0 }) l)
+  -- row k of pair a
+  pub strength-at : (a k : ℕ) → a < pairCount m → k < sides m → rowAt (strengthRows m) (a * sides m + k) ≡ pairRow m (pairAt m a) (sideAt (polygonOf (sides m)) k)
+  unfolding strengthRows rowAt sideAt pairRows pairCount pairAt
+  strength-at a k l j =
+      at-joined (pairRows (polygonOf (sides m)) m) (sides m) length-pair (strengthPairs m) (record { at = 0; soil = 0 }) _ a k l j
       ∙ at-map _ (polygonSides (polygonOf (sides m) .corners)) k _ _ (omega (arith, polygon-sides (sides m) listed))
 
-  pub row-count : length (rowsOf m) ≡ elements m * 2 + edges m * 4 + nodes m * sides m
+  pub row-count : length (rowsOf m) ≡ elements m * 2 + edges m * 4 + pairCount m * sides m
   unfolding rowsOf
   row-count = length-append (equalityRows m) (strengthRows m) ∙ ap₂ _+_ (equality-count m) (strength-count m listed)
 
@@ -114,7 +106,7 @@ module _ (m : List ℤ) (listed : (sides m ≡ 12) ⊎ ((sides m ≡ 20) ⊎ (si
     normal-to = λ g h. ap (rowAt (equalityRows m)) (omega arith) ∙ side-at m g 2 h (omega arith);
     shear-to = λ g h. ap (rowAt (equalityRows m)) (omega arith) ∙ side-at m g 3 h (omega arith);
     equalities = equality-count m ∙ omega arith;
-    strength = λ v k h j. ap (rowAt (strengthRows m)) (omega arith) ∙ strength-at v k h j ∙ ap (λ i. pairRow m (pairOf m v) (sideAt (polygonOf (sides m)) i)) (omega arith);
+    strength = λ a k h j. ap (rowAt (strengthRows m)) (omega arith) ∙ strength-at a k h j ∙ ap (λ i. pairRow m (pairAt m a) (sideAt (polygonOf (sides m)) i)) (omega arith);
     strengths = strength-count m listed;
     equality-first = λ k h. ap (rowAt (rowsOf m)) (less k) ∙ equality-among m k (omega arith) ∙ ap (rowAt (equalityRows m)) (sym (less k));
     strength-after = λ k. ap (rowAt (rowsOf m)) (omega arith) ∙ strength-among m k ∙ ap (rowAt (strengthRows m)) (sym (less k));

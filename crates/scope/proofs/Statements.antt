@@ -10,15 +10,16 @@ use Rattle.integer.specs.Tests.{eqZ}
 use Rattle.scope.specs.declared.Place.the-variants.{Row}
 use Rattle.scope.specs.Checks.{someBelow}
 use Rattle.scope.specs.Columns.{Limit, between, oneOf, free, isOneOf, within, allWithin, Rule, rightAngle, naming, parts, names, allNamed, at, hasField, hasMultipliers, n, l, ruleTest}
-use Rattle.scope.specs.Mesh.{elements, corner, cornerCount, around, fromNode, toNode}
+use Rattle.scope.specs.Mesh.{elements, corner, cornerCount, around, elementSoil, fromNode, toNode}
 use Rattle.scope.specs.Rows as R
-use Rattle.scope.specs.Rows.{hasCorner}
+use Rattle.scope.specs.Rows.{hasCorner, hasSoil}
 use Rattle.scope.specs.Sums.{rowHolds, zeroIfUnfixed}
-use Rattle.scope.specs.Statements.{OneOf, Within, AllWithin, AllNamed, PartsFit, Says, LeftTurns, SideAt, OwnSides, InElement, IsSide, OuterEdge, NoneOnUnfixed}
+use Rattle.scope.specs.Statements.{OneOf, Within, AllWithin, AllNamed, PartsFit, Says, LeftTurns, SideAt, OwnSides, InElement, IsSide, OuterEdge, PairsFit, NoneOnUnfixed}
+use Rattle.scope.specs.Pairs.{SoilAround}
 use Rattle.scope.specs.Meets.{RowMet}
 use Rattle.scope.proofs.Meets.{row-holds}
-use Rattle.scope.proofs.Decides.{Decides, both, either, opposite, said-as, equal, equalℤ, at-mostℤ, belowℤ, some-below, all-below}
-use Rattle.scope.specs.Tests.{turn, leftTurnAt, leftTurns, hasSide, ownSideAt, ownSides, inElement, hasEnds, outerEdge}
+use Rattle.scope.proofs.Decides.{Decides, both, either, opposite, said-as, equal, at-most, equalℤ, at-mostℤ, belowℤ, some-below, all-below}
+use Rattle.scope.specs.Tests.{turn, leftTurnAt, leftTurns, hasSide, ownSideAt, ownSides, inElement, hasEnds, outerEdge, pairsFit}
 
 -- ---- lines
 
@@ -125,6 +126,17 @@ outer-edge m g =
     (opposite (some-below (λ k. both (equal (fromNode m k) (fromNode m g)) (equal (toNode m k) (toNode m g))) g)))
     (λ h. record { isSide = h .0 .0; isOuter = h .0 .1; isFirst = λ k l s. h .1 (k, l, s) })
     (λ h. ((h .isSide, h .isOuter), λ s. h .isFirst (s .0) (s .1) (s .2)))
+
+pub soil-around : (m : List ℤ) (v s : ℕ) → Decides (hasSoil m v s) (SoilAround m v s)
+unfolding hasSoil
+soil-around m v s =
+    said-as (some-below (λ e. both (corner-of m v e) (equal (elementSoil m e) s)) (elements m))
+    (λ h. record { element = h .0; there = h .1; has-corner = h .2 .0; same = h .2 .1 })
+    (λ h. (h .element, h .there, (h .has-corner, h .same)))
+
+pub pairs-fit : (m : List ℤ) (v : ℕ) → Decides (pairsFit m v) (PairsFit m v)
+unfolding pairsFit
+pairs-fit m v = at-most _ _
 
 -- ---- the parts
 

@@ -14,9 +14,9 @@ use Rattle.integer.proofs.Ring.{ring, terms}
 use Rattle.integer.specs.Sum.{sumOf}
 use Rattle.integer.proofs.SumLaws.{sumOf-++}
 use Rattle.scope.specs.Members.{_∈_}
-use Rattle.scope.specs.Mesh.{nodes, elements, soils, edges, sides, deadX, deadY, soilEntry, x, y, corner, elementSoil, edgeEntry, fromNode, toNode, equalityCount}
+use Rattle.scope.specs.Mesh.{nodes, elements, edges, sides, deadX, deadY, soilEntry, x, y, corner, elementSoil, edgeEntry, fromNode, toNode, equalityCount}
 use Rattle.scope.specs.Polygon.{Side, polygonSides, polygonOf}
-use Rattle.scope.specs.Rows.{Row, Pair, countFrom, node, crossAt, riseAcross, runAcross, twiceArea, balanceX, balanceY, balanceRows, stepX, stepY, stepSquare, normalRow, shearRow, sideRows, nodeSoil, strengthPairs, cross, strengthRow, pairRows, strengthRows, equalityRows, rowsOf}
+use Rattle.scope.specs.Rows.{Row, countFrom, node, crossAt, riseAcross, runAcross, twiceArea, balanceX, balanceY, balanceRows, stepX, stepY, stepSquare, normalRow, shearRow, sideRows, strengthPairs, pairCount, cross, strengthRow, pairRows, strengthRows, equalityRows, rowsOf}
 use Rattle.scope.specs.Bounds.{mostCoordinate, mostForce, mostTraction, mostMultiplier, strengthMultiplier, mostArea, balanceRight, mostBalanceRows, mostSquare, sideRight, mostSideRows, weightedCross, twiceStrength, strengthSum, mostStrengthRows}
 use Rattle.scope.specs.PolygonRule.{ListedPolygon}
 use Rattle.scope.specs.Sums.{weightedSum, weighed, limitSum}
@@ -24,9 +24,8 @@ use Rattle.scope.specs.Claim.{multiplier}
 use Rattle.scope.specs.Statements.{MeshSound, HasMultipliers}
 use Rattle.scope.specs.NumberRanges.{Between, MeshFacts, ClaimFacts}
 use Rattle.scope.proofs.Lists.{of-count, each-nil, each-cons, each-map, each-joined}
-use Rattle.scope.proofs.Criterion.{one-pair-each}
 use Rattle.scope.proofs.NumberRanges.{mesh-facts}
-use Rattle.scope.proofs.Meaning.{lowest-element}
+use Rattle.scope.proofs.Pairs.{pairs, few-pairs}
 use Rattle.scope.proofs.RowCounts.{balance-count, side-count, equality-count, strength-count}
 use Rattle.scope.proofs.PolygonRule.{listed-polygon}
 
@@ -126,19 +125,16 @@ module _ (m : List ℤ) (f : MeshFacts m) where
       P : Row → Type 0
       P r = Right sideRight r
 
-  strength-right : (g : ListedPolygon (sides m)) → ((v : ℕ) → v < nodes m → nodeSoil m v < soils m) → (r : Row) → r ∈ strengthRows m → Right (g .product * twiceStrength) r
+  strength-right : (g : ListedPolygon (sides m)) → (r : Row) → r ∈ strengthRows m → Right (g .product * twiceStrength) r
   unfolding strengthRows pairRows strengthRow
-  strength-right g there =
+  strength-right g =
       each-joined P _ (strengthPairs m) (λ a i.
       each-map P _ (polygonSides (polygonOf (sides m) .corners)) (λ d j.
-      let s = f .soil (a .soil) (soil-there a i) in
+      let s = f .soil (a .soil) (pairs m .exactly a .0 i .1) in
       Within-*ℤ (cross-bound g d j) (Within-*ℤ (Within-*ℤ (Within-pos 2) (from-0 (s .qRange))) (from-0 (s .cohesionRange)))))
     where
       P : Row → Type 0
       P r = Right (g .product * twiceStrength) r
-
-      soil-there : (a : Pair) → a ∈ strengthPairs m → a .soil < soils m
-      soil-there a i = let (n, e) = one-pair-each m .pairs a .0 i in rw e (there (a .at) n)
 
 -- ---- sums
 
@@ -162,13 +158,6 @@ rows-bound Y B w (r ∷ rs) a b =
 limit-++ : (w : ℕ → ℤ) (rs ss : List Row) → limitSum w (rs ++ ss) ≡ limitSum w rs +ℤ limitSum (λ k. w (length rs + k)) ss
 unfolding limitSum weightedSum
 limit-++ w rs ss = ap (sumOf (λ p. p .0 *ℤ p .1 .right)) (weighed-++ w rs ss) ∙ sumOf-++ (λ p. p .0 *ℤ p .1 .right) (weighed w rs) (weighed (λ k. w (length rs + k)) ss)
-
--- the soil of a node is one of the mesh's
-pub soil-there : (m : List ℤ) → MeshSound m → (v : ℕ) → v < nodes m → nodeSoil m v < soils m
-soil-there m s v k =
-    let i = s .inElement v k in
-    let low = lowest-element m v (i .element) (i .there) (i .place, i .four, i .same) in
-    rw (low .soil) (mesh-facts m (s .lines) .element (low .element) (low .in-mesh) .soilThere)
 
 -- a largest cross product with its largest multiplier, times 2qC
 weighted : (g n : ℕ) → g * n ≤ weightedCross → g * (n * twiceStrength) ≤ strengthSum
@@ -218,10 +207,10 @@ limit-bound m c s k t =
     few : length (strengthRows m) ≤ mostStrengthRows
     few =
         omega
-        (arith, strength-count m (f .counts .sidesListed), mul-le-mul-right (sides m) (f .counts .nodesMost), g .fits .rowsFit)
+        (arith, strength-count m (f .counts .sidesListed), mul-le-mul-right (sides m) (few-pairs m s), g .fits .rowsFit)
 
     strengths : Within (mostStrengthRows * strengthSum) (limitSum (λ i. w (length (equalityRows m) + i)) (strengthRows m))
     strengths =
         Within-le
-        (rows-bound (strengthMultiplier (sides m)) (g .product * twiceStrength) (λ i. w (length (equalityRows m) + i)) (strengthRows m) strength (strength-right m f g (soil-there m s)))
+        (rows-bound (strengthMultiplier (sides m)) (g .product * twiceStrength) (λ i. w (length (equalityRows m) + i)) (strengthRows m) strength (strength-right m f g))
         (mul-le-mul few (weighted (strengthMultiplier (sides m)) (g .product) (g .fits .productWeighted)))

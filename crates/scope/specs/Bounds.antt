@@ -1,9 +1,9 @@
 -- How large the numbers of rows and of sums can be: one name for each limit of the two files, and each bound as an
 -- expression over them, by kind of row.
 -- The largest radius, step and cross product leave room for document 02, N9: "all whole-number points on the circle of
--- radius 1105", "at most 40 nodes", "its strength multipliers are at most 300".
+-- radius 1105", "at most 40 nodes and 40 node-and-soil pairs", "its strength multipliers are at most 300".
 use Prim.Native.Nat.{ℕ, _+_, _*_, _^_}
-use Rattle.scope.specs.Mesh.{mostNodes, mostElements, mostEdges, mostSides, elementRows, edgeRows, mostEqualityRows}
+use Rattle.scope.specs.Mesh.{mostPairs, mostElements, mostEdges, mostSides, elementRows, edgeRows, mostEqualityRows}
 
 -- ---- limits (document 01, 'The two files')
 
@@ -42,9 +42,9 @@ mostMultiplier = 100000
 abbrev pub strengthMultiplier : ℕ → ℕ
 strengthMultiplier sides = 10000
 
--- the most nodes of a mesh with so many sides
-abbrev pub nodesWith : ℕ → ℕ
-nodesWith sides = mostNodes
+-- the most pairs of a node and a soil of a mesh with so many sides
+abbrev pub pairsWith : ℕ → ℕ
+pairsWith sides = mostPairs
 
 -- ---- polygons: the largest radius, step (c - a or d - b) and cross product (ad - bc)
 
@@ -65,7 +65,7 @@ weightedStep = 10000 * 16
 abbrev pub weightedCross : ℕ
 weightedCross = 300 * mostCross
 
--- strength rows: 36 for each of 100 nodes, or 108 for each of 40
+-- strength rows: 36 for each of 100 pairs, or 108 for each of 40
 abbrev pub mostStrengthRows : ℕ
 mostStrengthRows = 40 * 108
 
@@ -144,9 +144,9 @@ strengthSum = twiceStrength * weightedCross
 
 -- ---- sums over all rows
 
--- what a node's rows add to a column
-abbrev pub nodeColumn : ℕ
-nodeColumn = mostSides * strengthColumn
+-- what a pair's rows add to a column
+abbrev pub pairColumn : ℕ
+pairColumn = mostSides * strengthColumn
 
 abbrev pub equalityColumns : ℕ
 equalityColumns = mostEqualityRows * equalityColumn
@@ -156,7 +156,7 @@ equalitySums = mostEqualityRows * equalitySum
 
 -- a column, and W or m
 abbrev pub mostColumn : ℕ
-mostColumn = equalityColumns + mostNodes * (3 * nodeColumn)
+mostColumn = equalityColumns + mostPairs * (3 * pairColumn)
 
 abbrev pub mostSum : ℕ
 mostSum = equalitySums + mostStrengthRows * strengthSum

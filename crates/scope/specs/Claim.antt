@@ -7,6 +7,7 @@ use lib.ListN.{replicate}
 use Rattle.scope.specs.Columns.{between, upTo, parts, at, hasField, hasMultipliers}
 use Rattle.scope.specs.Layout.{Group, Layout, groups, numbersBefore}
 use Rattle.scope.specs.Mesh.{nodes, elements, edges, sides, elementRows, edgeRows}
+use Rattle.scope.specs.Rows.{pairCount}
 
 -- "Header: field there (0 or 1), multipliers there (0 or 1), n 0 to 100,000, l within ±100,000,000"
 unfoldable pub claimHeader : Group
@@ -37,6 +38,7 @@ unfoldable pub stressLines : ℕ → Group
 stressLines k = record { lines = k; limits = replicate stressColumns (upTo 1000000000); rules = [] }
 
 -- "With multipliers: for each element 2, for each edge 4, within ±100,000; then for each node a line of as many as there are sides, 0 to 10,000"
+-- "multiplier lines are numbered by node-and-soil pairs" (document 02, N2): a line for each pair
 unfoldable pub elementMultipliers : ℕ → Group
 elementMultipliers k = record { lines = k; limits = replicate elementRows (upTo 100000); rules = [] }
 
@@ -56,7 +58,7 @@ claimLayout m = record {
       stressLines (ifThere (hasField c) (nodes m))
       ∷ elementMultipliers (ifThere (hasMultipliers c) (elements m))
       ∷ edgeMultipliers (ifThere (hasMultipliers c) (edges m))
-      ∷ strengthMultipliers (ifThere (hasMultipliers c) (nodes m)) (sides m)
+      ∷ strengthMultipliers (ifThere (hasMultipliers c) (pairCount m)) (sides m)
       ∷ [];
 }
 

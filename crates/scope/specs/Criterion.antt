@@ -3,17 +3,14 @@
 -- Here sin φ = p/h, cos φ = q/h, c = C, and "True stresses are these over n": σx = sx/n, σy = sy/n, τ = t/n.
 -- Times (h·n)², the left side is h²·((sx - sy)² + (2t)²) and the right side is the square of 2·q·C·n - p·(sx + sy).
 -- The square hides a sign: the criterion's circle has the radius 2·c·cos φ - (σx + σy)·sin φ, which is not below 0.
-use mathlib.Core.Path.{_≡_}
-use mathlib.Core.Logic.{_↔_}
 use mathlib.Core.List.{List}
-use Prim.Native.Nat.{ℕ, _<_}
+use Prim.Native.Nat.{ℕ}
 use lib.IntN.{ℤ, pos, _+ℤ_, _-ℤ_, _*ℤ_}
 use lib.Signed.{_≤ℤ_}
-use lib.ListN.{length}
 use Rattle.scope.specs.Members.{_∈_}
-use Rattle.scope.specs.Mesh.{nodes, p, q, h, cohesion}
+use Rattle.scope.specs.Mesh.{p, q, h, cohesion}
 use Rattle.scope.specs.Polygon.{Polygon, Side, polygonSides}
-use Rattle.scope.specs.Rows.{sx, sy, t, Pair, nodeSoil, strengthPairs}
+use Rattle.scope.specs.Rows.{sx, sy, t, Pair}
 use Rattle.scope.specs.Printed.{Strength}
 
 -- h·n times that radius, from 001 and not from the rows: a slip in theirs must not be one here
@@ -33,8 +30,3 @@ WithinCriterion g =
 abbrev pub CriterionAt : List ℤ → (ℕ → ℤ) → ℤ → Pair → Type 0
 CriterionAt m s n a =
     Criterion (p m (a .soil)) (q m (a .soil)) (h m (a .soil)) (cohesion m (a .soil)) n (s (sx (a .at))) (s (sy (a .at))) (s (t (a .at)))
-
--- each node stands in one pair, with the soil that document 01 gives it
-pub record OnePairEach (m : List ℤ) : Type 0 where
-  pub count : length (strengthPairs m) ≡ nodes m
-  pub pairs : (a : Pair) → (a ∈ strengthPairs m) ↔ ((a .at < nodes m) × (a .soil ≡ nodeSoil m (a .at)))

@@ -5,9 +5,9 @@ use mathlib.Core.List.{List}
 use Prim.Native.Nat.{ℕ, _+_, _≤_, _<_}
 use lib.IntN.{ℤ, pos, _+ℤ_, _-ℤ_, _*ℤ_, negℤ}
 use lib.Signed.{_<ℤ_}
-use Rattle.scope.specs.Mesh.{elements, x, y, corner, cornerCount, around, elementSoil, edgeEntry, fromNode, toNode}
+use Rattle.scope.specs.Mesh.{x, y, corner, cornerCount, around, edgeEntry, fromNode, toNode}
 use Rattle.scope.specs.Polygon.{Point, Side}
-use Rattle.scope.specs.Rows.{sx, sy, t, node, twiceArea, stepX, stepY, nodeSoil, cross}
+use Rattle.scope.specs.Rows.{sx, sy, t, node, twiceArea, stepX, stepY, cross}
 use Rattle.scope.specs.Tests.{turn}
 use Rattle.scope.specs.Statements.{LeftTurns}
 use Rattle.scope.specs.Printed.{next, cornerSum, forceX, forceY, BalanceX, BalanceY, normalForce, shearForce, NormalAt, deviator, resistance}
@@ -84,16 +84,3 @@ pub record SideMeaning (r : ℤ) (s : Side) (p q h C n sx sy t : ℤ) : Type 0 w
   pub at-from : AtCorner r (s .from) p q h C n sx sy t → deviator r s h sx sy t ≡ resistance s p q C n sx sy
   pub at-to : AtCorner r (s .to) p q h C n sx sy t → deviator r s h sx sy t ≡ resistance s p q C n sx sy
   pub at-centre : sx ≡ sy → t ≡ pos 0 → pos 0 <ℤ cross (s .from) (s .to) → pos 0 <ℤ circleRadius p q C n sx sy → deviator r s h sx sy t <ℤ resistance s p q C n sx sy
-
--- ---- a node's soil
-
-abbrev pub HasCorner : List ℤ → ℕ → ℕ → Type 0
-HasCorner m v e = (i : ℕ) × (i < 4) × (corner m e i ≡ v)
-
--- "A node has the soil of the lowest-numbered element that has it as a corner"
-pub record LowestElement (m : List ℤ) (v : ℕ) : Type 0 where
-  pub element : ℕ
-  pub in-mesh : element < elements m
-  pub has-corner : HasCorner m v element
-  pub lowest : (e : ℕ) → e < element → ¬ HasCorner m v e
-  pub soil : nodeSoil m v ≡ elementSoil m element

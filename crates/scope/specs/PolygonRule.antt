@@ -9,7 +9,7 @@ use Rattle.scope.specs.Members.{_∈_}
 use Rattle.scope.specs.Polygon.{Point, point, Polygon, Side, polygonSides, polygonOf}
 use Rattle.scope.specs.Rows.{cross}
 use Rattle.scope.specs.Mesh.{mostSides}
-use Rattle.scope.specs.Bounds.{mostRadius, mostStep, mostCross, weightedStep, weightedCross, mostStrengthRows, strengthMultiplier, nodesWith}
+use Rattle.scope.specs.Bounds.{mostRadius, mostStep, mostCross, weightedStep, weightedCross, mostStrengthRows, strengthMultiplier, pairsWith}
 
 abbrev pub OnCircle : ℤ → Point → Type 0
 OnCircle r v = v .px *ℤ v .px +ℤ v .py *ℤ v .py ≡ r *ℤ r
@@ -45,7 +45,7 @@ pub record PolygonRule (g : Polygon) (sides step product : ℕ) : Type 0 where
   pub largest-cross : Largest crossSize (polygonSides (g .corners)) product
 
 -- a polygon whose numbers are within the bounds of all polygons: its step and its cross product also with the largest
--- multiplier of a row, and its rows with the most nodes
+-- multiplier of a row, and its rows with the most pairs
 pub record PolygonFits (g : Polygon) (sides radius step product : ℕ) : Type 0 where
   pub rule : PolygonRule g sides step product
   pub radiusIs : g .radius ≡ pos radius
@@ -56,7 +56,7 @@ pub record PolygonFits (g : Polygon) (sides radius step product : ℕ) : Type 0 
   pub productFits : product ≤ mostCross
   pub stepWeighted : strengthMultiplier sides * step ≤ weightedStep
   pub productWeighted : strengthMultiplier sides * product ≤ weightedCross
-  pub rowsFit : nodesWith sides * sides ≤ mostStrengthRows
+  pub rowsFit : pairsWith sides * sides ≤ mostStrengthRows
 
 -- the polygon of a mesh with a listed number of sides
 pub record ListedPolygon (sides : ℕ) : Type 0 where

@@ -8,10 +8,10 @@ use lib.IntN.{ℤ, pos, _+ℤ_, _-ℤ_, _*ℤ_, negℤ}
 use lib.Signed.{_<ℤ_}
 use Rattle.scope.specs.Mesh.{nodes, elements, edges, sides, p, q, h, cohesion, deadX, deadY, liveX, liveY, x, y, corner, elementSoil, edgeEntry, fromNode, toNode}
 use Rattle.scope.specs.Polygon.{Side, polygonOf}
-use Rattle.scope.specs.Rows.{sx, sy, t, twiceArea, stepX, stepY, Pair, balanceX, balanceY, normalRow, shearRow, equalityRows, rowsOf}
+use Rattle.scope.specs.Rows.{sx, sy, t, twiceArea, stepX, stepY, Pair, pairCount, pairAt, balanceX, balanceY, normalRow, shearRow, equalityRows, rowsOf}
 use Rattle.scope.specs.Statements.{MeetsColumns}
 use Rattle.scope.specs.Sums.{leftSide, rightSide, unit, columnSum, liveSum, limitSum}
-use Rattle.scope.specs.RowNumbers.{sideAt, pairRow, pairOf}
+use Rattle.scope.specs.RowNumbers.{sideAt, pairRow}
 use Rattle.scope.specs.Printed.{forceX, forceY, bodyForce, normalForce, shearForce, edgeForce, FixesNormal, FixesShear, deviator, resistance}
 
 -- ---- a printed row in a field: its left side minus its right side
@@ -53,7 +53,7 @@ unfoldable pub sumBelow : (ℕ → ℤ) → ℕ → ℤ
 sumBelow f zero = pos 0
 sumBelow f (suc n) = sumBelow f n +ℤ f n
 
--- "for each element 2, for each edge 4 ..; then for each node a line of as many as there are sides"
+-- "for each element 2, for each edge 4 ..; then for each node a line of as many as there are sides", by pairs (document 02, N2)
 module _ (m : List ℤ) (w : ℕ → ℤ) where
   abbrev pub ofElement : ℕ → ℕ → ℤ
   ofElement e i = w (e * 2 + i)
@@ -61,10 +61,10 @@ module _ (m : List ℤ) (w : ℕ → ℤ) where
   abbrev pub ofEdge : ℕ → ℕ → ℤ
   ofEdge g i = w (elements m * 2 + (g * 4 + i))
 
-  abbrev pub ofNode : ℕ → ℕ → ℤ
-  ofNode v k = w (elements m * 2 + edges m * 4 + (v * sides m + k))
+  abbrev pub ofPair : ℕ → ℕ → ℤ
+  ofPair a k = w (elements m * 2 + edges m * 4 + (a * sides m + k))
 
-  -- multiplier times left minus right, summed over all rows: elements, edges, nodes
+  -- multiplier times left minus right, summed over all rows: elements, edges, pairs
   unfoldable pub weighedRows : (ℕ → ℤ) → ℤ → ℤ → ℤ
   weighedRows s l n =
       sumBelow (λ e. ofElement e 0 *ℤ lessX m s l n e +ℤ ofElement e 1 *ℤ lessY m s l n e) (elements m)
@@ -75,7 +75,7 @@ module _ (m : List ℤ) (w : ℕ → ℤ) where
       +ℤ ofEdge g 2 *ℤ lessNormal m s l n g (toNode m g)
       +ℤ ofEdge g 3 *ℤ lessShear m s l n g (toNode m g))
       (edges m)
-      +ℤ sumBelow (λ v. sumBelow (λ k. ofNode v k *ℤ lessStrength m s l n (pairOf m v) (sideAt (polygonOf (sides m)) k)) (sides m)) (nodes m)
+      +ℤ sumBelow (λ a. sumBelow (λ k. ofPair a k *ℤ lessStrength m s l n (pairAt m a) (sideAt (polygonOf (sides m)) k)) (sides m)) (pairCount m)
 
   -- "For each node and stress, multiplier times coefficient, summed over all rows": a row's coefficient is left minus right where this stress is 1 and all else is 0
   abbrev pub printedColumn : ℕ → ℤ

@@ -1,4 +1,4 @@
--- Document 01's table of refusals row by row ('Verdict and report'): a number, a place, and what is so where they are returned, all before it in the order among it.
+-- Document 01's table of refusals row by row ('Verdict and report'), with document 02's 42: a number, a place, and what is so where they are returned, all before it in the order among it.
 -- Elements, nodes, edges, rows and columns are counted from 0 here. The rows of lines are said one by one in `TableNumbers`.
 use mathlib.Core.Path.{_≡_}
 use mathlib.Core.List.{List}
@@ -15,7 +15,7 @@ use Rattle.scope.specs.Rows.{equalityRows, strengthRows, rowsOf}
 use Rattle.scope.specs.Sums.{columnSum, liveSum}
 use Rattle.scope.specs.Tests.{rowAt}
 use Rattle.scope.specs.Meets.{RowMet}
-use Rattle.scope.specs.Statements.{LinesSound, LeftTurns, OwnSides, InElement, OuterEdge, MeshSound, NoneOnUnfixed, HasField, HasMultipliers, RowsMet}
+use Rattle.scope.specs.Statements.{LinesSound, LeftTurns, OwnSides, InElement, OuterEdge, PairsFit, MeshSound, NoneOnUnfixed, HasField, HasMultipliers, RowsMet}
 use Rattle.scope.specs.Refusals.{LineRefusal}
 
 -- "lowest place first": P fails at place k of count, and at no lower one
@@ -35,6 +35,9 @@ pub data MeshRow (m : List ℤ) : ℕ → Place → Type 0 where
   six : (e : ℕ) → LinesSound meshLayout m → AtAll (elements m) (LeftTurns m) → LowestFails (elements m) (OwnSides m) e → MeshRow m 6 (Element (suc e))
   seven : (v : ℕ) → LinesSound meshLayout m → AtAll (elements m) (LeftTurns m) → AtAll (elements m) (OwnSides m) → LowestFails (nodes m) (InElement m) v → MeshRow m 7 (Node (suc v))
   eight : (g : ℕ) → LinesSound meshLayout m → AtAll (elements m) (LeftTurns m) → AtAll (elements m) (OwnSides m) → AtAll (nodes m) (InElement m) → LowestFails (edges m) (OuterEdge m) g → MeshRow m 8 (Line (suc (edgeLine m g)))
+  forty-two : (v : ℕ) → LinesSound meshLayout m → AtAll (elements m) (LeftTurns m) → AtAll (elements m) (OwnSides m)
+      → AtAll (nodes m) (InElement m) → AtAll (edges m) (OuterEdge m)
+      → LowestFails (nodes m) (PairsFit m) v → MeshRow m 42 (Node (suc v))
 
 -- all before 21: the mesh passes, and the claim's lines
 pub record Before21 (m c : List ℤ) : Type 0 where

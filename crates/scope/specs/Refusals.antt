@@ -18,9 +18,9 @@ use Rattle.scope.specs.Claim.{claimLayout, stress, multiplier}
 use Rattle.scope.specs.Rows as R
 use Rattle.scope.specs.Rows.{equalityRows, strengthRows, rowsOf}
 use Rattle.scope.specs.Sums.{rowHolds, zeroIfUnfixed, columnSum, liveSum}
-use Rattle.scope.specs.Tests.{leftTurns, ownSides, inElement, outerEdge, rowAt}
+use Rattle.scope.specs.Tests.{leftTurns, ownSides, inElement, outerEdge, pairsFit, rowAt}
 use Rattle.scope.specs.Meets.{RowMet}
-use Rattle.scope.specs.Statements.{AllWithin, Says, LeftTurns, OwnSides, InElement, OuterEdge, NoneOnUnfixed}
+use Rattle.scope.specs.Statements.{AllWithin, Says, LeftTurns, OwnSides, InElement, OuterEdge, PairsFit, NoneOnUnfixed}
 
 -- ---- lines: 1 to 4 of a mesh, 11 to 13 of a claim (`TableNumbers` says which is which)
 
@@ -73,13 +73,18 @@ nodesPhase m = phase 7 (nodes m) (InElement m) (inElement m) (λ v. Node (suc v)
 abbrev pub edgesPhase : List ℤ → Phase
 edgesPhase m = phase 8 (edges m) (OuterEdge m) (outerEdge m) (λ g. Line (suc (edgeLine m g)))
 
--- "then 5, 6, 7, 8, each over the whole mesh, lowest place first"
+-- 42 (document 02, N2): "with the node that brings the 101st pair"
+abbrev pub pairsPhase : List ℤ → Phase
+pairsPhase m = phase 42 (nodes m) (PairsFit m) (pairsFit m) (λ v. Node (suc v))
+
+-- "then 5, 6, 7, 8, each over the whole mesh, lowest place first"; 42 "after 8"
 abbrev pub shapePhases : List ℤ → List Phase
 shapePhases m =
     turnsPhase m
     ∷ ownSidesPhase m
     ∷ nodesPhase m
     ∷ edgesPhase m
+    ∷ pairsPhase m
     ∷ []
 
 -- "mesh lines front to back, in each line 1, 2, 3, 4; then .."

@@ -6,13 +6,14 @@ use lib.IntN.{ℤ}
 use Rattle.scope.specs.declared.Place.{Place}
 use Rattle.scope.specs.declared.Place.the-variants.{Row}
 use Rattle.scope.specs.Columns.{n, l}
-use Rattle.scope.specs.Mesh.{nodes, elements, edges, sides, fromNode, toNode}
+use Rattle.scope.specs.Mesh.{elements, edges, sides, fromNode, toNode}
 use Rattle.scope.specs.Polygon.{polygonOf}
 use Rattle.scope.specs.Claim.{stress}
-use Rattle.scope.specs.RowNumbers.{sideNumbered, pairOf}
+use Rattle.scope.specs.Rows.{pairCount, pairAt}
+use Rattle.scope.specs.RowNumbers.{sideNumbered}
 use Rattle.scope.specs.Printed.{BalanceXAt, BalanceYAt, NormalAt, ShearAt, StrengthAt}
 
--- elements, edges and nodes are counted from 0 here
+-- elements, edges and pairs are counted from 0 here
 module _ (m c : List ℤ) (place : ℕ) where
   -- refusal 21
   pub record EqualityFails : Type 0 where
@@ -25,4 +26,4 @@ module _ (m c : List ℤ) (place : ℕ) where
 
   -- refusal 22
   pub record StrengthFails : Type 0 where
-    pub strength : (v k : ℕ) → v < nodes m → k < sides m → place ≡ v * sides m + suc k → ¬ StrengthAt m (stress m c) (l c) (n c) (polygonOf (sides m) .radius) (pairOf m v) (sideNumbered (polygonOf (sides m)) (suc k))
+    pub strength : (a k : ℕ) → a < pairCount m → k < sides m → place ≡ a * sides m + suc k → ¬ StrengthAt m (stress m c) (l c) (n c) (polygonOf (sides m) .radius) (pairAt m a) (sideNumbered (polygonOf (sides m)) (suc k))

@@ -1,12 +1,12 @@
--- The numbers of the rows (document 01, 'Rows'), over the lists of rows. Elements, edges and nodes are counted from 0 here, so that document 01's element is `suc e`; rows and sides are counted from 1, as there.
+-- The numbers of the rows (document 01, 'Rows'), over the lists of rows. Elements, edges and pairs are counted from 0 here, so that document 01's element is `suc e`; rows and sides are counted from 1, as there.
 use mathlib.Core.Path.{_≡_}
 use mathlib.Core.List.{List}
 use Prim.Native.Nat.{ℕ, suc, _+_, _*_, _-_, _<_}
 use lib.IntN.{ℤ, pos}
 use lib.ListN.{length, getD}
-use Rattle.scope.specs.Mesh.{nodes, elements, edges, sides, p, q, h, cohesion, fromNode, toNode}
+use Rattle.scope.specs.Mesh.{elements, edges, sides, p, q, h, cohesion, fromNode, toNode}
 use Rattle.scope.specs.Polygon.{point, Side, Polygon, polygonSides, polygonOf}
-use Rattle.scope.specs.Rows.{Row, Pair, balanceX, balanceY, normalRow, shearRow, nodeSoil, strengthRow, equalityRows, strengthRows, rowsOf}
+use Rattle.scope.specs.Rows.{Row, Pair, pairCount, pairAt, balanceX, balanceY, normalRow, shearRow, strengthRow, equalityRows, strengthRows, rowsOf}
 use Rattle.scope.specs.Tests.{rowAt}
 
 -- row k of a list, counted from 1
@@ -24,10 +24,6 @@ sideNumbered g k = sideAt g (k - 1)
 abbrev pub pairRow : List ℤ → Pair → Side → Row
 pairRow m a d = strengthRow (polygonOf (sides m) .radius) (p m (a .soil)) (q m (a .soil)) (h m (a .soil)) (cohesion m (a .soil)) (a .at) d
 
--- the pair of node v
-abbrev pub pairOf : List ℤ → ℕ → Pair
-pairOf m v = record { at = v; soil = nodeSoil m v }
-
 pub record RowNumbers (m : List ℤ) : Type 0 where
   -- "row 2e-1", "row 2e"
   pub balance-x : (e : ℕ) → e < elements m → rowNumbered (equalityRows m) (2 * suc e - 1) ≡ balanceX m e
@@ -38,9 +34,9 @@ pub record RowNumbers (m : List ℤ) : Type 0 where
   pub normal-to : (g : ℕ) → g < edges m → rowNumbered (equalityRows m) (2 * elements m + 4 * g + 3) ≡ normalRow m g (toNode m g)
   pub shear-to : (g : ℕ) → g < edges m → rowNumbered (equalityRows m) (2 * elements m + 4 * g + 4) ≡ shearRow m g (toNode m g)
   pub equalities : length (equalityRows m) ≡ 2 * elements m + 4 * edges m
-  -- "Its number is (node-1)·sides + k": node `suc v`, side `suc k`
-  pub strength : (v k : ℕ) → v < nodes m → k < sides m → rowNumbered (strengthRows m) (v * sides m + suc k) ≡ pairRow m (pairOf m v) (sideNumbered (polygonOf (sides m)) (suc k))
-  pub strengths : length (strengthRows m) ≡ nodes m * sides m
+  -- "Its number is (node-1)·sides + k", by pairs: pair `suc a`, side `suc k`
+  pub strength : (a k : ℕ) → a < pairCount m → k < sides m → rowNumbered (strengthRows m) (a * sides m + suc k) ≡ pairRow m (pairAt m a) (sideNumbered (polygonOf (sides m)) (suc k))
+  pub strengths : length (strengthRows m) ≡ pairCount m * sides m
   -- all rows, as multipliers are numbered: the equality rows, then the strength rows
   pub equality-first : (k : ℕ) → k < 2 * elements m + 4 * edges m → rowNumbered (rowsOf m) (suc k) ≡ rowNumbered (equalityRows m) (suc k)
   pub strength-after : (k : ℕ) → rowNumbered (rowsOf m) (2 * elements m + 4 * edges m + suc k) ≡ rowNumbered (strengthRows m) (suc k)

@@ -1,12 +1,14 @@
 -- The rows (document 01, 'Rows'), as data: "Move every stress and l to the left of each row, strength rows included; set n = 1 to read its right side".
 -- A stress has a column: "columns are numbered node by node: sx, sy, t", from 0 here.
-use mathlib.Core.Bool.{Bool, true, false, cond, _||_}
+use mathlib.Core.Bool.{Bool, true, false, cond, _&&_, _||_}
 use mathlib.Core.List.{List, [], _∷_, _++_, map}
 use Prim.Native.Nat.{ℕ, zero, suc, _+_, _*_, _%_}
 use lib.IntN.{ℤ, pos, _+ℤ_, _-ℤ_, _*ℤ_, negℤ}
 use lib.Dec.{eqb}
+use lib.ListN.{length, getD}
 use Rattle.integer.specs.Tests.{eqZ}
-use Rattle.scope.specs.Mesh.{nodes, elements, edges, sides, p, q, h, cohesion, deadX, deadY, liveX, liveY, x, y, corner, elementSoil, edgeEntry, fromNode, toNode}
+use Rattle.scope.specs.Checks.{someBelow}
+use Rattle.scope.specs.Mesh.{nodes, elements, soils, edges, sides, p, q, h, cohesion, deadX, deadY, liveX, liveY, x, y, corner, elementSoil, edgeEntry, fromNode, toNode}
 use Rattle.scope.specs.Polygon.{Point, Side, Polygon, polygonSides, polygonOf}
 
 -- ---- what a row is
@@ -154,18 +156,39 @@ firstWhere f (suc n) =
 unfoldable pub hasCorner : List ℤ → ℕ → ℕ → Bool
 hasCorner m v e = eqb (corner m e 0) v || eqb (corner m e 1) v || eqb (corner m e 2) v || eqb (corner m e 3) v
 
--- "A node has the soil of the lowest-numbered element that has it as a corner"
-unfoldable pub nodeSoil : List ℤ → ℕ → ℕ
-nodeSoil m v = elementSoil m (firstWhere (hasCorner m v) (elements m))
+-- s is the soil of an element that has node v as a corner
+unfoldable pub hasSoil : List ℤ → ℕ → ℕ → Bool
+hasSoil m v s = someBelow (λ e. hasCorner m v e && eqb (elementSoil m e) s) (elements m)
+
+-- the numbers below n that pass a test, ascending
+unfoldable pub passing : (ℕ → Bool) → ℕ → List ℕ
+passing f zero = []
+passing f (suc n) = passing f n ++ cond (f n) (n ∷ []) []
 
 -- a node, and a soil whose strength it has
 pub record Pair : Type 0 where
   pub at : ℕ
   pub soil : ℕ
 
--- one pair for each node
+-- "a node has strength rows for each soil of the elements around it, soils ascending" (document 02, N2)
+unfoldable pub nodePairs : List ℤ → ℕ → List Pair
+nodePairs m v = map (λ s. record { at = v; soil = s }) (passing (hasSoil m v) (soils m))
+
+-- the pairs of the nodes below k
+unfoldable pub pairsBelow : List ℤ → ℕ → List Pair
+pairsBelow m zero = []
+pairsBelow m (suc k) = pairsBelow m k ++ nodePairs m k
+
+-- "node-and-soil pairs in that order"
 unfoldable pub strengthPairs : List ℤ → List Pair
-strengthPairs m = map (λ v. record { at = v; soil = nodeSoil m v }) (countFrom 0 (nodes m))
+strengthPairs m = pairsBelow m (nodes m)
+
+unfoldable pub pairCount : List ℤ → ℕ
+pairCount m = length (strengthPairs m)
+
+-- pair a, counted from 0
+unfoldable pub pairAt : List ℤ → ℕ → Pair
+pairAt m a = getD (strengthPairs m) a (record { at = 0; soil = 0 })
 
 -- ad - bc
 unfoldable pub cross : Point → Point → ℤ
@@ -195,7 +218,8 @@ pairRows g m a =
     (strengthRow (g .radius) (p m (a .soil)) (q m (a .soil)) (h m (a .soil)) (cohesion m (a .soil)) (a .at))
     (polygonSides (g .corners))
 
--- "Its number is (node-1)·sides + k"
+-- "Its number is (node-1)·sides + k", by pairs: "Strength rows and multiplier lines are numbered by node-and-soil
+-- pairs in that order"
 unfoldable pub strengthRows : List ℤ → List Row
 strengthRows m = joined (pairRows (polygonOf (sides m)) m) (strengthPairs m)
 

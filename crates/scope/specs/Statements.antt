@@ -2,15 +2,15 @@
 use mathlib.Core.Path.{_≡_}
 use mathlib.Core.Logic.{_⊎_}
 use mathlib.Core.List.{List, [], _∷_}
-use Prim.Native.Nat.{ℕ, _+_, _-_, _*_, _≤_, _<_}
+use Prim.Native.Nat.{ℕ, suc, _+_, _-_, _*_, _≤_, _<_}
 use lib.IntN.{ℤ, pos, _+ℤ_, _*ℤ_}
 use lib.Signed.{_≤ℤ_, _<ℤ_}
 use lib.ListN.{length}
 use Rattle.scope.specs.Columns.{Limit, between, oneOf, free, Rule, rightAngle, naming, parts, at, n, l}
 use Rattle.scope.specs.Layout.{Layout, width, groups, lineCount, numberCount, groupAt, numbersAt}
-use Rattle.scope.specs.Mesh.{meshLayout, nodes, elements, edges, corner, cornerCount, around, fromNode, toNode}
+use Rattle.scope.specs.Mesh.{mostPairs, meshLayout, nodes, elements, edges, corner, cornerCount, around, fromNode, toNode}
 use Rattle.scope.specs.Rows as R
-use Rattle.scope.specs.Rows.{equalityRows, rowsOf}
+use Rattle.scope.specs.Rows.{pairsBelow, equalityRows, rowsOf}
 use Rattle.scope.specs.Sums.{columnSum, liveSum}
 use Rattle.scope.specs.Tests.{turn, rowAt}
 use Rattle.scope.specs.Claim.{stress, multiplier}
@@ -115,13 +115,18 @@ pub record OuterEdge (m : List ℤ) (g : ℕ) : Type 0 where
   pub isOuter : ¬ IsSide m (toNode m g) (fromNode m g)
   pub isFirst : (k : ℕ) → k < g → ¬ ((fromNode m k ≡ fromNode m g) × (toNode m k ≡ toNode m g))
 
--- a mesh that passes 1 to 8
+-- "Pairs are at most 100": the nodes up to v have no more
+abbrev pub PairsFit : List ℤ → ℕ → Type 0
+PairsFit m v = length (pairsBelow m (suc v)) ≤ mostPairs
+
+-- a mesh that passes 1 to 8 and 42
 pub record MeshSound (m : List ℤ) : Type 0 where
   pub lines : LinesSound meshLayout m
   pub leftTurns : (e : ℕ) → e < elements m → LeftTurns m e
   pub ownSides : (e : ℕ) → e < elements m → OwnSides m e
   pub inElement : (v : ℕ) → v < nodes m → InElement m v
   pub outerEdges : (g : ℕ) → g < edges m → OuterEdge m g
+  pub pairsFit : (v : ℕ) → v < nodes m → PairsFit m v
 
 -- ---- multipliers
 

@@ -59,10 +59,10 @@ pub record ClaimLineNumbers (m c : List ℤ) : Type 0 where
   pub thirteen : (k : ℕ) → LineRefusal (claimLayout m) c 13 (Line (suc k)) ↔ RuleFails (claimLayout m) c parts k
   pub line-1-only : (k : ℕ) → LineRefusal (claimLayout m) c 13 (Line (suc k)) → k ≡ 0
 
--- ---- all numbers of document 01's table, and no other
+-- ---- all numbers of document 01's table and of document 02's requests, and no other
 
 abbrev pub tableNumbers : List ℕ
-tableNumbers = 1 ∷ 2 ∷ 3 ∷ 4 ∷ 5 ∷ 6 ∷ 7 ∷ 8 ∷ 11 ∷ 12 ∷ 13 ∷ 21 ∷ 22 ∷ 31 ∷ 32 ∷ 33 ∷ []
+tableNumbers = 1 ∷ 2 ∷ 3 ∷ 4 ∷ 5 ∷ 6 ∷ 7 ∷ 8 ∷ 11 ∷ 12 ∷ 13 ∷ 21 ∷ 22 ∷ 31 ∷ 32 ∷ 33 ∷ 42 ∷ []
 
 abbrev pub InTable : List ℤ → List ℤ → Type 0
 InTable m c = (k : ℕ) (p : Place) → Refusal m c k p → k ∈ tableNumbers

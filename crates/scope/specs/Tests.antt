@@ -1,15 +1,15 @@
--- What is tested of a mesh after its lines (document 01, 'Verdict and report', refusals 5 to 8), and the row that 21, 22 and 31 test.
+-- What is tested of a mesh after its lines (document 01, 'Verdict and report', refusals 5 to 8; document 02, 42), and the row that 21, 22 and 31 test.
 use mathlib.Core.Bool.{Bool, not, _&&_}
 use mathlib.Core.List.{List, []}
-use Prim.Native.Nat.{ℕ, _+_, _-_}
+use Prim.Native.Nat.{ℕ, suc, _+_, _-_}
 use lib.IntN.{ℤ, pos, _-ℤ_, _*ℤ_}
 use lib.Signed.{ltZ}
-use lib.Dec.{eqb}
-use lib.ListN.{getD}
+use lib.Dec.{eqb, leb}
+use lib.ListN.{length, getD}
 use Rattle.scope.specs.Checks.{someBelow, allBelow}
-use Rattle.scope.specs.Mesh.{elements, x, y, cornerCount, around, fromNode, toNode}
+use Rattle.scope.specs.Mesh.{mostPairs, elements, x, y, cornerCount, around, fromNode, toNode}
 use Rattle.scope.specs.Rows as R
-use Rattle.scope.specs.Rows.{hasCorner}
+use Rattle.scope.specs.Rows.{hasCorner, pairsBelow}
 
 -- twice the area of the triangle of the nodes a, b, c: above 0 where b is a left turn
 unfoldable pub turn : List ℤ → ℕ → ℕ → ℕ → ℤ
@@ -48,6 +48,10 @@ outerEdge m g =
     someBelow (hasSide m (fromNode m g) (toNode m g)) (elements m)
     && not (someBelow (hasSide m (toNode m g) (fromNode m g)) (elements m))
     && not (someBelow (hasEnds m (fromNode m g) (toNode m g)) g)
+
+-- refusal 42 (document 02, N2): "Pairs are at most 100", counted to node v
+unfoldable pub pairsFit : List ℤ → ℕ → Bool
+pairsFit m v = leb (length (pairsBelow m (suc v))) mostPairs
 
 -- row k of a list of rows
 unfoldable pub rowAt : List R.Row → ℕ → R.Row

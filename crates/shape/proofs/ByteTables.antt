@@ -1,9 +1,10 @@
 -- Tables of bytes: a place is given a byte only while it is free, so that it keeps the byte of the lowest number that gives it one.
 use mathlib.Core.Path.{_≡_, refl, sym, _∙_, ap, ap₂, subst}
 use mathlib.Core.Logic.{_⊎_, inl, inr}
-use mathlib.Core.Bool.{Bool, true, false, cond, not, _||_, or-false, or-true, Bool·not-not}
+use mathlib.Core.Bool.{Bool, true, false, cond, not, _&&_, _||_, and-false, or-false, or-true, Bool·not-not}
 use mathlib.Core.List.{List}
-use Prim.Native.Nat.{ℕ, zero, suc, _+_, _≤_, _<_}
+use Prim.Native.Nat.{ℕ, zero, suc, _+_, _*_, _/_, _%_, _≤_, _<_}
+use native.Mathlib.Nat.{add-zero, mod-eq-of-lt, div-add-mod', div-eq-of-lt, mul-add-div-right, mul-add-mod-self-right}
 use native.Mathlib.Numerals.{add-one}
 use native.Mathlib.Decide.{ℕ-discrete}
 use native.Mathlib.Omega.{arith}
@@ -34,8 +35,29 @@ kept free old byte = cond (free old) byte old
 pub holds-as : {n : ℕ} {f g : ℕ → ℕ} {t : List ℕ} → Holds n f t → ((v : ℕ) → f v ≡ g v) → Holds n g t
 holds-as h e = record { size = h .size; says = λ v i. h .says v i ∙ e v }
 
-pub holds-none : (n : ℕ) → Holds n (λ v. noByte) (replicate n noByte)
-holds-none n = record { size = length-replicate {A = ℕ} n noByte; says = λ v i. getD-replicate n v noByte 0 i }
+pub holds-each : (n byte : ℕ) → Holds n (λ v. byte) (replicate n byte)
+holds-each n byte = record { size = length-replicate {A = ℕ} n byte; says = λ v i. getD-replicate n v byte 0 i }
+
+-- places by two numbers, w for each value of the first
+pub same-place : (w p q : ℕ) → q < w → (v : ℕ) → eqb (p * w + q) v ≡ eqb p (v / w) && eqb q (v % w)
+same-place w p q l v = by (ℕ-discrete p (v / w)) (ℕ-discrete q (v % w))
+  where
+    first : (p * w + q) / w ≡ p
+    first = mul-add-div-right (omega arith) p q ∙ ap (λ (k : ℕ). p + k) (div-eq-of-lt l) ∙ add-zero p
+
+    second : (p * w + q) % w ≡ q
+    second = mul-add-mod-self-right p w q ∙ mod-eq-of-lt l
+
+    by : Dec (p ≡ v / w) → Dec (q ≡ v % w) → eqb (p * w + q) v ≡ eqb p (v / w) && eqb q (v % w)
+    by (yes d) (yes e) =
+        eq-eqb (p * w + q) v (ap₂ (λ (a b : ℕ). a * w + b) d e ∙ div-add-mod' v w)
+        ∙ sym (ap₂ _&&_ (eq-eqb p (v / w) d) (eq-eqb q (v % w) e))
+    by (no d) e =
+        ne-eqb (p * w + q) v (λ x. d (sym first ∙ ap (λ (k : ℕ). k / w) x))
+        ∙ sym (ap (λ (b : Bool). b && eqb q (v % w)) (ne-eqb p (v / w) d))
+    by (yes d) (no e) =
+        ne-eqb (p * w + q) v (λ x. e (sym second ∙ ap (λ (k : ℕ). k % w) x))
+        ∙ sym (ap (λ (b : Bool). eqb p (v / w) && b) (ne-eqb q (v % w) e) ∙ and-false (eqb p (v / w)))
 
 pub put-one : (free : ℕ → Bool) {n : ℕ} {f : ℕ → ℕ} {t : List ℕ} → Holds n f t → {p : ℕ} → p < n → (byte : ℕ) → Holds n (λ v. cond (eqb p v) (kept free (f v) byte) (f v)) (put free t p byte)
 unfolding put
@@ -113,10 +135,19 @@ first-there f n l h = ne-eqb (firstWhere f n) n (λ d. omega (arith, first-found
 pub some-there : (f : ℕ → Bool) (n : ℕ) {e : ℕ} → e < n → f e ≡ true → someBelow f n ≡ true
 some-there f n l h = some-first f n ∙ ap not (first-there f n l h)
 
+pub some-cong : (f g : ℕ → Bool) (n : ℕ) → ((k : ℕ) → k < n → f k ≡ g k) → someBelow f n ≡ someBelow g n
+unfolding someBelow
+some-cong f g zero h = refl
+some-cong f g (suc n) h = ap₂ _||_ (some-cong f g n (λ k l. h k (omega arith))) (h n (omega arith))
+
 pub none-there : (f : ℕ → Bool) (n : ℕ) → ((k : ℕ) → k < n → f k ≡ false) → someBelow f n ≡ false
 unfolding someBelow
 none-there f zero h = refl
 none-there f (suc n) h = ap₂ _||_ (none-there f n (λ k l. h k (omega arith))) (h n (omega arith))
+
+pub none-more : (f : ℕ → Bool) {i : ℕ} → someBelow f i ≡ false → f i ≡ false → someBelow f (i + 1) ≡ false
+unfolding someBelow
+none-more f {i} h k = subst (λ (n : ℕ). someBelow f n ≡ false) (sym (add-one i)) (ap₂ _||_ h k)
 
 -- ---- its byte
 

@@ -1,7 +1,7 @@
--- What the machine has of a mesh's elements and edges is what the checks of its shape ask: corners, turns, lines, outer edges.
-use mathlib.Core.Path.{_≡_, sym, _∙_, ap, ap₂, subst}
+-- What the machine has of a mesh's elements and edges is what the checks of its shape ask: corners, turns, lines, outer edges; and what the checks say in their order.
+use mathlib.Core.Path.{_≡_, refl, sym, _∙_, ap, ap₂, subst}
 use mathlib.Core.Bool.{Bool}
-use mathlib.Core.List.{List}
+use mathlib.Core.List.{List, [], _∷_}
 use Prim.Native.Nat.{ℕ, suc, _+_, _*_, _-_, _%_, _≤_, _<_}
 use native.Mathlib.Omega.{arith}
 use lib.IntN.{ℤ, pos, _-ℤ_, _*ℤ_}
@@ -12,7 +12,15 @@ use Rattle.scope.specs.Layout.{groups, linesBefore}
 use Rattle.scope.specs.Mesh.{mostNodes, mostElements, mostSoils, mostEdges, meshHeader, soilLines, nodeLines, elementLines, edgeLines, meshLayout, meshGroups, nodes, elements, soils, edges, corner, cornerCount, around, fromNode, toNode, edgeLine}
 use Rattle.mesh.specs.MeshContracts.{Sized}
 use Rattle.scope.specs.Tests.{turn, leftTurnAt}
+use Rattle.scope.specs.declared.Place.{Place}
+use Rattle.scope.specs.declared.Outcome.{Outcome}
+use Rattle.scope.specs.declared.Outcome.the-variants.{Passed, Refused}
+use Rattle.scope.specs.Checks.{_then_}
+use Rattle.scope.specs.Phases.{Phase, checkPhase, checkPhases}
+use Rattle.scope.specs.Refusals.{turnsPhase, ownSidesPhase, nodesPhase, edgesPhase, pairsPhase, shapePhases}
+use Rattle.scope.proofs.Phases.{check-join}
 use Rattle.scope.proofs.Triangles.{some-corners, around-below, around-is}
+use Rattle.lines.proofs.Loops.{then-refuses, then-goes-on}
 
 -- ---- the corners of an element
 
@@ -62,3 +70,23 @@ module _ (m : List ℤ) where
 
   pub edge-line-fits : {s : Sizes} → Sized m s → {g : ℕ} → g < s .edges → s .soils + s .nodes + s .elements + g < mostSoils + mostNodes + mostElements + mostEdges
   edge-line-fits k l = let c = k .facts .counts in omega (arith, k .soilsAre, k .nodesAre, k .elementsAre, k .edgesAre, c .soilsMost, c .nodesMost, c .elementsMost, c .edgesMost)
+
+-- ---- the phases in their order
+
+module _ (m : List ℤ) where
+  abbrev sidesNodesEdges : List Phase
+  sidesNodesEdges = ownSidesPhase m ∷ nodesPhase m ∷ edgesPhase m ∷ []
+
+  shape-checked : checkPhases (shapePhases m) ≡ checkPhase (turnsPhase m) then (checkPhases sidesNodesEdges then checkPhase (pairsPhase m))
+  unfolding checkPhases
+  shape-checked = ap (λ (o : Outcome). checkPhase (turnsPhase m) then o) (check-join sidesNodesEdges (pairsPhase m ∷ []))
+
+  pub turns-refuse : {k : ℕ} {p : Place} → checkPhase (turnsPhase m) ≡ Refused k p → Refused k p ≡ checkPhases (shapePhases m)
+  turns-refuse e = then-refuses _ e ∙ sym shape-checked
+
+  module _ (e : checkPhase (turnsPhase m) ≡ Passed) where
+    pub rest-refuses : {k : ℕ} {p : Place} → checkPhases sidesNodesEdges ≡ Refused k p → Refused k p ≡ checkPhases (shapePhases m)
+    rest-refuses f = then-goes-on e (then-refuses _ f) ∙ sym shape-checked
+
+    pub pairs-last : checkPhases sidesNodesEdges ≡ Passed → checkPhase (pairsPhase m) ≡ checkPhases (shapePhases m)
+    pairs-last f = then-goes-on e (then-goes-on f refl) ∙ sym shape-checked

@@ -1,6 +1,6 @@
 -- Tables of sides: an element gives its number to its sides, and an edge takes its side, so that a byte tells the lowest that has the side.
 use mathlib.Core.Path.{_≡_, refl, sym, _∙_, ap, ap₂, subst}
-use mathlib.Core.Bool.{Bool, true, false, cond, not, _&&_, and-false, and-assoc, and-comm, true≢false}
+use mathlib.Core.Bool.{Bool, true, false, cond, not, _&&_, and-assoc, and-comm, true≢false}
 use mathlib.Core.List.{List}
 use Prim.Native.Nat.{ℕ, suc, _+_, _*_, _/_, _%_, _≤_, _<_}
 use native.Mathlib.Numerals.{add-one}
@@ -18,17 +18,9 @@ use Rattle.scope.specs.Tests.{ownSideAt, hasEnds, hasSide, ownSides, outerEdge}
 use Rattle.mesh.specs.MeshContracts.{Sized}
 use Rattle.shape.specs.ShapeContracts.{noByte, Holds, isNone, put, keepFirst, byteBelow, byteAt, atPlace, SideBytes, sideByte, SideTable, edgeByte, EdgeTable}
 use Rattle.shape.proofs.MeshLaws.{around-there, side-fits, edge-fits}
-use Rattle.shape.proofs.ByteTables.{holds-as, holds-none, put-one, first-below, first-found, some-there, byte-found, free-below, cond-same, byte-more, given, none-given, one-given, all-given}
+use Rattle.shape.proofs.ByteTables.{holds-as, holds-each, same-place, put-one, first-below, first-found, some-there, byte-found, free-below, cond-same, byte-more, given, none-given, one-given, all-given}
 
 -- ---- places of sides
-
-same-side : (p q : ℕ) → q < mostNodes → (v : ℕ) → eqb (p * mostNodes + q) v ≡ eqb p (v / mostNodes) && eqb q (v % mostNodes)
-same-side p q l v = by (ℕ-discrete p (v / mostNodes)) (ℕ-discrete q (v % mostNodes))
-  where
-    by : Dec (p ≡ v / mostNodes) → Dec (q ≡ v % mostNodes) → eqb (p * mostNodes + q) v ≡ eqb p (v / mostNodes) && eqb q (v % mostNodes)
-    by (yes d) (yes e) = eq-eqb (p * mostNodes + q) v (omega arith) ∙ sym (ap₂ _&&_ (eq-eqb p (v / mostNodes) d) (eq-eqb q (v % mostNodes) e))
-    by (no d) e = ne-eqb (p * mostNodes + q) v (λ x. d (omega arith)) ∙ sym (ap (λ (b : Bool). b && eqb q (v % mostNodes)) (ne-eqb p (v / mostNodes) d))
-    by (yes d) (no e) = ne-eqb (p * mostNodes + q) v (λ x. e (omega arith)) ∙ sym (ap (λ (b : Bool). eqb p (v / mostNodes) && b) (ne-eqb q (v % mostNodes) e) ∙ and-false (eqb p (v / mostNodes)))
 
 whole : {n : ℕ} {f : ℕ → ℕ} {t : List ℕ} → Holds n f t → Holds (length t) f t
 whole {f = f} {t = t} h = subst (λ (n : ℕ). Holds n f t) (sym (h .size)) h
@@ -63,7 +55,7 @@ pub no-sides : (m : List ℤ) (n : ℕ) → nodes m * mostNodes ≤ n → SideTa
 unfolding byteBelow firstWhere
 no-sides m n l = record {
   room = omega (arith, length-replicate {A = ℕ} n noByte);
-  bytes = whole (holds-as (holds-none n) (λ v. refl));
+  bytes = whole (holds-as (holds-each n noByte) (λ v. refl));
 }
 
 module _ (m : List ℤ) where
@@ -78,7 +70,7 @@ module _ (m : List ℤ) {s : Sizes} (k : Sized m s) {e : ℕ} (l : e < elements 
   pub side-more : (i : ℕ) {t u : List ℕ} → SideBytes m (sidesSoFar m e i) t → u ≡ keepFirst t (around m e i * mostNodes + around m e (i + 1)) e → SideBytes m (sidesSoFar m e (i + 1)) u
   side-more i h d =
       bytes-to h
-      (one-given (λ v. sideIs m e (v / mostNodes) (v % mostNodes)) (atPlace (sideByte m e)) e i (h .bytes) (side-fits k l i (h .room) refl refl) (same-side (around m e i) (around m e (i + 1)) (omega (arith, around-there k l (i + 1), k .facts .counts .nodesMost))) d)
+      (one-given (λ v. sideIs m e (v / mostNodes) (v % mostNodes)) (atPlace (sideByte m e)) e i (h .bytes) (side-fits k l i (h .room) refl refl) (same-place mostNodes (around m e i) (around m e (i + 1)) (omega (arith, around-there k l (i + 1), k .facts .counts .nodesMost))) d)
 
   pub all-sides : {i : ℕ} {t : List ℕ} → SideBytes m (sidesSoFar m e i) t → i ≤ cornerCount m e → cornerCount m e ≤ i → SideTable m (e + 1) t
   unfolding hasSide
@@ -161,7 +153,7 @@ module _ (m : List ℤ) {s : Sizes} (k : Sized m s) where
 
       step : (v : ℕ) → cond (eqb (fromNode m g * mostNodes + toNode m g) v) (cond (isUntaken (now v)) (mostElements + g) (now v)) (now v) ≡ atPlace (edgeByte m (suc g)) v
       step v =
-          ap (λ (b : Bool). cond b (cond (isUntaken (now v)) (mostElements + g) (now v)) (now v)) (same-side (fromNode m g) (toNode m g) (omega (arith, k .facts .edge g l .toThere, k .facts .counts .nodesMost)) v)
+          ap (λ (b : Bool). cond b (cond (isUntaken (now v)) (mostElements + g) (now v)) (now v)) (same-place mostNodes (fromNode m g) (toNode m g) (omega (arith, k .facts .edge g l .toThere, k .facts .counts .nodesMost)) v)
           ∙ edge-step g (v / mostNodes) (v % mostNodes)
 
   edge-none : (a b : ℕ) → isNone (edgeByte m (edges m) a b) ≡ not (someBelow (hasSide m a b) (elements m))

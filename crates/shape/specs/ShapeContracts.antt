@@ -1,16 +1,18 @@
--- What contracts say of the tables that the checks of a shape fill and read: of soils, of sides, of edges.
+-- What contracts say of the tables that the checks of a shape fill and read: of marks, of sides, of edges, of pairs.
 use mathlib.Core.Path.{_≡_}
-use mathlib.Core.Bool.{Bool, cond}
-use mathlib.Core.List.{List, _++_, map}
-use Prim.Native.Nat.{ℕ, _+_, _-_, _*_, _/_, _%_, _≤_, _<_}
+use mathlib.Core.Bool.{Bool, cond, _&&_}
+use mathlib.Core.List.{List, [], _∷_, _++_, map}
+use Prim.Native.Nat.{ℕ, _+_, _*_, _/_, _%_, _≤_, _<_}
 use lib.IntN.{ℤ}
-use lib.Dec.{eqb}
-use lib.ListN.{length, getD, set, replicate}
+use lib.Dec.{ltb, eqb}
+use lib.ListN.{length, getD, set}
 use Rattle.scope.specs.declared.Outcome.{Outcome}
 use Rattle.scope.specs.declared.Outcome.the-variants.{Passed, Refused}
-use Rattle.scope.specs.Mesh.{mostNodes, mostElements, nodes, elements, elementSoil}
-use Rattle.scope.specs.Rows.{countFrom, firstWhere, hasCorner, nodeSoil}
+use Rattle.scope.specs.Checks.{someBelow}
+use Rattle.scope.specs.Mesh.{mostNodes, mostElements, mostSoils, mostPairs, nodes, elements, elementSoil}
+use Rattle.scope.specs.Rows.{Pair, firstWhere, hasCorner, passing, strengthPairs}
 use Rattle.scope.specs.Tests.{hasSide, hasEnds}
+use Rattle.shape.specs.declared.pairs.Paired.{Paired}
 
 -- ---- tables of bytes
 
@@ -40,14 +42,20 @@ byteBelow none has value n =
     let k : ℕ = firstWhere has n in
     cond (eqb k n) none (value k)
 
--- ---- tables of soils: a byte for each node
+-- ---- marks: `mostSoils` bytes for each node, and that of node v and soil s stands at v·mostSoils + s
 
--- the soil of node v among the elements below e
-abbrev pub soilBelow : List ℤ → ℕ → ℕ → ℕ
-soilBelow m e v = byteBelow noByte (hasCorner m v) (elementSoil m) e
+-- an element below e has node v as a corner, and the soil s: `hasSoil` once all are passed
+abbrev pub soilBelow : List ℤ → ℕ → ℕ → ℕ → Bool
+soilBelow m e v s = someBelow (λ k. hasCorner m v k && eqb (elementSoil m k) s) e
 
-abbrev pub SoilTable : List ℤ → ℕ → List ℕ → Type 0
-SoilTable m e t = Holds mostNodes (soilBelow m e) t
+abbrev pub markByte : Bool → ℕ
+markByte b = cond b 1 0
+
+abbrev pub MarkTable : List ℤ → ℕ → List ℕ → Type 0
+MarkTable m e t = Holds (mostNodes * mostSoils) (λ p. markByte (soilBelow m e (p / mostSoils) (p % mostSoils))) t
+
+abbrev pub isMarked : List ℕ → ℕ → ℕ → Bool
+isMarked t v s = eqb (getD t (v * mostSoils + s) 0) 1
 
 -- ---- tables of sides: `mostNodes` bytes for each node, and the byte of the side a to b stands at a·mostNodes + b
 
@@ -80,7 +88,38 @@ edgeByte m g a b =
 abbrev pub EdgeTable : List ℤ → ℕ → List ℕ → Type 0
 EdgeTable m g t = SideBytes m (edgeByte m g) t
 
--- the soil of each node where the mesh passes, and no byte after the last of them; where it is refused, none throughout
-unfoldable pub soilBytes : Outcome → List ℤ → List ℕ
-soilBytes Passed m = map (nodeSoil m) (countFrom 0 (nodes m)) ++ replicate (mostNodes - nodes m) noByte
-soilBytes (Refused c p) m = replicate mostNodes noByte
+-- ---- pairs (document 02, N2): two bytes for each, its node and then its soil
+
+-- a table has the pairs of a list, as far as there is room, and 0 after them
+pub record PairBytes (l : List Pair) (t : List ℕ) : Type 0 where
+  pub size : length t ≡ 2 * mostPairs
+  pub node : (a : ℕ) → a < length l → a < mostPairs → getD t (2 * a) 0 ≡ getD l a (record { at = 0; soil = 0 }) .at
+  pub soil : (a : ℕ) → a < length l → a < mostPairs → getD t (2 * a + 1) 0 ≡ getD l a (record { at = 0; soil = 0 }) .soil
+  pub rest : (i : ℕ) → 2 * length l ≤ i → getD t i 0 ≡ 0
+
+-- the pair k of a table becomes node v with soil s, where there is room for it
+unfoldable pub putPair : List ℕ → ℕ → ℕ → ℕ → List ℕ
+putPair t k v s = cond (ltb k mostPairs) (set (set t (2 * k) v) (2 * k + 1) s) t
+
+-- node v with soil s, where a test holds
+abbrev pub pairWhere : Bool → ℕ → ℕ → List Pair
+pairWhere b v s = cond b ((record { at = v; soil = s }) ∷ []) []
+
+-- the pairs l are joined to a table t of n pairs, which is u then and has r
+pub record Added (l : List Pair) (n : ℕ) (t : List ℕ) (r : ℕ) (u : List ℕ) : Type 0 where
+  pub more : r ≡ n + length l
+  pub table : (k : List Pair) → length k ≡ n → PairBytes k t → PairBytes (k ++ l) u
+
+-- the pairs of node v with the soils below n that it is marked with
+unfoldable pub markedPairs : List ℕ → ℕ → ℕ → List Pair
+markedPairs t v n = map (λ s. record { at = v; soil = s }) (passing (isMarked t v) n)
+
+-- the pairs of a mesh that passes; a mesh that is refused has none
+unfoldable pub pairsIf : Outcome → List ℤ → List Pair
+pairsIf Passed m = strengthPairs m
+pairsIf (Refused c p) m = []
+
+pub record PairedAs (o : Outcome) (m : List ℤ) (r : Paired) : Type 0 where
+  pub outcome : r .outcome ≡ o
+  pub count : r .count ≡ length (pairsIf o m)
+  pub pairs : PairBytes (pairsIf o m) (r .pairs)

@@ -1,9 +1,11 @@
-// The shape of a mesh (document 01, refusals 5 to 8), and the soil of each node.
+// The shape of a mesh (document 01, refusals 5 to 8; document 02, 42), and its pairs of a node and a soil.
 
 mod corners;
 mod edges;
+mod marks;
 pub mod mesh_checks;
-pub mod nodes;
+mod nodes;
+pub mod pairs;
 mod sides;
 mod tables;
 mod turns;

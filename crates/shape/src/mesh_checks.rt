@@ -1,4 +1,4 @@
-// The shape of a mesh whose lines have passed: refusals 5 to 8 in their order.
+// The shape of a mesh whose lines have passed: refusals 5 to 8 and 42 in their order, and the pairs of a mesh that passes.
 use mesh::sizes::MOST_NODES;
 use mesh::sizes::Sizes;
 use scope::Outcome;
@@ -8,10 +8,15 @@ ghost use Rattle.scope.specs.Mesh.{elements};
 ghost use Rattle.scope.specs.Phases.{checkPhases};
 ghost use Rattle.scope.specs.Refusals.{ownSidesPhase, nodesPhase, edgesPhase, shapePhases};
 ghost use Rattle.mesh.specs.MeshContracts.{Sized};
-ghost use Rattle.shape.specs.ShapeContracts.{SoilTable, SideTable};
+ghost use Rattle.shape.specs.ShapeContracts.{MarkTable, SideTable, PairedAs};
 use crate::edges::edges_check;
 use crate::edges::take_sides;
+use crate::marks::MARKS;
+use crate::marks::mark_table;
 use crate::nodes::nodes_check;
+use crate::pairs::Paired;
+use crate::pairs::no_pairs;
+use crate::pairs::pairs_check;
 use crate::sides::side_table;
 use crate::sides::sides_check;
 use crate::tables::NONE;
@@ -25,8 +30,8 @@ const SMALL_TABLE: usize = SMALL_NODES * MOST_NODES;
 const TABLE: usize = MOST_NODES * MOST_NODES;
 
 // Refusals 6 to 8, by a table in which no byte is given yet.
-fn checks_by_table(m: &[i64], s: Sizes, node_soils: &[u8], t: &mut [u8]) -> Outcome
-    requires { ⌜ Sized (now m) s × SoilTable (now m) (elements (now m)) (now «node_soils») × SideTable (now m) 0 (now t) ⌝ }
+fn checks_by_table(m: &[i64], s: Sizes, marks: &[u8; MARKS], t: &mut [u8]) -> Outcome
+    requires { ⌜ Sized (now m) s × MarkTable (now m) (elements (now m)) (now marks) × SideTable (now m) 0 (now t) ⌝ }
     ensures { λ r. ⌜ r ≡ checkPhases (ownSidesPhase (now (m .entry)) ∷ nodesPhase (now (m .entry)) ∷ edgesPhase (now (m .entry)) ∷ []) ⌝ }
 {
     side_table(m, s, t);
@@ -34,7 +39,7 @@ fn checks_by_table(m: &[i64], s: Sizes, node_soils: &[u8], t: &mut [u8]) -> Outc
     match sides {
         Outcome::Refused { number, place } => Outcome::Refused { number, place },
         Outcome::Passed => {
-            let nodes = nodes_check(m, s, node_soils);
+            let nodes = nodes_check(m, s, marks);
             match nodes {
                 Outcome::Refused { number, place } => Outcome::Refused { number, place },
                 Outcome::Passed => {
@@ -47,26 +52,31 @@ fn checks_by_table(m: &[i64], s: Sizes, node_soils: &[u8], t: &mut [u8]) -> Outc
 }
 
 // Refusals 6 to 8. For speed a small mesh has a small table: the bytes that need no filling were 6 % of the time of the worked sheet.
-fn sides_nodes_edges(m: &[i64], s: Sizes, node_soils: &[u8]) -> Outcome
-    requires { ⌜ Sized (now m) s × SoilTable (now m) (elements (now m)) (now «node_soils») ⌝ }
+fn sides_nodes_edges(m: &[i64], s: Sizes, marks: &[u8; MARKS]) -> Outcome
+    requires { ⌜ Sized (now m) s × MarkTable (now m) (elements (now m)) (now marks) ⌝ }
     ensures { λ r. ⌜ r ≡ checkPhases (ownSidesPhase (now (m .entry)) ∷ nodesPhase (now (m .entry)) ∷ edgesPhase (now (m .entry)) ∷ []) ⌝ }
 {
     if s.nodes <= SMALL_NODES {
         let mut small = [NONE; SMALL_TABLE];
-        return checks_by_table(m, s, node_soils, &mut small);
+        return checks_by_table(m, s, marks, &mut small);
     }
     let mut table = [NONE; TABLE];
-    checks_by_table(m, s, node_soils, &mut table)
+    checks_by_table(m, s, marks, &mut table)
 }
 
-// Refusals 5 to 8, in their order, with the soils of the nodes.
-pub fn mesh_shape(m: &[i64], s: Sizes, node_soils: &[u8]) -> Outcome
-    requires { ⌜ Sized (now m) s × SoilTable (now m) (elements (now m)) (now «node_soils») ⌝ }
-    ensures { λ r. ⌜ r ≡ checkPhases (shapePhases (now (m .entry))) ⌝ }
+// Refusals 5 to 8 and 42, in their order, and the pairs.
+pub fn mesh_shape(m: &[i64], s: Sizes) -> Paired
+    requires { ⌜ Sized (now m) s ⌝ }
+    ensures { λ r. ⌜ PairedAs (checkPhases (shapePhases (now (m .entry)))) (now (m .entry)) r ⌝ }
 {
     let turns = turns_check(m, s);
-    match turns {
-        Outcome::Refused { number, place } => Outcome::Refused { number, place },
-        Outcome::Passed => sides_nodes_edges(m, s, node_soils),
+    if let Outcome::Refused { number, place } = turns {
+        return no_pairs(number, place);
     }
+    let marks = mark_table(m, s);
+    let sides = sides_nodes_edges(m, s, &marks);
+    if let Outcome::Refused { number, place } = sides {
+        return no_pairs(number, place);
+    }
+    pairs_check(m, s, &marks)
 }

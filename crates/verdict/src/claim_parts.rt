@@ -34,27 +34,27 @@ fn lower_load(c: &[i64]) -> Load
 }
 
 // 21 and 22, where the claim has a field.
-fn claim_field(m: &[i64], c: &[i64], s: Sizes, node_soils: &[u8], steps: &[i64]) -> Outcome
-    requires { ⌜ Judged (now m) (now c) s (now «node_soils») ⌝ ∗ ⌜ MeshSteps (now m) (now steps) ⌝ }
+fn claim_field(m: &[i64], c: &[i64], s: Sizes, pairs: &[u8], steps: &[i64]) -> Outcome
+    requires { ⌜ Judged (now m) (now c) s (now pairs) ⌝ ∗ ⌜ MeshSteps (now m) (now steps) ⌝ }
     ensures { λ r. ⌜ r ≡ checkPhases (fieldPart (now (m .entry)) (now (c .entry))) ⌝ }
 {
     if number_at(c, 0) == 1 {
-        return field_check(m, c, s, node_soils, steps);
+        return field_check(m, c, s, pairs, steps);
     }
     Outcome::Passed
 }
 
 // The verdict by the parts. For speed the polygon's sides are made once and lent to each part.
-pub fn parts_verdict(m: &[i64], c: &[i64], s: Sizes, node_soils: &[u8]) -> Verdict
-    requires { ⌜ Judged (now m) (now c) s (now «node_soils») ⌝ }
+pub fn parts_verdict(m: &[i64], c: &[i64], s: Sizes, pairs: &[u8]) -> Verdict
+    requires { ⌜ Judged (now m) (now c) s (now pairs) ⌝ }
     ensures { λ r. ⌜ r ≡ answer (checkPhases (partPhases (now (m .entry)) (now (c .entry)))) (Verdict.Accepted (openCount (now (m .entry)) (now (c .entry))) (lowerLoad (now (c .entry))) (upperLoad (now (m .entry)) (now (c .entry)))) ⌝ }
 {
     let steps = steps_of(s.sides);
-    let field = claim_field(m, c, s, node_soils, &steps);
+    let field = claim_field(m, c, s, pairs, &steps);
     if let Outcome::Refused { number, place } = field {
         return Verdict::Refused { number, place };
     }
-    let limit = claim_limit(m, c, s, node_soils, &steps);
+    let limit = claim_limit(m, c, s, pairs, &steps);
     match limit {
         Limit::Refused { number, place } => Verdict::Refused { number, place },
         Limit::Absent => Verdict::Accepted {
@@ -63,7 +63,7 @@ pub fn parts_verdict(m: &[i64], c: &[i64], s: Sizes, node_soils: &[u8]) -> Verdi
             upper: Load::Absent,
         },
         Limit::Exact { w, m: den } => Verdict::Accepted {
-            open_rows: open_rows(m, c, s, node_soils, &steps),
+            open_rows: open_rows(m, c, s, pairs, &steps),
             lower: lower_load(c),
             upper: Load::Exact { num: w, den },
         },

@@ -5,7 +5,7 @@ ghost use lib.IntN.{pos};
 ghost use lib.Signed.{leZ};
 ghost use Rattle.scope.specs.Columns.{at, n, l};
 ghost use Rattle.scope.specs.Claim.{stress};
-ghost use Rattle.scope.specs.Mesh.{equalityCount};
+ghost use Rattle.scope.specs.Mesh.{mostPairs, mostSides, equalityCount};
 ghost use Rattle.scope.specs.Rows.{equalityRows, strengthRows};
 ghost use Rattle.scope.specs.Sums.{rowHolds};
 ghost use Rattle.scope.specs.Phases.{checkPhase, checkPhases};
@@ -13,14 +13,14 @@ ghost use Rattle.scope.specs.Refusals.{equalitiesPhase, strengthsPhase, fieldPh
 ghost use Rattle.scope.specs.Tests.{rowAt};
 ghost use Rattle.mesh.specs.MeshContracts.{Sized};
 ghost use Rattle.lines.specs.SearchContracts.{firstFailing};
-ghost use Rattle.rows.specs.RowContracts.{StepsFit, NodeFits, sideSlack, FieldFits, Judged, MeshSteps};
+ghost use Rattle.rows.specs.RowContracts.{StepsFit, PairFits, sideSlack, FieldFits, Judged, MeshSteps};
 use mesh::sizes::Sizes;
 use mesh::sizes::equality_count;
 use mesh::sizes::number_at;
 use rows::equality_rows::equality_row;
 use rows::equality_rows::left_side;
-use rows::strength_rows::node_holds;
-use rows::strength_rows::node_state;
+use rows::strength_rows::pair_holds;
+use rows::strength_rows::pair_state;
 use rows::strength_rows::side_holds;
 use scope::Outcome;
 use scope::Place;
@@ -59,17 +59,17 @@ fn equalities_check(m: &[i64], s: Sizes, x: &[i64], l: i64, n: i64) -> Outcome
     Outcome::Passed
 }
 
-// "Its number is (node-1)·sides + k", where v and k are counted from 0.
-fn strength_number(v: usize, sides: usize, k: usize) -> u32
-    requires { ⌜ (v < 100) × (sides ≤ 36) × (k ≤ 36) ⌝ }
-    ensures { λ r. ⌜ r ≡ v * sides + k + 1 ⌝ }
+// "Its number is (node-1)·sides + k", by pairs of a node and a soil (document 02, N2); a and k are counted from 0.
+fn strength_number(a: usize, sides: usize, k: usize) -> u32
+    requires { ⌜ (a < mostPairs) × (sides ≤ mostSides) × (k ≤ mostSides) ⌝ }
+    ensures { λ r. ⌜ r ≡ a * sides + k + 1 ⌝ }
 {
-    (v * sides + k + 1) as u32
+    (a * sides + k + 1) as u32
 }
 
-// The first side whose strength row fails at a node with these numbers; where each holds, their count.
+// The first side whose strength row fails at a pair with these numbers; where each holds, their count.
 fn first_side(steps: &[i64], sides: usize, d: &[i64]) -> usize
-    requires { ⌜ StepsFit (now steps) sides ⌝ ∗ ⌜ NodeFits (now d) ⌝ }
+    requires { ⌜ StepsFit (now steps) sides ⌝ ∗ ⌜ PairFits (now d) ⌝ }
     ensures { λ r. ⌜ r ≡ firstFailing (λ k. leZ (pos 0) (sideSlack (now (d .entry)) (now (steps .entry)) k)) sides ⌝ ∗ ⌜ r ≤ sides ⌝ }
 {
     let mut k: usize = 0;
@@ -82,31 +82,31 @@ fn first_side(steps: &[i64], sides: usize, d: &[i64]) -> usize
     sides
 }
 
-// 22: the lowest strength row that fails, which is on the lowest node that has one.
-fn strengths_check(m: &[i64], c: &[i64], s: Sizes, node_soils: &[u8], steps: &[i64]) -> Outcome
-    requires { ⌜ Judged (now m) (now c) s (now «node_soils») × (at (now c) 0 ≡ pos 1) ⌝ ∗ ⌜ MeshSteps (now m) (now steps) ⌝ }
+// 22: the lowest strength row that fails, which is one of the lowest pair that has one.
+fn strengths_check(m: &[i64], c: &[i64], s: Sizes, pairs: &[u8], steps: &[i64]) -> Outcome
+    requires { ⌜ Judged (now m) (now c) s (now pairs) × (at (now c) 0 ≡ pos 1) ⌝ ∗ ⌜ MeshSteps (now m) (now steps) ⌝ }
     ensures { λ r. ⌜ r ≡ checkPhase (strengthsPhase (strengthRows (now (m .entry))) (stress (now (m .entry)) (now (c .entry))) (l (now (c .entry))) (n (now (c .entry)))) ⌝ }
 {
-    let nodes = s.nodes;
-    let mut v: usize = 0;
-    while v < nodes {
-        if !node_holds(m, c, s, node_soils, steps, v) {
+    let count = s.pairs;
+    let mut a: usize = 0;
+    while a < count {
+        if !pair_holds(m, c, s, pairs, steps, a) {
             let sides = s.sides;
-            let d = node_state(m, c, s, node_soils, v);
+            let d = pair_state(m, c, s, pairs, a);
             let k = first_side(steps, sides, &d);
             return Outcome::Refused {
                 number: 22,
-                place: Place::Row(strength_number(v, sides, k)),
+                place: Place::Row(strength_number(a, sides, k)),
             };
         }
-        v += 1;
+        a += 1;
     }
     Outcome::Passed
 }
 
 // 21, then 22: a field that is there, against the rows.
-pub fn field_check(m: &[i64], c: &[i64], s: Sizes, node_soils: &[u8], steps: &[i64]) -> Outcome
-    requires { ⌜ Judged (now m) (now c) s (now «node_soils») × (at (now c) 0 ≡ pos 1) ⌝ ∗ ⌜ MeshSteps (now m) (now steps) ⌝ }
+pub fn field_check(m: &[i64], c: &[i64], s: Sizes, pairs: &[u8], steps: &[i64]) -> Outcome
+    requires { ⌜ Judged (now m) (now c) s (now pairs) × (at (now c) 0 ≡ pos 1) ⌝ ∗ ⌜ MeshSteps (now m) (now steps) ⌝ }
     ensures { λ r. ⌜ r ≡ checkPhases (fieldPhases (equalityRows (now (m .entry))) (strengthRows (now (m .entry))) (stress (now (m .entry)) (now (c .entry))) (l (now (c .entry))) (n (now (c .entry)))) ⌝ }
 {
     let n = number_at(c, 2);
@@ -115,5 +115,5 @@ pub fn field_check(m: &[i64], c: &[i64], s: Sizes, node_soils: &[u8], steps: &[i
     if let Outcome::Refused { number, place } = equalities {
         return Outcome::Refused { number, place };
     }
-    strengths_check(m, c, s, node_soils, steps)
+    strengths_check(m, c, s, pairs, steps)
 }

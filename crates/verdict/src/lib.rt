@@ -4,33 +4,47 @@ pub mod claim_parts;
 pub mod field_checks;
 
 ghost use mathlib.Core.Path.{_≡_};
+ghost use Prim.Native.Nat.{_*_};
 ghost use lib.ListN.{replicate};
-ghost use Rattle.scope.specs.Verdict.{linesCheck, meshCheck, claimVerdict, verdict};
-ghost use Rattle.scope.specs.Claim.{claimLayout};
-ghost use Rattle.verdict.specs.JudgeContracts.{SoundMesh, MeshAnswered};
+ghost use Rattle.scope.specs.Mesh.{mostPairs};
+ghost use Rattle.scope.specs.Verdict.{claimVerdict, verdict};
+ghost use Rattle.verdict.specs.JudgeContracts.{SoundMesh, noSizes, MeshAnswered};
 use crate::claim_parts::parts_verdict;
 use lines::line_checks::claim_lines;
 use lines::line_checks::mesh_lines;
+use mesh::sizes::Sizes;
 use mesh::sizes::sizes_of;
+use mesh::sizes::with_pairs;
 use scope::Outcome;
 use scope::Place;
 use scope::Verdict;
 use shape::mesh_checks::mesh_shape;
-use shape::nodes::soil_table;
+use shape::pairs::PAIR_BYTES;
 
-// What is said of the numbers of a mesh: what they are refused for, 1 to 8, or that they pass, and then the soil of each node. The soils are looked up once a mesh, and lent to the judging of each claim on it.
+// What is said of the numbers of a mesh: what they are refused for, 1 to 8 and 42, or that they pass, and then its counts
+// and its pairs of a node and a soil. These are made once a mesh, and lent to the judging of each claim on it.
 pub struct MeshAnswer {
     pub outcome: Outcome,
-    pub node_soils: [u8; 100],
+    pub sizes: Sizes,
+    pub pairs: [u8; PAIR_BYTES],
 }
 
-// A mesh that is refused: its nodes have no soils.
+// A mesh that is refused: it has no counts and no pairs.
 fn refused_mesh(number: u32, place: Place) -> MeshAnswer
-    ensures { λ r. ⌜ (r .outcome ≡ Outcome.Refused number place) × (r .«node_soils» ≡ replicate 100 255) ⌝ }
+    ensures { λ r. ⌜ (r .outcome ≡ Outcome.Refused number place) × (r .sizes ≡ noSizes) × (r .pairs ≡ replicate (2 * mostPairs) 0) ⌝ }
 {
+    let sizes = Sizes {
+        nodes: 0,
+        elements: 0,
+        soils: 0,
+        edges: 0,
+        sides: 0,
+        pairs: 0,
+    };
     MeshAnswer {
         outcome: Outcome::Refused { number, place },
-        node_soils: [255; 100],
+        sizes,
+        pairs: [0; PAIR_BYTES],
     }
 }
 
@@ -43,36 +57,30 @@ pub fn judge_mesh(m: &[i64]) -> MeshAnswer
         return refused_mesh(number, place);
     }
     let s = sizes_of(m);
-    let node_soils = soil_table(m, s);
-    let shape = mesh_shape(m, s, &node_soils);
-    if let Outcome::Refused { number, place } = shape {
+    let shape = mesh_shape(m, s);
+    let outcome = shape.outcome;
+    if let Outcome::Refused { number, place } = outcome {
         return refused_mesh(number, place);
     }
+    let sizes = with_pairs(s, shape.count);
+    let pairs = shape.pairs;
     MeshAnswer {
         outcome: Outcome::Passed,
-        node_soils,
+        sizes,
+        pairs,
     }
 }
 
-// What the lines of a claim on a judged mesh are refused for, 11 to 13, or that they pass.
-fn judge_claim_lines(m: &[i64], c: &[i64]) -> Outcome
-    requires { ⌜ meshCheck (now m) ≡ Outcome.Passed ⌝ }
-    ensures { λ r. ⌜ r ≡ linesCheck (claimLayout (now (m .entry))) (now (c .entry)) ⌝ }
-{
-    let s = sizes_of(m);
-    claim_lines(c, s)
-}
-
-// The verdict on a claim's numbers on a judged mesh, the soils of whose nodes are lent.
-pub fn judge_claim(m: &[i64], node_soils: &[u8], c: &[i64]) -> Verdict
-    requires { ⌜ SoundMesh (now m) (now «node_soils») ⌝ }
+// The verdict on a claim's numbers on a judged mesh, whose counts and pairs are lent.
+pub fn judge_claim(m: &[i64], s: Sizes, pairs: &[u8], c: &[i64]) -> Verdict
+    requires { ⌜ SoundMesh (now m) s (now pairs) ⌝ }
     ensures { λ r. ⌜ r ≡ claimVerdict (now (m .entry)) (now (c .entry)) ⌝ }
 {
-    let lines = judge_claim_lines(m, c);
+    let lines = claim_lines(c, s);
     if let Outcome::Refused { number, place } = lines {
         return Verdict::Refused { number, place };
     }
-    parts_verdict(m, c, sizes_of(m), node_soils)
+    parts_verdict(m, c, s, pairs)
 }
 
 // The verdict on a mesh and a claim handed over as numbers.
@@ -84,5 +92,6 @@ pub fn check_numbers(m: &[i64], c: &[i64]) -> Verdict
     if let Outcome::Refused { number, place } = outcome {
         return Verdict::Refused { number, place };
     }
-    judge_claim(m, &mesh.node_soils, c)
+    let sizes = mesh.sizes;
+    judge_claim(m, sizes, &mesh.pairs, c)
 }

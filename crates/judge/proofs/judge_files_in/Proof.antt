@@ -21,7 +21,7 @@ slice-aggregate-m c = as-many (judged-listed (c .before .before .before .before 
 
 judge-claim-file-requires : tie.Need-judge-claim-file-requires
 judge-claim-file-requires c κs =
-    let told = c .before .before .before .before in
+    let told = c .before .before .before .before .before in
     judged-sound (told .before .before .before .before .judge-mesh-file .ensures) (told .enum-told .given .1)
 
 same-length : tie.Need-same-length
@@ -35,7 +35,7 @@ same-length-2 c = search needs
 
 returns-2 : tie.Need-returns-2
 returns-2 c =
-    let told = c .before .before .before .before .before in
+    let told = c .before .before .before .before .before .before in
     files-judged (told .before .before .before .before .judge-mesh-file .ensures) _ (told .enum-told .given .1) (c .judge-claim-file .ensures)
 
 pub judge-files-in-spec : {M : Type 1} → statement M

@@ -61,7 +61,7 @@ claim-body-requires c κs =
     let a = r .before .before .before in
     let h = header e in
     let room = a .before .before .pre in
-    (a .table .ensures, (few-sizes (room .sized), claim-room _ _ h _ (v .claim-header .ensures) (t .enum-told .given .1) (room .mesh) (room .sized) (omega (arith, room .fits))))
+    (a .table .ensures, (few-sizes (room .counted .sizes), claim-room _ _ h _ (v .claim-header .ensures) (t .enum-told .given .1) (room .mesh) (room .counted) (omega (arith, room .fits))))
 
 same-length-3 : tie.Need-same-length-3
 same-length-3 c = search needs

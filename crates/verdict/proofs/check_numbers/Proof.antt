@@ -19,12 +19,12 @@ enum-told c = search needs
 
 judge-claim-requires : tie.Need-judge-claim-requires
 judge-claim-requires c κs =
-    let told = c .before .before .before in
+    let told = c .before .before .before .before in
     sound-mesh (told .before .before .judge-mesh .ensures) (told .enum-told .given .1)
 
 returns-2 : tie.Need-returns-2
 returns-2 c =
-    let told = c .before .before .before .before in
+    let told = c .before .before .before .before .before in
     mesh-goes-on _ _ (sym (told .before .before .judge-mesh .ensures .outcome) ∙ told .enum-told .given .1) (c .judge-claim .ensures)
 
 pub check-numbers-spec : {M : Type 1} → statement M

@@ -40,7 +40,7 @@ returns c =
             record { wide = omega arith; fewLines = few-there _ b (p .fewElements); someColumn = omega arith; fewColumns = omega arith },
             (
               record { wide = omega arith; fewLines = few-there _ d (omega (arith, p .fewEdges)); someColumn = omega arith; fewColumns = omega arith },
-              (record { wide = sym (length-replicate _ _); fewLines = few-there _ e (p .fewNodes); someColumn = p .someSide; fewColumns = p .fewSides }, tt),
+              (record { wide = sym (length-replicate _ _); fewLines = few-there _ e (omega (arith, p .fewPairs)); someColumn = p .someSide; fewColumns = p .fewSides }, tt),
             ),
           ),
         );

@@ -2,7 +2,7 @@
 use mathlib.Core.Path.{_≡_, ap, refl, sym}
 use lib.IntN.{_+ℤ_, _*ℤ_}
 use Rattle.scope.specs.Sums.{weightedSum}
-use Rattle.rows.specs.RowContracts.{pairs, entriesOf}
+use Rattle.rows.specs.RowContracts.{withColumns, entriesOf}
 use native.Mathlib.Omega.{arith}
 use Prim.Native.Nat.{_≤_, _*_, _-_}
 use mir.Syntax.{w64}
@@ -22,7 +22,7 @@ abbrev μ-loop : tie.MeasureT-loop
 μ-loop coefficients columns count live x l sum₀ i₀ sum i = count - i
 
 loop-holds : tie.Need-loop-holds Inv-loop μ-loop
-unfolding weightedSum pairs
+unfolding weightedSum withColumns
 loop-holds c = (omega arith, is (search machine depth 30) (omega arith) refl)
 
 mul-j : tie.Need-mul-j Inv-loop μ-loop

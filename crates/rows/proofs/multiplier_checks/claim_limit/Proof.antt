@@ -52,7 +52,9 @@ multipliers-limit-requires c κs =
     let there = told (c .before .before .if1 .taken) (search machine depth 30) (omega arith) in
     record {
       sized = judged .sized;
-      nodeSoils = judged .nodeSoils;
+      pairsAre = judged .pairsAre;
+      few = judged .few;
+      pairTable = judged .pairTable;
       sidesGiven = c .before .before .before .before .before .pre .1;
       multipliers = multipliers-lent (judged .claim) there (from-is (c .before .before .before .before .before .args .m .now) (c .before .before .before .before .before .args .c .now) (c .before .before .before .before .before .args .s .nodes) (judged .sized .nodesAre) (c .before .multipliers-from .ensures));
     }

@@ -1,7 +1,7 @@
 -- `multipliers_limit` meets its contract: 31, and then the sums over all rows, to columns that are 0.
 use mathlib.Core.Path.{refl, sym, _∙_}
 use native.Mathlib.Omega.{arith}
-use Rattle.rows.proofs.NodeLaws.{no-sums, whole-room}
+use Rattle.rows.proofs.PairLaws.{no-sums, whole-room}
 use Rattle.rows.proofs.LimitLaws.{unfixed-refused, limit-found}
 use borrow.Author.Needs.{needs}
 use Rattle.rows.proofs.multiplier_checks.multipliers_limit.Statement.{statement}
@@ -35,10 +35,11 @@ mul-sums-limit c = let counts = c .before .before .before .before .before .befor
 
 sums-limit-requires : tie.Need-sums-limit-requires
 sums-limit-requires c κs =
-    let sized = c .before .before .before .before .before .before .before .before .before .pre .sized in
+    let given = c .before .before .before .before .before .before .before .before .before .pre in
+    let sized = given .sized in
     let counts = sized .facts .counts in
     let summed = c .before .before .before .row-sums .ensures in
-    (omega (arith, sized .nodesAre, summed .size, counts .nodesMost), (omega (arith, sized .nodesAre, counts .nodesMost), whole-room _ _ counts summed))
+    (omega (arith, sized .nodesAre, summed .size, counts .nodesMost), (omega (arith, sized .nodesAre, counts .nodesMost), whole-room _ _ counts (given .few) summed))
 
 returns-2 : tie.Need-returns-2
 returns-2 c =

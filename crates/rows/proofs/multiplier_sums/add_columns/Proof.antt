@@ -4,7 +4,7 @@ use native.Mathlib.Omega.{arith}
 use Rattle.integer.proofs.BoundLaws.{AllWithin-le}
 use Rattle.integer.proofs.Machine.{Is-read, Is-Within, Is-within}
 use Rattle.rows.proofs.SumLaws.{sums-of, sums-as, sums-within}
-use Rattle.rows.proofs.NodeLaws.{column-added}
+use Rattle.rows.proofs.PairLaws.{column-added}
 use borrow.Author.Needs.{needs}
 use Rattle.rows.proofs.multiplier_sums.add_columns.Statement.{statement}
 use Rattle.rows.proofs.multiplier_sums.add_columns.Tie as tie

@@ -2,7 +2,7 @@
 use native.Mathlib.Omega.{arith}
 use Rattle.integer.proofs.Machine.{machine, fits, exact, told}
 use Rattle.rows.proofs.StrengthLaws.{being}
-use Rattle.rows.proofs.NodeLaws.{zero-side, side-added}
+use Rattle.rows.proofs.PairLaws.{zero-side, side-added}
 use borrow.Author.Needs.{needs}
 use Rattle.rows.proofs.multiplier_sums.add_side.Statement.{statement}
 use Rattle.rows.proofs.multiplier_sums.add_side.Tie as tie

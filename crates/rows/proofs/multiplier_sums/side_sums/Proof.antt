@@ -5,7 +5,7 @@ use native.Mathlib.Omega.{arith}
 use Rattle.integer.proofs.Machine.{Is-read}
 use Rattle.rows.specs.MultiplierContracts.{SideSumsAre}
 use Rattle.rows.proofs.StrengthLaws.{being}
-use Rattle.rows.proofs.NodeLaws.{side-weighted, no-sides, one-side, sides-fit}
+use Rattle.rows.proofs.PairLaws.{side-weighted, no-sides, one-side, sides-fit}
 use Rattle.rows.proofs.multiplier_sums.side_sums.Statement.{statement}
 use Rattle.rows.proofs.multiplier_sums.side_sums.Tie as tie
 

@@ -1,8 +1,8 @@
--- `mesh_shape` meets its contract: the turns first, and then the rest.
+-- `mesh_shape` meets its contract: the turns first, then the sides, nodes and edges, and the pairs last.
 use mathlib.Core.Path.{sym, _∙_}
 use borrow.Author.Needs.{needs}
-use Rattle.scope.specs.Phases.{checkPhases}
-use Rattle.lines.proofs.Loops.{then-refuses, then-goes-on}
+use Rattle.shape.proofs.MeshLaws.{turns-refuse, rest-refuses, pairs-last}
+use Rattle.shape.proofs.PairTables.{paired-as}
 use Rattle.shape.proofs.mesh_checks.mesh_shape.Statement.{statement}
 use Rattle.shape.proofs.mesh_checks.mesh_shape.Tie as tie
 
@@ -12,19 +12,48 @@ turns-check-requires c κs = search needs
 enum-known-turns : tie.Need-enum-known-turns
 enum-known-turns c = search needs
 
+no-pairs-requires : tie.Need-no-pairs-requires
+no-pairs-requires c κs = search needs
+
+returns : tie.Need-returns
+returns c =
+    let asked = c .before .before in
+    paired-as _ (c .no-pairs .ensures _) (turns-refuse _ (sym (asked .before .before .turns-check .ensures) ∙ asked .turns .given .1))
+
 enum-told : tie.Need-enum-told
 enum-told c = search needs
+
+mark-table-requires : tie.Need-mark-table-requires
+mark-table-requires c κs = search needs
 
 sides-nodes-edges-requires : tie.Need-sides-nodes-edges-requires
 sides-nodes-edges-requires c κs = search needs
 
-returns : tie.Need-returns
-unfolding checkPhases
-returns c = then-refuses _ (sym (c .before .before .before .turns-check .ensures) ∙ c .before .turns .given .1)
+enum-known-sides : tie.Need-enum-known-sides
+enum-known-sides c = search needs
+
+no-pairs-requires-2 : tie.Need-no-pairs-requires-2
+no-pairs-requires-2 c κs = search needs
 
 returns-2 : tie.Need-returns-2
-unfolding checkPhases
-returns-2 c = then-goes-on (sym (c .before .before .before .turns-check .ensures) ∙ c .before .enum-told .given .1) (c .sides-nodes-edges .ensures)
+returns-2 c =
+    let asked = c .before .before in
+    let rest = asked .before .before in
+    let told = rest .before .before .before in
+    paired-as _ (c .no-pairs2 .ensures _) (rest-refuses _ (sym (told .before .before .turns-check .ensures) ∙ told .enum-told .given .1) (sym (rest .sides-nodes-edges .ensures) ∙ asked .sides .given .1))
+
+enum-told-2 : tie.Need-enum-told-2
+enum-told-2 c = search needs
+
+pairs-check-requires : tie.Need-pairs-check-requires
+pairs-check-requires c κs = search needs
+
+returns-3 : tie.Need-returns-3
+returns-3 c =
+    let passed = c .before .before in
+    let rest = passed .before .before in
+    let told = rest .before .before .before in
+    paired-as _ (c .pairs-check .ensures) (pairs-last _ (sym (told .before .before .turns-check .ensures) ∙ told .enum-told .given .1) (sym (rest .sides-nodes-edges .ensures) ∙ passed .enum-told2 .given .1))
 
 pub mesh-shape-spec : {M : Type 1} → statement M
 mesh-shape-spec =
@@ -32,7 +61,14 @@ mesh-shape-spec =
     (tie.spec
     turns-check-requires
     enum-known-turns
-    enum-told
-    sides-nodes-edges-requires
+    no-pairs-requires
     returns
-    returns-2)
+    enum-told
+    mark-table-requires
+    sides-nodes-edges-requires
+    enum-known-sides
+    no-pairs-requires-2
+    returns-2
+    enum-told-2
+    pairs-check-requires
+    returns-3)

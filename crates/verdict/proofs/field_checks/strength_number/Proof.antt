@@ -6,16 +6,16 @@ use Rattle.verdict.proofs.field_checks.strength_number.Statement.{state
 use Rattle.verdict.proofs.field_checks.strength_number.Tie as tie
 
 mul-result : tie.Need-mul-result
-mul-result c = omega (arith, first-row {v = c .args .v} (c .pre .0) (omega arith) (c .pre .1))
+mul-result c = omega (arith, first-row {a = c .args .a} (c .pre .0) (omega arith) (c .pre .1))
 
 add-result : tie.Need-add-result
-add-result c = omega (arith, first-row {v = c .args .v} (c .pre .0) (omega arith) (c .pre .1))
+add-result c = omega (arith, first-row {a = c .args .a} (c .pre .0) (omega arith) (c .pre .1))
 
 add-result-2 : tie.Need-add-result-2
-add-result-2 c = omega (arith, first-row {v = c .args .v} (c .pre .0) (omega arith) (c .pre .1))
+add-result-2 c = omega (arith, first-row {a = c .args .a} (c .pre .0) (omega arith) (c .pre .1))
 
 cast-result : tie.Need-cast-result
-cast-result c = omega (arith, first-row {v = c .args .v} (c .pre .0) (omega arith) (c .pre .1))
+cast-result c = omega (arith, first-row {a = c .args .a} (c .pre .0) (omega arith) (c .pre .1))
 
 returns : tie.Need-returns
 returns c = search needs

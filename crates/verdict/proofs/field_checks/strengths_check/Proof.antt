@@ -1,4 +1,4 @@
--- `strengths_check` meets its contract. The loop's invariant: the strength rows of the nodes passed hold.
+-- `strengths_check` meets its contract. The loop's invariant: the strength rows of the pairs passed hold.
 use mathlib.Core.Path.{_≡_, refl, sym, _∙_, ap}
 use Prim.Native.Nat.{ℕ, _-_, _≤_}
 use native.Mathlib.Omega.{arith}
@@ -8,32 +8,32 @@ use Rattle.scope.specs.declared.Outcome.the-variants.{Refused}
 use Rattle.scope.specs.Rows.{firstWhere}
 use Rattle.lines.specs.SearchContracts.{firstFailing}
 use Rattle.lines.proofs.Loops.{search-more, search-stops}
-use Rattle.rows.specs.RowContracts.{nodeHolds}
-use Rattle.rows.proofs.StrengthLaws.{steps-as, steps-fit, node-fits, strengths-refused, strengths-passed}
+use Rattle.rows.specs.RowContracts.{pairHolds}
+use Rattle.rows.proofs.StrengthLaws.{steps-as, steps-fit, pair-fits, strengths-refused, strengths-passed}
 use borrow.Author.Needs.{needs}
 use Rattle.verdict.proofs.field_checks.strengths_check.Statement.{statement}
 use Rattle.verdict.proofs.field_checks.strengths_check.Tie as tie
 
 abbrev Inv-loop : tie.InvT-loop
-Inv-loop m c s soils steps nodes v₀ v = (v ≤ nodes) × (firstFailing (nodeHolds m c) v ≡ v)
+Inv-loop m c s pairs steps count a₀ a = (a ≤ count) × (firstFailing (pairHolds m c) a ≡ a)
 
 abbrev μ-loop : tie.MeasureT-loop
-μ-loop m c s soils steps nodes v₀ v = nodes - v
+μ-loop m c s pairs steps count a₀ a = count - a
 
 loop-holds : tie.Need-loop-holds Inv-loop μ-loop
 unfolding firstWhere
 loop-holds c = (omega arith, refl)
 
-node-holds-requires : tie.Need-node-holds-requires Inv-loop μ-loop
-node-holds-requires c κs =
+pair-holds-requires : tie.Need-pair-holds-requires Inv-loop μ-loop
+pair-holds-requires c κs =
     let pre = c .before .before .before .pre in
-    (pre .0 .0, pre .0 .1, pre .1, omega (arith, pre .0 .0 .sized .nodesAre, c .loop-test .taken))
+    (pre .0 .0, pre .0 .1, pre .1, omega (arith, pre .0 .0 .pairsAre, c .loop-test .taken))
 
-node-state-requires : tie.Need-node-state-requires Inv-loop μ-loop
-node-state-requires c κs =
+pair-state-requires : tie.Need-pair-state-requires Inv-loop μ-loop
+pair-state-requires c κs =
     let b = c .before .before in
     let pre = b .before .before .before .pre in
-    (pre .0, omega (arith, pre .0 .0 .sized .nodesAre, b .loop-test .taken))
+    (pre .0, omega (arith, pre .0 .0 .pairsAre, b .loop-test .taken))
 
 slice-aggregate-first-side : tie.Need-slice-aggregate-first-side Inv-loop μ-loop
 slice-aggregate-first-side c = search needs
@@ -42,7 +42,7 @@ first-side-requires : tie.Need-first-side-requires Inv-loop μ-loop
 first-side-requires c κs =
     let pre = c .before .before .before .before .before .before .before .pre in
     let steps = steps-as (sym (pre .0 .0 .sized .sidesAre)) (pre .1) in
-    (steps-fit steps, node-fits (c .before .node-state .ensures))
+    (steps-fit steps, pair-fits (c .before .pair-state .ensures))
 
 strength-number-requires : tie.Need-strength-number-requires Inv-loop μ-loop
 strength-number-requires c κs =
@@ -50,7 +50,7 @@ strength-number-requires c κs =
     let pre = b .before .before .before .pre in
     let sized = pre .0 .0 .sized in
     let steps = steps-as (sym (sized .sidesAre)) (pre .1) in
-    (omega (arith, b .loop-test .taken, sized .nodesAre, sized .facts .counts .nodesMost), steps .most, omega (arith, steps .most, c .first-side .ensures .1))
+    (omega (arith, b .loop-test .taken, pre .0 .0 .pairsAre, pre .0 .0 .few), steps .most, omega (arith, steps .most, c .first-side .ensures .1))
 
 returns : tie.Need-returns Inv-loop μ-loop
 returns c =
@@ -58,12 +58,12 @@ returns c =
     let pre = b .before .before .before .pre in
     let sized = pre .0 .0 .sized in
     let asked = c .before .before .before .before in
-    let stops = search-stops (nodeHolds _ _) (b .before .loop .inv .1) (b .before .before .before .args .s .nodes) (b .loop-test .taken) (sym (asked .before .node-holds .ensures) ∙ not-true _ (asked .if1 .taken)) in
+    let stops = search-stops (pairHolds _ _) (b .before .loop .inv .1) (b .before .before .before .args .s .pairs) (b .loop-test .taken) (sym (asked .before .pair-holds .ensures) ∙ not-true _ (asked .if1 .taken)) in
     ap (λ (i : ℕ). Refused 22 (Row i)) (c .strength-number .ensures)
-    ∙ strengths-refused _ _ (sized .facts .counts) (pre .1) (sized .nodesAre) (sized .sidesAre) stops (b .loop-test .taken) (c .before .before .before .node-state .ensures) (c .before .first-side .ensures .0)
+    ∙ strengths-refused _ _ (sized .facts .counts) (pre .1) (pre .0 .0 .pairsAre) (sized .sidesAre) stops (b .loop-test .taken) (c .before .before .before .pair-state .ensures) (c .before .first-side .ensures .0)
 
-add-v : tie.Need-add-v Inv-loop μ-loop
-add-v c = omega arith
+add-a : tie.Need-add-a Inv-loop μ-loop
+add-a c = omega arith
 
 loop-less : tie.Need-loop-less Inv-loop μ-loop
 loop-less c = omega arith
@@ -71,14 +71,14 @@ loop-less c = omega arith
 loop-again : tie.Need-loop-again Inv-loop μ-loop
 loop-again c =
     let b = c .before .before in
-    (omega arith, search-more (nodeHolds _ _) (b .before .loop .inv .1) (sym (c .before .node-holds .ensures) ∙ not-false _ (c .if1 .left)))
+    (omega arith, search-more (pairHolds _ _) (b .before .loop .inv .1) (sym (c .before .pair-holds .ensures) ∙ not-false _ (c .if1 .left)))
 
 returns-2 : tie.Need-returns-2 Inv-loop μ-loop
 returns-2 c =
     let a = c .before .before .before in
-    let sized = a .pre .0 .0 .sized in
-    let e : c .before .loop .v ≡ a .args .s .nodes = omega (arith, c .before .loop .inv .0, c .loop-test .left) in
-    strengths-passed _ _ (sized .facts .counts) (sized .nodesAre) (sym (ap (firstFailing (nodeHolds _ _)) (sym e) ∙ c .before .loop .inv .1)) (c .loop-test .left)
+    let judged = a .pre .0 .0 in
+    let e : c .before .loop .a ≡ a .args .s .pairs = omega (arith, c .before .loop .inv .0, c .loop-test .left) in
+    strengths-passed _ _ (judged .sized .facts .counts) (judged .pairsAre) (sym (ap (firstFailing (pairHolds _ _)) (sym e) ∙ c .before .loop .inv .1)) (c .loop-test .left)
 
 pub strengths-check-spec : {M : Type 1} → statement M
 strengths-check-spec =
@@ -87,13 +87,13 @@ strengths-check-spec =
     Inv-loop
     μ-loop
     loop-holds
-    node-holds-requires
-    node-state-requires
+    pair-holds-requires
+    pair-state-requires
     slice-aggregate-first-side
     first-side-requires
     strength-number-requires
     returns
-    add-v
+    add-a
     loop-less
     loop-again
     returns-2)
