@@ -20,6 +20,7 @@ use Rattle.scope.specs.Verdict.{meshCheck, fieldCheck, multipliersCheck,
 use Rattle.scope.proofs.Computed.{computed}
 use Rattle.scope.specs.Accepted.{FieldAccepted, MultipliersAccepted}
 use Rattle.scope.specs.PrintedColumns.{printedColumn, printedLive, printedLimit}
+use Rattle.scope.specs.Pairs.{soilBefore, rowsBefore}
 use Rattle.scope.specs.Bracket.{toSpare}
 use Rattle.scope.specs.Parts.{carried, allowed, SameRows, PartsBracket}
 use Rattle.scope.specs.Worked.{zeros, workedMesh, workedStresses, workedMultipliers, workedClaim, multipliersAlone, sheet, sheet19, sheet29, nineteenFractions, nineteenSixths, oneEdge, freeShear, fillOverClay, overClay}
@@ -198,6 +199,11 @@ pub clay-pairs : strengthPairs fillOverClay
     ≡ pairOf 0 1 ∷ pairOf 1 1 ∷ pairOf 2 0 ∷ pairOf 2 1 ∷ pairOf 3 0 ∷ pairOf 3 1 ∷ pairOf 4 0 ∷ pairOf 5 0 ∷ []
 unfolding computed zeros fillOverClay
 clay-pairs = refl
+
+-- at 20 document 01's rows were met: a field within the fill's strength passed
+pub clay-passed-before : fieldCheck (equalityRows fillOverClay) (rowsBefore fillOverClay) (stress fillOverClay (overClay 20)) (l (overClay 20)) (n (overClay 20)) ≡ Passed
+unfolding computed zeros fillOverClay overClay soilBefore rowsBefore
+clay-passed-before = refl
 
 -- at 20 the first row that fails is side 1 of the fourth pair, node 3 with the clay: (4-1)·12 + 1; at 10 the clay holds too
 pub clay-refused : verdict fillOverClay (overClay 20) ≡ Refused 22 (PlaceRow 37)

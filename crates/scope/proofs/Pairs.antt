@@ -9,21 +9,23 @@ use Prim.Native.Nat.{ℕ, zero, suc, _+_, _-_, _<_, _≤_}
 use native.Mathlib.Nat.{zero-add, eq-or-lt-of-le}
 use native.Mathlib.Decide.{decLt}
 use native.Mathlib.Omega.{arith}
-use lib.Dec.{T}
+use lib.Dec.{T, T-not}
 use lib.IntN.{ℤ}
 use lib.ListN.{length, getD, length-append, List·getD-append}
 use lib.Seq.{getD-append-add}
 use Rattle.scope.specs.Members.{_∈_}
-use Rattle.scope.specs.Mesh.{mostPairs, nodes, elements, soils, elementSoil}
-use Rattle.scope.specs.Rows.{Pair, countFrom, hasSoil, passing, nodePairs, pairsBelow, strengthPairs, pairCount, pairAt}
-use Rattle.scope.specs.Statements.{MeshSound, PairsFit}
+use Rattle.scope.specs.Mesh.{mostPairs, nodes, elements, soils, sides, elementSoil}
+use Rattle.scope.specs.Polygon.{polygonOf}
+use Rattle.scope.specs.Rows.{Pair, joined, countFrom, firstWhere, hasCorner, hasSoil, passing, nodePairs, pairsBelow, pairRows, strengthPairs, pairCount, pairAt, strengthRows}
+use Rattle.scope.specs.Statements.{InElement, MeshSound, PairsFit}
 use Rattle.scope.specs.RefusalTable.{LowestFails}
 use Rattle.scope.specs.NumberRanges.{MeshFacts}
-use Rattle.scope.specs.Pairs.{SoilAround, Before, Pairs, SoundPairs}
+use Rattle.scope.specs.Pairs.{SoilAround, Before, Pairs, soilBefore, rowsBefore, OneSoilEach, SoundPairs}
 use Rattle.scope.proofs.Checks.{below-suc}
+use Rattle.scope.proofs.Decides.{First, first-where}
 use Rattle.scope.proofs.Lists.{each-++, at-in, count-last}
 use Rattle.scope.proofs.NumberRanges.{mesh-facts}
-use Rattle.scope.proofs.Statements.{soil-around}
+use Rattle.scope.proofs.Statements.{corner-of, soil-around}
 
 -- ---- a list in order
 
@@ -339,11 +341,38 @@ module _ (m : List ℤ) (s : MeshSound m) where
           (one-passing (hasSoil m k) (soils m) (soil k) (omega (arith, there .1, e)) (soil-around m k (soil k) .passes (subst (SoilAround m k) e r))
           (λ i l u. only k i (omega arith) (soil-around m k i .holds u)))
 
+  -- the lowest element around a node is found
+  soil-before : (v : ℕ) → v < nodes m → SoilAround m v (soilBefore m v)
+  unfolding soilBefore
+  soil-before v h =
+      let first = first-where (hasCorner m v) (elements m) in
+      let there = found (s .inElement v h) first in
+      record {
+        element = firstWhere (hasCorner m v) (elements m);
+        there = there;
+        has-corner = corner-of m v (firstWhere (hasCorner m v) (elements m)) .holds (first .passes there);
+        same = refl;
+      }
+    where
+      found : {k : ℕ} → InElement m v → First (hasCorner m v) (elements m) k → k < elements m
+      found {k} i first =
+          let small = first .fits in
+          ⊎-elim
+          (λ p. absurd (T-not (hasCorner m v (i .element)) (first .before (i .element) (rw p (i .there))) (corner-of m v (i .element) .passes (i .place, i .four, i .same))))
+          (λ l. l)
+          (eq-or-lt-of-le small)
+
+  as-before : OneSoilEach m → strengthRows m ≡ rowsBefore m
+  unfolding strengthPairs strengthRows rowsBefore
+  as-before one =
+      ap (joined (pairRows (polygonOf (sides m)) m))
+      (one-each (soilBefore m) (λ v t h r. one v t (soilBefore m v) r (soil-before v h)) (nodes m) (omega arith))
+
   pub sound-pairs : SoundPairs m
   unfolding strengthPairs
   sound-pairs = record {
     exactly = λ a. (λ k. pairs m .exactly a .0 k .2, λ r. pair-of m facts r);
     each-node = λ v h. let (t, r) = at-node v h in (t, pair-of m facts r);
     most = few-pairs m s;
-    one-each = λ soil only. one-each soil only (nodes m) (omega arith);
+    as-before = as-before;
   }

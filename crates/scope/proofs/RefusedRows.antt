@@ -1,27 +1,32 @@
 -- The row of a refusal by its number, as it is printed: the phase's row, the row of that number, and the printed row are one.
-use mathlib.Core.Path.{_≡_, refl, sym, subst}
-use mathlib.Core.Logic.{_⊎_, inl, inr}
+-- The node of 42 by the row of the table.
+use mathlib.Core.Path.{_≡_, refl, sym, ap, subst}
+use mathlib.Core.Logic.{_⊎_, inl, inr, _≢_}
 use mathlib.Core.List.{List, _++_}
 use Prim.Native.Nat.{ℕ, suc, _+_, _*_, _-_, _<_}
 use native.Mathlib.Omega.{arith}
 use lib.IntN.{ℤ}
 use Rattle.scope.specs.declared.Place.{Place}
-use Rattle.scope.specs.declared.Place.the-variants.{Row}
+use Rattle.scope.specs.declared.Place.the-variants.{Row, Node}
 use Rattle.scope.specs.Answer.{placeNumber}
-use Rattle.scope.specs.Columns.{n, l}
-use Rattle.scope.specs.Mesh.{elements, sides, fromNode, toNode}
+use Rattle.scope.specs.Columns.{Rule, rightAngle, naming, parts, ruleNumber, n, l}
+use Rattle.scope.specs.Mesh.{meshLayout, elements, sides, fromNode, toNode}
 use Rattle.scope.specs.Polygon.{polygonOf}
-use Rattle.scope.specs.Claim.{stress}
+use Rattle.scope.specs.Claim.{claimLayout, stress}
 use Rattle.scope.specs.Rows as R
 use Rattle.scope.specs.Rows.{pairAt, equalityRows, strengthRows}
 use Rattle.scope.specs.Meets.{RowMet}
 use Rattle.scope.specs.Refusals.{meshPhases, claimPhases, Refusal}
 use Rattle.scope.specs.RowNumbers.{rowNumbered, sideNumbered, RowNumbers}
-use Rattle.scope.specs.RefusedRows.{EqualityFails, StrengthFails}
+use Rattle.scope.specs.RefusalTable.{MeshRow, of-lines, five, six, seven, eight, forty-two, TableRow, of-mesh, of-claim-lines, twenty-one, twenty-two, thirty-one, thirty-two, thirty-three}
+use Rattle.scope.specs.RefusedRows.{EqualityFails, StrengthFails, PairsFail}
 use Rattle.scope.proofs.Phases.{EachIn, each-refusal, own-number}
 use Rattle.scope.proofs.Exactly.{OfParts, not-of-parts, each-number, refused-on-mesh}
+use Rattle.scope.proofs.LineRefusals.{other-number}
 use Rattle.scope.proofs.NumberRanges.{mesh-facts}
+use Rattle.scope.proofs.Pairs.{pairs}
 use Rattle.scope.proofs.Printed.{balance-x, balance-y, normal, shear, strength}
+use Rattle.scope.proofs.RefusalTable.{table-row}
 use Rattle.scope.proofs.RowNumbers.{row-numbers}
 use Rattle.scope.specs.Tests.{rowAt}
 
@@ -86,3 +91,35 @@ module _ (m c : List ℤ) where
         record {
           strength = λ a k h j d g. row-fails (strengthRows m) place (a * sides m + suc k) f (by .strength a k h j) d (strength m (stress m c) (l c) (n c) (polygonOf (sides m) .radius) (pairAt m a) (sideNumbered (polygonOf (sides m)) (suc k)) .1 g);
         }
+
+-- ---- 42
+
+-- no rule of a line has the number 42
+no-rule : (r : Rule) → 42 ≢ ruleNumber r
+unfolding ruleNumber
+no-rule rightAngle e = omega arith
+no-rule (naming cs) e = omega arith
+no-rule parts e = omega arith
+
+module _ (m c : List ℤ) where
+  of-mesh-row : {k : ℕ} {p : Place} → MeshRow m k p → k ≡ 42 → PairsFail m (placeNumber p)
+  unfolding meshLayout
+  of-mesh-row (of-lines r) e = absurd (other-number 42 (λ z. omega arith) (λ z. omega arith) no-rule r e)
+  of-mesh-row (five k l h) e = absurd (omega arith)
+  of-mesh-row (six k l a h) e = absurd (omega arith)
+  of-mesh-row (seven v l a b h) e = absurd (omega arith)
+  of-mesh-row (eight g l a b d h) e = absurd (omega arith)
+  of-mesh-row (forty-two v l a b d g h) e = let (many, at) = pairs m .brings-101st v .0 h in record { many = many; node = ap suc (sym at) }
+
+  of-table-row : {k : ℕ} {p : Place} → TableRow m c k p → k ≡ 42 → PairsFail m (placeNumber p)
+  unfolding claimLayout
+  of-table-row (of-mesh r) e = of-mesh-row r e
+  of-table-row (of-claim-lines s r) e = absurd (other-number 42 (λ z. omega arith) (λ z. omega arith) no-rule r e)
+  of-table-row (twenty-one k b h f) e = absurd (omega arith)
+  of-table-row (twenty-two k b h a f) e = absurd (omega arith)
+  of-table-row (thirty-one k b h f) e = absurd (omega arith)
+  of-table-row (thirty-two j b h a f) e = absurd (omega arith)
+  of-table-row (thirty-three b h a d f) e = absurd (omega arith)
+
+  pub pairs-fail : (place : ℕ) → Refusal m c 42 (Node place) → PairsFail m place
+  pairs-fail place r = of-table-row (table-row m c 42 (Node place) r) refl

@@ -6,8 +6,9 @@ use mathlib.Core.List.{List, map}
 use Prim.Native.Nat.{ℕ, _<_, _≤_}
 use lib.IntN.{ℤ}
 use Rattle.scope.specs.Members.{_∈_}
-use Rattle.scope.specs.Mesh.{nodes, elements, soils, corner, elementSoil}
-use Rattle.scope.specs.Rows.{Pair, countFrom, strengthPairs, pairCount, pairAt}
+use Rattle.scope.specs.Mesh.{nodes, elements, soils, sides, corner, elementSoil}
+use Rattle.scope.specs.Polygon.{polygonOf}
+use Rattle.scope.specs.Rows.{Row, Pair, joined, countFrom, firstWhere, hasCorner, pairRows, strengthPairs, pairCount, pairAt, strengthRows}
 use Rattle.scope.specs.Statements.{PairsFit}
 use Rattle.scope.specs.RefusalTable.{LowestFails}
 
@@ -34,11 +35,27 @@ pub record Pairs (m : List ℤ) : Type 0 where
   -- 42 is "with the node that brings the 101st pair"
   pub brings-101st : (v : ℕ) → LowestFails (nodes m) (PairsFit m) v ↔ ((100 < pairCount m) × (pairAt m 100 .at ≡ v))
 
--- of a mesh that passes: the pairs are the soils around nodes, each node has one, and there are at most 100
+-- ---- document 01's strength rows
+
+-- "A node has the soil of the lowest-numbered element that has it as a corner"
+unfoldable pub soilBefore : List ℤ → ℕ → ℕ
+soilBefore m v = elementSoil m (firstWhere (hasCorner m v) (elements m))
+
+-- one pair for each node
+unfoldable pub rowsBefore : List ℤ → List Row
+rowsBefore m =
+    joined (pairRows (polygonOf (sides m)) m)
+    (map (λ v. record { at = v; soil = soilBefore m v }) (countFrom 0 (nodes m)))
+
+-- all elements around a node have one soil
+abbrev pub OneSoilEach : List ℤ → Type 0
+OneSoilEach m = (v s k : ℕ) → SoilAround m v s → SoilAround m v k → s ≡ k
+
+-- ---- a mesh that passes: the pairs are the soils around nodes, each node has one, and there are at most 100
+
 pub record SoundPairs (m : List ℤ) : Type 0 where
   pub exactly : (a : Pair) → (a ∈ strengthPairs m) ↔ SoilAround m (a .at) (a .soil)
   pub each-node : (v : ℕ) → v < nodes m → (s : ℕ) × (record { at = v; soil = s } ∈ strengthPairs m)
   pub most : pairCount m ≤ 100
-  -- where all elements around a node have one soil, the pairs are document 01's: one for each node
-  pub one-each : (soil : ℕ → ℕ) → ((v s : ℕ) → v < nodes m → SoilAround m v s → s ≡ soil v)
-      → strengthPairs m ≡ map (λ v. record { at = v; soil = soil v }) (countFrom 0 (nodes m))
+  -- where each node has one soil, the rows are document 01's
+  pub as-before : OneSoilEach m → strengthRows m ≡ rowsBefore m
