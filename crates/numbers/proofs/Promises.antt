@@ -21,7 +21,7 @@ use Rattle.scope.specs.declared.Verdict.the-variants.{Accepted, Refused}
 use Rattle.scope.specs.Answer.{placeNumber, placeFor, numberOf, placeOf}
 use Rattle.scope.specs.Columns.{at, hasField, hasMultipliers, n, l}
 use Rattle.scope.specs.Mesh.{nodes}
-use Rattle.scope.specs.Rows.{nodeSoil, rowsOf}
+use Rattle.scope.specs.Rows.{rowsOf}
 use Rattle.scope.specs.Sums.{liveSum, limitSum, openRows}
 use Rattle.scope.specs.Claim.{stress, multiplier}
 use Rattle.scope.specs.Verdict.{verdict, lowerLoad, upperLoad, openCount}
@@ -32,12 +32,11 @@ use Rattle.scope.specs.Accepted.{FieldAccepted, MultipliersAccepted}
 use Rattle.scope.specs.Bracket.{Bracket}
 use Rattle.scope.specs.Parts.{carried, allowed, SameRows, PartsBracket}
 use Rattle.scope.proofs.PlaceKinds.{place-kind, place-number, mesh-exactly}
-use Rattle.scope.proofs.RefusedRows.{equality-fails, strength-fails}
+use Rattle.scope.proofs.RefusedRows.{equality-fails, strength-fails, pairs-fail}
 use Rattle.scope.proofs.Exactly.{accepted-exactly, refused-exactly, verdict-cases, returns-zero, claim-by-parts, field-before-multipliers, refused-after-field}
-use Rattle.scope.proofs.AnswerBounds.{refusal-bounds}
 use Rattle.scope.proofs.Printed.{field-printed}
-use Rattle.scope.proofs.Criterion.{one-pair-each}
-use Rattle.scope.proofs.AcceptedField.{accepted-criterion}
+use Rattle.scope.proofs.AcceptedField.{accepted-criterion, criterion-around}
+use Rattle.scope.proofs.Pairs.{pairs, sound-pairs}
 use Rattle.scope.proofs.Columns.{mesh-columns}
 use Rattle.scope.proofs.Bracket.{bracket}
 use Rattle.scope.proofs.Parts.{nodes-named, multipliers-meet, field-n, parts-bracket, open-rows-count}
@@ -50,7 +49,7 @@ use Rattle.verdict.specs.declared.MeshAnswer.{MeshAnswer}
 use Rattle.numbers.proofs.NumbersListed.{refusal-listed}
 use Rattle.numbers.specs.declared.numbers_answer.NumbersAnswer.{NumbersAnswer}
 use Rattle.numbers.specs.NumbersAnswer.{there, numerator, denominator, counted, answerOf}
-use Rattle.numbers.specs.Promises.{Answers, Returned, ReturnsZero, RefusesExactly, NumbersListed, RowsRefused, TellsField, FieldExactly, MultipliersExactly, FieldReported, MultipliersReported, CriterionAtEachNode, CallsBracket, TwoAnswers, AnswerAndMultipliers, OpenRowsReported, FractionsBracket, FractionsAndAnswer, FieldInFractions, MeshAnsweredExactly, TrianglesAsked}
+use Rattle.numbers.specs.Promises.{Answers, Returned, ReturnsZero, RefusesExactly, NumbersListed, RowsRefused, TellsField, FieldExactly, MultipliersExactly, FieldReported, MultipliersReported, CriterionForEachPair, PairsAsked, CallsBracket, TwoAnswers, AnswerAndMultipliers, OpenRowsReported, FractionsBracket, FractionsAndAnswer, FieldInFractions, MeshAnsweredExactly, TrianglesAsked}
 
 -- every answer returns the verdict's number and place
 pub returned : {m c : List ℤ} {r : NumbersAnswer} → Answers m c r → Returned m c (r .number) (r .place)
@@ -127,7 +126,8 @@ module _ (m c : List ℤ) (number place : ℕ) (h : Returned m c number place) w
       by : VerdictCases m c → (number ≡ 0) ⊎ ((31 ≤ number) × (number ≤ 33))
       by (inl (k, p, e)) =
           let r : Refusal m c k p = refused-exactly m c k p .0 e in
-          inr (omega (arith, is-refused e .0, refused-after-field a r), omega (arith, is-refused e .0, refusal-bounds r .0))
+          let of = refused-after-field a r in
+          inr (omega (arith, is-refused e .0, of .0), omega (arith, is-refused e .0, of .1))
       by (inr e) = inl (is-zero e .0)
 
   field-told : TellsField c number → FieldAccepted m c
@@ -135,7 +135,7 @@ module _ (m c : List ℤ) (number place : ℕ) (h : Returned m c number place) w
   field-told (f, inr b) = by (verdict-cases m c)
     where
       by : VerdictCases m c → FieldAccepted m c
-      by (inl (k, p, e)) = field-before-multipliers (refused-exactly m c k p .0 e) (omega (arith, is-refused e .0, b .0)) f
+      by (inl (k, p, e)) = field-before-multipliers (refused-exactly m c k p .0 e) (omega (arith, is-refused e .0, b .0), omega (arith, is-refused e .0, b .1)) f
       by (inr e) = absurd (omega (arith, is-zero e .0, b .0))
 
   pub field-exactly : FieldExactly m c number
@@ -159,11 +159,17 @@ module _ (m c : List ℤ) (number place : ℕ) (h : Returned m c number place) w
     );
   }
 
-  -- an accepted field meets the criterion at each node
-  pub criterion-at-each-node : TellsField c number → CriterionAtEachNode m c
-  criterion-at-each-node t v b =
-      accepted-criterion m c (field-told t) (record { at = v; soil = nodeSoil m v })
-      (one-pair-each m .pairs (record { at = v; soil = nodeSoil m v }) .1 (b, refl))
+  -- an accepted field meets the criterion for each pair
+  pub criterion-for-each-pair : TellsField c number → CriterionForEachPair m c
+  criterion-for-each-pair t = record { pairs = accepted-criterion m c (field-told t); around = criterion-around m c (field-told t) }
+
+  pub pairs-asked : PairsAsked m number place
+  unfolding placeFor
+  pairs-asked = record {
+    listed = pairs m;
+    sound = sound-pairs m;
+    refused = λ e. pairs-fail m c place (refuses-exactly .exactly 42 place (λ z. omega arith) .0 (e, refl));
+  }
 
 -- ---- what is reported: a part with its two numbers, or none of them
 

@@ -1,6 +1,6 @@
--- Each promise of the call on numbers applied to document 01's sheet or a neighbour: antt computes the answer, and the promise says the rest.
-use mathlib.Core.Path.{_≡_, refl, subst₂}
-use mathlib.Core.Logic.{inr}
+-- Each promise of the call on numbers applied to document 01's sheet or a neighbour, that of N1 to two triangles and those of N2 to fill over clay too: antt computes the answer, and the promise says the rest.
+use mathlib.Core.Path.{_≡_, refl, sym, _∙_, ap, subst₂}
+use mathlib.Core.Logic.{inl, inr}
 use mathlib.Core.List.{List, [], _∷_, _++_}
 use Prim.Native.Nat.{ℕ, suc, _<_}
 use native.Mathlib.Omega.{arith}
@@ -12,29 +12,32 @@ use Rattle.integer.proofs.Ring.{ring, terms}
 use Rattle.integer.specs.Fraction.{_over_, _≈ᶠ_, _≤ᶠ_}
 use Rattle.scope.specs.declared.Place.the-variants.{Column}
 use Rattle.scope.specs.Members.{_∈_}
-use Rattle.scope.specs.Rows.{nodeSoil, rowsOf}
+use Rattle.scope.specs.Rows.{strengthPairs, strengthRows, rowsOf}
 use Rattle.scope.specs.Sums.{liveSum, limitSum}
 use Rattle.scope.specs.Claim.{stress, multiplier}
 use Rattle.scope.specs.Answer.{placeFor}
 use Rattle.scope.proofs.Computed.{computed}
 use Rattle.scope.specs.Refusals.{Refusal}
 use Rattle.scope.specs.Accepted.{FieldAccepted, MultipliersAccepted, ClaimAccepted}
-use Rattle.scope.specs.Printed.{MeetsPrinted}
+use Rattle.scope.specs.Polygon.{polygonOf}
+use Rattle.scope.specs.RowNumbers.{sideNumbered}
+use Rattle.scope.specs.Printed.{MeetsPrinted, StrengthAt}
 use Rattle.scope.specs.AcceptedField.{MeetsCriterion}
 use Rattle.scope.specs.Bracket.{Open, NoneOpen}
 use Rattle.scope.specs.Fractions.{Fraction, FractionField, fieldOver}
 use Rattle.scope.specs.AcceptedFractions.{MeetsMesh}
 use Rattle.scope.specs.Parts.{SameRows, NumberOf, PartsBracket}
-use Rattle.scope.specs.Worked.{zeros, workedMesh, workedStresses, workedMultipliers, workedClaim, multipliersAlone, sheet, sheet19, sheet29, freeShear, twoTriangles, fieldAlone}
+use Rattle.scope.specs.Worked.{zeros, workedMesh, workedStresses, workedMultipliers, workedClaim, multipliersAlone, sheet, sheet19, sheet29, freeShear, twoTriangles, fieldAlone, fillOverClay, overClay}
 use Rattle.scope.proofs.Printed.{field-printed}
 use Rattle.scope.proofs.Applied.{free-field, free-rows}
 use Rattle.scope.specs.Tests.{rowAt}
-use Rattle.scope.specs.Mesh.{elements, corner}
+use Rattle.scope.specs.Mesh.{elements, sides, corner, elementSoil}
 use Rattle.scope.specs.Statements.{MeshSound}
 use Rattle.scope.specs.Triangles.{Triangle}
+use Rattle.scope.specs.Pairs.{SoilAround, rowsBefore}
 use Rattle.numbers.specs.declared.numbers_answer.NumbersAnswer.{NumbersAnswer}
 use Rattle.numbers.specs.Promises.{Answers, returnedNumbers, TellsField, FieldInFractions}
-use Rattle.numbers.proofs.Promises.{returned, returns-zero-exactly, refuses-exactly, numbers-listed, field-exactly, multipliers-exactly, criterion-at-each-node, field-reported, multipliers-reported, open-rows-reported, field-in-fractions, calls-bracket, call-bracket, accepted-parts, fractions-bracket, triangles-asked}
+use Rattle.numbers.proofs.Promises.{returned, returns-zero-exactly, refuses-exactly, numbers-listed, field-exactly, multipliers-exactly, criterion-for-each-pair, pairs-asked, rows-refused, field-reported, multipliers-reported, open-rows-reported, field-in-fractions, calls-bracket, call-bracket, accepted-parts, fractions-bracket, triangles-asked}
 
 -- ---- what is answered
 
@@ -116,9 +119,9 @@ sheet-carried = field-reported workedMesh sheet sheetAnswer sheet-answered .carr
 pub sheet-limit : (pos 600 ≡ limitSum (multiplier workedMesh sheet) (rowsOf workedMesh)) × (pos 30 ≡ liveSum (multiplier workedMesh sheet) (rowsOf workedMesh))
 sheet-limit = multipliers-reported workedMesh sheet sheetAnswer sheet-answered .limit refl
 
-pub criterion-at-node-3 : MeetsCriterion workedMesh sheet29 (record { at = 2; soil = nodeSoil workedMesh 2 })
+pub criterion-at-node-3 : MeetsCriterion workedMesh sheet29 (record { at = 2; soil = 0 })
 unfolding computed zeros workedMesh
-criterion-at-node-3 = criterion-at-each-node workedMesh sheet29 32 7 (returned refused-answered) tells-field 2 (omega arith)
+criterion-at-node-3 = criterion-for-each-pair workedMesh sheet29 32 7 (returned refused-answered) tells-field .around 2 0 (omega arith) (2, omega arith, refl)
 
 -- ---- demand 3
 
@@ -221,3 +224,53 @@ pub sheet-no-repeat : (i j : ℕ) → i < j → j < 4 → corner workedMesh 0 i 
 sheet-no-repeat i j l h same =
     let (second, third) = triangles-asked workedMesh (sheet-accepted .mesh) 0 one-element .only-repeat i j l h same in
     different (subst₂ (λ (a b : ℕ). corner workedMesh 0 a ≡ corner workedMesh 0 b) second third same)
+
+-- ---- pairs: fill over clay, whose nodes 3 and 4 have both soils
+
+-- l 20, beyond the clay's strength at node 3: 22 at side 1 of the fourth pair
+pub beyondClay : NumbersAnswer
+beyondClay = record { number = 22; place = 37; field = 0; multipliers = 0; l = pos 0; n = pos 0; w = pos 0; m = pos 0; «open_rows» = 0 }
+
+pub beyond-clay-answered : Answers fillOverClay (overClay 20) beyondClay
+unfolding computed zeros fillOverClay overClay beyondClay
+beyond-clay-answered = refl
+
+-- the row that is not met is that of node 3 with the clay, pair 4, and a row that document 01 did not have
+pub clay-row-fails : ¬ StrengthAt fillOverClay (stress fillOverClay (overClay 20)) (pos 20) (pos 1) (polygonOf (sides fillOverClay) .radius) (record { at = 2; soil = 1 }) (sideNumbered (polygonOf (sides fillOverClay)) 1)
+unfolding computed zeros fillOverClay overClay beyondClay
+clay-row-fails = rows-refused fillOverClay (overClay 20) 22 37 (returned beyond-clay-answered) .strength refl .strength 3 0 (omega arith) (omega arith) refl
+
+-- l 10: accepted, and node 3 meets the criterion with the strength of the fill and with that of the clay
+pub withinClay : NumbersAnswer
+withinClay = record { number = 0; place = 0; field = 1; multipliers = 0; l = pos 10; n = pos 1; w = pos 0; m = pos 0; «open_rows» = 0 }
+
+pub within-clay-answered : Answers fillOverClay (overClay 10) withinClay
+unfolding computed zeros fillOverClay overClay withinClay
+within-clay-answered = refl
+
+pub criterion-for-both-soils : MeetsCriterion fillOverClay (overClay 10) (record { at = 2; soil = 0 }) × MeetsCriterion fillOverClay (overClay 10) (record { at = 2; soil = 1 })
+unfolding computed zeros fillOverClay overClay withinClay
+criterion-for-both-soils =
+    let criterion = criterion-for-each-pair fillOverClay (overClay 10) 0 0 (returned within-clay-answered) (refl, inl refl) in
+    (criterion .around 2 0 (omega arith) (1, omega arith, refl), criterion .around 2 1 (omega arith) (2, omega arith, refl))
+
+clay-sound : MeshSound fillOverClay
+unfolding withinClay
+clay-sound = returns-zero-exactly fillOverClay (overClay 10) 0 0 (returned within-clay-answered) .exactly .0 refl .mesh
+
+-- node 3 with the clay is a pair by the clay's element, the second
+pub clay-pair : record { at = 2; soil = 1 } ∈ strengthPairs fillOverClay
+unfolding computed zeros fillOverClay withinClay
+clay-pair =
+    pairs-asked fillOverClay (overClay 10) 0 0 (returned within-clay-answered) .sound clay-sound .exactly (record { at = 2; soil = 1 }) .1
+    (record { element = 1; there = omega arith; has-corner = (2, omega arith, refl); same = refl })
+
+-- document 01's sheet has one soil: its rows stay
+only-soil : {v s : ℕ} → SoilAround workedMesh v s → s ≡ elementSoil workedMesh 0
+unfolding computed zeros workedMesh
+only-soil r = let there = r .there in let first : r .element ≡ 0 = omega arith in sym (r .same) ∙ ap (elementSoil workedMesh) first
+
+pub sheet-rows-stay : strengthRows workedMesh ≡ rowsBefore workedMesh
+sheet-rows-stay =
+    pairs-asked workedMesh sheet 0 0 (returned sheet-answered) .sound (sheet-accepted .mesh) .as-before
+    (λ v s k a b. only-soil a ∙ sym (only-soil b))

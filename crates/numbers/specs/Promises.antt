@@ -11,7 +11,7 @@ use Rattle.integer.specs.Fraction.{Frac, _over_, _≈ᶠ_, _≤ᶠ_}
 use Rattle.scope.specs.Members.{_∈_}
 use Rattle.scope.specs.Columns.{n, l}
 use Rattle.scope.specs.Mesh.{nodes, elements, corner}
-use Rattle.scope.specs.Rows.{nodeSoil, rowsOf, twiceArea}
+use Rattle.scope.specs.Rows.{rowsOf, twiceArea}
 use Rattle.scope.specs.Sums.{liveSum, limitSum}
 use Rattle.scope.specs.Claim.{claimLayout, stress, multiplier}
 use Rattle.scope.specs.Verdict.{verdict}
@@ -22,9 +22,9 @@ use Rattle.scope.specs.Refusals.{Refusal}
 use Rattle.scope.specs.TableNumbers.{tableNumbers}
 use Rattle.scope.specs.Accepted.{FieldAccepted, MultipliersAccepted, ClaimAccepted}
 use Rattle.scope.specs.Printed.{MeetsPrinted}
-use Rattle.scope.specs.RefusedRows.{EqualityFails, StrengthFails}
+use Rattle.scope.specs.RefusedRows.{EqualityFails, StrengthFails, PairsFail}
 use Rattle.scope.specs.PrintedColumns.{MultipliersPrinted, printedLive, printedLimit}
-use Rattle.scope.specs.AcceptedField.{MeetsCriterion}
+use Rattle.scope.specs.AcceptedField.{CriterionEverywhere, CriterionAround}
 use Rattle.scope.specs.Bracket.{Open, NoneOpen}
 use Rattle.scope.specs.Fractions.{FractionField, WrittenOver, FractionLaws, fieldOver}
 use Rattle.scope.specs.AcceptedFractions.{MeetsMesh}
@@ -32,6 +32,7 @@ use Rattle.scope.specs.Parts.{SameRows, PartsBracket, NumberOf}
 use Rattle.scope.specs.Tests.{rowAt}
 use Rattle.scope.specs.Meaning.{Area, OutwardNormal}
 use Rattle.scope.specs.Triangles.{ReadAsTriangle, PassedBefore}
+use Rattle.scope.specs.Pairs.{Pairs, SoundPairs}
 use Rattle.verdict.specs.declared.MeshAnswer.{MeshAnswer}
 use Rattle.verdict.specs.JudgeContracts.{MeshAnswered}
 use Rattle.numbers.specs.declared.numbers_answer.NumbersAnswer.{NumbersAnswer}
@@ -48,7 +49,7 @@ pub record Returned (m c : List ℤ) (number place : ℕ) : Type 0 where
 
 -- ==== Demand 2: what is accepted, and what is refused
 
--- "Accepted returns 0, place 0": 0 exactly when the mesh passes 1 to 8, the claim passes 11 to 13, a field that is there meets every row, and multipliers that are there are zero on every unfixed row, make all 3·nodes columns 0 and have m above 0
+-- "Accepted returns 0, place 0": 0 exactly when the mesh passes 1 to 8 and 42, the claim passes 11 to 13, a field that is there meets every row, and multipliers that are there are zero on every unfixed row, make all 3·nodes columns 0 and have m above 0
 pub record ReturnsZero (m c : List ℤ) (number place : ℕ) : Type 0 where
   pub exactly : (number ≡ 0) ↔ ClaimAccepted m c
   pub place-zero : number ≡ 0 → place ≡ 0
@@ -67,7 +68,8 @@ pub record NumbersListed (number place : ℕ) : Type 0 where
   pub line-one : number ≡ 13 → place ≡ 1
   pub column-zero : number ≡ 33 → place ≡ 0
 
--- the place of 21 and of 22 is the number of a row that, as document 01 prints it, the field does not meet
+-- the place of 21 and of 22 is the number of a row that, as document 01 prints it, the field does not meet; strength rows
+-- "are numbered by node-and-soil pairs" (document 02, N2)
 pub record RowsRefused (m c : List ℤ) (number place : ℕ) : Type 0 where
   pub equality : number ≡ 21 → EqualityFails m c place
   pub strength : number ≡ 22 → StrengthFails m c place
@@ -103,9 +105,18 @@ pub record MultipliersReported (m c : List ℤ) (r : NumbersAnswer) : Type 0 whe
   pub m-above-0 : r .multipliers ≡ 1 → pos 0 <ℤ r .m
   pub none : r .multipliers ≢ 1 → (r .multipliers ≡ 0) × (r .w ≡ pos 0) × (r .m ≡ pos 0)
 
--- the Mohr-Coulomb criterion (001, eq. 12) at each node, with the strength of the node's soil
-abbrev pub CriterionAtEachNode : List ℤ → List ℤ → Type 0
-CriterionAtEachNode m c = (v : ℕ) → v < nodes m → MeetsCriterion m c (record { at = v; soil = nodeSoil m v })
+-- "the criterion is promised for each pair" (document 02, N2): the Mohr-Coulomb criterion (001, eq. 12) at each node with the
+-- strength of every soil of the elements around it
+pub record CriterionForEachPair (m c : List ℤ) : Type 0 where
+  pub pairs : CriterionEverywhere m c
+  pub around : CriterionAround m c
+
+-- "a node has strength rows for each soil of the elements around it, soils ascending .. Pairs are at most 100. Refused: 42,
+-- with the node that brings the 101st pair" (document 02, N2)
+pub record PairsAsked (m : List ℤ) (number place : ℕ) : Type 0 where
+  pub listed : Pairs m
+  pub sound : MeshSound m → SoundPairs m
+  pub refused : number ≡ 42 → PairsFail m place
 
 -- "An element whose third and fourth nodes are the same is to be read as a triangle: its balance rows are the same sums, .. and three left turns are asked. The repeat makes no side .. Every other repeat still gets 5. A file that passed before gives the same report." (document 02, N1)
 pub record TrianglesRead (m : List ℤ) (e : ℕ) : Type 0 where

@@ -34,17 +34,18 @@ use Rattle.scope.specs.Sums.{openRows, liveSum, limitSum}
 use Rattle.scope.specs.Claim.{claimLayout, stress, multiplier}
 use Rattle.scope.specs.Verdict.{verdict, lowerLoad, upperLoad, openCount}
 use Rattle.scope.specs.Statements.{HasField, HasMultipliers}
+use Rattle.scope.specs.Refusals.{meshPhases, claimPhases}
 use Rattle.scope.specs.Accepted.{FieldAccepted, MultipliersAccepted, ClaimAccepted}
 use Rattle.scope.specs.Parts.{carried, allowed}
-use Rattle.scope.proofs.Exactly.{accepted-exactly, refused-exactly, verdict-cases, returns-zero, claim-by-parts}
-use Rattle.scope.proofs.AnswerBounds.{refusal-bounds}
+use Rattle.scope.proofs.Exactly.{accepted-exactly, refused-exactly, verdict-cases, returns-zero, claim-by-parts, each-number}
+use Rattle.scope.proofs.Phases.{EachIn, each-refusal, own-number}
 use Rattle.scope.proofs.Parts.{field-n, open-rows-count}
 use Rattle.scope.proofs.Refusals.{lines-passed}
 use Rattle.numbers.specs.declared.numbers_answer.NumbersAnswer.{NumbersAnswer}
 use Rattle.numbers.specs.NumbersAnswer.{answerOf}
 use Rattle.numbers.specs.Promises as Handed-over
 use Rattle.numbers.specs.Promises.{Returned, TellsField}
-use Rattle.numbers.proofs.Promises.{returned, returns-zero-exactly, refuses-exactly, numbers-listed, rows-refused, field-exactly, multipliers-exactly, criterion-at-each-node, fractions-allowed}
+use Rattle.numbers.proofs.Promises.{returned, returns-zero-exactly, refuses-exactly, numbers-listed, rows-refused, field-exactly, multipliers-exactly, pairs-asked, criterion-for-each-pair, fractions-allowed}
 use Rattle.report.specs.Text.{Said, number as shows}
 use Rattle.report.specs.Report.{reportBytes, reportLine, decimals}
 use Rattle.report.specs.Says.{LoadSays, no-load, rounded, Says, says-accepted, says-refused, LineSays}
@@ -104,13 +105,26 @@ two-cases {mesh} {claim} {before} h =
     let e = is-line mesh claim before t in
     inr (record { room = ltb-false (length before) reportBytes t; returns = record { numberIs = h .numberIs ∙ ap (λ x. x .number) e; placeIs = h .placeIs ∙ ap (λ x. x .place) e }; writes = h .bufferIs ∙ ap (λ x. x .buffer) e }))
 
--- every number of a verdict is at most 33
-at-most-33 : (m c : List ℤ) → numberOf (verdict m c) ≤ 33
-at-most-33 m c = by (verdict-cases m c)
+-- no verdict has the number 41
+not-41 : (m c : List ℤ) → numberOf (verdict m c) ≢ 41
+not-41 m c = by (verdict-cases m c)
   where
-    by : ((k : ℕ) × (p : Place) × (verdict m c ≡ Refused k p)) ⊎ (verdict m c ≡ Accepted (openCount m c) (lowerLoad c) (upperLoad m c)) → numberOf (verdict m c) ≤ 33
-    by (inl (k, p, e)) = rw e (refusal-bounds (refused-exactly m c k p .0 e) .0)
-    by (inr e) = rw e (omega arith)
+    of-mesh : {k : ℕ} → (k ≤ 13) ⊎ (k ≡ 42) → k ≢ 41
+    of-mesh (inl h) e = omega arith
+    of-mesh (inr h) e = omega arith
+
+    each : EachIn (λ k p. k ≢ 41) (meshPhases m ++ claimPhases m c)
+    each =
+        each-number (λ k p. k ≢ 41) m c (λ k p h. of-mesh (h .1))
+        (λ k n h l r e. omega (arith, own-number {k = 21} refl r), λ i. (λ k n h l r e. omega (arith, own-number {k = 22} refl r), λ i. tt))
+        (λ a b d. (
+          λ k n h l r e. omega (arith, own-number {k = 31} refl r),
+          λ i. (λ k n h l r e. omega (arith, own-number {k = 32} refl r), λ i. (λ k n h l r e. omega (arith, own-number {k = 33} refl r), λ i. tt)),
+        ))
+
+    by : ((k : ℕ) × (p : Place) × (verdict m c ≡ Refused k p)) ⊎ (verdict m c ≡ Accepted (openCount m c) (lowerLoad c) (upperLoad m c)) → numberOf (verdict m c) ≢ 41
+    by (inl (k, p, e)) = rw e (each-refusal (λ k p. k ≢ 41) (meshPhases m ++ claimPhases m c) each (refused-exactly m c k p .0 e .by))
+    by (inr e) = rw e (λ z. omega arith)
 
 -- the line that is printed
 says-line : (m c : List ℤ) → LineSays decimals (verdict m c) (reportLine decimals (verdict m c))
@@ -238,7 +252,7 @@ module _ (mesh claim before : List ℕ) (number place : ℕ) (after : List ℕ) 
           → TooShort before number place after ⊎ LineWritten mesh claim before number place after
           → length before < reportBytes
       forty-one e (inl s) = s .short
-      forty-one e (inr w) = absurd (omega (arith, w .returns .numberIs, at-most-33 (meshIn mesh) (claimIn mesh claim)))
+      forty-one e (inr w) = absurd (not-41 (meshIn mesh) (claimIn mesh claim) (sym (w .returns .numberIs) ∙ e))
 
       beyond : TooShort before number place after ⊎ LineWritten mesh claim before number place after
           → drop reportBytes after ≡ drop reportBytes before
@@ -271,7 +285,8 @@ module _ (mesh claim before : List ℕ) (number place : ℕ) (after : List ℕ) 
         rows = rows-refused (meshIn mesh) (claimIn mesh claim) number place r;
         field = field-exactly (meshIn mesh) (claimIn mesh claim) number place r;
         multipliers = multipliers-exactly (meshIn mesh) (claimIn mesh claim) number place r;
-        criterion = criterion-at-each-node (meshIn mesh) (claimIn mesh claim) number place r;
+        pairs = pairs-asked (meshIn mesh) (claimIn mesh claim) number place r;
+        criterion = criterion-for-each-pair (meshIn mesh) (claimIn mesh claim) number place r;
       }
 
   pub form-exactly : reportBytes ≤ length before → FormExactly mesh claim number place

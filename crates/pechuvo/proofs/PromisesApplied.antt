@@ -1,4 +1,4 @@
--- Each promise of the check of two files applied to document 01's sheets as bytes: antt computes what is returned and written, and the promise says the rest.
+-- Each promise of the check of two files applied to document 01's sheets as bytes, those of document 02, N2, to a seam of clay too: antt computes what is returned and written, and the promise says the rest.
 use mathlib.Core.Path.{_≡_, refl, sym, _∙_, ap, subst}
 use mathlib.Core.Logic.{inl, inr, _≢_}
 use mathlib.Core.List.{List, [], _∷_, _++_, map, List·Memᴰ·head}
@@ -12,14 +12,17 @@ use Rattle.scope.specs.declared.Place.the-variants.{Column}
 use Rattle.scope.proofs.Computed.{computed}
 use Rattle.scope.specs.Members.{_∈_}
 use Rattle.scope.specs.Columns.{n, l}
-use Rattle.scope.specs.Mesh.{meshLayout, nodes, elements, edges, fromNode}
-use Rattle.scope.specs.Rows.{nodeSoil, equalityRows, rowsOf, judged}
+use Rattle.scope.specs.Mesh.{meshLayout, nodes, elements, edges, sides, corner, elementSoil, fromNode}
+use Rattle.scope.specs.Polygon.{polygonOf}
+use Rattle.scope.specs.Rows.{Pair, pairCount, pairAt, equalityRows, rowsOf, judged}
+use Rattle.scope.specs.RowNumbers.{sideNumbered}
+use Rattle.scope.specs.Pairs.{Before}
 use Rattle.scope.specs.Claim.{claimLayout, stress, multiplier}
 use Rattle.scope.specs.Statements.{MeshSound, HasField, HasMultipliers}
 use Rattle.scope.specs.Answer.{placeFor}
 use Rattle.scope.specs.Refusals.{Refusal}
 use Rattle.scope.specs.Accepted.{FieldAccepted, MultipliersAccepted, ClaimAccepted}
-use Rattle.scope.specs.Printed.{NormalAt}
+use Rattle.scope.specs.Printed.{NormalAt, StrengthAt}
 use Rattle.scope.specs.AcceptedField.{MeetsCriterion}
 use Rattle.scope.specs.Parts.{carried, allowed, SameRows}
 use Rattle.scope.proofs.Refusals.{mesh-passed, lines-passed, multipliers-passed}
@@ -34,7 +37,7 @@ use Rattle.report.specs.Says.{columnOf, LineSays}
 use Rattle.judge.specs.Judge.{filesVerdict}
 use Rattle.judge.specs.Handed.{files, numbers, meshOf, claimOf, HasAcceptedMultipliers, HandedBracket}
 use Rattle.pechuvo.specs.Check.{mostFileBytes, check}
-use Rattle.pechuvo.specs.Sheets.{Sheet, sheet, starred}
+use Rattle.pechuvo.specs.Sheets.{Sheet, sheet, starred, seamMesh, seamFault}
 use Rattle.pechuvo.specs.Answers.{Answers}
 use Rattle.pechuvo.specs.Promises.{meshIn, claimIn, LowerPrinted, UpperPrinted, OpenRowsPrinted, Call, on-files, on-numbers, AsAFile}
 use Rattle.pechuvo.proofs.Sheets.{computedLine}
@@ -188,12 +191,39 @@ tells-field = (refl, inr (omega arith, omega arith))
 pub field-of-refused : FieldAccepted (meshIn (at 4 .mesh)) (claimIn (at 4 .mesh) (at 4 .claim))
 field-of-refused = on-numbers-read (at 4 .mesh) (at 4 .claim) room 32 7 (at 4 .line) refused-answered fits .field .told .1 tells-field
 
-four-nodes : 2 < nodes (meshIn (at 4 .mesh))
+one-element : (0 < elements (meshIn (at 4 .mesh))) × (corner (meshIn (at 4 .mesh)) 0 2 ≡ 2)
 unfolding opened
-four-nodes = omega arith
+one-element = (omega arith, refl)
 
-pub criterion-at-node-3 : MeetsCriterion (meshIn (at 4 .mesh)) (claimIn (at 4 .mesh) (at 4 .claim)) (record { at = 2; soil = nodeSoil (meshIn (at 4 .mesh)) 2 })
-criterion-at-node-3 = on-numbers-read (at 4 .mesh) (at 4 .claim) room 32 7 (at 4 .line) refused-answered fits .criterion tells-field 2 four-nodes
+pub criterion-at-node-3 : MeetsCriterion (meshIn (at 4 .mesh)) (claimIn (at 4 .mesh) (at 4 .claim)) (record { at = 2; soil = elementSoil (meshIn (at 4 .mesh)) 0 })
+criterion-at-node-3 =
+    on-numbers-read (at 4 .mesh) (at 4 .claim) room 32 7 (at 4 .line) refused-answered fits .criterion tells-field .around 2 0 (one-element .0)
+    (2, omega arith, one-element .1)
+
+-- node 3 of the seam is a pair with the clay, and the row of 22 is that pair's, which the field does not meet
+abbrev meshOfSeam : List ℤ
+meshOfSeam = meshIn (seamFault .mesh)
+
+abbrev claimOfSeam : List ℤ
+claimOfSeam = claimIn (seamFault .mesh) (seamFault .claim)
+
+fault-answered : Answers (seamFault .mesh) (seamFault .claim) room 22 37 (seamFault .line)
+unfolding opened seamMesh seamFault
+fault-answered = record { numberIs = refl; placeIs = refl; bufferIs = refl }
+
+fourth-pair : (3 < pairCount meshOfSeam) × (0 < sides meshOfSeam) × (37 ≡ 3 * sides meshOfSeam + 1) × (pairAt meshOfSeam 3 ≡ record { at = 2; soil = 1 })
+unfolding opened seamMesh seamFault
+fourth-pair = (omega arith, omega arith, refl, refl)
+
+pub clay-row-fails : ¬ StrengthAt meshOfSeam (stress meshOfSeam claimOfSeam) (l claimOfSeam) (n claimOfSeam) (polygonOf (sides meshOfSeam) .radius) (record { at = 2; soil = 1 }) (sideNumbered (polygonOf (sides meshOfSeam)) 1)
+clay-row-fails =
+    subst (λ (a : Pair). ¬ StrengthAt meshOfSeam (stress meshOfSeam claimOfSeam) (l claimOfSeam) (n claimOfSeam) (polygonOf (sides meshOfSeam) .radius) a (sideNumbered (polygonOf (sides meshOfSeam)) 1)) (fourth-pair .3)
+    (on-numbers-read (seamFault .mesh) (seamFault .claim) room 22 37 (seamFault .line) fault-answered fits .rows .strength refl .strength 3 0 (fourth-pair .0) (fourth-pair .1) (fourth-pair .2))
+
+pub seam-ascends : Before (pairAt meshOfSeam 2) (pairAt meshOfSeam 3)
+seam-ascends =
+    on-numbers-read (seamFault .mesh) (seamFault .claim) room 22 37 (seamFault .line) fault-answered fits .pairs .listed .ascending 2 3 (omega arith)
+    (fourth-pair .0)
 
 pub sheet-multipliers : MultipliersAccepted (meshIn (at 0 .mesh)) (claimIn (at 0 .mesh) (at 0 .claim))
 sheet-multipliers = on-numbers-read (at 0 .mesh) (at 0 .claim) room 0 0 (at 0 .line) sheet-answered fits .multipliers .told .0 (sheet-parts .1, refl) .0

@@ -10,7 +10,7 @@ use Rattle.report.specs.Report.{loadText, lowerText, upperText, openText, fourC
 use Rattle.judge.specs.Judge.{meshNumbers, claimNumbers, filesVerdict}
 use Rattle.pechuvo.specs.Check.{check}
 use Rattle.pechuvo.specs.Bytes.{bytes, withWord, numbersAfter, numbers}
-use Rattle.pechuvo.specs.Sheets.{sheet, printed, starred, unitSquare, noticing, workedMesh}
+use Rattle.pechuvo.specs.Sheets.{sheet, printed, starred, unitSquare, seamMesh, seamFault, noticing, workedMesh}
 use Rattle.pechuvo.specs.Shipped.{asFiles, shipped}
 
 -- for proofs by computation: every definition between the bytes of two files and the bytes of the line is open
@@ -23,10 +23,10 @@ unfolding computedLine
 starred-sheets = refl
 
 pub noticing-sheets : map printed noticing ≡ map (λ s. s .line) noticing
-unfolding computedLine unitSquare noticing
+unfolding computedLine unitSquare seamMesh seamFault noticing
 noticing-sheets = refl
 
 -- the files that ship are the ones that the definition writes
 pub shipped-written : map (λ s. (s .mesh, s .claim)) asFiles ≡ shipped
-unfolding computedLine asFiles shipped
+unfolding computedLine seamMesh seamFault asFiles shipped
 shipped-written = refl

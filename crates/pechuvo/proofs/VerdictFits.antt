@@ -67,7 +67,7 @@ module _ (m c : List ℤ) (a : ClaimAccepted m c) where
         as-many (multiplier m c) (rowsOf m),
         length-append (equalityRows m) (strengthRows m),
         equality-count m,
-        few-strengths m (mesh .counts),
+        few-strengths m (a .mesh),
         mesh .counts,
       ))
 

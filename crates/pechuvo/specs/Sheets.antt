@@ -84,6 +84,18 @@ unfoldable pub unitSquare : String
 unitSquare = "4 1 1 0 12 / 0 1 1 10 0 0 0 0 / 0 0 / 1 0 / 1 1 / 0 1 / 1 2 3 4 1"
 
 -- each field and each rule of the mesh and the claim that the starred sheets leave at 0 or do not reach
+-- a seam of clay (c = 10) between two layers of fill (c = 30): nodes 3 to 6 are corners of both, and the fill has the lower
+-- elements ("Soft clay under fill was passed at the fill's strength", document 02, N2)
+unfoldable pub seamMesh : String
+seamMesh = "8 3 2 8 12 / 0 1 1 30 0 0 0 0 / 0 1 1 10 0 0 0 0 / 0 0 / 10 0 / 0 10 / 10 10 / 0 20 / 10 20 / 0 30 / 10 30 / 1 2 4 3 1 / 5 6 8 7 1 / 3 4 6 5 2 / 1 2 2 0 0 0 0 / 2 4 3 0 0 0 0 / 3 1 2 0 0 0 0 / 6 8 3 0 0 0 0 / 8 7 3 0 0 -1 0 / 7 5 2 0 0 0 0 / 4 6 3 0 0 0 0 / 5 3 2 0 0 0 0"
+
+-- a field of 60, the fill's strength, which document 01 accepted: 22, row 37, side 1 of node 3 with the clay, pair 4
+unfoldable pub seamFault : Sheet
+seamFault =
+    sheet seamMesh
+    "1 0 1 60 / 0 -60 0 / 0 -60 0 / 0 -60 0 / 0 -60 0 / 0 -60 0 / 0 -60 0 / 0 -60 0 / 0 -60 0"
+    "                          22                          37                        none                        none\n"
+
 unfoldable pub noticing : List Sheet
 noticing =
     -- a dead and a live body force, on an element with no parallel sides, with stresses linear in x and y
@@ -208,4 +220,9 @@ noticing =
     ∷ sheet "4 2 1 1 12 / 0 1 1 10 0 0 0 0 / 0 0 / 1 0 / 1 1 / 0 1 / 1 2 3 3 1 / 1 3 4 4 1 / 3 3 3 0 0 0 0"
     ""
     "                           8                           9                        none                        none\n"
+    -- two soils at a node: the fault, and the load of the clay with the multipliers of each pair, 0 open rows
+    ∷ seamFault
+    ∷ sheet seamMesh
+    "1 1 1 20 / 0 0 0 / 0 -40 0 / 0 -20 0 / 0 -20 0 / 0 -20 0 / 0 -20 0 / 0 -20 0 / 0 -20 0 / 0 0 / 0 -30 / 15 -15 / 0 0 0 0 / 0 0 -3 2 / 0 -1 0 0 / -3 2 0 3 / 3 0 3 3 / 0 0 0 -7 / 0 0 0 0 / 0 0 0 0 / 0 0 0 0 0 0 0 0 0 0 0 0 / 0 0 0 0 0 0 0 0 0 0 0 0 / 0 0 0 0 0 0 0 0 0 0 0 0 / 10 0 0 0 0 0 0 0 0 0 0 0 / 0 0 0 0 0 0 0 0 0 0 0 0 / 10 0 0 0 0 0 0 0 0 0 0 0 / 0 0 0 0 0 0 0 0 0 0 0 0 / 10 0 0 0 0 0 0 0 0 0 0 0 / 0 0 0 0 0 0 0 0 0 0 0 0 / 10 0 0 0 0 0 0 0 0 0 0 0 / 0 0 0 0 0 0 0 0 0 0 0 0 / 0 0 0 0 0 0 0 0 0 0 0 0"
+    "                           0                           0                   20.000000                   20.000000\n"
     ∷ []

@@ -1,13 +1,13 @@
--- The files of sheets/ that document 01 stars, byte for byte, so that they can be compared with what the definition of a written file gives. tests/sheets compares these bytes with the files.
+-- The files of sheets/ that document 01 stars, and those that show the fault of document 02, N2, byte for byte, so that they can be compared with what the definition of a written file gives. tests/sheets compares these bytes with the files.
 use mathlib.Core.List.{List, [], _∷_, _++_}
 use Prim.Native.Nat.{ℕ}
 use lib.ListN.{take, drop}
 use Rattle.pechuvo.specs.Bytes.{bytes}
-use Rattle.pechuvo.specs.Sheets.{Sheet, starred}
+use Rattle.pechuvo.specs.Sheets.{Sheet, starred, seamFault}
 
--- the starred sheets that ship as files: the first five, and 1/3
+-- the starred sheets that ship as files, the first five and 1/3; and the fault
 unfoldable pub asFiles : List Sheet
-asFiles = take 5 starred ++ take 1 (drop 7 starred)
+asFiles = take 5 starred ++ take 1 (drop 7 starred) ++ (seamFault ∷ [])
 
 -- mesh and claim of each
 unfoldable pub shipped : List (List ℕ × List ℕ)
@@ -24,4 +24,6 @@ shipped =
     ∷ (bytes "           4           1           1           3          12\n           0           1           1          10           0           0           0           0\n           0           0\n           1           0\n           1           1\n           0           1\n           1           2           3           4           1\n           3           4           3           0           0          -1           0\n           2           3           3           0           0           0           0\n           4           1           3           0           0           0           0\n", bytes "           1           1           1          20\n           0         -20           0\n           0         -20           0\n           0         -20           0\n           0         -20           0\n           0           0\n          30           0           0           0\n           0           0         -29           0\n           0           0           0           0\n           0           0           0           0           0           0           0           0           0           0           0           0\n           0           0           0           0           0           0           0           0           0           0           0           0\n           1           0           0           0           0           0           0           0           0           0           0           1\n           0           0           0           0           0           0           0           0           0           0           0           0\n")
     -- third
     ∷ (bytes "           4           1           1           3          12\n           0           1           1          10           0           0           0           0\n           0           0\n           1           0\n           1           1\n           0           1\n           1           2           3           4           1\n           3           4           3           0           0         -60           0\n           2           3           3           0           0           0           0\n           4           1           3           0           0           0           0\n", bytes "           1           1           3           1\n           0         -60           0\n           0         -60           0\n           0         -60           0\n           0         -60           0\n           0           0\n          30           0           0           0\n           0           0         -30           0\n           0           0           0           0\n           0           0           0           0           0           0           0           0           0           0           0           0\n           0           0           0           0           0           0           0           0           0           0           0           0\n           1           0           0           0           0           0           0           0           0           0           0           1\n           0           0           0           0           0           0           0           0           0           0           0           0\n")
+    -- seam_fault
+    ∷ (bytes "           8           3           2           8          12\n           0           1           1          30           0           0           0           0\n           0           1           1          10           0           0           0           0\n           0           0\n          10           0\n           0          10\n          10          10\n           0          20\n          10          20\n           0          30\n          10          30\n           1           2           4           3           1\n           5           6           8           7           1\n           3           4           6           5           2\n           1           2           2           0           0           0           0\n           2           4           3           0           0           0           0\n           3           1           2           0           0           0           0\n           6           8           3           0           0           0           0\n           8           7           3           0           0          -1           0\n           7           5           2           0           0           0           0\n           4           6           3           0           0           0           0\n           5           3           2           0           0           0           0\n", bytes "           1           0           1          60\n           0         -60           0\n           0         -60           0\n           0         -60           0\n           0         -60           0\n           0         -60           0\n           0         -60           0\n           0         -60           0\n           0         -60           0\n")
     ∷ []
