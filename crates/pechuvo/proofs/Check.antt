@@ -16,23 +16,26 @@ use Rattle.scope.specs.declared.Outcome.the-variants.{Passed, Refused as Fails}
 use Rattle.scope.specs.Columns.{free, at, hasField, hasMultipliers}
 use Rattle.integer.proofs.Order.{≤ℤ-pos}
 use Rattle.scope.specs.Layout.{width, count}
-use Rattle.scope.specs.Mesh.{meshLayout, meshHeader, soilLines, nodeLines, elementLines, edgeLines, nodes, elements, soils, edges, sides}
+use Rattle.scope.specs.Mesh.{mostPairs, meshLayout, meshHeader, soilLines, nodeLines, elementLines, edgeLines, nodes, elements, soils, edges, sides}
+use Rattle.scope.specs.Rows.{pairCount}
 use Rattle.scope.specs.Claim.{claimLayout, ifThere}
-use Rattle.scope.specs.Statements.{Within}
+use Rattle.scope.specs.Statements.{Within, MeshSound}
 use Rattle.scope.specs.NumberRanges.{Counts}
 use Rattle.scope.specs.Answer.{numberOf}
-use Rattle.scope.specs.Verdict.{verdict, lineCheck, linesCheck}
-use Rattle.scope.proofs.Refusals.{lines-passed, line-check-passed}
+use Rattle.scope.specs.Verdict.{verdict, lineCheck, meshCheck}
+use Rattle.scope.proofs.Refusals.{lines-passed, mesh-passed, line-check-passed}
 use Rattle.scope.proofs.Exactly.{returns-zero, there-most}
 use Rattle.scope.proofs.NumberRanges.{counts}
 use Rattle.scope.proofs.Lines.{within-at}
+use Rattle.scope.proofs.Pairs.{few-pairs}
+use Rattle.verdict.proofs.VerdictLaws.{mesh-refused}
 use Rattle.reader.specs.File.{lineBytes, widths, numbersOf}
 use Rattle.reader.specs.WellFormed.{bytesOf}
 use Rattle.reader.proofs.Regular.{mesh-regular, claim-regular}
 use Rattle.reader.proofs.Cut.{numbers-cut, passed-length, group-bytes, no-bytes}
 use Rattle.judge.specs.Judge.{meshNumbers, claimNumbers, filesVerdict}
 use Rattle.judge.specs.ClaimBytes.{claimBytes}
-use Rattle.judge.proofs.Numbers.{mesh-lines-refused, some-side}
+use Rattle.judge.proofs.Numbers.{some-side}
 use Rattle.judge.proofs.ClaimBytes.{claim-bytes}
 use Rattle.report.specs.Report.{reportBytes}
 use Rattle.pechuvo.specs.Check.{mostFileBytes, check}
@@ -71,19 +74,21 @@ mesh-header-line : lineBytes 12 (width (meshLayout .header)) ≤ mostFileBytes
 unfolding meshLayout meshHeader lineBytes
 mesh-header-line = omega arith
 
-claim-short : (m c : List ℤ) → Counts m
+claim-short : (m c : List ℤ) → MeshSound m
     → lineBytes 12 (width (claimLayout m .header)) + bytesOf 12 (widths (claimLayout m .body c)) < mostFileBytes
 unfolding claimBytes
-claim-short m c k =
+claim-short m c sound =
+    let k = counts m (sound .lines) in
     let ns = k .nodesMost in
+    let ps = few-pairs m sound in
     let es = k .elementsMost in
     let gs = k .edgesMost in
     let ss = sides-most (k .sidesListed) in
     let a = there-most (hasField c) (nodes m) in
     let b = there-most (hasMultipliers c) (elements m) in
     let d = there-most (hasMultipliers c) (edges m) in
-    let e = there-most (hasMultipliers c) (nodes m) in
-    let p : ifThere (hasMultipliers c) (nodes m) * (sides m * 12 + 1) ≤ 100 * 433 = mul-le-mul {n₂ = 100} {m₂ = 433} (omega arith) (omega arith) in
+    let e = there-most (hasMultipliers c) (pairCount m) in
+    let p : ifThere (hasMultipliers c) (pairCount m) * (sides m * 12 + 1) ≤ mostPairs * 433 = mul-le-mul {n₂ = mostPairs} {m₂ = 433} (omega arith) (omega arith) in
     omega (arith, claim-bytes m c)
   where
     sides-most : (sides m ≡ 12) ⊎ ((sides m ≡ 20) ⊎ (sides m ≡ 36)) → sides m ≤ 36
@@ -96,7 +101,7 @@ claim-short m c k =
 files-cut : (mesh claim : List ℕ)
     → filesVerdict 12 (take mostFileBytes mesh) (take mostFileBytes claim) ≡ filesVerdict 12 mesh claim
 unfolding filesVerdict meshNumbers claimNumbers
-files-cut mesh claim = by (linesCheck meshLayout m) refl
+files-cut mesh claim = by (meshCheck m) refl
   where
     m : List ℤ
     m = numbersOf 12 meshLayout mesh
@@ -104,13 +109,13 @@ files-cut mesh claim = by (linesCheck meshLayout m) refl
     same : numbersOf 12 meshLayout (take mostFileBytes mesh) ≡ m
     same = numbers-cut 12 meshLayout mostFileBytes mesh mesh-header-line mesh-header-short
 
-    by : (o : Outcome) → linesCheck meshLayout m ≡ o
+    by : (o : Outcome) → meshCheck m ≡ o
         → filesVerdict 12 (take mostFileBytes mesh) (take mostFileBytes claim) ≡ filesVerdict 12 mesh claim
     by Passed e =
-        let k = counts m (lines-passed meshLayout m .says e) in
-        rw same (ap (verdict m) (numbers-cut 12 (claimLayout m) mostFileBytes claim (omega (arith, claim-short m [] k)) (λ c p. claim-short m c k)))
+        let sound = mesh-passed m .says e in
+        rw same (ap (verdict m) (numbers-cut 12 (claimLayout m) mostFileBytes claim (omega (arith, claim-short m [] sound)) (λ c p. claim-short m c sound)))
     by (Fails k p) e =
-        rw same (mesh-lines-refused m (numbersOf 12 (claimLayout m) (take mostFileBytes claim)) k p e ∙ sym (mesh-lines-refused m (numbersOf 12 (claimLayout m) claim) k p e))
+        rw same (sym (mesh-refused m (numbersOf 12 (claimLayout m) (take mostFileBytes claim)) e) ∙ mesh-refused m (numbersOf 12 (claimLayout m) claim) e)
 
 -- the check of two files is the check of each file cut to 65,536 bytes
 pub check-cut : (mesh claim buffer : List ℕ)
@@ -135,7 +140,7 @@ accepted-short mesh claim e =
     let q = lines-passed (claimLayout m) c .passed (a .lines) in
     let s = some-side m p in (
       rw (passed-length 12 meshLayout mesh-regular mesh p) (mesh-short m (k .soilsMost) (k .nodesMost) (k .elementsMost) (k .edgesMost)),
-      rw (passed-length 12 (claimLayout m) (claim-regular m s) claim q) (claim-short m c k),
+      rw (passed-length 12 (claimLayout m) (claim-regular m s) claim q) (claim-short m c (a .mesh)),
     )
 
 -- "a longer file is too long for any mesh or claim": it is never accepted

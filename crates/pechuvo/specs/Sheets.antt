@@ -124,10 +124,10 @@ noticing =
     ∷ sheet "4 1 1 1 12 / 0 1 1 10 0 0 0 0 / 0 0 / 1 0 / 1 1 / 0 1 / 1 2 3 4 1 / 2 3 1 0 0 0 0"
     "0 1 0 0 / 0 0 / 0 1 0 0 / 0 0 0 0 0 0 0 0 0 0 0 0 / 0 0 0 0 0 0 0 0 0 0 0 0 / 0 0 0 0 0 0 0 0 0 0 0 0 / 0 0 0 0 0 0 0 0 0 0 0 0"
     "                          31                           4                        none                        none\n"
-    -- two soils at a node: nodes 2 and 3 have the first element's, which is the stronger
+    -- two soils at a node, within the stronger one's strength, which is the first element's: 22, row 25, node 2 with the other
     ∷ sheet "6 2 2 0 12 / 0 1 1 10 0 0 0 0 / 0 1 1 5 0 0 0 0 / 0 0 / 1 0 / 1 1 / 0 1 / 2 0 / 2 1 / 1 2 3 4 1 / 2 5 6 3 2"
     "1 0 1 0 / 0 -20 0 / 0 -20 0 / 0 -20 0 / 0 -20 0 / 0 -10 0 / 0 -10 0"
-    "                           0                        none                    0.000000                        none\n"
+    "                          22                          25                        none                        none\n"
     -- 20 sides: at the third corner, and beyond it
     ∷ sheet "4 1 1 0 20 / 0 1 1 25 0 0 0 0 / 0 0 / 1 0 / 1 1 / 0 1 / 1 2 3 4 1"
     "1 0 1 0 / 40 0 15 / 40 0 15 / 40 0 15 / 40 0 15"
