@@ -31,6 +31,7 @@ CLAIM_HEADER = [range(2), range(2), range(100_001), range(-100_000_000, 100_000_
 STRESS = range(-1_000_000_000, 1_000_000_001)
 EQUALITY_MULTIPLIER = range(-100_000, 100_001)
 STRENGTH_MULTIPLIER = range(10_001)
+MOST_PAIRS = 100
 
 Soil = namedtuple("Soil", "p q h cohesion dead live")
 Element = namedtuple("Element", "nodes soil")
@@ -141,7 +142,7 @@ def multiplier_groups(mesh):
     return [
         (len(mesh.elements), 2, EQUALITY_MULTIPLIER),
         (len(mesh.edges), 4, EQUALITY_MULTIPLIER),
-        (len(mesh.nodes), mesh.sides, STRENGTH_MULTIPLIER),
+        (len(strength_pairs(mesh)), mesh.sides, STRENGTH_MULTIPLIER),
     ]
 
 
@@ -245,9 +246,16 @@ def judge_edges(mesh):
         free.remove((edge.start, edge.end))
 
 
+def judge_pairs(mesh):
+    """42, with the node that brings one pair too many."""
+    pairs = strength_pairs(mesh)
+    if len(pairs) > MOST_PAIRS:
+        raise Refused(42, pairs[MOST_PAIRS][0] + 1, "node")
+
+
 def judge_mesh(mesh):
-    """5, 6, 7, 8, each over the whole mesh."""
-    for judge in (judge_turns, judge_sides, judge_nodes, judge_edges):
+    """5, 6, 7, 8, 42, each over the whole mesh."""
+    for judge in (judge_turns, judge_sides, judge_nodes, judge_edges, judge_pairs):
         judge(mesh)
 
 
@@ -268,12 +276,9 @@ def radius(sides):
 
 
 def strength_pairs(mesh):
-    """(node, soil) of each node's strength rows: the soil of the lowest-numbered element around it."""
-    soils = {}
-    for element in mesh.elements:
-        for node in element.nodes:
-            soils.setdefault(node, element.soil)
-    return [(node, soils[node]) for node in range(len(mesh.nodes))]
+    """(node, soil), nodes ascending, and for each node the soils of the elements around it, ascending
+    (document 02, N2)."""
+    return sorted({(node, element.soil) for element in mesh.elements for node in element.nodes})
 
 
 def plus(entries, column, coefficient):

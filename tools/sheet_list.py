@@ -160,23 +160,32 @@ def sheared(columns, rows, size, run, soils, sides, tractions):
     return mesh_lines(block_cells(columns, rows), at, one_soil, edge, soils, sides)
 
 
-def largest(soils, sides):
-    """As much as a mesh may have: 100 nodes, 100 elements, 60 edges. Nineteen elements lie over
-    four others each, which document 01 allows, and give a second edge to sides of the block."""
-    double = [(i, 0, 2) for i in range(8)] + [(i, 7, 2) for i in range(8)] + [(0, j, 2) for j in (2, 4, 5)]
-    inner = ((9, 2), (7, 2))
+def square_pieces(corner, inside, joined):
+    """A square with no, two or three nodes inside: itself, or six or eight triangles, the first two as one."""
+    a, b, c, d = corner
+    if not inside:
+        return [corner]
+    p, q, *above = inside
+    middle = [[p, q, c], [p, c, d]]
+    if above:
+        (e,) = above
+        middle = [[p, q, e], [q, c, e], [e, c, d], [p, e, d]]
+    foot = [[a, b, q, p]] if joined else [[a, b, q], [a, q, p]]
+    return [*foot, [q, b, c], *middle, [d, a, p]]
 
-    def edge(a, b):
-        if (a, b) == inner:
-            return SMOOTH
-        if a[1] == b[1] == 9:
-            return 3, 0, 0, -1, 0
-        if a[0] == b[0] == 9:
-            return FREE
-        return SMOOTH if a[1] == b[1] == 0 or a[0] == b[0] == 0 else None
 
-    soil_of = lambda i, j: (i + j) % len(soils) + 1
-    return mesh_lines(block_cells(9, 9) + double, scaled(65), soil_of, edge, soils, sides)
+def largest(soils, sides, size=13):
+    """As much as a mesh may have: 100 nodes, 100 elements, 16 soils, 60 edges, 100 pairs of node and soil.
+    Sixteen separate squares between smooth plates, each of its own soil; four have no line at their free side."""
+    polygons, loads = [], {}
+    for number in range(16):
+        x, y = number % 4 * 5, number // 4 * 5
+        a, b, c, d = corner = outline(x, y, 4)
+        inside = [(x + 1, y + 2), (x + 3, y + 2), (x + 2, y + 3)][: 0 if number == 0 else 3 if number < 7 else 2]
+        polygons += [(piece, number + 1) for piece in square_pieces(corner, inside, 7 <= number < 10)]
+        free = None if x == 15 else FREE
+        loads |= {(a, b): SMOOTH, (b, c): free, (c, d): (3, 0, 0, -1, 0), (d, a): SMOOTH}
+    return polygon_mesh(polygons, scaled(size), lambda a, b: loads[a, b], soils, sides)
 
 
 def plate_edge(width, height, confining=0):
@@ -215,6 +224,29 @@ def fan_footing(size, right, deep, soils, sides):
         return SMOOTH if a[0] == b[0] == 0 else None
 
     return polygon_mesh(fan + [(outline(*cell), 1) for cell in cells], scaled(size), edge, soils, sides)
+
+
+def seam(size, fill, soft, sides):
+    """A seam of soft clay between two layers of fill, which come first, between smooth plates."""
+    polygons = [(outline(0, j), soil) for j, soil in ((0, 1), (2, 1), (1, 2))]
+    return polygon_mesh(polygons, scaled(size), plate_edge(1, 3), [fill, soft], sides)
+
+
+def wheel(size, soils, sides, order):
+    """A block between smooth plates of sixteen triangles around one node, each of its own soil."""
+    low, high = [(i, 0) for i in range(4)], [(4, i) for i in range(4)]
+    ring = low + high + [(4 - x, 4 - y) for x, y in low + high]
+    spokes = zip(ring, ring[1:] + ring[:1], order)
+    polygons = [([a, b, (2, 2)], soil) for a, b, soil in spokes]
+    return polygon_mesh(polygons, scaled(size), plate_edge(4, 4), soils, sides)
+
+
+def by_soil(mesh):
+    """The mesh with its elements in the order of their soils."""
+    nodes, elements, soils = mesh[0][:3]
+    first = 1 + soils + nodes
+    ordered = sorted(mesh[first : first + elements], key=lambda element: element[4])
+    return mesh[:first] + ordered + mesh[first + elements :]
 
 
 def moved(mesh, shifts):
@@ -381,4 +413,19 @@ def triangle_sheets():
     ]
 
 
+def pair_sheets():
+    """Nodes where soils meet (document 02, N2). The field of seam_fault carries the fill's load: every node of
+    the seam is a corner of fill as well."""
+    top = lambda i, j: 1 if j >= 2 else 2
+    between = seam(10, clay(30), clay(10), 12)
+    fault = printed("1 0 1 60" + " / 0 -60 0" * 8)
+    return [
+        Sheet("seam", between),
+        Sheet("seam_fault", between, claim=fault, line=["22", "37", "none", "none"]),
+        Sheet("fill_on_clay", by_soil(footing(3, 3, 10, 1, [sand(3, 4, 5, 5), clay(10)], 12, top))),
+        Sheet("wheel_sixteen_soils", wheel(5, [clay(20 + k) for k in range(16)], 12, [7 * k % 16 + 1 for k in range(16)])),
+    ]
+
+
 SHEETS = paper_sheets() + known_sheets() + other_sheets() + load_sheets() + corner_sheets() + triangle_sheets()
+SHEETS += pair_sheets()

@@ -15,7 +15,7 @@ pub struct Multipliers {
     pub balance: Vec<[i64; 2]>,
     /// Normal and shear at from, then at to.
     pub sides: Vec<[i64; 4]>,
-    /// One for each polygon side of each node, node by node.
+    /// One for each polygon side of each pair of node and soil, pair by pair.
     pub strength: Vec<i64>,
 }
 
@@ -37,7 +37,7 @@ impl Claim {
         if has_multipliers {
             let balance = reader.group(mesh.elements.len(), 100_000)?;
             let sides = reader.group(mesh.edges.len(), 100_000)?;
-            let strength = reader.strength(mesh.nodes.len(), mesh.polygon.sides.len())?;
+            let strength = reader.strength(mesh.pairs.len(), mesh.polygon.sides.len())?;
             multipliers = Some(Multipliers {
                 balance,
                 sides,
@@ -100,8 +100,8 @@ impl<L: Lines> Reader<'_, L> {
         Ok(all)
     }
 
-    fn strength(&mut self, nodes: usize, sides: usize) -> Result<Vec<i64>, Refusal> {
-        let mut all = vec![0; nodes * sides];
+    fn strength(&mut self, pairs: usize, sides: usize) -> Result<Vec<i64>, Refusal> {
+        let mut all = vec![0; pairs * sides];
         for numbers in all.chunks_exact_mut(sides) {
             self.line(numbers, 0, 10_000)?;
         }

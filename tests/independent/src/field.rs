@@ -2,7 +2,7 @@
 //! Every sum fits 64 bits: the largest right side, of an edge, stays below 2.1e18.
 
 use crate::claim::Field;
-use crate::mesh::{Edge, Element, Mesh};
+use crate::mesh::{Edge, Element, Mesh, Pair};
 use crate::polygon::Side;
 use crate::{refuse, Refusal};
 
@@ -71,20 +71,20 @@ fn check_sides(mesh: &Mesh, field: &Field) -> Result<(), Refusal> {
     Ok(())
 }
 
-/// The strength rows of one node with one field.
-struct Node {
+/// The strength rows of one pair of node and soil with one field.
+struct Strength {
     /// r·h·(sx - sy), r·h·2t, and 2qCn - p(sx + sy).
     difference: i64,
     shear: i64,
     radius: i64,
 }
 
-impl Node {
-    fn new(mesh: &Mesh, field: &Field, node: usize) -> Self {
-        let soil = &mesh.soils[mesh.node_soil[node]];
-        let [sx, sy, t] = field.stresses[node];
+impl Strength {
+    fn new(mesh: &Mesh, field: &Field, pair: &Pair) -> Self {
+        let soil = &mesh.soils[pair.soil];
+        let [sx, sy, t] = field.stresses[pair.node];
         let scale = mesh.polygon.radius * soil.h;
-        Node {
+        Strength {
             difference: scale * (sx - sy),
             shear: scale * 2 * t,
             radius: 2 * soil.q * soil.cohesion * field.n - soil.p * (sx + sy),
@@ -99,9 +99,9 @@ impl Node {
 
 fn check_strength(mesh: &Mesh, field: &Field) -> Result<(), Refusal> {
     let sides = mesh.polygon.sides;
-    for k in 0..mesh.nodes.len() {
-        let node = Node::new(mesh, field, k);
-        if let Some(side) = sides.iter().position(|side| node.slack(side) < 0) {
+    for (k, pair) in mesh.pairs.iter().enumerate() {
+        let strength = Strength::new(mesh, field, pair);
+        if let Some(side) = sides.iter().position(|side| strength.slack(side) < 0) {
             return refuse(22, k * sides.len() + side + 1);
         }
     }
@@ -112,9 +112,9 @@ fn check_strength(mesh: &Mesh, field: &Field) -> Result<(), Refusal> {
 pub fn open_rows(mesh: &Mesh, field: &Field, multipliers: &[i64]) -> u64 {
     let sides = mesh.polygon.sides;
     let mut open = 0;
-    for (k, line) in multipliers.chunks_exact(sides.len()).enumerate() {
-        let node = Node::new(mesh, field, k);
-        let is_open = |(side, &y): &(&Side, &i64)| y > 0 && node.slack(side) > 0;
+    for (pair, line) in mesh.pairs.iter().zip(multipliers.chunks_exact(sides.len())) {
+        let strength = Strength::new(mesh, field, pair);
+        let is_open = |(side, &y): &(&Side, &i64)| y > 0 && strength.slack(side) > 0;
         open += sides.iter().zip(line).filter(is_open).count() as u64;
     }
     open

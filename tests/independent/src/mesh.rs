@@ -52,14 +52,21 @@ pub struct Edge {
     pub live: [i64; 2],
 }
 
+/// A node and a soil of an element around it (document 02, N2).
+#[derive(Clone, Copy)]
+pub struct Pair {
+    pub node: usize,
+    pub soil: usize,
+}
+
 pub struct Mesh {
     pub polygon: Polygon,
     pub soils: Vec<Soil>,
     pub nodes: Vec<[i64; 2]>,
     pub elements: Vec<Element>,
     pub edges: Vec<Edge>,
-    /// The soil of the lowest-numbered element around each node.
-    pub node_soil: Vec<usize>,
+    /// Each node with each soil of the elements around it, in the order of their strength rows.
+    pub pairs: Vec<Pair>,
 }
 
 fn within(number: i64, low: i64, high: i64) -> bool {
@@ -93,13 +100,13 @@ impl Mesh {
             nodes: reader.group(nodes, Reader::node)?,
             elements: reader.group(elements, |r| r.element(nodes, soils))?,
             edges: reader.group(edges, |r| r.edge(nodes))?,
-            node_soil: Vec::new(),
+            pairs: Vec::new(),
         };
         if !reader.lines.at_end() {
             reader.place += 1;
             return reader.refuse(1);
         }
-        mesh.node_soil = shape::check(&mesh)?;
+        mesh.pairs = shape::check(&mesh)?;
         Ok(mesh)
     }
 

@@ -86,16 +86,17 @@ impl Sums {
 
     fn add_strength(&mut self, mesh: &Mesh, multipliers: &Multipliers) {
         let sides = mesh.polygon.sides;
-        for (node, line) in multipliers.strength.chunks_exact(sides.len()).enumerate() {
+        let lines = multipliers.strength.chunks_exact(sides.len());
+        for (pair, line) in mesh.pairs.iter().zip(lines) {
             let (mut across, mut along, mut cross) = (0, 0, 0);
             for (&y, side) in line.iter().zip(sides) {
                 across += y * side.step[1];
                 along += y * side.step[0];
                 cross += y * side.cross;
             }
-            let soil = &mesh.soils[mesh.node_soil[node]];
+            let soil = &mesh.soils[pair.soil];
             let scale = mesh.polygon.radius * soil.h;
-            let column = &mut self.columns[node];
+            let column = &mut self.columns[pair.node];
             column[0] += scale * across + soil.p * cross;
             column[1] += soil.p * cross - scale * across;
             column[2] -= 2 * scale * along;

@@ -1,15 +1,18 @@
-//! The shape of a mesh whose lines have passed: refusals 5 to 8, each over the whole mesh.
+//! The shape of a mesh whose lines have passed: refusals 5 to 8 and 42, each over the whole mesh.
 
-use crate::mesh::{Edge, Element, Mesh};
+use crate::mesh::{Edge, Element, Mesh, Pair};
 use crate::{refuse, Refusal};
 
-/// The soil of each node, where nothing is refused.
-pub fn check(mesh: &Mesh) -> Result<Vec<usize>, Refusal> {
+const MOST_SOILS: usize = 16;
+const MOST_PAIRS: usize = 100;
+
+/// The pairs of node and soil, where nothing is refused.
+pub fn check(mesh: &Mesh) -> Result<Vec<Pair>, Refusal> {
     check_turns(mesh)?;
     let sides = directed_sides(&mesh.elements)?;
-    let node_soil = node_soils(mesh.nodes.len(), &mesh.elements)?;
+    let around = soils_around(mesh)?;
     check_edges(mesh, &sides)?;
-    Ok(node_soil)
+    pairs_of(&around)
 }
 
 /// A set of directed sides: bit `to` of entry `from`.
@@ -66,17 +69,17 @@ fn directed_sides(elements: &[Element]) -> Result<Sides, Refusal> {
     Ok(all)
 }
 
-/// Refusal 7, and the soil of each node.
-fn node_soils(nodes: usize, elements: &[Element]) -> Result<Vec<usize>, Refusal> {
-    let mut soil_of = vec![usize::MAX; nodes];
-    for element in elements.iter().rev() {
+/// Refusal 7, and the soils around each node: bit `soil` of the node's entry.
+fn soils_around(mesh: &Mesh) -> Result<Vec<u16>, Refusal> {
+    let mut around = vec![0; mesh.nodes.len()];
+    for element in &mesh.elements {
         for corner in element.corners {
-            soil_of[corner] = element.soil;
+            around[corner] |= 1 << element.soil;
         }
     }
-    match soil_of.iter().position(|&soil| soil == usize::MAX) {
+    match around.iter().position(|&soils| soils == 0) {
         Some(node) => refuse(7, node + 1),
-        None => Ok(soil_of),
+        None => Ok(around),
     }
 }
 
@@ -89,4 +92,17 @@ fn check_edges(mesh: &Mesh, sides: &Sides) -> Result<(), Refusal> {
         Some(edge) => refuse(8, mesh.edge_line() + edge),
         None => Ok(()),
     }
+}
+
+/// Refusal 42, and the pairs: nodes ascending, and for each its soils ascending.
+fn pairs_of(around: &[u16]) -> Result<Vec<Pair>, Refusal> {
+    let mut pairs = Vec::new();
+    for (node, soils) in around.iter().enumerate() {
+        let has = |soil: &usize| soils >> soil & 1 == 1;
+        pairs.extend((0..MOST_SOILS).filter(has).map(|soil| Pair { node, soil }));
+        if pairs.len() > MOST_PAIRS {
+            return refuse(42, node + 1);
+        }
+    }
+    Ok(pairs)
 }

@@ -2,6 +2,7 @@
 //! The answers were worked out by hand from documents 01 and 02.
 
 mod base;
+mod pairs;
 mod triangles;
 
 use independent::sheet::Sheet;
@@ -35,6 +36,7 @@ pub type Table = (Sheet, Vec<Cause>);
 pub fn tables() -> Vec<Table> {
     let mut all = base::tables().to_vec();
     all.push(triangles::table());
+    all.extend(pairs::tables());
     all
 }
 

@@ -3,6 +3,7 @@
 
 use crate::random::Random;
 use independent::sheet::{Lines, Sheet};
+use std::collections::BTreeSet;
 
 /// Friction angles with whole sides: p, q, h.
 const FRICTION: [[i64; 3]; 8] = [
@@ -68,6 +69,20 @@ fn soil(random: &mut Random) -> Vec<i64> {
     line
 }
 
+/// Up to four soils; one may have the forces of the one before it, so that a layer can have both.
+fn soils(random: &mut Random) -> Lines {
+    let mut all = vec![soil(random)];
+    for k in 0..random.below(4) {
+        all.push(soil(random));
+        if random.one_in(2) {
+            let forces = all[k][4..].to_vec();
+            all[k + 1].truncate(4);
+            all[k + 1].extend(forces);
+        }
+    }
+    all
+}
+
 /// Stresses at each height from the lowest: a layer of depth d adds -d times its force.
 fn integrated(random: &mut Random, ys: &[i64], forces: &[[i64; 2]]) -> Vec<[i64; 2]> {
     let mut at = [random.between(-40, 40), random.between(-40, 40)];
@@ -99,7 +114,7 @@ impl Grid {
         let rows = 1 + random.below(largest);
         let xs = coordinates(random, columns);
         let ys = coordinates(random, rows);
-        let soils: Lines = (0..1 + random.below(4)).map(|_| soil(random)).collect();
+        let soils = soils(random);
         let layer_soil: Vec<usize> = (0..rows).map(|_| random.below(soils.len())).collect();
         let forces = |k: usize| -> Vec<[i64; 2]> {
             layer_soil
@@ -132,15 +147,35 @@ impl Grid {
         (row * (self.columns + 1) + column + 1) as i64
     }
 
+    /// A soil with the forces of this one.
+    fn twin(&self, random: &mut Random, soil: usize) -> usize {
+        let same = |k: &usize| self.soils[*k][4..] == self.soils[soil][4..];
+        let twins: Vec<usize> = (0..self.soils.len()).filter(same).collect();
+        random.pick(&twins)
+    }
+
+    /// Node and soil, in the order of their strength rows.
+    fn pairs(&self) -> Vec<(i64, i64)> {
+        let of = |element: &Vec<i64>| [0, 1, 2, 3].map(|k| (element[k], element[4]));
+        let all: BTreeSet<_> = self.elements.iter().flat_map(of).collect();
+        all.into_iter().collect()
+    }
+
     /// The elements, cell by cell; where there are triangles, a cell may be cut into two.
     fn cells(&self, random: &mut Random) -> Lines {
         let with_triangles = random.one_in(2);
+        let with_twins = random.one_in(2);
         let mut all = Lines::new();
         for row in 0..self.rows {
             for column in 0..self.columns {
                 let corners = [(0, 0), (1, 0), (1, 1), (0, 1)]
                     .map(|(right, up)| self.node(column + right, row + up));
-                let soil = self.layer_soil[row] as i64 + 1;
+                let soil = if with_twins {
+                    self.twin(random, self.layer_soil[row])
+                } else {
+                    self.layer_soil[row]
+                };
+                let soil = soil as i64 + 1;
                 if with_triangles && random.one_in(2) {
                     all.extend(triangles(random, corners, soil));
                 } else {
@@ -217,35 +252,34 @@ impl Grid {
         field
     }
 
-    /// Zero multipliers, a line for each element, edge and node.
+    /// Zero multipliers, a line for each element, edge and pair.
     fn zero_multipliers(&self, edges: usize) -> Lines {
-        let nodes = (self.columns + 1) * (self.rows + 1);
         let mut lines = vec![vec![0; 2]; self.elements.len()];
         lines.extend(vec![vec![0; 4]; edges]);
-        lines.extend(vec![vec![0; self.sides as usize]; nodes]);
+        lines.extend(vec![vec![0; self.sides as usize]; self.pairs().len()]);
         lines
     }
 
-    /// Strength multipliers at the last corner on the two sides next to (r, 0), where sx - sy is
+    /// Strength multipliers at the last pair, in the upper right corner, on the two sides next to (r, 0), where sx - sy is
     /// largest, or next to (-r, 0); the right side's and the top's normal rows undo them.
     fn add_corner(&self, random: &mut Random, lines: &mut Lines) {
         let half = self.sides as usize / 2;
-        let pair = if random.one_in(2) {
+        let rows = if random.one_in(2) {
             [0, 2 * half - 1]
         } else {
             [half - 1, half]
         };
-        let soil = &self.soils[self.layer_soil[self.rows - 1]];
+        let (_, soil) = *self.pairs().last().expect("a pair");
+        let soil = &self.soils[soil as usize - 1];
         let (r, rise) = radius_and_rise(self.sides);
-        let sign = if pair[0] == 0 { 1 } else { -1 };
+        let sign = if rows[0] == 0 { 1 } else { -1 };
         let (difference, friction) = (2 * r * soil[2] * rise * sign, 2 * soil[0] * r * rise);
         let right = self.ys[self.rows] - self.ys[self.rows - 1];
         let top = self.xs[self.columns] - self.xs[self.columns - 1];
         let y = right.max(top).pow(2) * random.between(1, 2);
         let elements = self.elements.len();
-        let node = lines.len() - 1;
-        lines[node][pair[0]] += y;
-        lines[node][pair[1]] += y;
+        let last = lines.len() - 1;
+        rows.iter().for_each(|&row| lines[last][row] += y);
         lines[elements][2] -= y * (difference + friction) / (right * right);
         lines[elements + self.rows][0] -= y * (friction - difference) / (top * top);
     }

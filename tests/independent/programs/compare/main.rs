@@ -52,6 +52,9 @@ fn every_cause(tally: &mut Tally, random: &mut Random) {
             );
             tally.sheet(random, &damaged);
         }
+        if sheet.claim.is_empty() {
+            continue;
+        }
         let (mesh, claim) = (sheet.mesh_file(), sheet.claim_file());
         for (k, (bytes, line)) in causes::misformed(&mesh).iter().enumerate() {
             tally.expect(bytes, &claim, 1, *line, k);

@@ -6,7 +6,9 @@ use independent::sheet::Sheet;
 use std::collections::BTreeMap;
 
 /// Every number that a file can get.
-const NUMBERS: [u32; 17] = [0, 1, 2, 3, 4, 5, 6, 7, 8, 11, 12, 13, 21, 22, 31, 32, 33];
+const NUMBERS: [u32; 18] = [
+    0, 1, 2, 3, 4, 5, 6, 7, 8, 42, 11, 12, 13, 21, 22, 31, 32, 33,
+];
 
 /// How often each number came, and how often the two disagreed.
 #[derive(Default)]

@@ -7,7 +7,7 @@ use independent::sheet::{printed, Sheet};
 
 /// Two squares side by side, two soils, three of the six outer sides with an edge.
 fn pair() -> Sheet {
-    let zeros = " / 0 0 0 0 0 0 0 0 0 0 0 0".repeat(6);
+    let zeros = " / 0 0 0 0 0 0 0 0 0 0 0 0".repeat(8);
     Sheet {
         mesh: printed(
             "6 2 2 3 12 / 0 1 1 10 0 0 0 0 / 3 4 5 10 0 0 0 0 / \
