@@ -19,7 +19,7 @@ use Rattle.reader.proofs.Regular.{mesh-regular, claim-regular}
 use Rattle.reader.proofs.Written.{wide-enough, written-checked, written-passed}
 use Rattle.judge.specs.Judge.{meshNumbers, claimNumbers, filesVerdict}
 
-pub mesh-lines-refused : (m c : List ℤ) (k : ℕ) (p : Place) → linesCheck meshLayout m ≡ Fails k p → verdict m c ≡ Refused k p
+mesh-lines-refused : (m c : List ℤ) (k : ℕ) (p : Place) → linesCheck meshLayout m ≡ Fails k p → verdict m c ≡ Refused k p
 unfolding verdict answer
 mesh-lines-refused m c k p e = rw (mesh-checked m, e)
 

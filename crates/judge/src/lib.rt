@@ -51,9 +51,11 @@ pub fn judge_mesh_file(mesh: &[u8], numbers: &mut [i64]) -> JudgedMesh
     JudgedMesh { count, answer }
 }
 
-// The verdict on a claim file on a judged mesh with the numbers m, these sizes and these pairs, with room for the claim's numbers.
+// The verdict on a claim file on a judged mesh with the numbers m, these sizes and these pairs, with room for the
+// claim's numbers.
 fn judge_claim_in(m: &[i64], s: Sizes, pairs: &[u8], claim: &[u8], numbers: &mut [i64]) -> Verdict
-    requires { ⌜ SoundMesh (now m) s (now pairs) ⌝ ∗ ⌜ length (claimNumbers fileWidth (now m) (now claim)) ≤ length (now numbers) ⌝ }
+    requires { ⌜ SoundMesh (now m) s (now pairs) ⌝
+        ∗ ⌜ length (claimNumbers fileWidth (now m) (now claim)) ≤ length (now numbers) ⌝ }
     ensures { λ r. ⌜ r ≡ claimVerdict (now (m .entry)) (claimNumbers fileWidth (now (m .entry)) (now (claim .entry))) ⌝ }
 {
     let count = read_claim(claim, s, numbers);

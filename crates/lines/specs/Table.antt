@@ -15,7 +15,8 @@ use Rattle.scope.specs.Layout.{Group, width}
 use Rattle.scope.specs.Mesh.{mostNodes, mostSides, soilLines, nodeLines, elementLines, edgeLines}
 use Rattle.scope.specs.Claim.{ifThere, stressLines, elementMultipliers, edgeMultipliers, strengthMultipliers}
 
--- how many groups a file has after its header; the most lines of a group, which are a node's, an element's or a pair's, and the most columns of a line, which are a polygon's sides
+-- how many groups a file has after its header; the most lines of a group, which are a node's, an element's or a
+-- pair's, and the most columns of a line, which are a polygon's sides
 abbrev pub groupCount : ℕ
 groupCount = 4
 

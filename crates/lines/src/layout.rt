@@ -21,7 +21,8 @@ ghost use Rattle.scope.specs.Claim.{ifThere};
 ghost use Rattle.mesh.specs.MeshContracts.{FewThings};
 ghost use Rattle.lines.specs.Table.{Tabled, meshBody, claimBody};
 
-// The groups of lines after a header: in a mesh soils, nodes, elements, edges; in a claim stresses, and multipliers of elements, of edges and of node-and-soil pairs.
+// The groups of lines after a header: in a mesh soils, nodes, elements, edges; in a claim stresses, and multipliers of
+// elements, of edges and of node-and-soil pairs.
 pub const GROUPS: usize = 4;
 
 // The columns of a claim's header, and of a node's stresses.

@@ -1,4 +1,5 @@
--- What contracts say of the counts of a mesh and of what is read of it: the sizes of its header, where its groups begin, a node that is there, its node-and-soil pairs.
+-- What contracts say of the counts of a mesh and of what is read of it: the sizes of its header, where its groups
+-- begin, a node that is there, its node-and-soil pairs.
 use mathlib.Core.Path.{_≡_}
 use mathlib.Core.List.{List}
 use Prim.Native.Nat.{ℕ, _+_, _*_, _≤_, _<_}
@@ -64,7 +65,14 @@ pub record NodeAt (r : ℕ) (m : List ℤ) (v : ℕ) : Type 0 where
 -- ---- pairs (document 02, N2)
 
 abbrev pub paired : Sizes → ℕ → Sizes
-paired s k = record { nodes = s .nodes; elements = s .elements; soils = s .soils; edges = s .edges; sides = s .sides; pairs = k }
+paired s k = record {
+  nodes = s .nodes;
+  elements = s .elements;
+  soils = s .soils;
+  edges = s .edges;
+  sides = s .sides;
+  pairs = k;
+}
 
 -- the sizes of a mesh with its node-and-soil pairs counted: what the lines of a claim go by
 pub record Counted (m : List ℤ) (s : Sizes) : Type 0 where

@@ -49,7 +49,9 @@ pub record Returned (m c : List ℤ) (number place : ℕ) : Type 0 where
 
 -- ==== Demand 2: what is accepted, and what is refused
 
--- "Accepted returns 0, place 0": 0 exactly when the mesh passes 1 to 8 and 42, the claim passes 11 to 13, a field that is there meets every row, and multipliers that are there are zero on every unfixed row, make all 3·nodes columns 0 and have m above 0
+-- "Accepted returns 0, place 0": 0 exactly when the mesh passes 1 to 8 and 42, the claim passes 11 to 13, a field that
+-- is there meets every row, and multipliers that are there are zero on every unfixed row, make all 3·nodes columns 0
+-- and have m above 0
 pub record ReturnsZero (m c : List ℤ) (number place : ℕ) : Type 0 where
   pub exactly : (number ≡ 0) ↔ ClaimAccepted m c
   pub place-zero : number ≡ 0 → place ≡ 0
@@ -68,8 +70,8 @@ pub record NumbersListed (number place : ℕ) : Type 0 where
   pub line-one : number ≡ 13 → place ≡ 1
   pub column-zero : number ≡ 33 → place ≡ 0
 
--- the place of 21 and of 22 is the number of a row that, as document 01 prints it, the field does not meet; strength rows
--- "are numbered by node-and-soil pairs" (document 02, N2)
+-- the place of 21 and of 22 is the number of a row that, as document 01 prints it, the field does not meet; strength
+-- rows "are numbered by node-and-soil pairs" (document 02, N2)
 pub record RowsRefused (m c : List ℤ) (number place : ℕ) : Type 0 where
   pub equality : number ≡ 21 → EqualityFails m c place
   pub strength : number ≡ 22 → StrengthFails m c place
@@ -105,14 +107,14 @@ pub record MultipliersReported (m c : List ℤ) (r : NumbersAnswer) : Type 0 whe
   pub m-above-0 : r .multipliers ≡ 1 → pos 0 <ℤ r .m
   pub none : r .multipliers ≢ 1 → (r .multipliers ≡ 0) × (r .w ≡ pos 0) × (r .m ≡ pos 0)
 
--- "the criterion is promised for each pair" (document 02, N2): the Mohr-Coulomb criterion (001, eq. 12) at each node with the
--- strength of every soil of the elements around it
+-- "the criterion is promised for each pair" (document 02, N2): the Mohr-Coulomb criterion (001, eq. 12) at each node
+-- with the strength of every soil of the elements around it
 pub record CriterionForEachPair (m c : List ℤ) : Type 0 where
   pub pairs : CriterionEverywhere m c
   pub around : CriterionAround m c
 
--- "a node has strength rows for each soil of the elements around it, soils ascending .. Pairs are at most 100. Refused: 42,
--- with the node that brings the 101st pair" (document 02, N2)
+-- "a node has strength rows for each soil of the elements around it, soils ascending .. Pairs are at most 100.
+-- Refused: 42, with the node that brings the 101st pair" (document 02, N2)
 pub record PairsAsked (m : List ℤ) (number place : ℕ) : Type 0 where
   pub listed : Pairs m
   pub sound : MeshSound m → SoundPairs m

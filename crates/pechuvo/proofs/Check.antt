@@ -20,7 +20,6 @@ use Rattle.scope.specs.Mesh.{mostPairs, meshLayout, meshHeader, soilLines, node
 use Rattle.scope.specs.Rows.{pairCount}
 use Rattle.scope.specs.Claim.{claimLayout, ifThere}
 use Rattle.scope.specs.Statements.{Within, MeshSound}
-use Rattle.scope.specs.NumberRanges.{Counts}
 use Rattle.scope.specs.Answer.{numberOf}
 use Rattle.scope.specs.Verdict.{verdict, lineCheck, meshCheck}
 use Rattle.scope.proofs.Refusals.{lines-passed, mesh-passed, line-check-passed}

@@ -59,7 +59,8 @@ pub record LongFiles (mesh claim before : List ℕ) (number place : ℕ) (after 
 
 -- ==== Demand 2: what is accepted, what is refused, what is printed; where the buffer has 113 bytes
 
--- 0 exactly when, each refusal with its place exactly when, no number but those of the table, each part accepted exactly when, and the pairs with the criterion for each
+-- 0 exactly when, each refusal with its place exactly when, no number but those of the table, each part accepted
+-- exactly when, and the pairs with the criterion for each
 pub record OnFiles (mesh claim : List ℕ) (number place : ℕ) : Type 0 where
   pub returns-zero : ReturnsZero (meshIn mesh) (claimIn mesh claim) number place
   pub refuses : RefusesExactly (meshIn mesh) (claimIn mesh claim) number place

@@ -84,8 +84,8 @@ unfoldable pub unitSquare : String
 unitSquare = "4 1 1 0 12 / 0 1 1 10 0 0 0 0 / 0 0 / 1 0 / 1 1 / 0 1 / 1 2 3 4 1"
 
 -- each field and each rule of the mesh and the claim that the starred sheets leave at 0 or do not reach
--- a seam of clay (c = 10) between two layers of fill (c = 30): nodes 3 to 6 are corners of both, and the fill has the lower
--- elements ("Soft clay under fill was passed at the fill's strength", document 02, N2)
+-- a seam of clay (c = 10) between two layers of fill (c = 30): nodes 3 to 6 are corners of both, and the fill has the
+-- lower elements ("Soft clay under fill was passed at the fill's strength", document 02, N2)
 unfoldable pub seamMesh : String
 seamMesh = "8 3 2 8 12 / 0 1 1 30 0 0 0 0 / 0 1 1 10 0 0 0 0 / 0 0 / 10 0 / 0 10 / 10 10 / 0 20 / 10 20 / 0 30 / 10 30 / 1 2 4 3 1 / 5 6 8 7 1 / 3 4 6 5 2 / 1 2 2 0 0 0 0 / 2 4 3 0 0 0 0 / 3 1 2 0 0 0 0 / 6 8 3 0 0 0 0 / 8 7 3 0 0 -1 0 / 7 5 2 0 0 0 0 / 4 6 3 0 0 0 0 / 5 3 2 0 0 0 0"
 
@@ -124,7 +124,8 @@ noticing =
     ∷ sheet "4 1 1 1 12 / 0 1 1 10 0 0 0 0 / 0 0 / 1 0 / 1 1 / 0 1 / 1 2 3 4 1 / 2 3 1 0 0 0 0"
     "0 1 0 0 / 0 0 / 0 1 0 0 / 0 0 0 0 0 0 0 0 0 0 0 0 / 0 0 0 0 0 0 0 0 0 0 0 0 / 0 0 0 0 0 0 0 0 0 0 0 0 / 0 0 0 0 0 0 0 0 0 0 0 0"
     "                          31                           4                        none                        none\n"
-    -- two soils at a node, within the stronger one's strength, which is the first element's: 22, row 25, node 2 with the other
+    -- two soils at a node, within the stronger one's strength, which is the first element's: 22, row 25, node 2 with
+    -- the other
     ∷ sheet "6 2 2 0 12 / 0 1 1 10 0 0 0 0 / 0 1 1 5 0 0 0 0 / 0 0 / 1 0 / 1 1 / 0 1 / 2 0 / 2 1 / 1 2 3 4 1 / 2 5 6 3 2"
     "1 0 1 0 / 0 -20 0 / 0 -20 0 / 0 -20 0 / 0 -20 0 / 0 -10 0 / 0 -10 0"
     "                          22                          25                        none                        none\n"

@@ -1,4 +1,6 @@
--- The files of sheets/ that document 01 stars, and those that show the fault of document 02, N2, byte for byte, so that they can be compared with what the definition of a written file gives. tests/sheets compares these bytes with the files.
+-- The files of sheets/ that document 01 stars, and those that show the fault of document 02, N2, byte for byte, so
+-- that they can be compared with what the definition of a written file gives. tests/sheets compares these bytes with
+-- the files.
 use mathlib.Core.List.{List, [], _∷_, _++_}
 use Prim.Native.Nat.{ℕ}
 use lib.ListN.{take, drop}

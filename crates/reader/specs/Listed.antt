@@ -14,7 +14,8 @@ pub record Listed (zs before : List ℤ) (r : ℕ) (after : List ℤ) : Type 0 w
   pub count : r ≡ length zs
   pub list : after ≡ zs ++ drop r before
 
--- the numbers of the claim file bs, read against a mesh with these sizes and so many pairs, have room in the list `out`
+-- the numbers of the claim file bs, read against a mesh with these sizes and so many pairs, have room in the list
+-- `out`
 pub record ClaimRoom (bs : List ℕ) (s : Sizes) (out : List ℤ) : Type 0 where
   pub mesh : List ℤ
   pub counted : Counted mesh s

@@ -13,4 +13,10 @@ abbrev pub meshRoom : ℕ
 meshRoom = meshHeaderColumns + mostSoils * soilColumns + mostNodes * nodeColumns + mostElements * elementColumns + mostEdges * edgeColumns + 1
 
 abbrev pub claimRoom : ℕ
-claimRoom = claimHeaderColumns + mostNodes * stressColumns + mostElements * elementRows + mostEdges * edgeRows + mostPairs * mostSides + 1
+claimRoom =
+    claimHeaderColumns
+    + mostNodes * stressColumns
+    + mostElements * elementRows
+    + mostEdges * edgeRows
+    + mostPairs * mostSides
+    + 1

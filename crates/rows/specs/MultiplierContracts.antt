@@ -26,7 +26,8 @@ use Rattle.rows.specs.RowContracts.{MeshSteps, SumsAre, sumBelow, rowSum
 pub record Multipliers (m y : List ℤ) : Type 0 where
   pub long : equalityCount m + pairCount m * sides m ≤ length y
   pub bounds : AllWithin mostMultiplier y
-  pub strengthBounds : (k : ℕ) → k < pairCount m * sides m → Within (strengthMultiplier (sides m)) (at y (equalityCount m + k))
+  pub strengthBounds : (k : ℕ) → k < pairCount m * sides m
+      → Within (strengthMultiplier (sides m)) (at y (equalityCount m + k))
 
 -- what the sums over all rows require: a mesh, its node-and-soil pairs, the sides of its polygon, and the multipliers
 pub record RowsGiven (m : List ℤ) (s : Sizes) (t : List ℕ) (steps y : List ℤ) : Type 0 where
@@ -122,13 +123,17 @@ pairFirst m a = equalityCount m + a * sides m
 
 -- all equality rows, and the rows of the pairs before pair a
 abbrev pub PairsSummed : List ℤ → List ℤ → ℕ → List ℤ → Sums → Type 0
-PairsSummed m y a columns sums = SummedTo m y (pairFirst m a) (equalityColumns + a * (3 * pairColumn)) (equalitySums + a * sides m * strengthSum) columns sums
+PairsSummed m y a columns sums =
+    SummedTo m y (pairFirst m a) (equalityColumns + a * (3 * pairColumn)) (equalitySums + a * sides m * strengthSum)
+    columns sums
 
 -- the sums over the rows of pair a: the columns are those of its node
 pub record PairPart (r : PairSums) (m y : List ℤ) (a : ℕ) : Type 0 where
   pub columns : (j : ℕ)
       → partSum (coefficient j) (at y) (rowsOf m) (pairFirst m a) (sides m)
-      ≡ r .sx *ℤ unit j (sx (pairAt m a .at)) +ℤ r .sy *ℤ unit j (sy (pairAt m a .at)) +ℤ r .t *ℤ unit j (t (pairAt m a .at))
+      ≡ r .sx *ℤ unit j (sx (pairAt m a .at))
+      +ℤ r .sy *ℤ unit j (sy (pairAt m a .at))
+      +ℤ r .t *ℤ unit j (t (pairAt m a .at))
   pub limit : partSum (λ r. r .right) (at y) (rowsOf m) (pairFirst m a) (sides m) ≡ r .right
   pub live : partSum (λ r. r .live) (at y) (rowsOf m) (pairFirst m a) (sides m) ≡ pos 0
   pub fits : PairSumsFit r

@@ -294,7 +294,8 @@ pub record StepsFit (t : List ℤ) (n : ℕ) : Type 0 where
   pub most : n ≤ mostSides
   pub each : (k : ℕ) → k < n → StepFits t k
 
--- "r·h·[(d-b)(sx-sy) - 2(c-a)t] ≤ (ad-bc)·[2qCn - p(sx+sy)]": the right side less the left, from the numbers of a pair and of side k
+-- "r·h·[(d-b)(sx-sy) - 2(c-a)t] ≤ (ad-bc)·[2qCn - p(sx+sy)]": the right side less the left, from the numbers of a pair
+-- and of side k
 unfoldable pub sideSlack : List ℤ → List ℤ → ℕ → ℤ
 sideSlack d t k = at t (3 * k + 2) *ℤ at d 3 -ℤ at d 0 *ℤ (at t (3 * k + 1) *ℤ at d 1 -ℤ at t (3 * k) *ℤ at d 2)
 
@@ -327,7 +328,8 @@ pub record PairState (d m c : List ℤ) (a : ℕ) : Type 0 where
 
 -- each strength row of pair a holds at the claim's field
 unfoldable pub pairHolds : List ℤ → List ℤ → ℕ → Bool
-pairHolds m c a = allBelow (λ k. rowHolds (stress m c) (l c) (n c) (rowAt (strengthRows m) (a * sides m + k))) (sides m)
+pairHolds m c a =
+    allBelow (λ k. rowHolds (stress m c) (l c) (n c) (rowAt (strengthRows m) (a * sides m + k))) (sides m)
 
 -- ---- sums
 

@@ -96,7 +96,8 @@ fn add_side(steps: &[i64], k: usize, w: i64, a: SideSums) -> SideSums
     }
 }
 
-// All sides of a pair whose first multiplier stands at `first`. For speed they are summed first, and multiplied by r·h and p once.
+// All sides of a pair whose first multiplier stands at `first`. For speed they are summed first, and multiplied by r·h
+// and p once.
 fn side_sums(steps: &[i64], sides: usize, y: &[i64], first: usize) -> SideSums
     requires { ⌜ StepsFit (now steps) sides ⌝ ∗ ⌜ SideMultipliers (now steps) (now y) first sides ⌝ }
     ensures { λ r. ⌜ SideSumsAre r (now (steps .entry)) (now (y .entry)) first sides ⌝ }
@@ -115,8 +116,8 @@ fn side_sums(steps: &[i64], sides: usize, y: &[i64], first: usize) -> SideSums
     sums
 }
 
-// What a pair's strength rows add up to, each times its multiplier: for the columns of its node's sx, sy and t, and for
-// W. They add nothing to m.
+// What a pair's strength rows add up to, each times its multiplier: for the columns of its node's sx, sy and t, and
+// for W. They add nothing to m.
 pub struct PairSums {
     pub sx: i64,
     pub sy: i64,
@@ -177,7 +178,8 @@ fn add_pair(
     columns: &mut [i64],
     sums: Sums,
 ) -> Sums
-    requires { ⌜ RowsGiven (now m) s (now pairs) (now steps) (now y) ⌝ ∗ ⌜ a < pairCount (now m) ⌝ ∗ ⌜ PairsSummed (now m) (now y) a (now columns) sums ⌝ }
+    requires { ⌜ RowsGiven (now m) s (now pairs) (now steps) (now y) ⌝ ∗ ⌜ a < pairCount (now m) ⌝
+        ∗ ⌜ PairsSummed (now m) (now y) a (now columns) sums ⌝ }
     ensures { λ r. ⌜ PairsSummed (now (m .entry)) (now (y .entry)) (a + 1) (now (columns .exit)) r ⌝ }
 {
     let part = pair_part(m, s, pairs, steps, y, a);
@@ -200,7 +202,8 @@ fn strength_sums(
     columns: &mut [i64],
     equalities: Sums,
 ) -> Sums
-    requires { ⌜ RowsGiven (now m) s (now pairs) (now steps) (now y) ⌝ ∗ ⌜ Summed (now m) (now y) (equalityCount (now m)) (now columns) equalities ⌝ }
+    requires { ⌜ RowsGiven (now m) s (now pairs) (now steps) (now y) ⌝
+        ∗ ⌜ Summed (now m) (now y) (equalityCount (now m)) (now columns) equalities ⌝ }
     ensures { λ r. ⌜ PairsSummed (now (m .entry)) (now (y .entry)) (pairCount (now (m .entry))) (now (columns .exit)) r ⌝ }
 {
     let all = s.pairs;

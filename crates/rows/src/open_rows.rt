@@ -35,7 +35,8 @@ fn side_open(steps: &[i64], k: usize, d: &[i64], w: i64) -> u64
 
 // How many sides of a pair are open, whose first multiplier stands at `first`.
 fn pair_open(steps: &[i64], sides: usize, d: &[i64], y: &[i64], first: usize) -> u64
-    requires { ⌜ StepsFit (now steps) sides ⌝ ∗ ⌜ PairFits (now d) ⌝ ∗ ⌜ SideMultipliers (now steps) (now y) first sides ⌝ }
+    requires { ⌜ StepsFit (now steps) sides ⌝ ∗ ⌜ PairFits (now d) ⌝
+        ∗ ⌜ SideMultipliers (now steps) (now y) first sides ⌝ }
     ensures { λ r. ⌜ r ≡ countBelow (sideOpen (now (d .entry)) (now (steps .entry)) (now (y .entry)) first) sides ⌝ }
 {
     let mut count: u64 = 0;
@@ -50,7 +51,8 @@ fn pair_open(steps: &[i64], sides: usize, d: &[i64], y: &[i64], first: usize) ->
 
 // The open rows of a claim's field with the multipliers y.
 fn open_count(m: &[i64], c: &[i64], s: Sizes, pairs: &[u8], steps: &[i64], y: &[i64]) -> u64
-    requires { ⌜ Judged (now m) (now c) s (now pairs) × (at (now c) 0 ≡ pos 1) ⌝ ∗ ⌜ MeshSteps (now m) (now steps) ⌝ ∗ ⌜ Multipliers (now m) (now y) ⌝ }
+    requires { ⌜ Judged (now m) (now c) s (now pairs) × (at (now c) 0 ≡ pos 1) ⌝ ∗ ⌜ MeshSteps (now m) (now steps) ⌝
+        ∗ ⌜ Multipliers (now m) (now y) ⌝ }
     ensures { λ r. ⌜ r ≡ openRows (stress (now (m .entry)) (now (c .entry))) (l (now (c .entry))) (n (now (c .entry))) (at (now (y .entry))) (rowsOf (now (m .entry))) ⌝ }
 {
     let all = s.pairs;

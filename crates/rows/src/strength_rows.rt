@@ -120,7 +120,8 @@ pub fn pair_state(m: &[i64], c: &[i64], s: Sizes, pairs: &[u8], a: usize) -> [i6
     pair_numbers(&k, &c[4..], v, n)
 }
 
-// Each strength row of a pair holds. For speed this loop has nothing else in it; which row fails is for the search to say.
+// Each strength row of a pair holds. For speed this loop has nothing else in it; which row fails is for the search to
+// say.
 fn sides_hold(steps: &[i64], sides: usize, d: &[i64]) -> bool
     requires { ⌜ StepsFit (now steps) sides ⌝ ∗ ⌜ PairFits (now d) ⌝ }
     ensures { λ r. ⌜ r ≡ allBelow (λ k. leZ (pos 0) (sideSlack (now (d .entry)) (now (steps .entry)) k)) sides ⌝ }

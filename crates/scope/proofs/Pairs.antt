@@ -4,7 +4,7 @@
 use mathlib.Core.Path.{_≡_, refl, sym, _∙_, ap, ap₂, subst}
 use mathlib.Core.Logic.{_↔_, _⊎_, inl, inr, ⊎-elim}
 use mathlib.Core.Bool.{Bool, true, false, cond}
-use mathlib.Core.List.{List, [], _∷_, _++_, map, map-append, append-nil, append-assoc, List·Memᴰ·head, List·Memᴰ·tail, List·Memᴰ·append-cases, List·Memᴰ·eq-of-singleton, List·Memᴰ·not-nil, Memᴰ·cast, Memᴰ·append-left, Memᴰ·append-right, Memᴰ·map, Memᴰ·of-map}
+use mathlib.Core.List.{List, [], _∷_, _++_, map, map-append, List·Memᴰ·head, List·Memᴰ·tail, List·Memᴰ·append-cases, List·Memᴰ·eq-of-singleton, List·Memᴰ·not-nil, Memᴰ·cast, Memᴰ·append-left, Memᴰ·append-right, Memᴰ·map, Memᴰ·of-map}
 use Prim.Native.Nat.{ℕ, zero, suc, _+_, _-_, _<_, _≤_}
 use native.Mathlib.Nat.{zero-add, eq-or-lt-of-le}
 use native.Mathlib.Decide.{decLt}
@@ -164,30 +164,6 @@ module _ (m : List ℤ) where
   below-sorted (suc k) =
       sorted-++ Before (pairsBelow m k) (nodePairs m k) (below-sorted k) (node-sorted k (passing (hasSoil m k) (soils m)) (passing-sorted (hasSoil m k) (soils m)))
       (λ a b i j. inl (omega (arith, of-below k i .0, of-node k j .0)))
-
-  -- ---- one more soil, one more node
-
-  -- the pairs of the nodes below v, and of node v those with a soil below s
-  abbrev pub pairsTo : ℕ → ℕ → List Pair
-  pairsTo v s = pairsBelow m v ++ map (pairOf v) (passing (hasSoil m v) s)
-
-  pub none-of-node : (v : ℕ) → pairsTo v 0 ≡ pairsBelow m v
-  unfolding passing
-  none-of-node v = append-nil (pairsBelow m v)
-
-  pub next-soil : (v s : ℕ) → pairsTo v (suc s) ≡ pairsTo v s ++ cond (hasSoil m v s) (pairOf v s ∷ []) []
-  unfolding passing
-  next-soil v s =
-      ap (λ (l : List Pair). pairsBelow m v ++ l) (map-append (pairOf v) (passing (hasSoil m v) s) (cond (hasSoil m v s) (s ∷ []) []) ∙ ap (λ (l : List Pair). map (pairOf v) (passing (hasSoil m v) s) ++ l) (one (hasSoil m v s)))
-      ∙ sym (append-assoc (pairsBelow m v) (map (pairOf v) (passing (hasSoil m v) s)) (cond (hasSoil m v s) (pairOf v s ∷ []) []))
-    where
-      one : (b : Bool) → map (pairOf v) (cond b (s ∷ []) []) ≡ cond b (pairOf v s ∷ []) []
-      one true = refl
-      one false = refl
-
-  pub all-of-node : (v : ℕ) → pairsTo v (soils m) ≡ pairsBelow m (suc v)
-  unfolding pairsBelow nodePairs
-  all-of-node v = refl
 
   -- ---- how many, and at which place
 

@@ -25,4 +25,5 @@ CriterionEverywhere m c = (a : Pair) → a ∈ strengthPairs m → MeetsCriterio
 
 -- so "soft clay under fill" has its own strength: at each node, for the soil of every element around it
 abbrev pub CriterionAround : List ℤ → List ℤ → Type 0
-CriterionAround m c = (v e : ℕ) → e < elements m → HasCorner m v e → MeetsCriterion m c (record { at = v; soil = elementSoil m e })
+CriterionAround m c = (v e : ℕ) → e < elements m → HasCorner m v e
+    → MeetsCriterion m c (record { at = v; soil = elementSoil m e })

@@ -9,8 +9,8 @@ use lib.ListN.{replicate}
 use Rattle.scope.specs.Columns.{between, oneOf, free, upTo, rightAngle, naming, at}
 use Rattle.scope.specs.Layout.{Group, Layout, groups, linesBefore, count, entry}
 
--- the limits that bounds are made of: the most nodes, pairs of a node and a soil ("Pairs are at most 100", document 02,
--- N2), elements, soils, edges and sides
+-- the limits that bounds are made of: the most nodes, pairs of a node and a soil ("Pairs are at most 100", document
+-- 02, N2), elements, soils, edges and sides
 abbrev pub mostNodes : ℕ
 mostNodes = 100
 

@@ -75,7 +75,13 @@ pub record ClaimFacts (m c : List ℤ) : Type 0 where
   pub nRange : Between (pos 0) (pos 100000) (n c)
   pub lRange : Between (negℤ (pos 100000000)) (pos 100000000) (l c)
   pub partsFit : PartsFit c
-  pub size : length c ≡ claimHeaderColumns + ifThere (hasField c) (nodes m) * stressColumns + ifThere (hasMultipliers c) (elements m) * elementRows + ifThere (hasMultipliers c) (edges m) * edgeRows + ifThere (hasMultipliers c) (pairCount m) * sides m
+  pub size : length c
+      ≡ claimHeaderColumns
+      + ifThere (hasField c) (nodes m) * stressColumns
+      + ifThere (hasMultipliers c) (elements m) * elementRows
+      + ifThere (hasMultipliers c) (edges m) * edgeRows
+      + ifThere (hasMultipliers c) (pairCount m) * sides m
   pub stressRange : at c 0 ≡ pos 1 → (j : ℕ) → j < nodes m * stressColumns → Between (negℤ (pos 1000000000)) (pos 1000000000) (stress m c j)
   pub equalityRange : at c 1 ≡ pos 1 → (k : ℕ) → k < equalityCount m → Between (negℤ (pos 100000)) (pos 100000) (multiplier m c k)
-  pub strengthRange : at c 1 ≡ pos 1 → (k : ℕ) → k < pairCount m * sides m → Between (pos 0) (pos 10000) (multiplier m c (equalityCount m + k))
+  pub strengthRange : at c 1 ≡ pos 1 → (k : ℕ) → k < pairCount m * sides m
+      → Between (pos 0) (pos 10000) (multiplier m c (equalityCount m + k))

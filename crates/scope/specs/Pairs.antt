@@ -1,5 +1,5 @@
--- The pairs of a node and a soil (document 02, N2), said without the search for soils or the test of 42: which they are,
--- their order, how many, and where they are document 01's.
+-- The pairs of a node and a soil (document 02, N2), said without the search for soils or the test of 42: which they
+-- are, their order, how many, and where they are document 01's.
 use mathlib.Core.Path.{_≡_}
 use mathlib.Core.Logic.{_↔_, _⊎_}
 use mathlib.Core.List.{List, map}

@@ -53,7 +53,8 @@ unfoldable pub sumBelow : (ℕ → ℤ) → ℕ → ℤ
 sumBelow f zero = pos 0
 sumBelow f (suc n) = sumBelow f n +ℤ f n
 
--- "for each element 2, for each edge 4 ..; then for each node a line of as many as there are sides", by pairs (document 02, N2)
+-- "for each element 2, for each edge 4 ..; then for each node a line of as many as there are sides", by pairs
+-- (document 02, N2)
 module _ (m : List ℤ) (w : ℕ → ℤ) where
   abbrev pub ofElement : ℕ → ℕ → ℤ
   ofElement e i = w (e * 2 + i)
@@ -75,7 +76,8 @@ module _ (m : List ℤ) (w : ℕ → ℤ) where
       +ℤ ofEdge g 2 *ℤ lessNormal m s l n g (toNode m g)
       +ℤ ofEdge g 3 *ℤ lessShear m s l n g (toNode m g))
       (edges m)
-      +ℤ sumBelow (λ a. sumBelow (λ k. ofPair a k *ℤ lessStrength m s l n (pairAt m a) (sideAt (polygonOf (sides m)) k)) (sides m)) (pairCount m)
+      +ℤ sumBelow (λ a. sumBelow (λ k. ofPair a k *ℤ lessStrength m s l n (pairAt m a) (sideAt (polygonOf (sides m)) k)) (sides m))
+      (pairCount m)
 
   -- "For each node and stress, multiplier times coefficient, summed over all rows": a row's coefficient is left minus right where this stress is 1 and all else is 0
   abbrev pub printedColumn : ℕ → ℤ

@@ -1,5 +1,5 @@
--- What the place of 21 and of 22 says (document 01, 'Rows'): the row of that number, as it is printed, is the one that the
--- field does not meet; and what that of 42 says (document 02, N2).
+-- What the place of 21 and of 22 says (document 01, 'Rows'): the row of that number, as it is printed, is the one that
+-- the field does not meet; and what that of 42 says (document 02, N2).
 use mathlib.Core.Path.{_≡_}
 use mathlib.Core.List.{List}
 use Prim.Native.Nat.{ℕ, suc, _+_, _*_, _-_, _<_}
@@ -27,7 +27,9 @@ module _ (m c : List ℤ) (place : ℕ) where
 
   -- refusal 22
   pub record StrengthFails : Type 0 where
-    pub strength : (a k : ℕ) → a < pairCount m → k < sides m → place ≡ a * sides m + suc k → ¬ StrengthAt m (stress m c) (l c) (n c) (polygonOf (sides m) .radius) (pairAt m a) (sideNumbered (polygonOf (sides m)) (suc k))
+    pub strength : (a k : ℕ) → a < pairCount m → k < sides m → place ≡ a * sides m + suc k
+        → ¬ StrengthAt m (stress m c) (l c) (n c) (polygonOf (sides m) .radius) (pairAt m a)
+        (sideNumbered (polygonOf (sides m)) (suc k))
 
 -- refusal 42: "with the node that brings the 101st pair"
 pub record PairsFail (m : List ℤ) (place : ℕ) : Type 0 where

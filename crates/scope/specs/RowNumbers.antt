@@ -1,4 +1,5 @@
--- The numbers of the rows (document 01, 'Rows'), over the lists of rows. Elements, edges and pairs are counted from 0 here, so that document 01's element is `suc e`; rows and sides are counted from 1, as there.
+-- The numbers of the rows (document 01, 'Rows'), over the lists of rows. Elements, edges and pairs are counted from 0
+-- here, so that document 01's element is `suc e`; rows and sides are counted from 1, as there.
 use mathlib.Core.Path.{_≡_}
 use mathlib.Core.List.{List}
 use Prim.Native.Nat.{ℕ, suc, _+_, _*_, _-_, _<_}
@@ -35,7 +36,9 @@ pub record RowNumbers (m : List ℤ) : Type 0 where
   pub shear-to : (g : ℕ) → g < edges m → rowNumbered (equalityRows m) (2 * elements m + 4 * g + 4) ≡ shearRow m g (toNode m g)
   pub equalities : length (equalityRows m) ≡ 2 * elements m + 4 * edges m
   -- "Its number is (node-1)·sides + k", by pairs: pair `suc a`, side `suc k`
-  pub strength : (a k : ℕ) → a < pairCount m → k < sides m → rowNumbered (strengthRows m) (a * sides m + suc k) ≡ pairRow m (pairAt m a) (sideNumbered (polygonOf (sides m)) (suc k))
+  pub strength : (a k : ℕ) → a < pairCount m → k < sides m
+      → rowNumbered (strengthRows m) (a * sides m + suc k)
+      ≡ pairRow m (pairAt m a) (sideNumbered (polygonOf (sides m)) (suc k))
   pub strengths : length (strengthRows m) ≡ pairCount m * sides m
   -- all rows, as multipliers are numbered: the equality rows, then the strength rows
   pub equality-first : (k : ℕ) → k < 2 * elements m + 4 * edges m → rowNumbered (rowsOf m) (suc k) ≡ rowNumbered (equalityRows m) (suc k)

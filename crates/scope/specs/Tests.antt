@@ -1,4 +1,5 @@
--- What is tested of a mesh after its lines (document 01, 'Verdict and report', refusals 5 to 8; document 02, 42), and the row that 21, 22 and 31 test.
+-- What is tested of a mesh after its lines (document 01, 'Verdict and report', refusals 5 to 8; document 02, 42), and
+-- the row that 21, 22 and 31 test.
 use mathlib.Core.Bool.{Bool, not, _&&_}
 use mathlib.Core.List.{List, []}
 use Prim.Native.Nat.{ℕ, suc, _+_, _-_}

@@ -1,4 +1,5 @@
--- The numbers of document 01's sheet ('A whole sheet, and its neighbours'), of its neighbours, and of fill over clay (document 02, N2).
+-- The numbers of document 01's sheet ('A whole sheet, and its neighbours'), of its neighbours, and of fill over clay
+-- (document 02, N2).
 use mathlib.Core.List.{List, [], _∷_, _++_}
 use Prim.Native.Nat.{ℕ}
 use lib.IntN.{ℤ, pos, negsuc, negℤ, _-ℤ_}
@@ -104,8 +105,9 @@ fieldAlone = (pos 1 ∷ pos 0 ∷ pos 1 ∷ pos 20 ∷ []) ++ workedStresses 20
 
 -- ---- "Soft clay under fill was passed at the fill's strength, since a shared node had one soil" (document 02, N2)
 
--- "6 2 2 1 12 / 0 1 1 10 0 0 0 0 / 0 1 1 5 0 10 0 0 / 0 0 / 1 0 / 1 1 / 0 1 / 1 2 / 0 2 / 4 3 5 6 1 / 1 2 3 4 2 / 5 6 3 0 0 -1 0":
--- the fill is the lower-numbered element and lies over the clay, of half its cohesion; nodes 3 and 4 are corners of both
+-- "6 2 2 1 12 / 0 1 1 10 0 0 0 0 / 0 1 1 5 0 10 0 0 / 0 0 / 1 0 / 1 1 / 0 1 / 1 2 / 0 2 / 4 3 5 6 1 / 1 2 3 4 2 / 5 6
+-- 3 0 0 -1 0": the fill is the lower-numbered element and lies over the clay, of half its cohesion; nodes 3 and 4 are
+-- corners of both
 unfoldable pub fillOverClay : List ℤ
 fillOverClay =
     (pos 6 ∷ pos 2 ∷ pos 2 ∷ pos 1 ∷ pos 12 ∷ [])
@@ -116,7 +118,8 @@ fillOverClay =
     ++ (pos 1 ∷ pos 2 ∷ pos 3 ∷ pos 4 ∷ pos 2 ∷ [])
     ++ (pos 5 ∷ pos 6 ∷ pos 3 ∷ pos 0 ∷ pos 0 ∷ negsuc 0 ∷ pos 0 ∷ [])
 
--- "1 0 1 l", sy 10 - l at nodes 1 and 2 and -l above them: at l 20 beyond the clay's strength at nodes 3 and 4, and nowhere beyond the fill's
+-- "1 0 1 l", sy 10 - l at nodes 1 and 2 and -l above them: at l 20 beyond the clay's strength at nodes 3 and 4, and
+-- nowhere beyond the fill's
 unfoldable pub overClay : ℕ → List ℤ
 overClay l =
     let foot : ℤ = pos 10 -ℤ pos l in

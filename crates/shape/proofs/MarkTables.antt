@@ -2,12 +2,12 @@
 use mathlib.Core.Path.{_≡_, refl, sym, _∙_, ap, ap₂, subst}
 use mathlib.Core.Bool.{Bool, true, false, cond, _&&_, _||_, or-false, or-true, or-assoc, and-or-distrib-right}
 use mathlib.Core.List.{List}
-use Prim.Native.Nat.{ℕ, zero, suc, _+_, _*_, _/_, _%_, _≤_, _<_}
+use Prim.Native.Nat.{ℕ, zero, suc, _+_, _*_, _/_, _%_, _<_}
 use native.Mathlib.Numerals.{add-one}
 use native.Mathlib.Omega.{arith}
 use lib.IntN.{ℤ}
 use lib.Dec.{T, eqb}
-use lib.ListN.{getD, set, replicate}
+use lib.ListN.{set, replicate}
 use lib.Ieee.Bits.{is-true, is-false}
 use Rattle.scope.specs.Checks.{someBelow}
 use Rattle.scope.specs.Mesh.{mostNodes, mostSoils, elements, soils, corner, elementSoil}

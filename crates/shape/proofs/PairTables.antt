@@ -17,7 +17,7 @@ use Rattle.scope.specs.declared.Place.the-variants.{Node}
 use Rattle.scope.specs.declared.Outcome.{Outcome}
 use Rattle.scope.specs.declared.Outcome.the-variants.{Passed, Refused}
 use Rattle.scope.specs.Checks.{allBelow}
-use Rattle.scope.specs.Mesh.{mostNodes, mostSoils, mostPairs, nodes, elements, soils}
+use Rattle.scope.specs.Mesh.{mostPairs, nodes, elements, soils}
 use Rattle.scope.specs.Rows.{Pair, hasSoil, passing, nodePairs, pairsBelow, strengthPairs}
 use Rattle.scope.specs.Phases.{checkPhase}
 use Rattle.scope.specs.Refusals.{pairsPhase}

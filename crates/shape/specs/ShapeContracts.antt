@@ -94,7 +94,8 @@ EdgeTable m g t = SideBytes m (edgeByte m g) t
 pub record PairBytes (l : List Pair) (t : List ℕ) : Type 0 where
   pub size : length t ≡ 2 * mostPairs
   pub node : (a : ℕ) → a < length l → a < mostPairs → getD t (2 * a) 0 ≡ getD l a (record { at = 0; soil = 0 }) .at
-  pub soil : (a : ℕ) → a < length l → a < mostPairs → getD t (2 * a + 1) 0 ≡ getD l a (record { at = 0; soil = 0 }) .soil
+  pub soil : (a : ℕ) → a < length l → a < mostPairs
+      → getD t (2 * a + 1) 0 ≡ getD l a (record { at = 0; soil = 0 }) .soil
   pub rest : (i : ℕ) → 2 * length l ≤ i → getD t i 0 ≡ 0
 
 -- the pair k of a table becomes node v with soil s, where there is room for it

@@ -1,6 +1,6 @@
-// The soils around each node, as marks: MOST_SOILS bytes for each node, and the byte at v * MOST_SOILS + soil is 1 where
-// an element has the corner v and the soil, and else 0. For speed they are made in one pass over the elements; 7 asks
-// them, and then the pairs.
+// The soils around each node, as marks: MOST_SOILS bytes for each node, and the byte at v * MOST_SOILS + soil is 1
+// where an element has the corner v and the soil, and else 0. For speed they are made in one pass over the elements; 7
+// asks them, and then the pairs.
 use mesh::sizes::MOST_NODES;
 use mesh::sizes::MOST_SOILS;
 use mesh::sizes::Sizes;

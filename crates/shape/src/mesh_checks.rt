@@ -1,4 +1,5 @@
-// The shape of a mesh whose lines have passed: refusals 5 to 8 and 42 in their order, and the pairs of a mesh that passes.
+// The shape of a mesh whose lines have passed: refusals 5 to 8 and 42 in their order, and the pairs of a mesh that
+// passes.
 use mesh::sizes::MOST_NODES;
 use mesh::sizes::Sizes;
 use scope::Outcome;

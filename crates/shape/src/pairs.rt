@@ -1,6 +1,6 @@
 // 42 (document 02, N2): the pairs of a node and a soil around it are at most MOST_PAIRS.
-// They are collected from the marks, nodes ascending and at a node soils ascending, two bytes for each: its node, then its
-// soil.
+// They are collected from the marks, nodes ascending and at a node soils ascending, two bytes for each: its node, then
+// its soil.
 use mesh::sizes::MOST_PAIRS;
 use mesh::sizes::Sizes;
 use scope::Outcome;

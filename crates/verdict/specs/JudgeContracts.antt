@@ -1,4 +1,5 @@
--- What contracts say of a mesh that is judged: its outcome, and, where it passes, its counts and its pairs of a node and a soil.
+-- What contracts say of a mesh that is judged: its outcome, and, where it passes, its counts and its pairs of a node
+-- and a soil.
 use mathlib.Core.Path.{_≡_}
 use mathlib.Core.List.{List}
 use Prim.Native.Nat.{ℕ}

@@ -1,6 +1,5 @@
 -- `pair_numbers` meets its contract: six numbers, read and handed on.
 use native.Mathlib.Omega.{arith}
-use Prim.Native.Nat.{_+_, _*_}
 use Rattle.integer.proofs.Machine.{Is-read, Is-within, Is-Within}
 use Rattle.scope.specs.Columns.{at}
 use Rattle.rows.proofs.StrengthLaws.{being, pair-numbered}
