@@ -24,7 +24,7 @@ use Rattle.scope.specs.declared.Place.{Place}
 use Rattle.scope.specs.declared.Place.the-variants.{Line}
 use Rattle.scope.specs.declared.Outcome.the-variants.{Passed, Refused}
 use Rattle.scope.specs.Columns as C
-use Rattle.scope.specs.Columns.{Limit, between, free, within, isOneOf, allWithin, Rule, rightAngle, naming, parts, hasField, hasMultipliers, names, allNamed, ruleNumber, ruleTest, at}
+use Rattle.scope.specs.Columns.{Limit, between, free, within, isOneOf, allWithin, Rule, rightAngle, naming, parts, hasField, hasMultipliers, names, allNamed, ruleTest, at}
 use Rattle.scope.specs.Claim.{claimHeaderColumns}
 use Rattle.scope.specs.Layout.{Group, Layout, width, groups, lineOf, lineNumbers}
 use Rattle.scope.specs.Verdict.{lineCheck, lineAt, rulesHold}
@@ -32,6 +32,7 @@ use Rattle.scope.specs.Mesh.{mostNodes, mostElements, mostSoils, mostEdges, mos
 use Rattle.lines.specs.LineContracts.{ranges, AsMany}
 use Rattle.scope.proofs.Statements.{all-within}
 use Rattle.scope.proofs.Refusals.{line-check-passed}
+use Rattle.scope.specs.Refusals.{ruleNumber}
 
 -- ---- a number and a limit
 

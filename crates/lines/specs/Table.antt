@@ -12,8 +12,8 @@ use Rattle.lines.specs.declared.layout.Kind.the-variants.{Ruled, Even}
 use Rattle.lines.specs.declared.layout.Group as Code
 use Rattle.scope.specs.Columns.{Limit, between}
 use Rattle.scope.specs.Layout.{Group, width}
-use Rattle.scope.specs.Mesh.{mostNodes, mostSides, soilLines, nodeLines, elementLines, edgeLines}
-use Rattle.scope.specs.Claim.{ifThere, stressLines, elementMultipliers, edgeMultipliers, strengthMultipliers}
+use Rattle.scope.specs.Mesh.{mostNodes, mostSides, soilLines, elementLines, edgeLines, meshLines}
+use Rattle.scope.specs.Claim.{claimLines}
 
 -- how many groups a file has after its header; the most lines of a group, which are a node's, an element's or a
 -- pair's, and the most columns of a line, which are a polygon's sides
@@ -73,20 +73,10 @@ pub record Tabled (s : Sizes) (gs : List Code.Group) (body : List Group) : Type 
 -- ---- the groups after the header, on a mesh with these sizes
 
 unfoldable pub meshBody : Sizes → List Group
-meshBody s =
-    soilLines (s .soils)
-    ∷ nodeLines (s .nodes)
-    ∷ elementLines (s .elements) (s .nodes) (s .soils)
-    ∷ edgeLines (s .edges) (s .nodes)
-    ∷ []
+meshBody s = meshLines (s .nodes) (s .elements) (s .soils) (s .edges)
 
 unfoldable pub claimBody : Sizes → Bool → Bool → List Group
-claimBody s field multipliers =
-    stressLines (ifThere field (s .nodes))
-    ∷ elementMultipliers (ifThere multipliers (s .elements))
-    ∷ edgeMultipliers (ifThere multipliers (s .edges))
-    ∷ strengthMultipliers (ifThere multipliers (s .pairs)) (s .sides)
-    ∷ []
+claimBody s = claimLines (s .nodes) (s .elements) (s .edges) (s .pairs) (s .sides)
 
 -- ---- what is counted over some groups of the code
 

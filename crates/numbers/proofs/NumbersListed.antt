@@ -12,12 +12,12 @@ use Rattle.scope.specs.declared.Place.{Place}
 use Rattle.scope.specs.declared.Place.the-variants.{Line, Row, Column, Node, Element}
 use Rattle.scope.specs.Members.{_∈_}
 use Rattle.scope.specs.Answer.{placeNumber}
-use Rattle.scope.specs.Columns.{Rule, rightAngle, naming, ruleNumber, hasField, hasMultipliers}
+use Rattle.scope.specs.Columns.{Rule, rightAngle, naming, hasField, hasMultipliers}
 use Rattle.scope.specs.Layout.{Group, Layout, Placed, width, groups, lineCount, lineOf, numbersAt, groupAt}
 use Rattle.scope.specs.Mesh.{edgeLine, meshHeader, meshLayout, soilLines, nodeLines, elementLines, edgeLines}
 use Rattle.scope.specs.Claim.{claimHeader, claimLayout, stressLines, elementMultipliers, edgeMultipliers, strengthMultipliers}
 use Rattle.scope.specs.Phases.{FirstFails}
-use Rattle.scope.specs.Refusals.{ruleSteps, lineSteps, linePhases, shapePhases, meshPhases, fieldPart, multiplierPart, partPhases, claimPhases, Refusal}
+use Rattle.scope.specs.Refusals.{ruleNumber, ruleSteps, lineSteps, linePhases, shapePhases, meshPhases, fieldPart, multiplierPart, partPhases, claimPhases, Refusal}
 use Rattle.scope.proofs.Phases.{EachIn, each-refusal, each-join, each-part, own-number}
 use Rattle.scope.proofs.TableNumbers.{in-table}
 use Rattle.numbers.specs.Promises.{returnedNumbers}

@@ -19,7 +19,7 @@ use Rattle.scope.specs.Answer.{placeFor, numberOf, placeOf}
 use Rattle.scope.specs.AnsweredMesh.{MeshExactly}
 use Rattle.scope.specs.Statements.{LinesSound, MeshSound, HasField, HasMultipliers}
 use Rattle.scope.specs.Refusals.{Refusal}
-use Rattle.scope.specs.TableNumbers.{tableNumbers}
+use Rattle.scope.specs.Refusals.{tableNumbers}
 use Rattle.scope.specs.Accepted.{FieldAccepted, MultipliersAccepted, ClaimAccepted}
 use Rattle.scope.specs.Printed.{MeetsPrinted}
 use Rattle.scope.specs.RefusedRows.{EqualityFails, StrengthFails, PairsFail}

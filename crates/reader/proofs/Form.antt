@@ -13,7 +13,7 @@ use Rattle.scope.specs.declared.Place.the-variants.{Line}
 use Rattle.scope.specs.declared.Outcome.{Outcome}
 use Rattle.scope.specs.declared.Outcome.the-variants.{Passed, Refused}
 use Rattle.scope.specs.Checks.{_then_}
-use Rattle.scope.specs.Columns.{Rule, ruleNumber}
+use Rattle.scope.specs.Columns.{Rule}
 use Rattle.scope.specs.Layout.{Group, Layout, width, groups, lineCount, groupAt}
 use Rattle.scope.proofs.Checks.{passed-is-not-refused, then-refused}
 use Rattle.scope.proofs.Lines.{group}
@@ -24,6 +24,7 @@ use Rattle.reader.specs.File.{lineBytes, readLine, readLines, numbersOf}
 use Rattle.reader.specs.WellFormed.{GoodLine, IllFormed, SomeColumns, Regular, bytesOf, lineStart, FormFails}
 use Rattle.reader.proofs.Line.{line-means}
 use Rattle.reader.proofs.File.{readAll, fileLines, read-none, read-some, widths-of, columns-of, lines-header, file-in-order}
+use Rattle.scope.specs.Refusals.{ruleNumber}
 
 -- ---- good lines
 

@@ -6,11 +6,12 @@ use Prim.Native.Nat.{ℕ, _<_}
 use native.Mathlib.Omega.{arith}
 use lib.IntN.{ℤ, pos}
 use lib.ListN.{length, length-replicate, List·getD-append}
-use Rattle.scope.specs.Columns.{Rule, rightAngle, naming, parts, ruleNumber, at, hasField, hasMultipliers}
+use Rattle.scope.specs.Columns.{Rule, rightAngle, naming, parts, at, hasField, hasMultipliers}
 use Rattle.scope.specs.Layout.{groups}
 use Rattle.scope.specs.Mesh.{meshLayout, meshHeader, soilLines, nodeLines, elementLines, edgeLines, nodes, elements, soils, edges, sides}
 use Rattle.scope.specs.Claim.{claimLayout, claimHeader, stressLines, elementMultipliers, edgeMultipliers, strengthMultipliers}
 use Rattle.reader.specs.WellFormed.{Regular}
+use Rattle.scope.specs.Refusals.{ruleNumber}
 
 front : (h rest : List ℤ) (k : ℕ) → k < length h → at (h ++ rest) k ≡ at h k
 unfolding at

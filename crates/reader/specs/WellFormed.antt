@@ -6,11 +6,12 @@ use mathlib.Core.List.{List, [], _∷_, _++_}
 use Prim.Native.Nat.{ℕ, _+_, _≤_, _<_}
 use lib.IntN.{ℤ}
 use lib.ListN.{length, take, drop}
-use Rattle.scope.specs.Columns.{Rule, ruleNumber}
+use Rattle.scope.specs.Columns.{Rule}
 use Rattle.scope.specs.Layout.{Group, Layout, width, groups, lineCount, groupAt}
 use Rattle.scope.specs.Statements.{AllWithin, AllSay}
 use Rattle.reader.specs.Spelling.{spelling}
 use Rattle.reader.specs.File.{lineBytes, widths, columns}
+use Rattle.scope.specs.Refusals.{ruleNumber}
 
 -- ---- a line
 

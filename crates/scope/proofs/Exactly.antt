@@ -16,7 +16,7 @@ use Rattle.scope.specs.declared.Verdict.{Verdict}
 use Rattle.scope.specs.declared.Verdict.the-variants.{Accepted, Refused}
 use Rattle.scope.specs.Answer.{numberOf}
 use Rattle.scope.specs.Checks.{_then_}
-use Rattle.scope.specs.Columns.{Rule, rightAngle, naming, parts, ruleNumber, hasField, hasMultipliers, n, l}
+use Rattle.scope.specs.Columns.{Rule, rightAngle, naming, parts, hasField, hasMultipliers, n, l}
 use Rattle.scope.specs.Layout.{Layout, numbersAt, groupAt}
 use Rattle.scope.specs.Mesh.{meshLayout, nodes}
 use Rattle.scope.specs.Claim.{claimLayout, ifThere, stress, multiplier}
@@ -25,7 +25,7 @@ use Rattle.scope.specs.Rows as R
 use Rattle.scope.specs.Verdict.{claimCheck, lowerLoad, upperLoad, openCount, answer, claimVerdict, verdict, meshCheck}
 use Rattle.scope.specs.Statements.{LinesSound, MeshSound, HasField, HasMultipliers, RowsMet, ColumnsMet}
 use Rattle.scope.specs.Phases.{FirstFails, AllPass, RefusedBy}
-use Rattle.scope.specs.Refusals.{ruleSteps, lineSteps, linePhases, shapePhases, meshPhases, fieldPhases, multiplierPhases, fieldPart, multiplierPart, partPhases, claimPhases, Refusal}
+use Rattle.scope.specs.Refusals.{ruleNumber, ruleSteps, lineSteps, linePhases, shapePhases, meshPhases, fieldPhases, multiplierPhases, fieldPart, multiplierPart, partPhases, claimPhases, Refusal}
 use Rattle.scope.specs.AnsweredClaim.{AcceptedExactly, RefusedExactly, ZeroExactly, ByParts}
 use Rattle.scope.specs.Accepted.{FieldAccepted, ClaimAccepted}
 use Rattle.scope.proofs.Checks.{passed-is-not-refused}

@@ -17,9 +17,9 @@ use Rattle.scope.specs.declared.Outcome.{Outcome}
 use Rattle.scope.specs.declared.Outcome.the-variants.{Refused}
 use Rattle.scope.specs.Checks.{demand, _then_, lowest}
 use Rattle.scope.specs.Layout.{Group, Layout, width, groups, lineCount, numberCount, lineOf, lineNumbers}
-use Rattle.scope.specs.Columns.{Rule, ruleNumber}
+use Rattle.scope.specs.Columns.{Rule}
 use Rattle.scope.specs.Phases.{FirstFails}
-use Rattle.scope.specs.Refusals.{lineSteps}
+use Rattle.scope.specs.Refusals.{ruleNumber, lineSteps}
 use Rattle.scope.proofs.Refusals.{lines-checked, line-exact, rule-number}
 use Rattle.scope.proofs.Lines.{group}
 use Rattle.scope.proofs.Checks.{then-assoc, then-Passed, lowest-cong}

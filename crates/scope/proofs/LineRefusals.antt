@@ -6,14 +6,14 @@ use Prim.Native.Nat.{ℕ, _*_, _≤_}
 use native.Mathlib.Omega.{arith}
 use lib.IntN.{ℤ}
 use Rattle.scope.specs.declared.Place.{Place}
-use Rattle.scope.specs.Columns.{Rule, ruleNumber, hasField, hasMultipliers, n, l}
+use Rattle.scope.specs.Columns.{Rule, hasField, hasMultipliers, n, l}
 use Rattle.scope.specs.Layout.{Layout, numbersAt, groupAt}
 use Rattle.scope.specs.Mesh.{meshLayout, nodes}
 use Rattle.scope.specs.Claim.{claimLayout, stress, multiplier}
 use Rattle.scope.specs.Rows.{equalityRows, strengthRows, rowsOf}
 use Rattle.scope.specs.Statements.{MeshSound}
 use Rattle.scope.specs.Phases.{FirstFails, AllPass, RefusedBy}
-use Rattle.scope.specs.Refusals.{lineSteps, linePhases, shapePhases, meshPhases, fieldPhases, multiplierPhases, fieldPart, multiplierPart, partPhases, claimPhases, LineRefusal, Refusal}
+use Rattle.scope.specs.Refusals.{ruleNumber, lineSteps, linePhases, shapePhases, meshPhases, fieldPhases, multiplierPhases, fieldPart, multiplierPart, partPhases, claimPhases, LineRefusal, Refusal}
 use Rattle.scope.proofs.Phases.{EachIn, each-refusal, each-join, each-part, refused-join, join-refused, own-number}
 use Rattle.scope.proofs.Refusals.{mesh-sound, sound-mesh, rule-number}
 

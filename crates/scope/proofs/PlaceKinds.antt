@@ -12,7 +12,7 @@ use Rattle.scope.specs.declared.Place.the-variants.{Line, Row, Column, N
 use Rattle.scope.specs.declared.Outcome.{Outcome}
 use Rattle.scope.specs.declared.Outcome.the-variants.{Passed, Refused}
 use Rattle.scope.specs.Answer.{placeNumber, placeFor, meshNumberOf, meshPlaceOf}
-use Rattle.scope.specs.Columns.{Rule, rightAngle, naming, parts, ruleNumber, hasField, hasMultipliers, n, l}
+use Rattle.scope.specs.Columns.{Rule, rightAngle, naming, parts, hasField, hasMultipliers, n, l}
 use Rattle.scope.specs.Layout.{Layout, numbersAt, groupAt}
 use Rattle.scope.specs.Mesh.{meshLayout, nodes}
 use Rattle.scope.specs.Claim.{claimLayout, stress, multiplier}
@@ -20,7 +20,7 @@ use Rattle.scope.specs.Rows.{equalityRows, strengthRows, rowsOf}
 use Rattle.scope.specs.Verdict.{meshCheck}
 use Rattle.scope.specs.Statements.{MeshSound}
 use Rattle.scope.specs.Phases.{FirstFails}
-use Rattle.scope.specs.Refusals.{ruleSteps, lineSteps, linePhases, shapePhases, meshPhases, fieldPhases, multiplierPhases, fieldPart, multiplierPart, partPhases, claimPhases, MeshRefusal, Refusal}
+use Rattle.scope.specs.Refusals.{ruleNumber, ruleSteps, lineSteps, linePhases, shapePhases, meshPhases, fieldPhases, multiplierPhases, fieldPart, multiplierPart, partPhases, claimPhases, MeshRefusal, Refusal}
 use Rattle.scope.specs.AnsweredMesh.{MeshExactly}
 use Rattle.scope.proofs.Checks.{passed-is-not-refused}
 use Rattle.scope.proofs.Phases.{EachIn, each-refusal, each-join, each-part, own-number}

@@ -11,7 +11,7 @@ use Rattle.scope.specs.declared.Place.{Place}
 use Rattle.scope.specs.declared.Place.the-variants.{Line}
 use Rattle.scope.specs.Checks.{demand, _then_, lowest}
 use Rattle.scope.specs.Phases.{AllHold, FirstFails, AllPass, checkPhase, checkPhases}
-use Rattle.scope.specs.Columns.{Rule, ruleNumber, at, hasField, hasMultipliers, n, l}
+use Rattle.scope.specs.Columns.{Rule, at, hasField, hasMultipliers, n, l}
 use Rattle.scope.specs.Layout.{Group, Layout, width, groups, lineCount, numberCount, groupAt, numbersAt}
 use Rattle.scope.specs.Mesh.{meshLayout, nodes}
 use Rattle.scope.specs.Claim.{claimLayout, stress, multiplier}
@@ -21,7 +21,7 @@ use Rattle.scope.specs.Sums.{columnSum, liveSum}
 use Rattle.scope.specs.Tests.{rowAt}
 use Rattle.scope.specs.Meets.{RowMet, FieldMeets}
 use Rattle.scope.specs.Statements.{AllWithin, AllSay, LineSound, LinesSound, MeshSound, MeetsColumns, HasField, HasMultipliers, RowsMet, ColumnsMet}
-use Rattle.scope.specs.Refusals.{ruleSteps, lineSteps, linePhases, shapePhases, meshPhases, fieldPhases, multiplierPhases, fieldPart, multiplierPart, partPhases, claimPhases, LineRefusal, MeshRefusal, Refusal}
+use Rattle.scope.specs.Refusals.{ruleNumber, ruleSteps, lineSteps, linePhases, shapePhases, meshPhases, fieldPhases, multiplierPhases, fieldPart, multiplierPart, partPhases, claimPhases, LineRefusal, MeshRefusal, Refusal}
 use Rattle.scope.specs.Verdict.{rulesHold, lineCheck, lineAt, linesCheck, meshCheck, claimCheck, fieldCheck, multipliersCheck}
 use Rattle.scope.proofs.Decides.{Decides, equal, at-most, equalℤ, belowℤ, Passes, put-as, Refuses}
 use Rattle.scope.proofs.Statements.{all-within, rule-says, left-turns, own-sides, in-element, outer-edge, pairs-fit, row-meets, none-on-unfixed}

@@ -9,14 +9,14 @@ use lib.IntN.{ℤ}
 use Rattle.scope.specs.declared.Place.{Place}
 use Rattle.scope.specs.declared.Place.the-variants.{Row, Node}
 use Rattle.scope.specs.Answer.{placeNumber}
-use Rattle.scope.specs.Columns.{Rule, rightAngle, naming, parts, ruleNumber, n, l}
+use Rattle.scope.specs.Columns.{Rule, rightAngle, naming, parts, n, l}
 use Rattle.scope.specs.Mesh.{meshLayout, elements, sides, fromNode, toNode}
 use Rattle.scope.specs.Polygon.{polygonOf}
 use Rattle.scope.specs.Claim.{claimLayout, stress}
 use Rattle.scope.specs.Rows as R
 use Rattle.scope.specs.Rows.{pairAt, equalityRows, strengthRows}
 use Rattle.scope.specs.Meets.{RowMet}
-use Rattle.scope.specs.Refusals.{meshPhases, claimPhases, Refusal}
+use Rattle.scope.specs.Refusals.{ruleNumber, meshPhases, claimPhases, Refusal}
 use Rattle.scope.specs.RowNumbers.{rowNumbered, sideNumbered, RowNumbers}
 use Rattle.scope.specs.RefusalTable.{MeshRow, of-lines, five, six, seven, eight, forty-two, TableRow, of-mesh, of-claim-lines, twenty-one, twenty-two, thirty-one, thirty-two, thirty-three}
 use Rattle.scope.specs.RefusedRows.{EqualityFails, StrengthFails, PairsFail}

@@ -14,14 +14,13 @@ use Rattle.scope.specs.declared.Place.the-variants.{Line}
 use Rattle.scope.specs.Answer.{placeNumber}
 use Rattle.scope.specs.Members.{_∈_}
 use Rattle.scope.specs.Phases.{Below, FirstFails, HoldsAt, Everywhere, RefusedBy}
-use Rattle.scope.specs.Columns.{Rule, rightAngle, naming, parts, ruleNumber, hasField, hasMultipliers, n, l}
+use Rattle.scope.specs.Columns.{Rule, rightAngle, naming, parts, hasField, hasMultipliers, n, l}
 use Rattle.scope.specs.Layout.{Group, Layout, Placed, groups, lineCount, numberCount, lineOf, groupAt, numbersAt}
 use Rattle.scope.specs.Mesh.{meshLayout, nodes}
 use Rattle.scope.specs.Claim.{claimHeader, stressLines, elementMultipliers, edgeMultipliers, strengthMultipliers, claimLayout, stress, multiplier}
 use Rattle.scope.specs.Rows.{equalityRows, strengthRows, rowsOf}
 use Rattle.scope.specs.Statements.{Says, AllSay, Complete}
-use Rattle.scope.specs.Refusals.{ruleSteps, lineSteps, linesPhase, leftoverPhase, linePhases, shapePhases, meshPhases, fieldPhases, multiplierPhases, fieldPart, multiplierPart, partPhases, claimPhases, LineRefusal}
-use Rattle.scope.specs.TableNumbers.{SoundTo, CountFails, LimitFails, RuleFails, MeshLineNumbers, ClaimLineNumbers, tableNumbers, InTable}
+use Rattle.scope.specs.Refusals.{ruleNumber, ruleSteps, lineSteps, linesPhase, leftoverPhase, linePhases, shapePhases, meshPhases, fieldPhases, multiplierPhases, fieldPart, multiplierPart, partPhases, claimPhases, LineRefusal, SoundTo, CountFails, LimitFails, RuleFails, MeshLineNumbers, ClaimLineNumbers, tableNumbers, InTable}
 use Rattle.scope.proofs.Decides.{either, equal}
 use Rattle.scope.proofs.Lines.{line-after}
 use Rattle.scope.proofs.Phases.{EachIn, each-refusal, each-join, each-part, own-number}

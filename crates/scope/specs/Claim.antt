@@ -48,18 +48,22 @@ edgeMultipliers k = record { lines = k; limits = replicate edgeRows (upTo 100000
 unfoldable pub strengthMultipliers : ℕ → ℕ → Group
 strengthMultipliers k s = record { lines = k; limits = replicate s (between (pos 0) (pos 10000)); rules = [] }
 
+-- the lines after the header, on a mesh of so many things, by the parts that are there
+abbrev pub claimLines : ℕ → ℕ → ℕ → ℕ → ℕ → Bool → Bool → List Group
+claimLines nodeCount elementCount edgeCount pairs sideCount field multipliers =
+    stressLines (ifThere field nodeCount)
+    ∷ elementMultipliers (ifThere multipliers elementCount)
+    ∷ edgeMultipliers (ifThere multipliers edgeCount)
+    ∷ strengthMultipliers (ifThere multipliers pairs) sideCount
+    ∷ []
+
 -- the lines of a claim on the mesh m: refusals 11 to 13
 unfoldable pub claimLayout : List ℤ → Layout
 claimLayout m = record {
   formNumber = 11;
   limitNumber = 12;
   header = claimHeader;
-  body = λ c.
-      stressLines (ifThere (hasField c) (nodes m))
-      ∷ elementMultipliers (ifThere (hasMultipliers c) (elements m))
-      ∷ edgeMultipliers (ifThere (hasMultipliers c) (edges m))
-      ∷ strengthMultipliers (ifThere (hasMultipliers c) (pairCount m)) (sides m)
-      ∷ [];
+  body = λ c. claimLines (nodes m) (elements m) (edges m) (pairCount m) (sides m) (hasField c) (hasMultipliers c);
 }
 
 -- the field's stress of column j

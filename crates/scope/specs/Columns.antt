@@ -46,12 +46,6 @@ pub data Rule : Type 0 where
   naming : List (ℕ × ℕ) → Rule
   parts : Rule
 
--- the number of the refusal where a rule fails
-unfoldable pub ruleNumber : Rule → ℕ
-ruleNumber rightAngle = 3
-ruleNumber (naming cs) = 4
-ruleNumber parts = 13
-
 -- "Things are numbered from 1": z names one of k things
 unfoldable pub names : ℕ → ℤ → Bool
 names k z = leZ (pos 1) z && leZ z (pos k)

@@ -20,7 +20,6 @@ pub mod Meets
 pub mod Statements
 pub mod Refusals
 pub mod Verdict
-pub mod TableNumbers
 pub mod RefusalTable
 pub mod AnsweredMesh
 pub mod Accepted

@@ -107,18 +107,22 @@ edgeLines n ns = record {
   rules = naming ((0, ns) ∷ (1, ns) ∷ []) ∷ [];
 }
 
+-- the lines after the header, in a mesh of so many things
+abbrev pub meshLines : ℕ → ℕ → ℕ → ℕ → List Group
+meshLines nodeCount elementCount soilCount edgeCount =
+    soilLines soilCount
+    ∷ nodeLines nodeCount
+    ∷ elementLines elementCount nodeCount soilCount
+    ∷ edgeLines edgeCount nodeCount
+    ∷ []
+
 -- the lines of a mesh: refusals 1 to 4
 unfoldable pub meshLayout : Layout
 meshLayout = record {
   formNumber = 1;
   limitNumber = 2;
   header = meshHeader;
-  body = λ m.
-      soilLines (soils m)
-      ∷ nodeLines (nodes m)
-      ∷ elementLines (elements m) (nodes m) (soils m)
-      ∷ edgeLines (edges m) (nodes m)
-      ∷ [];
+  body = λ m. meshLines (nodes m) (elements m) (soils m) (edges m);
 }
 
 unfoldable pub meshGroups : List ℤ → List Group

@@ -1,6 +1,7 @@
 -- Document 01's table of refusals row by row ('Verdict and report'), with document 02's 42: a number, a place, and
 -- what is so where they are returned, all before it in the order among it. Elements, nodes, edges, rows and columns
--- are counted from 0 here. The rows of lines are said one by one in `TableNumbers`.
+-- are counted from 0 here. The rows of lines are said one by one at the end
+-- of `Refusals`.
 use mathlib.Core.Path.{_≡_}
 use mathlib.Core.List.{List}
 use Prim.Native.Nat.{ℕ, suc, _*_, _<_}

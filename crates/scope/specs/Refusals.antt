@@ -1,8 +1,9 @@
 -- When each refusal comes (document 01, 'Verdict and report'): its table of refusals as phases, and its order as lists of them.
 -- A refusal with its place comes when all before it in the order holds and this place is the lowest that fails (`RefusedBy`).
 use mathlib.Core.Path.{_≡_}
+use mathlib.Core.Logic.{_↔_, _⊎_}
 use mathlib.Core.List.{List, [], _∷_, _++_}
-use Prim.Native.Nat.{ℕ, suc, _*_, _≤_}
+use Prim.Native.Nat.{ℕ, suc, _*_, _≤_, _<_}
 use lib.IntN.{ℤ, pos}
 use lib.Signed.{_<ℤ_, ltZ}
 use lib.Dec.{eqb, leb}
@@ -10,8 +11,9 @@ use lib.ListN.{length}
 use Rattle.integer.specs.Tests.{eqZ}
 use Rattle.scope.specs.declared.Place.{Place}
 use Rattle.scope.specs.declared.Place.the-variants.{Line, Row, Column, Node, Element}
+use Rattle.scope.specs.Members.{_∈_}
 use Rattle.scope.specs.Phases.{Step, Phase, step, phase, ifPart, RefusedBy}
-use Rattle.scope.specs.Columns.{allWithin, Rule, ruleNumber, ruleTest, hasField, hasMultipliers, n, l}
+use Rattle.scope.specs.Columns.{allWithin, Rule, rightAngle, naming, parts, ruleTest, hasField, hasMultipliers, n, l}
 use Rattle.scope.specs.Layout.{Group, Layout, width, groups, lineCount, numberCount, groupAt, numbersAt}
 use Rattle.scope.specs.Mesh.{meshLayout, nodes, elements, edges, edgeLine}
 use Rattle.scope.specs.Claim.{claimLayout, stress, multiplier}
@@ -20,9 +22,16 @@ use Rattle.scope.specs.Rows.{equalityRows, strengthRows, rowsOf}
 use Rattle.scope.specs.Sums.{rowHolds, zeroIfUnfixed, columnSum, liveSum}
 use Rattle.scope.specs.Tests.{leftTurns, ownSides, inElement, outerEdge, pairsFit, rowAt}
 use Rattle.scope.specs.Meets.{RowMet}
-use Rattle.scope.specs.Statements.{AllWithin, Says, LeftTurns, OwnSides, InElement, OuterEdge, PairsFit, NoneOnUnfixed}
+use Rattle.scope.specs.Statements.{AllWithin, Says, AllSay, Complete, InLimits, LineSound, LeftTurns, OwnSides, InElement, OuterEdge, PairsFit, NoneOnUnfixed}
 
--- ---- lines: 1 to 4 of a mesh, 11 to 13 of a claim (`TableNumbers` says which is which)
+-- ---- lines: 1 to 4 of a mesh, 11 to 13 of a claim (which is which is said at the end, number by number)
+
+-- the number of the refusal where a rule fails: 3 "p² + q² is not h²", 4 "names a node or soil that isn't there",
+-- 13 "both parts absent; field with n = 0; no field and n or l not 0"
+unfoldable pub ruleNumber : Rule → ℕ
+ruleNumber rightAngle = 3
+ruleNumber (naming cs) = 4
+ruleNumber parts = 13
 
 -- the rules of a line, in order
 abbrev pub ruleSteps : List Rule → List ℤ → List Step
@@ -156,3 +165,57 @@ pub record MeshRefusal (m : List ℤ) (k : ℕ) (p : Place) : Type 0 where
 -- a mesh and a claim
 pub record Refusal (m c : List ℤ) (k : ℕ) (p : Place) : Type 0 where
   pub by : RefusedBy (meshPhases m ++ claimPhases m c) k p
+
+-- ---- the numbers of lines, each said by itself with what is not so of which line, and all numbers as a list
+
+-- lines are counted from 0 here
+module _ (f : Layout) (ns : List ℤ) where
+  -- all lines before line k are sound
+  abbrev pub SoundTo : ℕ → Type 0
+  SoundTo k = (j : ℕ) → j < k → LineSound f ns j
+
+  -- line k has too few numbers; or all lines are sound and numbers are left over, which "belong to the line after the last"
+  pub record CountFails (k : ℕ) : Type 0 where
+    pub before : SoundTo k
+    pub fails : ((k < lineCount (groups f ns)) × (¬ Complete f ns k)) ⊎ ((k ≡ lineCount (groups f ns)) × (¬ (length ns ≤ numberCount (groups f ns))))
+
+  -- line k has all its numbers, and one is outside its limit
+  pub record LimitFails (k : ℕ) : Type 0 where
+    pub there : k < lineCount (groups f ns)
+    pub before : SoundTo k
+    pub complete : Complete f ns k
+    pub fails : ¬ InLimits f ns k
+
+  -- line k has all its numbers, each within its limit; of its rules, this is the first that fails
+  pub record RuleFails (r : Rule) (k : ℕ) : Type 0 where
+    pub there : k < lineCount (groups f ns)
+    pub before : SoundTo k
+    pub complete : Complete f ns k
+    pub inLimits : InLimits f ns k
+    pub earlier : List Rule
+    pub later : List Rule
+    pub listed : groupAt f ns k .rules ≡ earlier ++ r ∷ later
+    pub hold : AllSay earlier (numbersAt f ns k)
+    pub fails : ¬ Says r (numbersAt f ns k)
+
+-- 1 "mesh form: .. bytes missing or left over", 2 "mesh number outside its limits", 3 "p² + q² is not h²", 4 "names a node or soil that isn't there"
+pub record MeshLineNumbers (m : List ℤ) : Type 0 where
+  pub one : (k : ℕ) → LineRefusal meshLayout m 1 (Line (suc k)) ↔ CountFails meshLayout m k
+  pub two : (k : ℕ) → LineRefusal meshLayout m 2 (Line (suc k)) ↔ LimitFails meshLayout m k
+  pub three : (k : ℕ) → LineRefusal meshLayout m 3 (Line (suc k)) ↔ RuleFails meshLayout m rightAngle k
+  pub four : (k : ℕ) → LineRefusal meshLayout m 4 (Line (suc k)) ↔ ((cs : List (ℕ × ℕ)) × RuleFails meshLayout m (naming cs) k)
+
+-- 11 "claim form", 12 "claim number outside its limits", 13 "both parts absent; field with n = 0; no field and n or l not 0", "13, line 1"
+pub record ClaimLineNumbers (m c : List ℤ) : Type 0 where
+  pub eleven : (k : ℕ) → LineRefusal (claimLayout m) c 11 (Line (suc k)) ↔ CountFails (claimLayout m) c k
+  pub twelve : (k : ℕ) → LineRefusal (claimLayout m) c 12 (Line (suc k)) ↔ LimitFails (claimLayout m) c k
+  pub thirteen : (k : ℕ) → LineRefusal (claimLayout m) c 13 (Line (suc k)) ↔ RuleFails (claimLayout m) c parts k
+  pub line-1-only : (k : ℕ) → LineRefusal (claimLayout m) c 13 (Line (suc k)) → k ≡ 0
+
+-- ---- all numbers of document 01's table and of document 02's requests, and no other
+
+abbrev pub tableNumbers : List ℕ
+tableNumbers = 1 ∷ 2 ∷ 3 ∷ 4 ∷ 5 ∷ 6 ∷ 7 ∷ 8 ∷ 11 ∷ 12 ∷ 13 ∷ 21 ∷ 22 ∷ 31 ∷ 32 ∷ 33 ∷ 42 ∷ []
+
+abbrev pub InTable : List ℤ → List ℤ → Type 0
+InTable m c = (k : ℕ) (p : Place) → Refusal m c k p → k ∈ tableNumbers

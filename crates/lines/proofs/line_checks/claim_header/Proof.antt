@@ -3,13 +3,14 @@ use mathlib.Core.Path.{_∙_}
 use mathlib.Core.List.{[]}
 use native.Mathlib.Omega.{arith}
 use denote.Ref.{now}
-use Rattle.scope.specs.Columns.{upTo, parts, ruleNumber}
+use Rattle.scope.specs.Columns.{upTo, parts}
 use Rattle.scope.specs.Claim.{claimLayout, claimHeader}
 use Rattle.lines.specs.LineContracts.{ranges}
 use Rattle.lines.proofs.LineLaws.{line-short, line-outside, line-by-rules, one-rule-fails, one-rule-holds, parts-read, so, not-so}
 use borrow.Author.Needs.{needs}
 use Rattle.lines.proofs.line_checks.claim_header.Statement.{statement}
 use Rattle.lines.proofs.line_checks.claim_header.Tie as tie
+use Rattle.scope.specs.Refusals.{ruleNumber}
 
 refused-requires : tie.Need-refused-requires
 refused-requires c κs = search needs

@@ -2,13 +2,14 @@
 use mathlib.Core.Path.{_∙_}
 use native.Mathlib.Omega.{arith}
 use denote.Ref.{now}
-use Rattle.scope.specs.Columns.{upTo, ruleNumber}
+use Rattle.scope.specs.Columns.{upTo}
 use Rattle.scope.specs.Mesh.{edgeLines}
 use Rattle.lines.specs.LineContracts.{ranges, numbered}
 use Rattle.lines.proofs.LineLaws.{line-short, line-outside, line-by-rules, one-rule-fails, one-rule-holds, edge-limits, edge-names, so, not-so}
 use borrow.Author.Needs.{needs}
 use Rattle.lines.proofs.line_tests.check_edge.Statement.{statement}
 use Rattle.lines.proofs.line_tests.check_edge.Tie as tie
+use Rattle.scope.specs.Refusals.{ruleNumber}
 
 refused-requires : tie.Need-refused-requires
 refused-requires c κs = search needs

@@ -3,13 +3,13 @@ use mathlib.Core.Path.{_∙_}
 use native.Mathlib.Omega.{arith}
 use lib.ListN.{take}
 use denote.Ref.{now}
-use Rattle.scope.specs.Columns.{ruleNumber}
 use Rattle.scope.specs.Mesh.{elementColumns, elementLines}
 use Rattle.lines.specs.LineContracts.{ranges, numbered}
 use Rattle.lines.proofs.LineLaws.{line-short, line-by-rules, one-rule-fails, one-rule-holds, all-free, element-names, so, not-so}
 use borrow.Author.Needs.{needs}
 use Rattle.lines.proofs.line_tests.check_element.Statement.{statement}
 use Rattle.lines.proofs.line_tests.check_element.Tie as tie
+use Rattle.scope.specs.Refusals.{ruleNumber}
 
 refused-requires : tie.Need-refused-requires
 refused-requires c κs = search needs

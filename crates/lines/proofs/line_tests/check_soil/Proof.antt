@@ -3,13 +3,14 @@ use mathlib.Core.Path.{_∙_}
 use native.Mathlib.Omega.{arith}
 use denote.Ref.{now}
 use Rattle.integer.proofs.Machine.{limits}
-use Rattle.scope.specs.Columns.{upTo, rightAngle, ruleNumber}
+use Rattle.scope.specs.Columns.{upTo, rightAngle}
 use Rattle.scope.specs.Mesh.{soilLines}
 use Rattle.lines.specs.LineContracts.{ranges, numbered}
 use Rattle.lines.proofs.LineLaws.{line-short, line-outside, line-by-rules, one-rule-fails, one-rule-holds, small-angle, angle-read, so, not-so}
 use borrow.Author.Needs.{needs}
 use Rattle.lines.proofs.line_tests.check_soil.Statement.{statement}
 use Rattle.lines.proofs.line_tests.check_soil.Tie as tie
+use Rattle.scope.specs.Refusals.{ruleNumber}
 
 refused-requires : tie.Need-refused-requires
 refused-requires c κs = search needs
