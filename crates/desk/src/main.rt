@@ -9,7 +9,8 @@ ghost use Rattle.reader.specs.File.{fileWidth};
 ghost use Rattle.judge.specs.Judge.{filesVerdict};
 ghost use Rattle.report.specs.Report.{reportLine, decimals};
 
-// Reads the file that argument i names, as far as `bytes` goes, and answers how many bytes it has. "A file that can't be opened counts as empty"; so does a missing argument, whose name is empty.
+// Reads the file that argument i names, as far as `bytes` goes, and answers how many bytes it has. "A file that can't
+// be opened counts as empty"; so does a missing argument, whose name is empty.
 fn read_argument(i: usize, bytes: &mut [u8]) -> usize
     ensures { λ r. ⌜ Counts r (now (bytes .exit)) ⌝ }
 {

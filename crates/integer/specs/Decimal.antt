@@ -1,6 +1,9 @@
--- Whole numbers in decimal, as bytes: digits with no leading zero, the value of digits, a text right-justified in a column.
--- What is written here is defined by the last digit and what is read by the first, so that neither is the other turned round.
--- Example (`example-column`, checked after `rightJustified`): 120 in a column of five bytes is two spaces and the bytes of 1, 2 and 0, by `refl`.
+-- Whole numbers in decimal, as bytes: digits with no leading zero, the value of digits, a text right-justified in a
+-- column.
+-- What is written here is defined by the last digit and what is read by the first, so that neither is the other turned
+-- round.
+-- Example (`example-column`, checked after `rightJustified`): 120 in a column of five bytes is two spaces and the
+-- bytes of 1, 2 and 0, by `refl`.
 -- Example (`example-read`, checked after `valueAfter`): the value of those three bytes is 120, by `refl`.
 use mathlib.Core.Path.{_≡_, refl}
 use mathlib.Core.Bool.{Bool, true, false, _&&_}

@@ -1,4 +1,5 @@
--- Fractions, compared by cross products. The comparisons mean what they say where denominators are above 0 (`Positive`).
+-- Fractions, compared by cross products. The comparisons mean what they say where denominators are above 0
+-- (`Positive`).
 use mathlib.Core.Path.{_≡_}
 use lib.IntN.{ℤ, pos, _*ℤ_}
 use lib.Signed.{_≤ℤ_, _<ℤ_}

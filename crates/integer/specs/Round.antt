@@ -1,5 +1,6 @@
 -- Floor and ceiling of z / d, for a whole number z and a natural number d above 0.
--- `Floor z d q` and `Ceil z d q` say what q is; `floorDiv` and `ceilDiv` compute it (`floorDiv-is` and `ceilDiv-is` of proofs/RoundLaws.antt).
+-- `Floor z d q` and `Ceil z d q` say what q is; `floorDiv` and `ceilDiv` compute it (`floorDiv-is` and `ceilDiv-is` of
+-- proofs/RoundLaws.antt).
 use mathlib.Core.Path.{_≡_, refl}
 use Prim.Native.Nat.{ℕ, _/_}
 use lib.IntN.{ℤ, pos, negsuc, _+ℤ_, _-ℤ_, _*ℤ_, negℤ}

@@ -1,4 +1,5 @@
--- What is handed over (document 01, "Loads compared"): "whether the claim is a file or numbers handed over". The bracket for accepted parts, each from a file or from numbers, mixed pairs included.
+-- What is handed over (document 01, "Loads compared"): "whether the claim is a file or numbers handed over". The
+-- bracket for accepted parts, each from a file or from numbers, mixed pairs included.
 use mathlib.Core.List.{List}
 use Prim.Native.Nat.{ℕ}
 use lib.IntN.{ℤ}

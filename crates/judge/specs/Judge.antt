@@ -1,4 +1,5 @@
--- The verdict on the bytes of a mesh file and of a claim file (document 01, 'What the product does'): the verdict on their numbers.
+-- The verdict on the bytes of a mesh file and of a claim file (document 01, 'What the product does'): the verdict on
+-- their numbers.
 use mathlib.Core.List.{List}
 use Prim.Native.Nat.{ℕ}
 use lib.IntN.{ℤ}

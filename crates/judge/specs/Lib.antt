@@ -1,4 +1,5 @@
--- What a reader must believe: Judge, the verdict on two files, ClaimBytes, the length of a claim file, and Handed, parts that are files or numbers handed over. MeshFileJudged is a contract: what judging a mesh file leaves.
+-- What a reader must believe: Judge, the verdict on two files, ClaimBytes, the length of a claim file, and Handed,
+-- parts that are files or numbers handed over. MeshFileJudged is a contract: what judging a mesh file leaves.
 pub mod Judge
 pub mod MeshFileJudged
 pub mod ClaimBytes

@@ -9,7 +9,8 @@ use Rattle.judge.specs.declared.JudgedMesh.{JudgedMesh}
 use Rattle.judge.specs.Judge.{meshNumbers}
 use Rattle.reader.specs.File.{fileWidth}
 
--- the numbers of the mesh file stand at the front of the list `before`, which makes it `after`, nothing else is touched, and r has their count and what is said of them
+-- the numbers of the mesh file stand at the front of the list `before`, which makes it `after`, nothing else is
+-- touched, and r has their count and what is said of them
 pub record MeshJudged (mesh : List ℕ) (before : List ℤ) (r : JudgedMesh) (after : List ℤ) : Type 0 where
   pub count : r .count ≡ length (meshNumbers fileWidth mesh)
   pub numbers : after ≡ meshNumbers fileWidth mesh ++ drop (r .count) before

@@ -1,4 +1,5 @@
-// Two byte strings into a verdict: the numbers of a mesh file and of a claim file are read, and judged by the check of numbers.
+// Two byte strings into a verdict: the numbers of a mesh file and of a claim file are read, and judged by the check of
+// numbers.
 
 use lines::layout::claim_groups;
 use lines::layout::has_part;
@@ -34,7 +35,8 @@ pub struct JudgedMesh {
     pub answer: MeshAnswer,
 }
 
-// Rooms for the numbers of a file. An array is filled with zeros before it is used, and for small files that is a large part of the time: so the room is chosen by the bytes.
+// Rooms for the numbers of a file. An array is filled with zeros before it is used, and for small files that is a
+// large part of the time: so the room is chosen by the bytes.
 const SMALL_ROOM: usize = 256;
 
 const MIDDLE_MESH: usize = 512;
@@ -56,7 +58,8 @@ pub fn judge_mesh_file(mesh: &[u8], numbers: &mut [i64]) -> JudgedMesh
 fn judge_claim_in(m: &[i64], s: Sizes, pairs: &[u8], claim: &[u8], numbers: &mut [i64]) -> Verdict
     requires { ⌜ SoundMesh (now m) s (now pairs) ⌝
         ∗ ⌜ length (claimNumbers fileWidth (now m) (now claim)) ≤ length (now numbers) ⌝ }
-    ensures { λ r. ⌜ r ≡ claimVerdict (now (m .entry)) (claimNumbers fileWidth (now (m .entry)) (now (claim .entry))) ⌝ }
+    ensures { λ r. ⌜ r
+        ≡ claimVerdict (now (m .entry)) (claimNumbers fileWidth (now (m .entry)) (now (claim .entry))) ⌝ }
 {
     let count = read_claim(claim, s, numbers);
     judge_claim(m, s, pairs, &numbers[..count])
@@ -65,7 +68,8 @@ fn judge_claim_in(m: &[i64], s: Sizes, pairs: &[u8], claim: &[u8], numbers: &mut
 // The verdict on a claim file on a judged mesh with the numbers m, these sizes and these pairs.
 pub fn judge_claim_file(m: &[i64], s: Sizes, pairs: &[u8], claim: &[u8]) -> Verdict
     requires { ⌜ SoundMesh (now m) s (now pairs) ⌝ }
-    ensures { λ r. ⌜ r ≡ claimVerdict (now (m .entry)) (claimNumbers fileWidth (now (m .entry)) (now (claim .entry))) ⌝ }
+    ensures { λ r. ⌜ r
+        ≡ claimVerdict (now (m .entry)) (claimNumbers fileWidth (now (m .entry)) (now (claim .entry))) ⌝ }
 {
     let room = most_numbers(claim.len());
     if room <= SMALL_ROOM {

@@ -1,4 +1,5 @@
--- What the checks of lines say of a part of a file. That the parts make the check of the whole file is proved in `proofs/GroupLaws.antt`.
+-- What the checks of lines say of a part of a file. That the parts make the check of the whole file is proved in
+-- `proofs/GroupLaws.antt`.
 use mathlib.Core.Path.{_≡_}
 use mathlib.Core.List.{List, [], _∷_}
 use Prim.Native.Nat.{ℕ, _+_, _*_, _≤_, _<_}
@@ -40,7 +41,8 @@ groupCheck f g s line = lowest (lineStep f g s line) (g .lines)
 -- the lines of some groups, and no number left over
 unfoldable pub groupsCheck : Layout → List Group → List ℤ → ℕ → Outcome
 groupsCheck f [] s line = demand (leb (length s) 0) (f .formNumber) (Line line)
-groupsCheck f (g ∷ gs) s line = groupCheck f g s line then groupsCheck f gs (drop (g .lines * width g) s) (line + g .lines)
+groupsCheck f (g ∷ gs) s line = groupCheck f g s line then groupsCheck f gs (drop (g .lines * width g) s)
+    (line + g .lines)
 
 -- a file of which only the numbers of its refusals are told: `form` for form, and `form` + 1 for limits
 unfoldable pub numbered : ℕ → Layout

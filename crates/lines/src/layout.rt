@@ -1,4 +1,5 @@
-// The lines of a mesh and of a claim, as one table: the limits of the headers, then groups of lines, and of each its kind, how many lines it has and how many columns each.
+// The lines of a mesh and of a claim, as one table: the limits of the headers, then groups of lines, and of each its
+// kind, how many lines it has and how many columns each.
 // Whatever goes through a file's lines goes through this table: the reader, the checks of lines, the bytes of a claim.
 use mesh::sizes::EDGE_COLUMNS;
 use mesh::sizes::EDGE_ROWS;
@@ -64,7 +65,8 @@ pub const EDGE_LEAST: [i64; EDGE_LIMITS] = [1, -10000, -10000, -10000, -10000];
 
 pub const EDGE_MOST: [i64; EDGE_LIMITS] = [3, 10000, 10000, 10000, 10000];
 
-// The lines that have rules of their own: a soil its limits and a right angle, an element the names of its nodes and its soil, an edge its limits and the names of its nodes.
+// The lines that have rules of their own: a soil its limits and a right angle, an element the names of its nodes and
+// its soil, an edge its limits and the names of its nodes.
 pub enum Rule {
     Soil,
     Element,

@@ -1,4 +1,5 @@
-// The checks of the lines of a mesh and of a claim: refusals 1 to 4, and 11 to 13. They take any numbers, and any count of them.
+// The checks of the lines of a mesh and of a claim: refusals 1 to 4, and 11 to 13. They take any numbers, and any
+// count of them.
 use crate::layout::CLAIM_HEADER;
 use crate::layout::CLAIM_LEAST;
 use crate::layout::CLAIM_MOST;
@@ -36,7 +37,15 @@ ghost use Rattle.scope.specs.Claim.{claimHeaderColumns, claimHeader, claimLayou
 ghost use Rattle.mesh.specs.MeshContracts.{FewThings, Counted};
 ghost use Rattle.lines.specs.Table.{evenLines, ruledLines, meant, Good, Table};
 ghost use Rattle.lines.specs.SearchContracts.{firstFailing};
-ghost use Rattle.lines.specs.LineContracts.{groupCheck, groupsCheck, numbered, mostForm, mostLine, FewLines, FewColumns};
+ghost use Rattle.lines.specs.LineContracts.{
+  groupCheck,
+  groupsCheck,
+  numbered,
+  mostForm,
+  mostLine,
+  FewLines,
+  FewColumns,
+};
 
 // Each number of a list is from lo to hi.
 fn all_within(s: &[i64], lo: i64, hi: i64) -> bool
@@ -79,7 +88,8 @@ fn whole_lines(numbers: usize, columns: usize, count: usize) -> usize
     count
 }
 
-// The lines that stand at the front of a list, where every column has the limits lo and hi: the numbers of the whole lines are looked at in one go.
+// The lines that stand at the front of a list, where every column has the limits lo and hi: the numbers of the whole
+// lines are looked at in one go.
 // For speed a loop with nothing else in it asks whether one is outside, and the search only which.
 fn even_check(
     s: &[i64],
@@ -184,7 +194,8 @@ fn parts_fit(field: i64, multipliers: i64, n: i64, l: i64) -> bool
 
 // The header of a claim.
 pub fn claim_header(c: &[i64]) -> Outcome
-    ensures { λ r. ⌜ r ≡ lineCheck (claimLayout []) claimHeader (take claimHeaderColumns (now (c .entry))) (Place.Line 1) ⌝ }
+    ensures { λ r. ⌜ r
+        ≡ lineCheck (claimLayout []) claimHeader (take claimHeaderColumns (now (c .entry))) (Place.Line 1) ⌝ }
 {
     if c.len() < CLAIM_HEADER {
         return refused(11, 1);
@@ -210,7 +221,8 @@ fn group_check(s: &[i64], g: Group, sizes: Sizes, form: u32, line: usize) -> Out
     }
 }
 
-// The lines of a file after its header, which have its refusals from the number `form` on: all groups of the table, one after another, and no number left over.
+// The lines of a file after its header, which have its refusals from the number `form` on: all groups of the table,
+// one after another, and no number left over.
 fn groups_check(s: &[i64], groups: [Group; GROUPS], sizes: Sizes, form: u32) -> Outcome
     requires { ⌜ Table sizes groups ⌝ ∗ ⌜ FewThings sizes ⌝ ∗ ⌜ form ≤ mostForm ⌝ }
     ensures { λ r. ⌜ r ≡ groupsCheck (numbered form) (map (meant sizes) groups) (now (s .entry)) 2 ⌝ }

@@ -72,7 +72,8 @@ fn right_angle(p: i64, q: i64, h: i64) -> bool
 // The soil that stands at the front of a list.
 fn check_soil(s: &[i64], form: u32, line: usize) -> Outcome
     requires { ⌜ line < 2 ^ 32 ⌝ ∗ ⌜ form ≤ mostForm ⌝ }
-    ensures { λ r. ⌜ r ≡ lineCheck (numbered form) (soilLines 0) (take soilColumns (now (s .entry))) (Place.Line line) ⌝ }
+    ensures { λ r. ⌜ r
+        ≡ lineCheck (numbered form) (soilLines 0) (take soilColumns (now (s .entry))) (Place.Line line) ⌝ }
 {
     if s.len() < SOIL_COLUMNS {
         return refused(form, line);
@@ -89,7 +90,9 @@ fn check_soil(s: &[i64], form: u32, line: usize) -> Outcome
 // The element that stands at the front of a list.
 fn check_element(s: &[i64], sizes: Sizes, form: u32, line: usize) -> Outcome
     requires { ⌜ FewThings sizes ⌝ ∗ ⌜ line < 2 ^ 32 ⌝ }
-    ensures { λ r. ⌜ r ≡ lineCheck (numbered form) (elementLines 0 (sizes .nodes) (sizes .soils)) (take elementColumns (now (s .entry))) (Place.Line line) ⌝ }
+    ensures { λ r. ⌜ r
+        ≡ lineCheck (numbered form) (elementLines 0 (sizes .nodes) (sizes .soils))
+        (take elementColumns (now (s .entry))) (Place.Line line) ⌝ }
 {
     if s.len() < ELEMENT_COLUMNS {
         return refused(form, line);
@@ -106,7 +109,9 @@ fn check_element(s: &[i64], sizes: Sizes, form: u32, line: usize) -> Outcome
 // The edge that stands at the front of a list.
 fn check_edge(s: &[i64], sizes: Sizes, form: u32, line: usize) -> Outcome
     requires { ⌜ FewThings sizes ⌝ ∗ ⌜ line < 2 ^ 32 ⌝ ∗ ⌜ form ≤ mostForm ⌝ }
-    ensures { λ r. ⌜ r ≡ lineCheck (numbered form) (edgeLines 0 (sizes .nodes)) (take edgeColumns (now (s .entry))) (Place.Line line) ⌝ }
+    ensures { λ r. ⌜ r
+        ≡ lineCheck (numbered form) (edgeLines 0 (sizes .nodes)) (take edgeColumns (now (s .entry)))
+        (Place.Line line) ⌝ }
 {
     if s.len() < EDGE_COLUMNS {
         return refused(form, line);
@@ -124,7 +129,9 @@ fn check_edge(s: &[i64], sizes: Sizes, form: u32, line: usize) -> Outcome
 // The line that stands at the front of a list.
 fn line_check(rule: Rule, s: &[i64], sizes: Sizes, form: u32, line: usize) -> Outcome
     requires { ⌜ FewThings sizes ⌝ ∗ ⌜ line < 2 ^ 32 ⌝ ∗ ⌜ form ≤ mostForm ⌝ }
-    ensures { λ r. ⌜ r ≡ lineCheck (numbered form) (ruledLines rule sizes 0) (take (width (ruledLines rule sizes 0)) (now (s .entry))) (Place.Line line) ⌝ }
+    ensures { λ r. ⌜ r
+        ≡ lineCheck (numbered form) (ruledLines rule sizes 0) (take (width (ruledLines rule sizes 0)) (now (s .entry)))
+        (Place.Line line) ⌝ }
 {
     match rule {
         Rule::Soil => check_soil(s, form, line),

@@ -1,5 +1,6 @@
 // The counts of a mesh whose lines have passed, where its groups begin, and its numbers by what they are.
-// The limits of its header and the columns of its lines have their names here; whatever follows from them is an expression over these names.
+// The limits of its header and the columns of its lines have their names here; whatever follows from them is an
+// expression over these names.
 ghost use mathlib.Core.Path.{_≡_};
 ghost use mathlib.Core.List.{List};
 ghost use Prim.Native.Nat.{_+_, _*_, _-_, _<_, _≤_};
@@ -9,9 +10,37 @@ ghost use lib.ListN.{length};
 ghost use Rattle.integer.specs.Bounds.{Is};
 ghost use Rattle.scope.specs.Columns.{at};
 ghost use Rattle.scope.specs.Layout.{count};
-ghost use Rattle.scope.specs.Mesh.{mostPairs, soilColumns, edgeColumns, mostEqualityRows, nodes, elements, soils, edges, x, y, corner, elementSoil, soilEntry, edgeEntry, fromNode, toNode, equalityCount};
+ghost use Rattle.scope.specs.Mesh.{
+  mostPairs,
+  soilColumns,
+  edgeColumns,
+  mostEqualityRows,
+  nodes,
+  elements,
+  soils,
+  edges,
+  x,
+  y,
+  corner,
+  elementSoil,
+  soilEntry,
+  edgeEntry,
+  fromNode,
+  toNode,
+  equalityCount,
+};
 ghost use Rattle.scope.specs.NumberRanges.{MeshFacts};
-ghost use Rattle.mesh.specs.MeshContracts.{Sized, SizesAre, paired, HeaderThere, FewThings, NodeAt, nodesFrom, elementsFrom, edgesFrom};
+ghost use Rattle.mesh.specs.MeshContracts.{
+  Sized,
+  SizesAre,
+  paired,
+  HeaderThere,
+  FewThings,
+  NodeAt,
+  nodesFrom,
+  elementsFrom,
+  edgesFrom,
+};
 
 // The most that a header may count.
 pub const MOST_NODES: usize = 100;
@@ -120,7 +149,8 @@ pub fn equality_count(s: Sizes) -> usize
     s.elements * ELEMENT_ROWS + s.edges * EDGE_ROWS
 }
 
-// The place of the first number of the nodes, of the elements and of the edges. For speed it is worked out where it is asked, so that fewer numbers are handed around.
+// The place of the first number of the nodes, of the elements and of the edges. For speed it is worked out where it is
+// asked, so that fewer numbers are handed around.
 fn nodes_from(s: Sizes) -> usize
     requires { ⌜ FewThings s ⌝ }
     ensures { λ r. ⌜ r ≡ nodesFrom s ⌝ }

@@ -10,14 +10,14 @@ use lib.Signed.{ltZ-yes}
 use lib.ListN.{length}
 use Rattle.integer.proofs.Ring.{ring, terms}
 use Rattle.integer.specs.Fraction.{_over_, _≈ᶠ_, _≤ᶠ_}
-use Rattle.scope.specs.declared.Place.the-variants.{Column}
+use Rattle.scope.specs.declared.Place.the-variants.{Line, Column}
 use Rattle.scope.specs.Members.{_∈_}
 use Rattle.scope.specs.Rows.{strengthPairs, strengthRows, rowsOf}
 use Rattle.scope.specs.Sums.{liveSum, limitSum}
 use Rattle.scope.specs.Claim.{stress, multiplier}
-use Rattle.scope.specs.Answer.{placeFor}
+use Rattle.scope.specs.Answer.{placeFor, meshNumberOf, meshPlaceOf}
 use Rattle.scope.proofs.Computed.{computed}
-use Rattle.scope.specs.Refusals.{Refusal}
+use Rattle.scope.specs.Refusals.{MeshRefusal, Refusal}
 use Rattle.scope.specs.Accepted.{FieldAccepted, MultipliersAccepted, ClaimAccepted}
 use Rattle.scope.specs.Polygon.{polygonOf}
 use Rattle.scope.specs.RowNumbers.{sideNumbered}
@@ -35,9 +35,11 @@ use Rattle.scope.specs.Mesh.{elements, sides, corner, elementSoil}
 use Rattle.scope.specs.Statements.{MeshSound}
 use Rattle.scope.specs.Triangles.{Triangle}
 use Rattle.scope.specs.Pairs.{SoilAround, rowsBefore}
+use Rattle.verdict.specs.declared.MeshAnswer.{MeshAnswer}
+use Rattle.verdict.specs.JudgeContracts.{MeshAnswered}
 use Rattle.numbers.specs.declared.numbers_answer.NumbersAnswer.{NumbersAnswer}
 use Rattle.numbers.specs.Promises.{Answers, returnedNumbers, TellsField, FieldInFractions}
-use Rattle.numbers.proofs.Promises.{returned, returns-zero-exactly, refuses-exactly, numbers-listed, field-exactly, multipliers-exactly, criterion-for-each-pair, pairs-asked, rows-refused, field-reported, multipliers-reported, open-rows-reported, field-in-fractions, calls-bracket, call-bracket, accepted-parts, fractions-bracket, triangles-asked}
+use Rattle.numbers.proofs.Promises.{mesh-answered-exactly, returned, returns-zero-exactly, refuses-exactly, numbers-listed, field-exactly, multipliers-exactly, criterion-for-each-pair, pairs-asked, rows-refused, field-reported, multipliers-reported, open-rows-reported, field-in-fractions, calls-bracket, call-bracket, accepted-parts, fractions-bracket, triangles-asked}
 
 -- ---- what is answered
 
@@ -190,6 +192,25 @@ pub free-fractions : pos 19 over pos 1 ≤ᶠ pos 600 over pos 30
 free-fractions =
     let field = field-in-fractions (freeShear (pos 0)) sheet19 answer19 free-nineteen refl in
     fractions-bracket free-sheet refl (freeShear (pos 0)) (free-field .mesh) free-rows .at-most (fieldOver (pos 1) (field .above-0) (stress (freeShear (pos 0)) sheet19) (pos 19)) (field .meets)
+
+-- ---- a mesh alone
+
+-- the sheet's mesh has the number 0
+pub sheet-mesh-passes : {r : MeshAnswer} → MeshAnswered workedMesh r → meshNumberOf (r .outcome) ≡ 0
+sheet-mesh-passes h = mesh-answered-exactly h .passes .1 (sheet-accepted .mesh)
+
+-- a header that asks for 101 nodes: 2, line 1
+unfoldable pub manyNodes : List ℤ
+manyNodes = pos 101 ∷ pos 1 ∷ pos 1 ∷ pos 0 ∷ pos 12 ∷ []
+
+many-nodes-number : {r : MeshAnswer} → MeshAnswered manyNodes r
+    → (meshNumberOf (r .outcome) ≡ 2) × (meshPlaceOf (r .outcome) ≡ 1)
+unfolding computed manyNodes
+many-nodes-number h = rw (h .outcome) (refl, refl)
+
+pub many-nodes-refused : {r : MeshAnswer} → MeshAnswered manyNodes r → MeshRefusal manyNodes 2 (Line 1)
+unfolding placeFor
+many-nodes-refused h = mesh-answered-exactly h .refuses 2 1 (λ e. omega arith) .0 (many-nodes-number h)
 
 -- ---- triangles: the sheet's square as two of them, and as it stands
 

@@ -1,4 +1,5 @@
--- What a solver that hands over numbers is answered (document 01, 'Verdict and report'): document 01's number and values for each case of the verdict.
+-- What a solver that hands over numbers is answered (document 01, 'Verdict and report'): document 01's number and
+-- values for each case of the verdict.
 use Prim.Native.Nat.{ℕ}
 use lib.IntN.{ℤ, pos}
 use Rattle.scope.specs.declared.Load.{Load}

@@ -1,5 +1,8 @@
--- What a caller that hands over numbers may rely on: demands 2 and 3 for `check`, which C calls as `pechuvo_check_numbers`, each promise a plain statement about the answer r to the numbers m of a mesh and c of a claim.
--- Each is proved of every answer (`proofs/Promises.antt`) and applied to document 01's sheet (`proofs/PromisesApplied.antt`). Those about the number and the place alone serve the check of two files too.
+-- What a caller that hands over numbers may rely on: demands 2 and 3 for `check`, which C calls as
+-- `pechuvo_check_numbers`, each promise a plain statement about the answer r to the numbers m of a mesh and c of a
+-- claim.
+-- Each is proved of every answer (`proofs/Promises.antt`) and applied to document 01's sheet
+-- (`proofs/PromisesApplied.antt`). Those about the number and the place alone serve the check of two files too.
 use mathlib.Core.Path.{_≡_}
 use mathlib.Core.Logic.{_↔_, _⊎_, _≢_}
 use mathlib.Core.List.{List, _∷_}
@@ -80,17 +83,22 @@ pub record RowsRefused (m c : List ℤ) (number place : ℕ) : Type 0 where
 abbrev pub TellsField : List ℤ → ℕ → Type 0
 TellsField c number = HasField c × ((number ≡ 0) ⊎ ((31 ≤ number) × (number ≤ 33)))
 
--- "A part is accepted when its own checks pass (21 and 22 for a field ..; mesh and claim have passed all before 21)": the field meets each row as document 01 prints it
+-- "A part is accepted when its own checks pass (21 and 22 for a field ..; mesh and claim have passed all before 21)":
+-- the field meets each row as document 01 prints it
 pub record FieldExactly (m c : List ℤ) (number : ℕ) : Type 0 where
-  pub exactly : FieldAccepted m c ↔ (MeshSound m × LinesSound (claimLayout m) c × HasField c × MeetsPrinted m (stress m c) (l c) (n c))
+  pub exactly : FieldAccepted m c
+      ↔ (MeshSound m × LinesSound (claimLayout m) c × HasField c × MeetsPrinted m (stress m c) (l c) (n c))
   pub told : FieldAccepted m c ↔ TellsField c number
 
--- "(.. 31 to 33 for multipliers ..)": in the terms of the rows as document 01 prints them; the number tells it where each other part that is there is accepted too
+-- "(.. 31 to 33 for multipliers ..)": in the terms of the rows as document 01 prints them; the number tells it where
+-- each other part that is there is accepted too
 pub record MultipliersExactly (m c : List ℤ) (number : ℕ) : Type 0 where
-  pub exactly : MultipliersAccepted m c ↔ (MeshSound m × LinesSound (claimLayout m) c × HasMultipliers c × MultipliersPrinted m (multiplier m c))
+  pub exactly : MultipliersAccepted m c
+      ↔ (MeshSound m × LinesSound (claimLayout m) c × HasMultipliers c × MultipliersPrinted m (multiplier m c))
   pub told : (HasMultipliers c × (number ≡ 0)) ↔ (MultipliersAccepted m c × (HasField c → FieldAccepted m c))
 
--- the answer has a field exactly when the claim has one and is accepted; then l/n is the claim's load, and the field carries it
+-- the answer has a field exactly when the claim has one and is accepted; then l/n is the claim's load, and the field
+-- carries it
 pub record FieldReported (m c : List ℤ) (r : NumbersAnswer) : Type 0 where
   pub exactly : (r .field ≡ 1) ↔ (HasField c × (r .number ≡ 0))
   pub load : r .field ≡ 1 → (r .l ≡ l c) × (r .n ≡ n c)
@@ -101,7 +109,8 @@ pub record FieldReported (m c : List ℤ) (r : NumbersAnswer) : Type 0 where
 -- and so for multipliers, with W/m
 pub record MultipliersReported (m c : List ℤ) (r : NumbersAnswer) : Type 0 where
   pub exactly : (r .multipliers ≡ 1) ↔ (HasMultipliers c × (r .number ≡ 0))
-  pub limit : r .multipliers ≡ 1 → (r .w ≡ limitSum (multiplier m c) (rowsOf m)) × (r .m ≡ liveSum (multiplier m c) (rowsOf m))
+  pub limit : r .multipliers ≡ 1
+      → (r .w ≡ limitSum (multiplier m c) (rowsOf m)) × (r .m ≡ liveSum (multiplier m c) (rowsOf m))
   -- these are the sums over the printed rows
   pub printed : r .multipliers ≡ 1 → (r .w ≡ printedLimit m (multiplier m c)) × (r .m ≡ printedLive m (multiplier m c))
   pub m-above-0 : r .multipliers ≡ 1 → pos 0 <ℤ r .m
@@ -120,7 +129,9 @@ pub record PairsAsked (m : List ℤ) (number place : ℕ) : Type 0 where
   pub sound : MeshSound m → SoundPairs m
   pub refused : number ≡ 42 → PairsFail m place
 
--- "An element whose third and fourth nodes are the same is to be read as a triangle: its balance rows are the same sums, .. and three left turns are asked. The repeat makes no side .. Every other repeat still gets 5. A file that passed before gives the same report." (document 02, N1)
+-- "An element whose third and fourth nodes are the same is to be read as a triangle: its balance rows are the same
+-- sums, .. and three left turns are asked. The repeat makes no side .. Every other repeat still gets 5. A file that
+-- passed before gives the same report." (document 02, N1)
 pub record TrianglesRead (m : List ℤ) (e : ℕ) : Type 0 where
   pub triangle : ReadAsTriangle m e
   pub only-repeat : (i j : ℕ) → i < j → j < 4 → corner m e i ≡ corner m e j → (i ≡ 2) × (j ≡ 3)
@@ -135,7 +146,8 @@ TrianglesAsked m = MeshSound m → (e : ℕ) → e < elements m → TrianglesRea
 
 -- ==== Demand 3: loads compared
 
--- "A claim's field carries l/n and its multipliers allow W/m, both as exact fractions": the field of one call, answered r, and the multipliers of one, answered s
+-- "A claim's field carries l/n and its multipliers allow W/m, both as exact fractions": the field of one call,
+-- answered r, and the multipliers of one, answered s
 pub record CallsBracket (m c d k : List ℤ) (r s : NumbersAnswer) : Type 0 where
   pub n-above-0 : pos 0 <ℤ r .n
   pub m-above-0 : pos 0 <ℤ s .m
@@ -145,30 +157,39 @@ pub record CallsBracket (m c d k : List ℤ) (r s : NumbersAnswer) : Type 0 wher
 
 -- of two calls, or of one twice, on meshes with the same rows
 abbrev pub TwoAnswers : (m c d k : List ℤ) (r s : NumbersAnswer) → Type 0
-TwoAnswers m c d k r s = Answers m c r → Answers d k s → SameRows m d → r .field ≡ 1 → s .multipliers ≡ 1 → CallsBracket m c d k r s
+TwoAnswers m c d k r s = Answers m c r → Answers d k s → SameRows m d → r .field ≡ 1 → s .multipliers ≡ 1
+    → CallsBracket m c d k r s
 
--- of a field that a call tells to be accepted, and accepted multipliers of any claim: either claim may be refused for its other part
+-- of a field that a call tells to be accepted, and accepted multipliers of any claim: either claim may be refused for
+-- its other part
 abbrev pub AnswerAndMultipliers : (m c d k : List ℤ) (r : NumbersAnswer) → Type 0
-AnswerAndMultipliers m c d k r = Answers m c r → SameRows m d → TellsField c (r .number) → MultipliersAccepted d k → PartsBracket m c d k
+AnswerAndMultipliers m c d k r = Answers m c r → SameRows m d → TellsField c (r .number) → MultipliersAccepted d k
+    → PartsBracket m c d k
 
--- "the open rows (strength rows with multiplier above 0 and left side below right)": their number where both parts are there, else 0
+-- "the open rows (strength rows with multiplier above 0 and left side below right)": their number where both parts are
+-- there, else 0
 pub record OpenRowsReported (m c : List ℤ) (r : NumbersAnswer) : Type 0 where
-  pub count : r .field ≡ 1 → r .multipliers ≡ 1 → NumberOf (λ k. Open (stress m c) (r .l) (r .n) (multiplier m c k) (rowAt (rowsOf m) k)) (length (rowsOf m)) (r .«open_rows»)
+  pub count : r .field ≡ 1 → r .multipliers ≡ 1
+      → NumberOf (λ k. Open (stress m c) (r .l) (r .n) (multiplier m c k) (rowAt (rowsOf m) k)) (length (rowsOf m))
+      (r .«open_rows»)
   pub closed : r .field ≡ 1 → r .multipliers ≡ 1 → (r .«open_rows» ≡ 0) ↔ (r .l over r .n ≈ᶠ r .w over r .m)
   pub one-part : (r .field ≢ 1) ⊎ (r .multipliers ≢ 1) → r .«open_rows» ≡ 0
 
--- "A field in fractions has any fractions as each node's sx, sy and t and as its load": on a mesh m that passes, against the limit W/m of accepted multipliers of a claim k on a mesh d with the same rows
+-- "A field in fractions has any fractions as each node's sx, sy and t and as its load": on a mesh m that passes,
+-- against the limit W/m of accepted multipliers of a claim k on a mesh d with the same rows
 pub record FractionsBracket (m d k : List ℤ) (limit : Frac) : Type 0 where
   -- each can be written over one denominator, and whether it meets the rows is the same for every one
   pub laws : FractionLaws (3 * nodes m) (rowsOf m)
   -- none that meets the rows carries more than the multipliers allow
   pub at-most : (f : FractionField) → MeetsMesh m f → f .load .value ≤ᶠ limit
   -- equal exactly when no strength row is open, over any denominator that it is written over
-  pub equal : (f : FractionField) → MeetsMesh m f → (e : ℤ) (t : ℕ → ℤ) (j : ℤ) → WrittenOver (3 * nodes m) f e t j → (f .load .value ≈ᶠ limit) ↔ NoneOpen t j e (multiplier d k) (rowsOf d)
+  pub equal : (f : FractionField) → MeetsMesh m f → (e : ℤ) (t : ℕ → ℤ) (j : ℤ) → WrittenOver (3 * nodes m) f e t j
+      → (f .load .value ≈ᶠ limit) ↔ NoneOpen t j e (multiplier d k) (rowsOf d)
 
 -- against the multipliers that a call reports
 abbrev pub FractionsAndAnswer : (d k : List ℤ) (s : NumbersAnswer) → Type 0
-FractionsAndAnswer d k s = Answers d k s → s .multipliers ≡ 1 → (m : List ℤ) → MeshSound m → SameRows m d → FractionsBracket m d k (s .w over s .m)
+FractionsAndAnswer d k s = Answers d k s → s .multipliers ≡ 1 → (m : List ℤ) → MeshSound m → SameRows m d
+    → FractionsBracket m d k (s .w over s .m)
 
 -- the field that a claim carries, over its n, is such a field
 pub record FieldInFractions (m c : List ℤ) (r : NumbersAnswer) : Type 0 where

@@ -1,4 +1,5 @@
-// The check of numbers handed over (document 01, 'What the product does': "The row arithmetic serves the solver as well, without the file reader"): a mesh's and a claim's numbers into the verdict as C reads it.
+// The check of numbers handed over (document 01, 'What the product does': "The row arithmetic serves the solver as
+// well, without the file reader"): a mesh's and a claim's numbers into the verdict as C reads it.
 
 pub mod numbers_answer;
 

@@ -6,7 +6,8 @@ use scope::OpenRows;
 use scope::Verdict;
 use scope::place_number;
 
-// What a solver that hands over numbers is answered, as C reads it: the verdict's number and place; for an accepted claim which parts are there, the loads l/n and W/m as they stand, and the open rows. What is not there is 0.
+// What a solver that hands over numbers is answered, as C reads it: the verdict's number and place; for an accepted
+// claim which parts are there, the loads l/n and W/m as they stand, and the open rows. What is not there is 0.
 #[repr(C)]
 pub struct NumbersAnswer {
     pub number: u32,

@@ -1,4 +1,5 @@
--- The whole check (document 01, 'What the product does' and 'Verdict and report'): from two byte strings and a buffer to what is returned and what the buffer then holds.
+-- The whole check (document 01, 'What the product does' and 'Verdict and report'): from two byte strings and a buffer
+-- to what is returned and what the buffer then holds.
 use mathlib.Core.Bool.{true, false}
 use mathlib.Core.List.{List, _++_}
 use Prim.Native.Nat.{ℕ}
@@ -19,7 +20,8 @@ pub record Answered : Type 0 where
   pub place : ℕ
   pub buffer : List ℕ
 
--- "41, place 0, untouched: buffer under 113 bytes"; else the report at the buffer's front: "Bytes beyond 113 are never written"
+-- "41, place 0, untouched: buffer under 113 bytes"; else the report at the buffer's front: "Bytes beyond 113 are never
+-- written"
 unfoldable pub check : List ℕ → List ℕ → List ℕ → Answered
 check mesh claim buffer =
     elim (ltb (length buffer) reportBytes) [

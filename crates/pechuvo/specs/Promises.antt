@@ -1,5 +1,8 @@
--- What a caller of `pechuvo_check` may rely on: demands 1, 2 and 3 of document 01, each promise a plain statement about the number and the place that are returned and about the bytes of the buffer.
--- Each is proved of every call (`proofs/Promises.antt`) and applied to document 01's sheet (`proofs/PromisesApplied.antt`). What number and place say of the two files' numbers is said as for numbers handed over (`numbers/specs/Promises.antt`).
+-- What a caller of `pechuvo_check` may rely on: demands 1, 2 and 3 of document 01, each promise a plain statement
+-- about the number and the place that are returned and about the bytes of the buffer.
+-- Each is proved of every call (`proofs/Promises.antt`) and applied to document 01's sheet
+-- (`proofs/PromisesApplied.antt`). What number and place say of the two files' numbers is said as for numbers handed
+-- over (`numbers/specs/Promises.antt`).
 use mathlib.Core.Path.{_≡_}
 use mathlib.Core.Logic.{_↔_, _⊎_, _≢_}
 use mathlib.Core.List.{List}
@@ -46,13 +49,16 @@ pub record AnyCall (mesh claim before : List ℕ) (number place : ℕ) (after : 
   pub only-then : number ≡ 41 → length before < reportBytes
   -- else the verdict's number and place, and its line: "four columns of 28, right-justified, and byte 10"
   pub returns : reportBytes ≤ length before → Returned (meshIn mesh) (claimIn mesh claim) number place
-  pub line : reportBytes ≤ length before → take reportBytes after ≡ reportLine decimals (filesVerdict fileWidth mesh claim)
-  pub says : reportBytes ≤ length before → LineSays decimals (filesVerdict fileWidth mesh claim) (take reportBytes after)
+  pub line : reportBytes ≤ length before
+      → take reportBytes after ≡ reportLine decimals (filesVerdict fileWidth mesh claim)
+  pub says : reportBytes ≤ length before
+      → LineSays decimals (filesVerdict fileWidth mesh claim) (take reportBytes after)
   -- "Bytes beyond 113 are never written"
   pub rest : drop reportBytes after ≡ drop reportBytes before
   pub size : length after ≡ length before
 
--- "at most 65,536 bytes of each ..; a longer file is too long for any mesh or claim and is refused as its first 65,536 bytes are"
+-- "at most 65,536 bytes of each ..; a longer file is too long for any mesh or claim and is refused as its first 65,536
+-- bytes are"
 pub record LongFiles (mesh claim before : List ℕ) (number place : ℕ) (after : List ℕ) : Type 0 where
   pub cut : Answers (take mostFileBytes mesh) (take mostFileBytes claim) before number place after
   pub never-accepted : (mostFileBytes < length mesh) ⊎ (mostFileBytes < length claim) → number ≢ 0
@@ -74,14 +80,17 @@ pub record OnFiles (mesh claim : List ℕ) (number place : ℕ) : Type 0 where
 -- "mesh form: length, character, spelling, bytes missing or left over", and "claim form", said of the bytes
 pub record FormExactly (mesh claim : List ℕ) (number place : ℕ) : Type 0 where
   pub mesh-form : (j : ℕ) → ((number ≡ 1) × (place ≡ suc j)) ↔ FormFails fileWidth meshLayout mesh j
-  pub claim-form : (j : ℕ) → ((number ≡ 11) × (place ≡ suc j)) ↔ (MeshSound (meshIn mesh) × FormFails fileWidth (claimLayout (meshIn mesh)) claim j)
+  pub claim-form : (j : ℕ)
+      → ((number ≡ 11) × (place ≡ suc j))
+      ↔ (MeshSound (meshIn mesh) × FormFails fileWidth (claimLayout (meshIn mesh)) claim j)
 
 -- an accepted file is the file of its numbers, byte by byte: no other file has them
 pub record AcceptedFiles (mesh claim : List ℕ) (number : ℕ) : Type 0 where
   pub mesh-file : number ≡ 0 → mesh ≡ fileOf fileWidth meshLayout (meshIn mesh)
   pub claim-file : number ≡ 0 → claim ≡ fileOf fileWidth (claimLayout (meshIn mesh)) (claimIn mesh claim)
 
--- "Both loads have six decimals .. The lower goes towards minus infinity": the third column reads as v millionths, v/10^6 ≤ l/n < (v + 1)/10^6
+-- "Both loads have six decimals .. The lower goes towards minus infinity": the third column reads as v millionths,
+-- v/10^6 ≤ l/n < (v + 1)/10^6
 pub record LowerPrinted (c : List ℤ) (line : List ℕ) : Type 0 where
   pub millionths : ℤ
   pub reads : said (columnOf 2 line) ≡ some (shows millionths 6)
@@ -95,7 +104,8 @@ pub record UpperPrinted (m c : List ℤ) (line : List ℕ) : Type 0 where
   pub at-least : allowed m c ≤ᶠ millionths over pos 1000000
   pub within : (millionths -ℤ pos 1) over pos 1000000 <ᶠ allowed m c
 
--- the four columns: "Accepted .. reports: 0; the open rows ..; l/n; W/m"; "Refused: number, place, none, none"; "Whichever part the claim lacks gives the four letters none"
+-- the four columns: "Accepted .. reports: 0; the open rows ..; l/n; W/m"; "Refused: number, place, none, none";
+-- "Whichever part the claim lacks gives the four letters none"
 pub record Prints (m c : List ℤ) (number place : ℕ) (line : List ℕ) : Type 0 where
   pub first : said (columnOf 0 line) ≡ some (shows (pos number) 0)
   pub refused : number ≢ 0 → said (columnOf 1 line) ≡ some (shows (pos place) 0)
@@ -107,37 +117,46 @@ pub record Prints (m c : List ℤ) (number place : ℕ) (line : List ℕ) : Type
 
 -- ==== Demand 3: loads compared
 
--- "the open rows (strength rows with multiplier above 0 and left side below right)": the second column of an accepted claim with both parts reads as their number, and it is 0 exactly when l/n and W/m are equal
+-- "the open rows (strength rows with multiplier above 0 and left side below right)": the second column of an accepted
+-- claim with both parts reads as their number, and it is 0 exactly when l/n and W/m are equal
 pub record OpenRowsPrinted (m c : List ℤ) (line : List ℕ) : Type 0 where
   pub number : ℕ
   pub reads : said (columnOf 1 line) ≡ some (shows (pos number) 0)
-  pub count : NumberOf (λ k. Open (stress m c) (l c) (n c) (multiplier m c k) (rowAt (rowsOf m) k)) (length (rowsOf m)) number
+  pub count : NumberOf (λ k. Open (stress m c) (l c) (n c) (multiplier m c k) (rowAt (rowsOf m) k))
+      (length (rowsOf m)) number
   pub closed : (number ≡ 0) ↔ (carried c ≈ᶠ allowed m c)
 
 -- a call that was made, on two files or on numbers, and the number that it returned
 pub data Call : Handed → ℕ → Type 0 where
-  on-files : (mesh claim before : List ℕ) (number place : ℕ) (after : List ℕ) → Answers mesh claim before number place after → Call (files mesh claim) number
+  on-files : (mesh claim before : List ℕ) (number place : ℕ) (after : List ℕ)
+      → Answers mesh claim before number place after → Call (files mesh claim) number
   on-numbers : (m c : List ℤ) (r : NumbersAnswer) → Handed-over.Answers m c r → Call (numbers m c) (r .number)
 
--- "Parts are on the same mesh when they are judged against the same rows": the field of one call and the multipliers of another or of the same, each on files or on numbers
+-- "Parts are on the same mesh when they are judged against the same rows": the field of one call and the multipliers
+-- of another or of the same, each on files or on numbers
 abbrev pub TwoCalls : (a b : Handed) (i j : ℕ) → Type 0
-TwoCalls a b i j = Call a i → Call b j → OnTheSameMesh a b → TellsField (claimOf a) i → HasMultipliers (claimOf b) → j ≡ 0 → HandedBracket a b
+TwoCalls a b i j = Call a i → Call b j → OnTheSameMesh a b → TellsField (claimOf a) i → HasMultipliers (claimOf b)
+    → j ≡ 0 → HandedBracket a b
 
 -- the field of a call against accepted multipliers of any claim, one that is refused for its field too
 abbrev pub CallAndMultipliers : (a : Handed) (i : ℕ) → Type 0
-CallAndMultipliers a i = Call a i → (b : Handed) → OnTheSameMesh a b → TellsField (claimOf a) i → HasAcceptedMultipliers b → HandedBracket a b
+CallAndMultipliers a i = Call a i → (b : Handed) → OnTheSameMesh a b → TellsField (claimOf a) i
+    → HasAcceptedMultipliers b → HandedBracket a b
 
 -- a field in fractions, on any mesh with the same rows, against the multipliers of a call
 abbrev pub FractionsAndCall : (b : Handed) (j : ℕ) → Type 0
-FractionsAndCall b j = Call b j → HasMultipliers (claimOf b) → j ≡ 0 → (m : List ℤ) → MeshSound m → SameRows m (meshOf b) → FractionsBracket m (meshOf b) (claimOf b) (allowed (meshOf b) (claimOf b))
+FractionsAndCall b j = Call b j → HasMultipliers (claimOf b) → j ≡ 0 → (m : List ℤ) → MeshSound m
+    → SameRows m (meshOf b) → FractionsBracket m (meshOf b) (claimOf b) (allowed (meshOf b) (claimOf b))
 
 -- "Numbers handed to it get the refusals that a file of them, with columns as wide as needed, would get"
 pub record AsAFile (m c : List ℤ) (r : NumbersAnswer) : Type 0 where
   pub some-width : (w : ℕ) × Fit w m × Fit w c
-  pub every-width : (w : ℕ) → Fit w m → Fit w c → r ≡ answerOf (filesVerdict w (fileOf w meshLayout m) (fileOf w (claimLayout m) c))
+  pub every-width : (w : ℕ) → Fit w m → Fit w c
+      → r ≡ answerOf (filesVerdict w (fileOf w meshLayout m) (fileOf w (claimLayout m) c))
 
 -- ==== The sheets
 
 -- each sheet's line stands at the front of the buffer
 abbrev pub Written : Sheet → Type 0
-Written s = (before after : List ℕ) (number place : ℕ) → Answers (s .mesh) (s .claim) before number place after → reportBytes ≤ length before → take reportBytes after ≡ s .line
+Written s = (before after : List ℕ) (number place : ℕ) → Answers (s .mesh) (s .claim) before number place after
+    → reportBytes ≤ length before → take reportBytes after ≡ s .line

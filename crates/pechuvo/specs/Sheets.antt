@@ -1,5 +1,7 @@
--- Document 01's sheets, 'A whole sheet, and its neighbours', each with the line that is printed; and small sheets of our own that notice what those do not.
--- Lines are shown with one space between numbers and a stroke between lines; the files are written from them with columns of 12 characters.
+-- Document 01's sheets, 'A whole sheet, and its neighbours', each with the line that is printed; and small sheets of
+-- our own that notice what those do not.
+-- Lines are shown with one space between numbers and a stroke between lines; the files are written from them with
+-- columns of 12 characters.
 use mathlib.Core.List.{List, [], _∷_}
 use Prim.Native.Nat.{ℕ}
 use Prim.Native.String.{String}
@@ -72,7 +74,8 @@ starred =
     ∷ sheet "4 1 1 3 12 / 0 1 1 10 0 0 0 0 / 0 0 / 1 0 / 1 1 / 0 1 / 1 2 3 4 1 / 3 4 3 40 0 60 0 / 2 3 3 0 0 0 0 / 4 1 3 0 0 0 0"
     "1 1 3 -1 / 0 60 0 / 0 60 0 / 0 60 0 / 0 60 0 / 0 0 / -30 0 0 0 / 0 0 30 0 / 0 0 0 0 / 0 0 0 0 0 0 0 0 0 0 0 0 / 0 0 0 0 0 0 0 0 0 0 0 0 / 0 0 0 0 0 1 1 0 0 0 0 0 / 0 0 0 0 0 0 0 0 0 0 0 0"
     "                           0                           0                   -0.333334                   -0.333333\n"
-    -- -1/3000000 as upper 0.000000: a dead pull of 1 on a side of length 1 against a live force of 1,000 on 3,000 units of area
+    -- -1/3000000 as upper 0.000000: a dead pull of 1 on a side of length 1 against a live force of 1,000 on 3,000
+    -- units of area
     ∷ sheet "6 2 1 6 12 / 0 1 1 10 0 0 1000 0 / 0 0 / 1000 0 / 1000 1 / 0 1 / 1000 3 / 0 3 / 1 2 3 4 1 / 4 3 5 6 1 / 1 2 3 0 0 0 0 / 2 3 3 1 0 0 0 / 3 5 3 0 0 0 0 / 5 6 3 0 0 0 0 / 6 4 3 0 0 0 0 / 4 1 3 0 0 0 0"
     "0 1 0 0 / 1000 0 / 1000 0 / 0 -1 0 -1 / -1000 0 -1000 0 / -500 0 -500 0 / 0 1 0 1 / 500 0 500 0 / 1000 0 1000 0 / 0 0 0 0 0 0 0 0 0 0 0 0 / 0 0 0 0 0 0 0 0 0 0 0 0 / 0 0 0 0 0 0 0 0 0 0 0 0 / 0 0 0 0 0 0 0 0 0 0 0 0 / 0 0 0 0 0 0 0 0 0 0 0 0 / 0 0 0 0 0 0 0 0 0 0 0 0"
     "                           0                        none                        none                    0.000000\n"

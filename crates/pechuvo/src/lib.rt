@@ -1,4 +1,5 @@
-// Every call that C makes: the check of a mesh file and a claim file, two byte strings into a report line and the verdict's numbers; and the check of the numbers themselves.
+// Every call that C makes: the check of a mesh file and a claim file, two byte strings into a report line and the
+// verdict's numbers; and the check of the numbers themselves.
 
 use judge::judge_files;
 use numbers::numbers_answer::NumbersAnswer;
@@ -44,7 +45,8 @@ fn answer_of(v: Verdict, reported: Reported) -> Answer
 // The report of a mesh file and a claim file at the front of the buffer that is lent.
 #[no_mangle]
 pub extern "C" fn pechuvo_check(mesh: &[u8], claim: &[u8], report: &mut [u8]) -> Answer
-    ensures { λ r. ⌜ Answers (now (mesh .entry)) (now (claim .entry)) (now (report .entry)) (r .number) (r .place) (now (report .exit)) ⌝ }
+    ensures { λ r. ⌜ Answers (now (mesh .entry)) (now (claim .entry)) (now (report .entry)) (r .number) (r .place)
+        (now (report .exit)) ⌝ }
 {
     let v = judge_files(mesh, claim);
     let reported = write_report(v, report);

@@ -45,7 +45,8 @@ unfoldable pub widths : List Group → List ℕ
 widths [] = []
 widths (g ∷ gs) = replicate (g .lines) (width g) ++ widths gs
 
--- the numbers of lines with these many columns: a line that isn't well formed ends the list, and bytes left over add one number more
+-- the numbers of lines with these many columns: a line that isn't well formed ends the list, and bytes left over add
+-- one number more
 unfoldable pub readLines : ℕ → List ℕ → List ℕ → List ℤ
 readLines w [] [] = []
 readLines w [] (b ∷ bs) = pos 0 ∷ []
@@ -82,7 +83,8 @@ unfoldable pub columns : ℕ → List ℤ → List ℕ
 columns w [] = []
 columns w (z ∷ zs) = column w z ++ columns w zs
 
--- numbers written in lines with these many columns: the last line is left as far as there are numbers, and numbers left over follow the last line
+-- numbers written in lines with these many columns: the last line is left as far as there are numbers, and numbers
+-- left over follow the last line
 unfoldable pub writeLines : ℕ → List ℕ → List ℤ → List ℕ
 writeLines w [] zs = columns w zs
 writeLines w (k ∷ ks) zs =

@@ -1,4 +1,5 @@
--- A column read in one pass, each byte taken once, front to back: what is kept after some of its bytes, and how the program keeps it.
+-- A column read in one pass, each byte taken once, front to back: what is kept after some of its bytes, and how the
+-- program keeps it.
 use mathlib.Core.Path.{_≡_}
 use mathlib.Core.Bool.{true, false, cond}
 use mathlib.Core.List.{List, [], _∷_}
@@ -24,7 +25,8 @@ turn bad b = bad
 turn blank b =
     elim (eqb b 32) [
       | true ↦ blank
-      | false ↦ elim (eqb b 45) [ true ↦ sign | false ↦ elim (eqb b 48) [ true ↦ nought | false ↦ cond (isDigit b) up bad ] ]
+      | false ↦ elim
+          (eqb b 45) [ true ↦ sign | false ↦ elim (eqb b 48) [ true ↦ nought | false ↦ cond (isDigit b) up bad ] ]
     ]
 turn sign b = elim (eqb b 48) [ true ↦ bad | false ↦ cond (isDigit b) down bad ]
 turn nought b = bad

@@ -1,4 +1,6 @@
--- How a number stands in a column (document 01, 'The two files'): "Every number is decimal, right-justified in a column of 12 characters, filled with spaces (byte 32). A minus stands directly before the first digit; no plus, no leading zero, no minus zero."
+-- How a number stands in a column (document 01, 'The two files'): "Every number is decimal, right-justified in a
+-- column of 12 characters, filled with spaces (byte 32). A minus stands directly before the first digit; no plus, no
+-- leading zero, no minus zero."
 -- The column's width is a parameter: `fileWidth` in a file.
 use mathlib.Core.Bool.{true, false, cond}
 use mathlib.Core.List.{List, [], _∷_}

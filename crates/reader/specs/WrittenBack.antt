@@ -1,4 +1,5 @@
--- A file that passes the checks of its lines is the file of its numbers, byte by byte: there is one spelling of each number, and one way to write a line.
+-- A file that passes the checks of its lines is the file of its numbers, byte by byte: there is one spelling of each
+-- number, and one way to write a line.
 use mathlib.Core.Path.{_≡_}
 use mathlib.Core.List.{List}
 use Prim.Native.Nat.{ℕ}

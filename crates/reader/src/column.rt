@@ -4,7 +4,17 @@ ghost use Prim.Native.Nat.{_+_, _≤_, _<_};
 ghost use lib.ListN.{length, take, drop};
 ghost use Rattle.reader.specs.Spelling.{readColumn};
 ghost use Rattle.reader.specs.File.{fileWidth};
-ghost use Rattle.reader.specs.OnePass.{Table, Stepped, Said, Partway, OnlySpaces, Joined, FourBytes, FourStepped, readingOf};
+ghost use Rattle.reader.specs.OnePass.{
+  Table,
+  Stepped,
+  Said,
+  Partway,
+  OnlySpaces,
+  Joined,
+  FourBytes,
+  FourStepped,
+  readingOf,
+};
 
 // The bytes of a column.
 pub const COLUMN_BYTES: usize = 12;
@@ -156,7 +166,8 @@ fn four_steps(table: &[u64; 256], c: Kept, four: u64) -> Kept
 
 // A column of which the first eight bytes are taken, as two numbers.
 fn wide(table: &[u64; 256], bytes: &[u8], at: usize, first: u64, second: u64) -> Reading
-    requires { ⌜ Table (now table) ⌝ ∗ ⌜ at + fileWidth ≤ length (now bytes) ⌝ ∗ ⌜ FourBytes (now bytes) at first ⌝ ∗ ⌜ FourBytes (now bytes) (at + 4) second ⌝ }
+    requires { ⌜ Table (now table) ⌝ ∗ ⌜ at + fileWidth ≤ length (now bytes) ⌝ ∗ ⌜ FourBytes (now bytes) at first ⌝
+        ∗ ⌜ FourBytes (now bytes) (at + 4) second ⌝ }
     ensures { λ r. ⌜ r ≡ readingOf (readColumn (take fileWidth (drop at (now (bytes .entry))))) ⌝ }
 {
     let blank = Kept {
@@ -168,7 +179,8 @@ fn wide(table: &[u64; 256], bytes: &[u8], at: usize, first: u64, second: u64) ->
     rest_of(table, bytes, at, 8, d)
 }
 
-// A column of which the first eight bytes are spaces. Spaces leave the state as it is, so for speed the others are passed over too.
+// A column of which the first eight bytes are spaces. Spaces leave the state as it is, so for speed the others are
+// passed over too.
 fn narrow(table: &[u64; 256], bytes: &[u8], at: usize) -> Reading
     requires { ⌜ Table (now table) ⌝ ∗ ⌜ at + fileWidth ≤ length (now bytes) ⌝ ∗ ⌜ OnlySpaces (now bytes) at 8 ⌝ }
     ensures { λ r. ⌜ r ≡ readingOf (readColumn (take fileWidth (drop at (now (bytes .entry))))) ⌝ }
@@ -189,7 +201,8 @@ fn narrow(table: &[u64; 256], bytes: &[u8], at: usize) -> Reading
     Reading::Malformed
 }
 
-// The column whose first byte has the place `at`. Most bytes of a large claim are spaces, so for speed eight are taken at once.
+// The column whose first byte has the place `at`. Most bytes of a large claim are spaces, so for speed eight are taken
+// at once.
 pub fn column(table: &[u64; 256], bytes: &[u8], at: usize) -> Reading
     requires { ⌜ Table (now table) ⌝ ∗ ⌜ at + fileWidth ≤ length (now bytes) ⌝ }
     ensures { λ r. ⌜ r ≡ readingOf (readColumn (take fileWidth (drop at (now (bytes .entry))))) ⌝ }

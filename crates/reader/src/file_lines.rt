@@ -14,10 +14,20 @@ ghost use lib.ListN.{length, take, drop};
 ghost use Rattle.lines.specs.Table.{mostColumns, Known, lineWidths};
 ghost use Rattle.reader.specs.OnePass.{Table};
 ghost use Rattle.reader.specs.File.{fileWidth, readLine};
-ghost use Rattle.reader.specs.ReadSoFar.{start, LineTaken, LineRoom, linesOf, LinesTaken, allNumbers, Room, RoomBefore};
+ghost use Rattle.reader.specs.ReadSoFar.{
+  start,
+  LineTaken,
+  LineRoom,
+  linesOf,
+  LinesTaken,
+  allNumbers,
+  Room,
+  RoomBefore,
+};
 ghost use Rattle.reader.specs.Listed.{Listed};
 
-// How far a file is read: whether its lines so far are all well formed, the place of its next byte, and how many numbers it has so far.
+// How far a file is read: whether its lines so far are all well formed, the place of its next byte, and how many
+// numbers it has so far.
 pub struct Progress {
     pub going: bool,
     pub at: usize,
@@ -26,8 +36,10 @@ pub struct Progress {
 
 // The line of some columns whose first byte has the place `at`: whether it is well formed, and its numbers.
 fn read_line(table: &[u64; 256], bytes: &[u8], at: usize, columns: usize, line: &mut [i64]) -> bool
-    requires { ⌜ Table (now table) ⌝ ∗ ⌜ at ≤ length (now bytes) ⌝ ∗ ⌜ columns ≤ length (now line) ⌝ ∗ ⌜ columns ≤ mostColumns ⌝ }
-    ensures { λ r. ⌜ readLine fileWidth columns (drop at (now (bytes .entry))) ≡ cond r (some (take columns (now (line .exit)))) none ⌝ }
+    requires { ⌜ Table (now table) ⌝ ∗ ⌜ at ≤ length (now bytes) ⌝ ∗ ⌜ columns ≤ length (now line) ⌝
+        ∗ ⌜ columns ≤ mostColumns ⌝ }
+    ensures { λ r. ⌜ readLine fileWidth columns (drop at (now (bytes .entry)))
+        ≡ cond r (some (take columns (now (line .exit)))) none ⌝ }
 {
     if bytes.len() - at < columns * COLUMN_BYTES + 1 {
         return false;
@@ -49,7 +61,9 @@ fn read_line(table: &[u64; 256], bytes: &[u8], at: usize, columns: usize, line: 
 // The first numbers of a line into a list.
 fn copy(line: &[i64], columns: usize, out: &mut [i64], from: usize)
     requires { ⌜ columns ≤ length (now line) ⌝ ∗ ⌜ from + columns ≤ length (now out) ⌝ }
-    ensures { λ _. ⌜ now (out .exit) ≡ take from (now (out .entry)) ++ take columns (now (line .entry)) ++ drop (from + columns) (now (out .entry)) ⌝ }
+    ensures { λ _. ⌜ now (out .exit)
+        ≡ take from (now (out .entry)) ++ take columns (now (line .entry))
+        ++ drop (from + columns) (now (out .entry)) ⌝ }
 {
     let mut j: usize = 0;
     while j < columns {
@@ -67,7 +81,8 @@ fn next_line(
     line: &mut [i64],
     out: &mut [i64],
 ) -> Progress
-    requires { ⌜ Table (now table) ⌝ ∗ ⌜ columns ≤ mostColumns ⌝ ∗ ⌜ columns ≤ length (now line) ⌝ ∗ ⌜ LineRoom (now bytes) columns p (now out) ⌝ }
+    requires { ⌜ Table (now table) ⌝ ∗ ⌜ columns ≤ mostColumns ⌝ ∗ ⌜ columns ≤ length (now line) ⌝
+        ∗ ⌜ LineRoom (now bytes) columns p (now out) ⌝ }
     ensures { λ r. ⌜ LineTaken (now (bytes .entry)) columns p (now (out .entry)) r (now (out .exit)) ⌝ }
 {
     let at = p.at;
@@ -96,7 +111,8 @@ fn read_group(
     line: &mut [i64],
     out: &mut [i64],
 ) -> Progress
-    requires { ⌜ Table (now table) ⌝ ∗ ⌜ g .columns ≤ mostColumns ⌝ ∗ ⌜ mostColumns ≤ length (now line) ⌝ ∗ ⌜ RoomBefore (now bytes) (linesOf g) p (now out) ⌝ }
+    requires { ⌜ Table (now table) ⌝ ∗ ⌜ g .columns ≤ mostColumns ⌝ ∗ ⌜ mostColumns ≤ length (now line) ⌝
+        ∗ ⌜ RoomBefore (now bytes) (linesOf g) p (now out) ⌝ }
     ensures { λ r. ⌜ LinesTaken (now (bytes .entry)) (linesOf g) p (now (out .entry)) r (now (out .exit)) ⌝ }
 {
     let lines = g.lines;
@@ -116,7 +132,8 @@ fn read_group(
 // After the last line: bytes left over add one number more.
 fn finish(bytes: &[u8], p: Progress, out: &mut [i64]) -> usize
     requires { ⌜ Room (now bytes) [] p (now out) ⌝ }
-    ensures { λ r. ⌜ Listed (allNumbers (now (bytes .entry)) [] p (now (out .entry))) (now (out .entry)) r (now (out .exit)) ⌝ }
+    ensures { λ r. ⌜ Listed (allNumbers (now (bytes .entry)) [] p (now (out .entry))) (now (out .entry)) r
+        (now (out .exit)) ⌝ }
 {
     let numbers = p.numbers;
     if !p.going {
@@ -153,7 +170,8 @@ fn read_all(
     line: &mut [i64],
     out: &mut [i64],
 ) -> Progress
-    requires { ⌜ Table (now table) ⌝ ∗ ⌜ mostColumns ≤ length (now line) ⌝ ∗ ⌜ Known groups ⌝ ∗ ⌜ Room (now bytes) (lineWidths groups) p (now out) ⌝ }
+    requires { ⌜ Table (now table) ⌝ ∗ ⌜ mostColumns ≤ length (now line) ⌝ ∗ ⌜ Known groups ⌝
+        ∗ ⌜ Room (now bytes) (lineWidths groups) p (now out) ⌝ }
     ensures { λ r. ⌜ LinesTaken (now (bytes .entry)) (lineWidths groups) p (now (out .entry)) r (now (out .exit)) ⌝ }
 {
     let mut q = p;
@@ -174,7 +192,8 @@ pub fn read_groups(
     out: &mut [i64],
 ) -> usize
     requires { ⌜ Table (now table) ⌝ ∗ ⌜ Known groups ⌝ ∗ ⌜ Room (now bytes) (lineWidths groups) p (now out) ⌝ }
-    ensures { λ r. ⌜ Listed (allNumbers (now (bytes .entry)) (lineWidths groups) p (now (out .entry))) (now (out .entry)) r (now (out .exit)) ⌝ }
+    ensures { λ r. ⌜ Listed (allNumbers (now (bytes .entry)) (lineWidths groups) p (now (out .entry)))
+        (now (out .entry)) r (now (out .exit)) ⌝ }
 {
     let mut line = [0; MOST_SIDES];
     let q = read_all(table, bytes, p, groups, &mut line, out);

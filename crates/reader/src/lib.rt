@@ -1,4 +1,5 @@
-// The bytes of a mesh file and of a claim file into numbers: each byte is taken once, front to back, and the numbers stand at the front of a list that the caller lends.
+// The bytes of a mesh file and of a claim file into numbers: each byte is taken once, front to back, and the numbers
+// stand at the front of a list that the caller lends.
 mod column;
 mod file_lines;
 
@@ -46,7 +47,8 @@ ghost use Rattle.reader.specs.Listed.{Listed, ClaimRoom, ClaimListed};
 ghost use Rattle.reader.specs.Most.{mostNumbers};
 ghost use Rattle.reader.specs.TableBytes.{mostBytes, bytesIn};
 
-// The most numbers of a mesh file, and of a claim file: their headers, as many lines as there can be, and one for bytes left over.
+// The most numbers of a mesh file, and of a claim file: their headers, as many lines as there can be, and one for
+// bytes left over.
 pub const MESH_ROOM: usize = MESH_HEADER
     + MOST_SOILS * SOIL_COLUMNS
     + MOST_NODES * NODE_COLUMNS
@@ -73,8 +75,11 @@ pub fn most_numbers(bytes: usize) -> usize
 
 // The lines after a mesh's header, which stands at the front of `out`.
 fn mesh_body(table: &[u64; 256], bytes: &[u8], p: Progress, out: &mut [i64]) -> usize
-    requires { ⌜ Table (now table) ⌝ ∗ ⌜ HeaderThere (now out) ⌝ ∗ ⌜ Room (now bytes) (widths (meshLayout .body (now out))) p (now out) ⌝ }
-    ensures { λ r. ⌜ Listed (allNumbers (now (bytes .entry)) (widths (meshLayout .body (now (out .entry)))) p (now (out .entry))) (now (out .entry)) r (now (out .exit)) ⌝ }
+    requires { ⌜ Table (now table) ⌝ ∗ ⌜ HeaderThere (now out) ⌝
+        ∗ ⌜ Room (now bytes) (widths (meshLayout .body (now out))) p (now out) ⌝ }
+    ensures { λ r. ⌜ Listed
+        (allNumbers (now (bytes .entry)) (widths (meshLayout .body (now (out .entry)))) p (now (out .entry)))
+        (now (out .entry)) r (now (out .exit)) ⌝ }
 {
     let groups = mesh_groups(header_sizes(out));
     read_groups(table, bytes, p, groups, out)
@@ -83,7 +88,8 @@ fn mesh_body(table: &[u64; 256], bytes: &[u8], p: Progress, out: &mut [i64]) -> 
 // The numbers of a mesh file, and how many they are: the list that is lent has room for them.
 pub fn read_mesh(bytes: &[u8], out: &mut [i64]) -> usize
     requires { ⌜ length (numbersOf fileWidth meshLayout (now bytes)) ≤ length (now out) ⌝ }
-    ensures { λ r. ⌜ Listed (numbersOf fileWidth meshLayout (now (bytes .entry))) (now (out .entry)) r (now (out .exit)) ⌝ }
+    ensures { λ r. ⌜ Listed (numbersOf fileWidth meshLayout (now (bytes .entry))) (now (out .entry)) r
+        (now (out .exit)) ⌝ }
 {
     let entries = table();
     let p = read_header(&entries, bytes, MESH_HEADER, out);
@@ -99,8 +105,12 @@ pub fn read_mesh(bytes: &[u8], out: &mut [i64]) -> usize
 
 // The lines after a claim's header, which stands at the front of `out`.
 fn claim_body(table: &[u64; 256], bytes: &[u8], p: Progress, s: Sizes, out: &mut [i64]) -> usize
-    requires { ⌜ Table (now table) ⌝ ∗ ⌜ FewThings s ⌝ ∗ ⌜ Room (now bytes) (widths (claimBody s (hasField (now out)) (hasMultipliers (now out)))) p (now out) ⌝ }
-    ensures { λ r. ⌜ Listed (allNumbers (now (bytes .entry)) (widths (claimBody s (hasField (now (out .entry))) (hasMultipliers (now (out .entry))))) p (now (out .entry))) (now (out .entry)) r (now (out .exit)) ⌝ }
+    requires { ⌜ Table (now table) ⌝ ∗ ⌜ FewThings s ⌝
+        ∗ ⌜ Room (now bytes) (widths (claimBody s (hasField (now out)) (hasMultipliers (now out)))) p (now out) ⌝ }
+    ensures { λ r. ⌜ Listed
+        (allNumbers (now (bytes .entry))
+        (widths (claimBody s (hasField (now (out .entry))) (hasMultipliers (now (out .entry))))) p (now (out .entry)))
+        (now (out .entry)) r (now (out .exit)) ⌝ }
 {
     let groups = claim_groups(s, has_part(out, 0), has_part(out, 1));
     read_groups(table, bytes, p, groups, out)

@@ -1,4 +1,5 @@
--- A quotient with d decimals, its whole part and its decimals apart, and its rounding. One unit is one in the last decimal, 10^-d.
+-- A quotient with d decimals, its whole part and its decimals apart, and its rounding. One unit is one in the last
+-- decimal, 10^-d.
 use mathlib.Core.Bool.{Bool, true, false}
 use Prim.Native.Nat.{ℕ, _+_, _*_, _-_, _/_, _%_, _^_}
 use Rattle.report.specs.declared.division.Digit.{Digit}

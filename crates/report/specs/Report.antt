@@ -1,4 +1,5 @@
--- The report line (document 01, 'Verdict and report'): "The report is 113 bytes: four columns of 28, right-justified, and byte 10."
+-- The report line (document 01, 'Verdict and report'): "The report is 113 bytes: four columns of 28, right-justified,
+-- and byte 10."
 use mathlib.Core.List.{List, [], _∷_, _++_}
 use Prim.Native.Nat.{ℕ, zero, suc, _+_, _*_, _^_}
 use lib.IntN.{ℤ, pos, negsuc, _*ℤ_}
@@ -21,7 +22,8 @@ columnBytes = 28
 abbrev pub reportBytes : ℕ
 reportBytes = 4 * columnBytes + 1
 
--- a load with d decimals, rounded once by `round`; a load whose denominator is not above 0 is none (an accepted claim has no such load)
+-- a load with d decimals, rounded once by `round`; a load whose denominator is not above 0 is none (an accepted claim
+-- has no such load)
 unfoldable pub loadText : (ℤ → ℕ → ℤ) → ℕ → Load → List ℕ
 loadText round d Absent = noneText
 loadText round d (Exact num (pos zero)) = noneText

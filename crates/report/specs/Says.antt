@@ -1,4 +1,5 @@
--- What a report line says of a verdict (document 01, 'Verdict and report'), by its four columns as they are read, with no look at how they were written.
+-- What a report line says of a verdict (document 01, 'Verdict and report'), by its four columns as they are read, with
+-- no look at how they were written.
 -- The number of decimals d is a parameter: six in the report.
 use mathlib.Core.Path.{_≡_}
 use mathlib.Core.List.{List, [], _∷_}
@@ -53,20 +54,25 @@ abbrev pub NoUpper : Verdict → Type 0
 NoUpper (Accepted o lower upper) = NoLoad upper
 NoUpper (Refused k place) = Unit {0}
 
--- of a load: none where there is none, else v/10^d where v is the load times 10^d rounded as R says, to its floor or to its ceiling
+-- of a load: none where there is none, else v/10^d where v is the load times 10^d rounded as R says, to its floor or
+-- to its ceiling
 pub data LoadSays (R : ℤ → ℕ → ℤ → Type 0) (d : ℕ) : Load → Said → Type 0 where
   no-load : {load : Load} → NoLoad load → LoadSays R d load word
-  rounded : (num v : ℤ) (den : ℕ) → 0 < den → R (num *ℤ pos (10 ^ d)) den v → LoadSays R d (Exact num (pos den)) (number v d)
+  rounded : (num v : ℤ) (den : ℕ) → 0 < den → R (num *ℤ pos (10 ^ d)) den v
+      → LoadSays R d (Exact num (pos den)) (number v d)
 
 -- of the open rows: "open rows need both parts"
 pub data RowsSay : OpenRows → Said → Type 0 where
   no-rows : RowsSay NoCount word
   rows : (k : ℕ) → RowsSay (Count k) (number (pos k) 0)
 
--- the four columns: "Accepted .. reports: 0; the open rows ..; l/n; W/m", "The lower goes towards minus infinity, the upper towards plus infinity"; "Refused: number, place, none, none"
+-- the four columns: "Accepted .. reports: 0; the open rows ..; l/n; W/m", "The lower goes towards minus infinity, the
+-- upper towards plus infinity"; "Refused: number, place, none, none"
 pub data Says (d : ℕ) : Verdict → Said → Said → Said → Said → Type 0 where
-  says-accepted : {o : OpenRows} {lower upper : Load} {b c e : Said} → RowsSay o b → LoadSays Floor d lower c → LoadSays Ceil d upper e → Says d (Accepted o lower upper) (number (pos 0) 0) b c e
-  says-refused : (k : ℕ) (place : Place) → Says d (Refused k place) (number (pos k) 0) (number (pos (placeNumber place)) 0) word word
+  says-accepted : {o : OpenRows} {lower upper : Load} {b c e : Said} → RowsSay o b → LoadSays Floor d lower c
+      → LoadSays Ceil d upper e → Says d (Accepted o lower upper) (number (pos 0) 0) b c e
+  says-refused : (k : ℕ) (place : Place)
+      → Says d (Refused k place) (number (pos k) 0) (number (pos (placeNumber place)) 0) word word
 
 -- a line of as many bytes as the report has, byte 10 after its four columns, whose columns say that
 pub record LineSays (d : ℕ) (v : Verdict) (line : List ℕ) : Type 0 where

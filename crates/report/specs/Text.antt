@@ -1,5 +1,7 @@
--- How the report spells a load (document 01, 'Verdict and report'): "Both loads have six decimals and at least one digit before the point; a zero has no minus."
--- The number of decimals d is a parameter: six in the report. And what such a text says, read with no look at how it was written.
+-- How the report spells a load (document 01, 'Verdict and report'): "Both loads have six decimals and at least one
+-- digit before the point; a zero has no minus."
+-- The number of decimals d is a parameter: six in the report. And what such a text says, read with no look at how it
+-- was written.
 use mathlib.Core.Path.{_≡_}
 use mathlib.Core.Bool.{Bool, true, false, cond, _&&_}
 use mathlib.Core.List.{List, [], _∷_, _++_}
@@ -51,7 +53,8 @@ decimal bs =
       | none ↦ cond (properDigits whole) (some (valueAfter 0 whole, 0)) none
       | some [] ↦ none
       | some (c ∷ cs) ↦
-          cond (properDigits whole && allDigits (c ∷ cs)) (some (valueAfter (valueAfter 0 whole) (c ∷ cs), length (c ∷ cs))) none
+          cond (properDigits whole && allDigits (c ∷ cs))
+          (some (valueAfter (valueAfter 0 whole) (c ∷ cs), length (c ∷ cs))) none
     ]
 
 unfoldable pub saidNumber : ℕ × ℕ → Option Said

@@ -1,4 +1,5 @@
-// A quotient with d decimals by long division. In units of its last decimal it does not fit 64 bits, so its whole part and its decimals are apart.
+// A quotient with d decimals by long division. In units of its last decimal it does not fit 64 bits, so its whole part
+// and its decimals are apart.
 ghost use mathlib.Core.Path.{_≡_};
 ghost use Prim.Native.Nat.{_+_, _*_, _%_, _^_, _≤_, _<_};
 ghost use lib.IntN.{natAbs};

@@ -16,7 +16,16 @@ ghost use mathlib.Core.List.{_++_};
 ghost use Prim.Native.Nat.{_≤_};
 ghost use lib.ListN.{length, drop};
 ghost use Rattle.integer.specs.Decimal.{digits, rightJustified};
-ghost use Rattle.report.specs.Report.{columnBytes, reportBytes, lowerText, upperText, openText, fourColumns, reportLine, decimals};
+ghost use Rattle.report.specs.Report.{
+  columnBytes,
+  reportBytes,
+  lowerText,
+  upperText,
+  openText,
+  fourColumns,
+  reportLine,
+  decimals,
+};
 ghost use Rattle.report.specs.Buffer.{Reports};
 
 // Whether the line was written, or the buffer has no room for it.
@@ -56,7 +65,9 @@ fn put_open(column: &mut [u8], open_rows: OpenRows)
 // Four columns and byte 10. The second is a number or none, as the open rows are.
 fn put_line(buffer: &mut [u8], number: u64, second: OpenRows, lower: Load, upper: Load, d: usize)
     requires { ⌜ d ≤ 7 ⌝ ∗ ⌜ reportBytes ≤ length (now buffer) ⌝ }
-    ensures { λ _. ⌜ now (buffer .exit) ≡ fourColumns (digits number) (openText second) (lowerText d lower) (upperText d upper) ++ drop reportBytes (now (buffer .entry)) ⌝ }
+    ensures { λ _. ⌜ now (buffer .exit)
+        ≡ fourColumns (digits number) (openText second) (lowerText d lower) (upperText d upper)
+        ++ drop reportBytes (now (buffer .entry)) ⌝ }
 {
     put_number(&mut buffer[0..SECOND], number);
     put_open(&mut buffer[SECOND..THIRD], second);

@@ -67,7 +67,8 @@ fn above_zero(p: Parts) -> bool
 // num / den, rounded once: below 0 the magnitude goes the other way, and "a zero has no minus".
 fn put_exact(column: &mut [u8], num: i64, den: u64, up: bool, d: usize)
     requires { ⌜ length (now column) ≡ columnBytes ⌝ ∗ ⌜ 0 < den ⌝ ∗ ⌜ den < 2 ^ 63 ⌝ ∗ ⌜ d ≤ 7 ⌝ }
-    ensures { λ _. ⌜ now (column .exit) ≡ rightJustified columnBytes (fixed d (roundTo up (num *ℤ pos (10 ^ d)) den)) ⌝ }
+    ensures { λ _. ⌜ now (column .exit)
+        ≡ rightJustified columnBytes (fixed d (roundTo up (num *ℤ pos (10 ^ d)) den)) ⌝ }
 {
     let m = magnitude(num);
     if num < 0 {

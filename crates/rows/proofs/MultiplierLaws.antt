@@ -18,7 +18,8 @@ use Rattle.scope.specs.Columns.{at}
 use Rattle.scope.specs.Rows.{equalityRows, rowsOf}
 use Rattle.scope.specs.Sums.{weightedSum, unit, coefficient}
 use Rattle.scope.specs.Tests.{rowAt}
-use Rattle.rows.specs.RowContracts.{withColumns, rowOf, RowFits, Filled, SumsAre, Grown, sumBelow, rowSum}
+use Rattle.scope.specs.PrintedColumns.{sumBelow}
+use Rattle.rows.specs.RowContracts.{withColumns, rowOf, RowFits, Filled, SumsAre, Grown, rowSum}
 use Rattle.rows.specs.MultiplierContracts.{SumsFit, RowSummed, NoSums, Summed}
 use Rattle.rows.proofs.SumLaws.{one-entry-more, unit-within, sums-within, sumBelow-next}
 

@@ -25,7 +25,9 @@ use Rattle.scope.specs.Tests.{rowAt}
 use Rattle.rows.specs.declared.multiplier_sums.Sums.{Sums}
 use Rattle.rows.specs.declared.multiplier_sums.SideSums.{SideSums}
 use Rattle.rows.specs.declared.multiplier_sums.PairSums.{PairSums}
-use Rattle.rows.specs.RowContracts.{Listed, SumsAre, MeshSteps, StepsFit, SoilNumbers, sideAt, runOf, riseOf, crossOf, sumBelow, rowSum, partSum}
+use Rattle.scope.specs.PrintedColumns.{sumBelow}
+use Rattle.scope.specs.RowNumbers.{sideAt}
+use Rattle.rows.specs.RowContracts.{Listed, SumsAre, MeshSteps, StepsFit, SoilNumbers, runOf, riseOf, crossOf, rowSum, partSum}
 use Rattle.rows.specs.MultiplierContracts.{Multipliers, SideWeighted, NoSums, SummedTo, Summed, PairsSummed, SideMultipliers, SideSumsFit, SideAdded, sideSum, SideSumsAre, PairSumsAre, PairSumsFit, pairFirst, PairPart, threeAdded, WholeSumsFit}
 use Rattle.rows.proofs.SumLaws.{unit-within, sums-within, sums-add, sumBelow-next, sumBelow-cong, sumBelow-add}
 use Rattle.rows.proofs.SideLaws.{run-within, rise-within, cross-within}

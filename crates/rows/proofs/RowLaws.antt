@@ -9,13 +9,13 @@ use Rattle.scope.specs.Mesh.{elements, edges, sides, fromNode, toNode, equality
 use Rattle.scope.specs.Polygon.{Side, polygonOf}
 use Rattle.scope.specs.Rows.{Row, pairCount, pairAt, balanceX, balanceY, normalRow, shearRow, strengthRows, equalityRows, rowsOf}
 use Rattle.scope.specs.Tests.{rowAt}
-use Rattle.scope.specs.RowNumbers as S
-use Rattle.rows.specs.RowContracts.{Listed, sideAt, EntriesFit}
+use Rattle.scope.specs.RowNumbers.{sideAt, pairRow}
+use Rattle.rows.specs.RowContracts.{Listed, EntriesFit}
 use Rattle.scope.proofs.RowNumbers as N
 
 -- the strength row of pair a and a side
 unfoldable pub rowOfPair : List ℤ → ℕ → Side → Row
-rowOfPair m a s = S.pairRow m (pairAt m a) s
+rowOfPair m a s = pairRow m (pairAt m a) s
 
 module _ (m : List ℤ) where
   pub balance-at : (e i : ℕ) → e < elements m → i < 2 → rowAt (equalityRows m) (e * 2 + i) ≡ rowAt (balanceX m e ∷ balanceY m e ∷ []) i
@@ -35,7 +35,7 @@ module _ (m : List ℤ) where
 
 module _ (m : List ℤ) (listed : Listed (sides m)) where
   pub strength-at : (a k : ℕ) → a < pairCount m → k < sides m → rowAt (strengthRows m) (a * sides m + k) ≡ rowOfPair m a (sideAt (polygonOf (sides m)) k)
-  unfolding rowOfPair sideAt S.sideAt
+  unfolding rowOfPair
   strength-at = N.strength-at m (listed .listed)
 
 pub fits-wider : {coefficients : List ℤ} {columns : List ℕ} {count a b : ℕ} → EntriesFit coefficients columns count a → a ≤ b → EntriesFit coefficients columns count b

@@ -22,7 +22,8 @@ use Rattle.scope.specs.Mesh.{mostSides}
 use Rattle.scope.specs.Bounds.{mostRadius}
 use Rattle.scope.specs.PolygonRule.{PolygonFits, ListedPolygon}
 use Rattle.scope.specs.Rows.{cross}
-use Rattle.rows.specs.RowContracts.{Listed, next, coordinates, Table, SideIs, StepIs, Steps, tableRun, tableRise, tableCross, StepsUpTo, sideAt, runOf, riseOf, crossOf}
+use Rattle.scope.specs.RowNumbers.{sideAt}
+use Rattle.rows.specs.RowContracts.{Listed, next, coordinates, Table, SideIs, StepIs, Steps, tableRun, tableRise, tableCross, StepsUpTo, runOf, riseOf, crossOf}
 use Rattle.scope.proofs.PolygonRule.{legs-within}
 use Rattle.scope.proofs.RowCounts.{side-of-each}
 use Rattle.scope.proofs.Checks.{below-suc}

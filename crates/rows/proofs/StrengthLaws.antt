@@ -36,7 +36,8 @@ use Rattle.scope.specs.Sums.{weightedSum, leftSide, rightSide, rowHolds, isOpen
 use Rattle.scope.specs.NumberRanges.{Counts, SoilFacts}
 use Rattle.scope.specs.Tests.{rowAt}
 use Rattle.mesh.specs.MeshContracts.{Sized, PairTable}
-use Rattle.rows.specs.RowContracts.{Listed, SoilNumbers, SoilFits, PairOf, PairNumbers, PairFits, PairState, Steps, MeshSteps, StepsFit, sideAt, runOf, riseOf, crossOf, sideSlack, pairHolds}
+use Rattle.scope.specs.RowNumbers.{sideAt}
+use Rattle.rows.specs.RowContracts.{Listed, SoilNumbers, SoilFits, PairOf, PairNumbers, PairFits, PairState, Steps, MeshSteps, StepsFit, runOf, riseOf, crossOf, sideSlack, pairHolds}
 use Rattle.scope.specs.Phases.{checkPhase}
 use Rattle.scope.specs.Refusals.{strengthsPhase}
 use Rattle.lines.specs.SearchContracts.{firstFailing}

@@ -19,7 +19,8 @@ use Rattle.scope.specs.Columns.{at}
 use Rattle.scope.specs.Rows.{Row}
 use Rattle.scope.specs.Sums.{weightedSum, weighed, unit, howMany}
 use Rattle.scope.specs.Tests.{rowAt}
-use Rattle.rows.specs.RowContracts.{withColumns, entriesOf, SumsAre, sumBelow, countBelow, rowSum}
+use Rattle.scope.specs.PrintedColumns.{sumBelow}
+use Rattle.rows.specs.RowContracts.{withColumns, entriesOf, SumsAre, countBelow, rowSum}
 
 -- ---- the entries of a row
 

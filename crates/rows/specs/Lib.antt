@@ -1,4 +1,5 @@
--- Contracts between functions, nothing that a reader must believe: rows as numbers, sums over multipliers, the limit, the open rows.
+-- Contracts between functions, nothing that a reader must believe: rows as numbers, sums over multipliers, the limit,
+-- the open rows.
 pub mod RowContracts
 pub mod MultiplierContracts
 pub mod LimitContracts

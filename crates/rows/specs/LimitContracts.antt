@@ -33,4 +33,5 @@ sumsLimit f n sums = limitOf (checkPhases (columnsPhase f n ∷ livePhase (sums 
 
 -- 31, 32 and 33 of the multipliers w
 unfoldable pub multipliersLimit : List ℤ → (ℕ → ℤ) → Limit
-multipliersLimit m w = limitOf (multipliersCheck (equalityRows m) (rowsOf m) (3 * nodes m) w) (Exact (limitSum w (rowsOf m)) (liveSum w (rowsOf m)))
+multipliersLimit m w = limitOf (multipliersCheck (equalityRows m) (rowsOf m) (3 * nodes m) w)
+    (Exact (limitSum w (rowsOf m)) (liveSum w (rowsOf m)))

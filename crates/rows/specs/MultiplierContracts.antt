@@ -18,7 +18,8 @@ use Rattle.rows.specs.declared.multiplier_sums.SideSums.{SideSums}
 use Rattle.rows.specs.declared.multiplier_sums.PairSums.{PairSums}
 use Rattle.mesh.specs.declared.sizes.Sizes.{Sizes}
 use Rattle.mesh.specs.MeshContracts.{Sized, PairTable}
-use Rattle.rows.specs.RowContracts.{MeshSteps, SumsAre, sumBelow, rowSum, partSum, Grown}
+use Rattle.scope.specs.PrintedColumns.{sumBelow}
+use Rattle.rows.specs.RowContracts.{MeshSteps, SumsAre, rowSum, partSum, Grown}
 
 -- ---- a claim's multipliers
 
@@ -48,7 +49,8 @@ pub record SumsFit (columns : List ℤ) (sums : Sums) : Type 0 where
 
 -- row k, times its multiplier, is added to the column sums, to W and to m
 pub record RowSummed (m y : List ℤ) (k : ℕ) (before after : List ℤ) (a b : Sums) : Type 0 where
-  pub columns : (j : ℕ) → Grown (at before j) (at after j) (at y k *ℤ coefficient j (rowAt (rowsOf m) k)) equalityColumn
+  pub columns : (j : ℕ)
+      → Grown (at before j) (at after j) (at y k *ℤ coefficient j (rowAt (rowsOf m) k)) equalityColumn
   pub limit : Grown (a .w) (b .w) (at y k *ℤ rowAt (rowsOf m) k .right) equalitySum
   pub live : Grown (a .m) (b .m) (at y k *ℤ rowAt (rowsOf m) k .live) equalitySum
 
@@ -70,7 +72,8 @@ Summed m y k columns sums = SummedTo m y k (k * equalityColumn) (k * equalitySum
 
 -- ---- the sides of a pair
 
--- side k of the table t with its multiplier w: their products are bounded, not each by itself, for a polygon with larger steps has smaller multipliers
+-- side k of the table t with its multiplier w: their products are bounded, not each by itself, for a polygon with
+-- larger steps has smaller multipliers
 pub record SideWeighted (t : List ℤ) (k : ℕ) (w : ℤ) : Type 0 where
   pub itself : Within mostMultiplier w
   pub run : Within weightedStep (w *ℤ at t (3 * k))
@@ -141,7 +144,8 @@ pub record PairPart (r : PairSums) (m y : List ℤ) (a : ℕ) : Type 0 where
 
 -- a sum for each of three columns from `column` on is added
 abbrev pub threeAdded : List ℤ → ℕ → PairSums → ℕ → ℤ
-threeAdded before column r j = at before j +ℤ r .sx *ℤ unit j column +ℤ r .sy *ℤ unit j (column + 1) +ℤ r .t *ℤ unit j (column + 2)
+threeAdded before column r j = at before j +ℤ r .sx *ℤ unit j column +ℤ r .sy *ℤ unit j (column + 1)
+    +ℤ r .t *ℤ unit j (column + 2)
 
 -- ---- all rows
 

@@ -1,4 +1,5 @@
--- What the checks of the parts hand around: a polygon's sides as numbers, rows as numbers, and the records that their functions require and ensure.
+-- What the checks of the parts hand around: a polygon's sides as numbers, rows as numbers, and the records that their
+-- functions require and ensure.
 use mathlib.Core.Path.{_≡_}
 use mathlib.Core.Logic.{_⊎_}
 use mathlib.Core.Bool.{Bool, true, cond}
@@ -20,7 +21,9 @@ use Rattle.scope.specs.Mesh.{mostSides, mostPairs, nodes, sides, corner, p, q, 
 use Rattle.scope.specs.Bounds.{mostCoordinate, mostFriction, mostScale, mostLoad, mostStress, mostRadius, mostStep, mostCross, mostSquare, mostEntries, mostCoefficient, equalityRight, mostLever, twiceStrength, mostSpread, mostReserve}
 use Rattle.scope.specs.Columns.{at, hasField, n, l}
 use Rattle.scope.specs.Claim.{ifThere, stress}
-use Rattle.scope.specs.Polygon.{Point, point, Side, Polygon, polygonSides, polygonOf}
+use Rattle.scope.specs.Polygon.{Point, Side, Polygon, polygonOf}
+use Rattle.scope.specs.RowNumbers.{sideAt}
+use Rattle.scope.specs.PrintedColumns.{sumBelow}
 use Rattle.scope.specs.Rows.{asked, unfixed, Row, pairCount, pairAt, strengthRows, sx, sy, t, cross, riseAcross, runAcross}
 use Rattle.scope.specs.Sums.{rowHolds}
 use Rattle.scope.specs.NumberRanges.{ClaimFacts}
@@ -92,10 +95,7 @@ pub record StepsUpTo (k : ℕ) (r t : List ℤ) (n : ℕ) : Type 0 where
 abbrev pub StepsFrom : List ℤ → List ℤ → ℕ → Type 0
 StepsFrom r t n = StepsUpTo n r t n
 
--- side k of a polygon, and what a strength row reads of it
-unfoldable pub sideAt : Polygon → ℕ → Side
-sideAt g k = getD (polygonSides (g .corners)) k (record { from = point (pos 0) (pos 0); to = point (pos 0) (pos 0) })
-
+-- what a strength row reads of a side
 unfoldable pub runOf : Side → ℤ
 runOf s = s .to .px -ℤ s .from .px
 
@@ -333,11 +333,7 @@ pairHolds m c a =
 
 -- ---- sums
 
--- the sum of f below n, and how many below n pass a test
-unfoldable pub sumBelow : (ℕ → ℤ) → ℕ → ℤ
-sumBelow f zero = pos 0
-sumBelow f (suc n) = sumBelow f n +ℤ f n
-
+-- how many below n pass a test
 unfoldable pub countBelow : (ℕ → Bool) → ℕ → ℕ
 countBelow f zero = 0
 countBelow f (suc n) = countBelow f n + cond (f n) 1 0

@@ -7,13 +7,49 @@ ghost use lib.ListN.{length, set};
 ghost use Rattle.integer.specs.Bounds.{Within, AllWithin, Is};
 ghost use Rattle.integer.specs.Tests.{eqZ};
 ghost use Rattle.scope.specs.Columns.{at};
-ghost use Rattle.scope.specs.Mesh.{mostNodes, nodes, elements, edges, corner, x, y, soilEntry, elementSoil, equalityCount};
-ghost use Rattle.scope.specs.Bounds.{mostCoordinate, mostTraction, mostStress, mostLoad, mostMultiplier, mostArea, equalityRight, equalityLeft, equalityColumn, mostColumn, mostAddend};
+ghost use Rattle.scope.specs.Mesh.{
+  mostNodes,
+  nodes,
+  elements,
+  edges,
+  corner,
+  x,
+  y,
+  soilEntry,
+  elementSoil,
+  equalityCount,
+};
+ghost use Rattle.scope.specs.Bounds.{
+  mostCoordinate,
+  mostTraction,
+  mostStress,
+  mostLoad,
+  mostMultiplier,
+  mostArea,
+  equalityRight,
+  equalityLeft,
+  equalityColumn,
+  mostColumn,
+  mostAddend,
+};
 ghost use Rattle.scope.specs.Rows.{stepX, stepY, balanceX, balanceY, normalRow, shearRow, equalityRows};
 ghost use Rattle.scope.specs.Sums.{weightedSum, unit};
 ghost use Rattle.scope.specs.Tests.{rowAt};
 ghost use Rattle.mesh.specs.MeshContracts.{Sized};
-ghost use Rattle.rows.specs.RowContracts.{SquaresAre, SquaresFit, normalOf, shearOf, entriesOf, EntriesFit, Filled, SumsAre, CornersAre, SpanIs, cornerColumns, balancedOf};
+ghost use Rattle.rows.specs.RowContracts.{
+  SquaresAre,
+  SquaresFit,
+  normalOf,
+  shearOf,
+  entriesOf,
+  EntriesFit,
+  Filled,
+  SumsAre,
+  CornersAre,
+  SpanIs,
+  cornerColumns,
+  balancedOf,
+};
 use mesh::sizes::Sizes;
 use mesh::sizes::corner_of;
 use mesh::sizes::edge_entry;
@@ -24,7 +60,8 @@ use mesh::sizes::rise_between;
 use mesh::sizes::run_between;
 use mesh::sizes::soil_entry;
 
-// Coefficients with their columns, as many as `count` says, the coefficient of l on the left, the right side at n = 1, and whether the row asks anything.
+// Coefficients with their columns, as many as `count` says, the coefficient of l on the left, the right side at n = 1,
+// and whether the row asks anything.
 pub struct EqualityRow {
     pub coefficients: [i64; 8],
     pub columns: [usize; 8],
@@ -43,8 +80,11 @@ pub fn left_side<'a>(
     x: &[i64],
     l: i64,
 ) -> i64
-    requires { ⌜ EntriesFit (now coefficients) (now columns) count (length (now x)) ⌝ ∗ ⌜ Within equalityRight live ⌝ ∗ ⌜ AllWithin mostStress (now x) ⌝ ∗ ⌜ Within mostLoad l ⌝ }
-    ensures { λ a. ⌜ Is a (weightedSum (at (now (x .entry))) (entriesOf (now (coefficients .entry)) (now (columns .entry)) count) +ℤ live *ℤ l) equalityLeft ⌝ }
+    requires { ⌜ EntriesFit (now coefficients) (now columns) count (length (now x)) ⌝ ∗ ⌜ Within equalityRight live ⌝
+        ∗ ⌜ AllWithin mostStress (now x) ⌝ ∗ ⌜ Within mostLoad l ⌝ }
+    ensures { λ a. ⌜ Is a
+        (weightedSum (at (now (x .entry))) (entriesOf (now (coefficients .entry)) (now (columns .entry)) count)
+        +ℤ live *ℤ l) equalityLeft ⌝ }
 {
     let mut sum: i64 = 0;
     let mut i: usize = 0;
@@ -74,8 +114,11 @@ pub fn add_row<'a>(
     count: usize,
     y: i64,
 )
-    requires { ⌜ EntriesFit (now coefficients) (now columns) count (length (now sums)) ⌝ ∗ ⌜ AllWithin mostColumn (now sums) ⌝ ∗ ⌜ Within mostMultiplier y ⌝ }
-    ensures { λ _. ⌜ SumsAre (mostColumn + equalityColumn) (now (sums .exit)) (λ j. at (now (sums .entry)) j +ℤ y *ℤ weightedSum (unit j) (entriesOf (now (coefficients .entry)) (now (columns .entry)) count)) ⌝ }
+    requires { ⌜ EntriesFit (now coefficients) (now columns) count (length (now sums)) ⌝
+        ∗ ⌜ AllWithin mostColumn (now sums) ⌝ ∗ ⌜ Within mostMultiplier y ⌝ }
+    ensures { λ _. ⌜ SumsAre (mostColumn + equalityColumn) (now (sums .exit))
+        (λ j. at (now (sums .entry)) j
+        +ℤ y *ℤ weightedSum (unit j) (entriesOf (now (coefficients .entry)) (now (columns .entry)) count)) ⌝ }
 {
     let mut i: usize = 0;
     while i < count {
@@ -105,7 +148,8 @@ fn corners_of(m: &[i64], s: Sizes, e: usize) -> Corners
     Corners { a, b, c, d }
 }
 
-// What the balance rows of an element read of its shape: across corners 0 and 1, the rise and the run from one neighbour to the other. Across corners 2 and 3 they are the opposite.
+// What the balance rows of an element read of its shape: across corners 0 and 1, the rise and the run from one
+// neighbour to the other. Across corners 2 and 3 they are the opposite.
 pub struct Span {
     pub rise: i64,
     pub rise_next: i64,
@@ -132,7 +176,8 @@ fn span_of(m: &[i64], s: Sizes, e: usize) -> Span
 
 // Twice the area of an element.
 fn twice_area(rise: i64, rise_next: i64, run: i64, run_next: i64) -> i64
-    requires { ⌜ Within mostCoordinate rise ⌝ ∗ ⌜ Within mostCoordinate «rise_next» ⌝ ∗ ⌜ Within mostCoordinate run ⌝ ∗ ⌜ Within mostCoordinate «run_next» ⌝ }
+    requires { ⌜ Within mostCoordinate rise ⌝ ∗ ⌜ Within mostCoordinate «rise_next» ⌝ ∗ ⌜ Within mostCoordinate run ⌝
+        ∗ ⌜ Within mostCoordinate «run_next» ⌝ }
     ensures { λ r. ⌜ Is r (rise *ℤ «run_next» -ℤ «rise_next» *ℤ run) mostArea ⌝ }
 {
     rise * run_next - rise_next * run
@@ -179,7 +224,8 @@ fn balanced(
     live: i64,
     right: i64,
 ) -> EqualityRow
-    requires { ⌜ Within mostCoordinate a ⌝ ∗ ⌜ Within mostCoordinate «a_next» ⌝ ∗ ⌜ Within mostCoordinate b ⌝ ∗ ⌜ Within mostCoordinate «b_next» ⌝ }
+    requires { ⌜ Within mostCoordinate a ⌝ ∗ ⌜ Within mostCoordinate «a_next» ⌝ ∗ ⌜ Within mostCoordinate b ⌝
+        ∗ ⌜ Within mostCoordinate «b_next» ⌝ }
     requires { ⌜ Within equalityRight live ⌝ ∗ ⌜ Within equalityRight right ⌝ }
     ensures { λ r. ⌜ r ≡ balancedOf a «a_next» b «b_next» columns live right ⌝ }
 {
@@ -272,7 +318,8 @@ fn normal(
     live: i64,
     asked: bool,
 ) -> EqualityRow
-    requires { ⌜ SquaresFit uu uw ww square ⌝ ∗ ⌜ column < 3 * mostNodes ⌝ ∗ ⌜ Within mostTraction dead ⌝ ∗ ⌜ Within mostTraction live ⌝ }
+    requires { ⌜ SquaresFit uu uw ww square ⌝ ∗ ⌜ column < 3 * mostNodes ⌝ ∗ ⌜ Within mostTraction dead ⌝
+        ∗ ⌜ Within mostTraction live ⌝ }
     ensures { λ r. ⌜ r ≡ normalOf uu uw ww square column dead live asked ⌝ }
 {
     let coefficients = [ww, -(2 * uw), uu, 0, 0, 0, 0, 0];
@@ -297,7 +344,8 @@ fn shear(
     live: i64,
     asked: bool,
 ) -> EqualityRow
-    requires { ⌜ SquaresFit uu uw ww square ⌝ ∗ ⌜ column < 3 * mostNodes ⌝ ∗ ⌜ Within mostTraction dead ⌝ ∗ ⌜ Within mostTraction live ⌝ }
+    requires { ⌜ SquaresFit uu uw ww square ⌝ ∗ ⌜ column < 3 * mostNodes ⌝ ∗ ⌜ Within mostTraction dead ⌝
+        ∗ ⌜ Within mostTraction live ⌝ }
     ensures { λ r. ⌜ r ≡ shearOf uu uw ww square column dead live asked ⌝ }
 {
     let coefficients = [uw, -uw, ww - uu, 0, 0, 0, 0, 0];
@@ -340,7 +388,8 @@ fn shear_row(m: &[i64], s: Sizes, g: usize, v: usize) -> EqualityRow
 // Row i of the four of edge g: normal and shear at from, then at to.
 fn side_row(m: &[i64], s: Sizes, g: usize, i: usize) -> EqualityRow
     requires { ⌜ Sized (now m) s × (g < edges (now m)) × (i < 4) ⌝ }
-    ensures { λ r. ⌜ Filled r (rowAt (equalityRows (now (m .entry))) (elements (now (m .entry)) * 2 + (g * 4 + i))) (3 * nodes (now (m .entry))) ⌝ }
+    ensures { λ r. ⌜ Filled r (rowAt (equalityRows (now (m .entry))) (elements (now (m .entry)) * 2 + (g * 4 + i)))
+        (3 * nodes (now (m .entry))) ⌝ }
 {
     if i < 2 {
         let from = edge_from(m, s, g);

@@ -1,4 +1,5 @@
-// The rows of a mesh and the sums over them, for files and for a solver alike: equality rows, strength rows, open rows,
+// The rows of a mesh and the sums over them, for files and for a solver alike: equality rows, strength rows, open
+// rows,
 // and the limit of multipliers.
 
 pub mod equality_rows;

@@ -59,7 +59,8 @@ fn row_asked(m: &[i64], s: Sizes, k: usize) -> bool
 
 // The multiplier of equality row k is 0, or the row asks something.
 pub fn zero_if_unfixed(m: &[i64], s: Sizes, y: &[i64], k: usize) -> bool
-    requires { ⌜ Sized (now m) s × (k < equalityCount (now m)) ⌝ ∗ ⌜ k < length (now y) ⌝ ∗ ⌜ AllWithin mostMultiplier (now y) ⌝ }
+    requires { ⌜ Sized (now m) s × (k < equalityCount (now m)) ⌝ ∗ ⌜ k < length (now y) ⌝
+        ∗ ⌜ AllWithin mostMultiplier (now y) ⌝ }
     ensures { λ r. ⌜ r ≡ zeroIfUnfixed (at (now (y .entry)) k) (rowAt (equalityRows (now (m .entry))) k) ⌝ }
 {
     let w = number_at(y, k);
@@ -150,7 +151,9 @@ pub fn multipliers_from(c: &[i64], nodes: usize) -> usize
 // The limit of a claim whose lines have passed.
 pub fn claim_limit(m: &[i64], c: &[i64], s: Sizes, pairs: &[u8], steps: &[i64]) -> Limit
     requires { ⌜ Judged (now m) (now c) s (now pairs) ⌝ ∗ ⌜ MeshSteps (now m) (now steps) ⌝ }
-    ensures { λ r. ⌜ r ≡ limitOf (checkPhases (multiplierPart (now (m .entry)) (now (c .entry)))) (upperLoad (now (m .entry)) (now (c .entry))) ⌝ }
+    ensures { λ r. ⌜ r
+        ≡ limitOf (checkPhases (multiplierPart (now (m .entry)) (now (c .entry))))
+        (upperLoad (now (m .entry)) (now (c .entry))) ⌝ }
 {
     if number_at(c, 1) == 1 {
         let from = multipliers_from(c, s.nodes);

@@ -9,7 +9,24 @@ ghost use Rattle.scope.specs.Rows.{pairCount};
 ghost use Rattle.scope.specs.Bounds.{mostMultiplier, equalityRight, equalitySums, pairColumn, mostColumn};
 ghost use Rattle.mesh.specs.MeshContracts.{Sized};
 ghost use Rattle.rows.specs.RowContracts.{SumsAre, SoilFits, StepsFit, StepFits};
-ghost use Rattle.rows.specs.MultiplierContracts.{Multipliers, RowsGiven, SumsFit, RowSummed, NoSums, Summed, PairsSummed, SideWeighted, SideMultipliers, SideSumsFit, SideAdded, SideSumsAre, PairSumsAre, PairSumsFit, PairPart, threeAdded};
+ghost use Rattle.rows.specs.MultiplierContracts.{
+  Multipliers,
+  RowsGiven,
+  SumsFit,
+  RowSummed,
+  NoSums,
+  Summed,
+  PairsSummed,
+  SideWeighted,
+  SideMultipliers,
+  SideSumsFit,
+  SideAdded,
+  SideSumsAre,
+  PairSumsAre,
+  PairSumsFit,
+  PairPart,
+  threeAdded,
+};
 use crate::equality_rows::add_at;
 use crate::equality_rows::add_row;
 use crate::equality_rows::equality_row;
@@ -31,7 +48,8 @@ pub struct Sums {
 
 // Adds the right side of a row and its coefficient of l, times the multiplier y, to W and m.
 fn add_sums(sums: Sums, y: i64, right: i64, live: i64) -> Sums
-    requires { ⌜ Within equalitySums (sums .w) ⌝ ∗ ⌜ Within equalitySums (sums .m) ⌝ ∗ ⌜ Within mostMultiplier y ⌝ ∗ ⌜ Within equalityRight right ⌝ ∗ ⌜ Within equalityRight live ⌝ }
+    requires { ⌜ Within equalitySums (sums .w) ⌝ ∗ ⌜ Within equalitySums (sums .m) ⌝ ∗ ⌜ Within mostMultiplier y ⌝
+        ∗ ⌜ Within equalityRight right ⌝ ∗ ⌜ Within equalityRight live ⌝ }
     ensures { λ r. ⌜ (r .w ≡ sums .w +ℤ y *ℤ right) × (r .m ≡ sums .m +ℤ y *ℤ live) ⌝ }
 {
     Sums {
@@ -42,8 +60,11 @@ fn add_sums(sums: Sums, y: i64, right: i64, live: i64) -> Sums
 
 // Adds equality row k, times its multiplier, to the column sums and to W and m.
 fn add_equality(m: &[i64], s: Sizes, y: &[i64], k: usize, columns: &mut [i64], sums: Sums) -> Sums
-    requires { ⌜ Sized (now m) s × (k < equalityCount (now m)) ⌝ ∗ ⌜ k < length (now y) ⌝ ∗ ⌜ AllWithin mostMultiplier (now y) ⌝ ∗ ⌜ 3 * nodes (now m) ≤ length (now columns) ⌝ ∗ ⌜ SumsFit (now columns) sums ⌝ }
-    ensures { λ r. ⌜ RowSummed (now (m .entry)) (now (y .entry)) k (now (columns .entry)) (now (columns .exit)) sums r ⌝ }
+    requires { ⌜ Sized (now m) s × (k < equalityCount (now m)) ⌝ ∗ ⌜ k < length (now y) ⌝
+        ∗ ⌜ AllWithin mostMultiplier (now y) ⌝ ∗ ⌜ 3 * nodes (now m) ≤ length (now columns) ⌝
+        ∗ ⌜ SumsFit (now columns) sums ⌝ }
+    ensures { λ r. ⌜ RowSummed (now (m .entry)) (now (y .entry)) k (now (columns .entry))
+        (now (columns .exit)) sums r ⌝ }
 {
     let w = number_at(y, k);
     if w == 0 {
@@ -57,7 +78,8 @@ fn add_equality(m: &[i64], s: Sizes, y: &[i64], k: usize, columns: &mut [i64], s
 // All equality rows, each times its multiplier: to column sums that are 0 yet.
 fn equality_sums(m: &[i64], s: Sizes, y: &[i64], columns: &mut [i64]) -> Sums
     requires { ⌜ Sized (now m) s ⌝ ∗ ⌜ Multipliers (now m) (now y) ⌝ ∗ ⌜ NoSums (now columns) ⌝ }
-    ensures { λ r. ⌜ Summed (now (m .entry)) (now (y .entry)) (equalityCount (now (m .entry))) (now (columns .exit)) r ⌝ }
+    ensures { λ r. ⌜ Summed (now (m .entry)) (now (y .entry)) (equalityCount (now (m .entry)))
+        (now (columns .exit)) r ⌝ }
 {
     let rows = equality_count(s);
     let mut sums = Sums { w: 0, m: 0 };
@@ -160,7 +182,8 @@ fn pair_part(m: &[i64], s: Sizes, pairs: &[u8], steps: &[i64], y: &[i64], a: usi
 // Adds a pair's sums to the three columns of its node, from `column` on.
 fn add_columns(columns: &mut [i64], column: usize, a: PairSums)
     requires { ⌜ column + 2 < length (now columns) ⌝ ∗ ⌜ AllWithin mostColumn (now columns) ⌝ ∗ ⌜ PairSumsFit a ⌝ }
-    ensures { λ _. ⌜ SumsAre (mostColumn + 3 * pairColumn) (now (columns .exit)) (threeAdded (now (columns .entry)) column a) ⌝ }
+    ensures { λ _. ⌜ SumsAre (mostColumn + 3 * pairColumn) (now (columns .exit))
+        (threeAdded (now (columns .entry)) column a) ⌝ }
 {
     add_at(columns, column, a.sx);
     add_at(columns, column + 1, a.sy);
@@ -204,7 +227,8 @@ fn strength_sums(
 ) -> Sums
     requires { ⌜ RowsGiven (now m) s (now pairs) (now steps) (now y) ⌝
         ∗ ⌜ Summed (now m) (now y) (equalityCount (now m)) (now columns) equalities ⌝ }
-    ensures { λ r. ⌜ PairsSummed (now (m .entry)) (now (y .entry)) (pairCount (now (m .entry))) (now (columns .exit)) r ⌝ }
+    ensures { λ r. ⌜ PairsSummed (now (m .entry)) (now (y .entry)) (pairCount (now (m .entry)))
+        (now (columns .exit)) r ⌝ }
 {
     let all = s.pairs;
     let mut sums = equalities;
@@ -226,7 +250,8 @@ pub fn row_sums(
     columns: &mut [i64],
 ) -> Sums
     requires { ⌜ RowsGiven (now m) s (now pairs) (now steps) (now y) ⌝ ∗ ⌜ NoSums (now columns) ⌝ }
-    ensures { λ r. ⌜ PairsSummed (now (m .entry)) (now (y .entry)) (pairCount (now (m .entry))) (now (columns .exit)) r ⌝ }
+    ensures { λ r. ⌜ PairsSummed (now (m .entry)) (now (y .entry)) (pairCount (now (m .entry)))
+        (now (columns .exit)) r ⌝ }
 {
     let equalities = equality_sums(m, s, y, columns);
     strength_sums(m, s, pairs, steps, y, columns, equalities)

@@ -8,7 +8,15 @@ ghost use Rattle.scope.specs.Claim.{stress};
 ghost use Rattle.scope.specs.Rows.{rowsOf};
 ghost use Rattle.scope.specs.Sums.{openRows};
 ghost use Rattle.scope.specs.Verdict.{openCount};
-ghost use Rattle.rows.specs.RowContracts.{Judged, MeshSteps, PairFits, StepFits, StepsFit, sideSlack, countBelow};
+ghost use Rattle.rows.specs.RowContracts.{
+  Judged,
+  MeshSteps,
+  PairFits,
+  StepFits,
+  StepsFit,
+  sideSlack,
+  countBelow,
+};
 ghost use Rattle.rows.specs.MultiplierContracts.{Multipliers, SideMultipliers};
 ghost use Rattle.rows.specs.OpenContracts.{oneIfOpen, sideOpen};
 use crate::multiplier_checks::multipliers_from;
@@ -53,7 +61,9 @@ fn pair_open(steps: &[i64], sides: usize, d: &[i64], y: &[i64], first: usize) ->
 fn open_count(m: &[i64], c: &[i64], s: Sizes, pairs: &[u8], steps: &[i64], y: &[i64]) -> u64
     requires { ⌜ Judged (now m) (now c) s (now pairs) × (at (now c) 0 ≡ pos 1) ⌝ ∗ ⌜ MeshSteps (now m) (now steps) ⌝
         ∗ ⌜ Multipliers (now m) (now y) ⌝ }
-    ensures { λ r. ⌜ r ≡ openRows (stress (now (m .entry)) (now (c .entry))) (l (now (c .entry))) (n (now (c .entry))) (at (now (y .entry))) (rowsOf (now (m .entry))) ⌝ }
+    ensures { λ r. ⌜ r
+        ≡ openRows (stress (now (m .entry)) (now (c .entry))) (l (now (c .entry))) (n (now (c .entry)))
+        (at (now (y .entry))) (rowsOf (now (m .entry))) ⌝ }
 {
     let all = s.pairs;
     let sides = s.sides;

@@ -10,9 +10,34 @@ ghost use Rattle.scope.specs.Checks.{allBelow};
 ghost use Rattle.scope.specs.Columns.{at};
 ghost use Rattle.scope.specs.Mesh.{mostPairs, soils};
 ghost use Rattle.scope.specs.Rows.{pairCount};
-ghost use Rattle.scope.specs.Bounds.{mostRadius, mostStep, mostCross, mostFriction, mostScale, mostStress, mostLever, twiceStrength, mostSpread, mostReserve, mostSlack};
+ghost use Rattle.scope.specs.Bounds.{
+  mostRadius,
+  mostStep,
+  mostCross,
+  mostFriction,
+  mostScale,
+  mostStress,
+  mostLever,
+  twiceStrength,
+  mostSpread,
+  mostReserve,
+  mostSlack,
+};
 ghost use Rattle.mesh.specs.MeshContracts.{Sized};
-ghost use Rattle.rows.specs.RowContracts.{SoilNumbers, SoilFits, PairOf, PairNumbers, PairFits, StepFits, StepsFit, MeshSteps, sideSlack, Judged, PairState, pairHolds};
+ghost use Rattle.rows.specs.RowContracts.{
+  SoilNumbers,
+  SoilFits,
+  PairOf,
+  PairNumbers,
+  PairFits,
+  StepFits,
+  StepsFit,
+  MeshSteps,
+  sideSlack,
+  Judged,
+  PairState,
+  pairHolds,
+};
 use crate::polygons::radius_of;
 use mesh::sizes::Sizes;
 use mesh::sizes::number_at;
@@ -63,7 +88,8 @@ fn pair_of(lever: i64, friction: i64, right: i64, sx: i64, sy: i64, t: i64, n: i
 
 // The same, for node v of a field, from the numbers k of the soil.
 pub fn pair_numbers(k: &[i64], x: &[i64], v: usize, n: i64) -> [i64; 4]
-    requires { ⌜ SoilFits (now k) ⌝ ∗ ⌜ 3 * v + 2 < length (now x) ⌝ ∗ ⌜ AllWithin mostStress (now x) ⌝ ∗ ⌜ Within mostScale n ⌝ }
+    requires { ⌜ SoilFits (now k) ⌝ ∗ ⌜ 3 * v + 2 < length (now x) ⌝ ∗ ⌜ AllWithin mostStress (now x) ⌝
+        ∗ ⌜ Within mostScale n ⌝ }
     ensures { λ r. ⌜ PairNumbers r (now (k .entry)) (now (x .entry)) v n ⌝ }
 {
     let sx = number_at(x, 3 * v);
@@ -78,7 +104,8 @@ pub fn pair_numbers(k: &[i64], x: &[i64], v: usize, n: i64) -> [i64; 4]
 // The right side of a strength row less its left side, from the numbers of the side and of the pair.
 fn slack(run: i64, rise: i64, cross: i64, lever: i64, spread: i64, twist: i64, reserve: i64) -> i64
     requires { ⌜ Within mostStep run ⌝ ∗ ⌜ Within mostStep rise ⌝ ∗ ⌜ Within mostCross cross ⌝ }
-    requires { ⌜ Within mostLever lever ⌝ ∗ ⌜ Within mostSpread spread ⌝ ∗ ⌜ Within mostSpread twist ⌝ ∗ ⌜ Within mostReserve reserve ⌝ }
+    requires { ⌜ Within mostLever lever ⌝ ∗ ⌜ Within mostSpread spread ⌝ ∗ ⌜ Within mostSpread twist ⌝
+        ∗ ⌜ Within mostReserve reserve ⌝ }
     ensures { λ r. ⌜ Is r (cross *ℤ reserve -ℤ lever *ℤ (rise *ℤ spread -ℤ run *ℤ twist)) mostSlack ⌝ }
 {
     cross * reserve - lever * (rise * spread - run * twist)
@@ -138,7 +165,8 @@ fn sides_hold(steps: &[i64], sides: usize, d: &[i64]) -> bool
 
 // 22 at pair a: each of its strength rows holds at a claim's field.
 pub fn pair_holds(m: &[i64], c: &[i64], s: Sizes, pairs: &[u8], steps: &[i64], a: usize) -> bool
-    requires { ⌜ Judged (now m) (now c) s (now pairs) × (at (now c) 0 ≡ pos 1) × MeshSteps (now m) (now steps) × (a < pairCount (now m)) ⌝ }
+    requires { ⌜ Judged (now m) (now c) s (now pairs) × (at (now c) 0 ≡ pos 1) × MeshSteps (now m) (now steps)
+        × (a < pairCount (now m)) ⌝ }
     ensures { λ r. ⌜ r ≡ pairHolds (now (m .entry)) (now (c .entry)) a ⌝ }
 {
     let d = pair_state(m, c, s, pairs, a);

@@ -1,4 +1,6 @@
--- Accepted parts and accepted claims (document 01, 'Verdict and report'): "A part is accepted when its own checks pass (21 and 22 for a field, 31 to 33 for multipliers; mesh and claim have passed all before 21); a claim, when each part that it has is."
+-- Accepted parts and accepted claims (document 01, 'Verdict and report'): "A part is accepted when its own checks pass
+-- (21 and 22 for a field, 31 to 33 for multipliers; mesh and claim have passed all before 21); a claim, when each part
+-- that it has is."
 use mathlib.Core.List.{List}
 use lib.IntN.{ℤ}
 use Rattle.scope.specs.Claim.{claimLayout}

@@ -1,4 +1,5 @@
--- What an accepted field promises at each strength pair of its mesh: the criterion (001, eq. 12) for a friction angle whose sine is p/h and whose cosine is q/h, with true stresses over n.
+-- What an accepted field promises at each strength pair of its mesh: the criterion (001, eq. 12) for a friction angle
+-- whose sine is p/h and whose cosine is q/h, with true stresses over n.
 use mathlib.Core.Path.{_≡_}
 use mathlib.Core.List.{List}
 use Prim.Native.Nat.{ℕ, _<_}

@@ -1,4 +1,5 @@
--- What is answered (document 01, 'Verdict and report'): the number and the place of each case of each enum. (Loads and open rows have theirs where they are printed, `report/specs/Report.antt`.)
+-- What is answered (document 01, 'Verdict and report'): the number and the place of each case of each enum. (Loads and
+-- open rows have theirs where they are printed, `report/specs/Report.antt`.)
 use mathlib.Core.Bool.{cond, _||_}
 use Prim.Native.Nat.{ℕ}
 use lib.Dec.{eqb}

@@ -1,4 +1,5 @@
--- When a mesh and a claim are accepted, and when each refusal comes (document 01, 'Verdict and report'): the verdict, which is computed from tests, against the plain statements.
+-- When a mesh and a claim are accepted, and when each refusal comes (document 01, 'Verdict and report'): the verdict,
+-- which is computed from tests, against the plain statements.
 use mathlib.Core.Path.{_≡_}
 use mathlib.Core.Logic.{_↔_}
 use mathlib.Core.List.{List}
@@ -13,7 +14,8 @@ use Rattle.scope.specs.Refusals.{Refusal}
 use Rattle.scope.specs.Verdict.{openCount, lowerLoad, upperLoad, verdict}
 use Rattle.scope.specs.Accepted.{FieldAccepted, MultipliersAccepted, ClaimAccepted}
 
--- accepted, with the claim's own open rows and loads, exactly when mesh and claim are sound and each part that is there meets what is asked
+-- accepted, with the claim's own open rows and loads, exactly when mesh and claim are sound and each part that is
+-- there meets what is asked
 abbrev pub AcceptedExactly : List ℤ → List ℤ → Type 0
 AcceptedExactly m c = (verdict m c ≡ Accepted (openCount m c) (lowerLoad c) (upperLoad m c)) ↔ ClaimAccepted m c
 
@@ -29,4 +31,5 @@ ZeroExactly m c = (numberOf (verdict m c) ≡ 0) ↔ ClaimAccepted m c
 abbrev pub ByParts : List ℤ → List ℤ → Type 0
 ByParts m c =
     ClaimAccepted m c
-    ↔ (MeshSound m × LinesSound (claimLayout m) c × (HasField c → FieldAccepted m c) × (HasMultipliers c → MultipliersAccepted m c))
+    ↔ (MeshSound m × LinesSound (claimLayout m) c × (HasField c → FieldAccepted m c)
+    × (HasMultipliers c → MultipliersAccepted m c))

@@ -1,4 +1,5 @@
--- The bracket (document 01, 'Rows', Columns and "Loads compared"), for any list of rows: a field's load l/n and the limit W/m of multipliers.
+-- The bracket (document 01, 'Rows', Columns and "Loads compared"), for any list of rows: a field's load l/n and the
+-- limit W/m of multipliers.
 -- A field is its stresses s by column, with l and n. Multipliers w are numbered as the rows are.
 use mathlib.Core.Path.{_≡_}
 use mathlib.Core.Logic.{_↔_}
@@ -17,7 +18,8 @@ use Rattle.scope.specs.Tests.{rowAt}
 abbrev pub Columns : ℕ → List Row → Type 0
 Columns columns rs = (r : Row) → r ∈ rs → (e : ℤ × ℕ) → e ∈ r .entries → e .1 < columns
 
--- each corner of an element and each end of an edge is a node of the mesh; then no row of it has an entry beyond its 3·nodes columns
+-- each corner of an element and each end of an edge is a node of the mesh; then no row of it has an entry beyond its
+-- 3·nodes columns
 pub record NodesNamed (m : List ℤ) : Type 0 where
   pub corners : (e i : ℕ) → e < elements m → i < 4 → corner m e i < nodes m
   pub froms : (g : ℕ) → g < edges m → fromNode m g < nodes m

@@ -1,4 +1,5 @@
--- Checks in order (document 01, 'Verdict and report', "Order"): a check is a test with a number and a place, and what is said is the first check that fails.
+-- Checks in order (document 01, 'Verdict and report', "Order"): a check is a test with a number and a place, and what
+-- is said is the first check that fails.
 use mathlib.Core.Bool.{Bool, true, false, cond, _&&_, _||_}
 use Prim.Native.Nat.{ℕ, zero, suc}
 use Rattle.scope.specs.declared.Place.{Place}

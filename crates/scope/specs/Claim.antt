@@ -37,7 +37,8 @@ ifThere b k = cond b k 0
 unfoldable pub stressLines : ℕ → Group
 stressLines k = record { lines = k; limits = replicate stressColumns (upTo 1000000000); rules = [] }
 
--- "With multipliers: for each element 2, for each edge 4, within ±100,000; then for each node a line of as many as there are sides, 0 to 10,000"
+-- "With multipliers: for each element 2, for each edge 4, within ±100,000; then for each node a line of as many as
+-- there are sides, 0 to 10,000"
 -- "multiplier lines are numbered by node-and-soil pairs" (document 02, N2): a line for each pair
 unfoldable pub elementMultipliers : ℕ → Group
 elementMultipliers k = record { lines = k; limits = replicate elementRows (upTo 100000); rules = [] }

@@ -1,4 +1,5 @@
--- What the numbers of a line must be (document 01, 'The two files'): a limit for each column, and the rules that a line has besides.
+-- What the numbers of a line must be (document 01, 'The two files'): a limit for each column, and the rules that a
+-- line has besides.
 use mathlib.Core.Bool.{Bool, true, false, cond, not, _&&_, _||_}
 use mathlib.Core.List.{List, [], _∷_}
 use Prim.Native.Nat.{ℕ}
@@ -13,7 +14,8 @@ at ns k = getD ns k (pos 0)
 
 -- ---- limits
 
--- what a column's number may be: from lo to hi, one of a few, or any (the number of a node or of a soil has no limits of its own)
+-- what a column's number may be: from lo to hi, one of a few, or any (the number of a node or of a soil has no limits
+-- of its own)
 pub data Limit : Type 0 where
   between : ℤ → ℤ → Limit
   oneOf : List ℤ → Limit
@@ -40,7 +42,8 @@ upTo k = between (negℤ (pos k)) (pos k)
 
 -- ---- rules
 
--- p² + q² = h² in the first three columns (3); each listed column c names one of k things, numbered from 1 (4); a claim's parts are there and fit n and l (13)
+-- p² + q² = h² in the first three columns (3); each listed column c names one of k things, numbered from 1 (4); a
+-- claim's parts are there and fit n and l (13)
 pub data Rule : Type 0 where
   rightAngle : Rule
   naming : List (ℕ × ℕ) → Rule

@@ -19,14 +19,17 @@ circleRadius p q C n sx sy = pos 2 *ℤ q *ℤ C *ℤ n -ℤ p *ℤ (sx +ℤ sy)
 
 pub record Criterion (p q h C n sx sy t : ℤ) : Type 0 where
   pub radius-not-below-0 : pos 0 ≤ℤ circleRadius p q C n sx sy
-  pub squares : (h *ℤ h *ℤ ((sx -ℤ sy) *ℤ (sx -ℤ sy) +ℤ (pos 2 *ℤ t) *ℤ (pos 2 *ℤ t))) ≤ℤ (circleRadius p q C n sx sy *ℤ circleRadius p q C n sx sy)
+  pub squares : (h *ℤ h *ℤ ((sx -ℤ sy) *ℤ (sx -ℤ sy) +ℤ (pos 2 *ℤ t) *ℤ (pos 2 *ℤ t))) ≤ℤ
+      (circleRadius p q C n sx sy *ℤ circleRadius p q C n sx sy)
 
 -- stresses that meet all rows of a polygon meet the criterion
 abbrev pub WithinCriterion : Polygon → Type 0
 WithinCriterion g =
-    (p q h C n sx sy t : ℤ) → ((s : Side) → s ∈ polygonSides (g .corners) → Strength (g .radius) s p q h C n sx sy t) → Criterion p q h C n sx sy t
+    (p q h C n sx sy t : ℤ) → ((s : Side) → s ∈ polygonSides (g .corners) → Strength (g .radius) s p q h C n sx sy t)
+    → Criterion p q h C n sx sy t
 
 -- the criterion for a node with the strength of a soil, in a field of stresses s over n
 abbrev pub CriterionAt : List ℤ → (ℕ → ℤ) → ℤ → Pair → Type 0
 CriterionAt m s n a =
-    Criterion (p m (a .soil)) (q m (a .soil)) (h m (a .soil)) (cohesion m (a .soil)) n (s (sx (a .at))) (s (sy (a .at))) (s (t (a .at)))
+    Criterion (p m (a .soil)) (q m (a .soil)) (h m (a .soil)) (cohesion m (a .soil)) n (s (sx (a .at)))
+    (s (sy (a .at))) (s (t (a .at)))

@@ -1,4 +1,5 @@
--- Fields in fractions (document 01, "Loads compared"), for any list of rows: "A field in fractions has any fractions as each node's sx, sy and t and as its load, free of the claim's limits".
+-- Fields in fractions (document 01, "Loads compared"), for any list of rows: "A field in fractions has any fractions
+-- as each node's sx, sy and t and as its load, free of the claim's limits".
 use mathlib.Core.Logic.{_↔_}
 use mathlib.Core.List.{List}
 use Prim.Native.Nat.{ℕ, _<_}
@@ -26,7 +27,8 @@ pub record WrittenOver (columns : ℕ) (f : FractionField) (d : ℤ) (s : ℕ �
   pub stresses : (j : ℕ) → j < columns → s j over d ≈ᶠ f .stress j .value
   pub load : l over d ≈ᶠ f .load .value
 
--- "it meets the rows when, with that denominator as n, the stresses' numerators as stresses and the load's numerator as l, every strength row holds and every equality row but the unfixed ones"
+-- "it meets the rows when, with that denominator as n, the stresses' numerators as stresses and the load's numerator
+-- as l, every strength row holds and every equality row but the unfixed ones"
 pub record FractionsMeet (columns : ℕ) (f : FractionField) (rs : List Row) : Type 0 where
   pub denominator : ℤ
   pub numerators : ℕ → ℤ
@@ -46,8 +48,11 @@ pub record FractionLaws (columns : ℕ) (rs : List Row) : Type 0 where
   -- every field can be written over one denominator
   pub can-be-written : (f : FractionField) → (d : ℤ) × (s : ℕ → ℤ) × (l : ℤ) × WrittenOver columns f d s l
   -- whether it meets the rows is the same for every such denominator
-  pub same-for-each : (f : FractionField) → FractionsMeet columns f rs ↔ ((d : ℤ) (s : ℕ → ℤ) (l : ℤ) → WrittenOver columns f d s l → FieldMeets s l d rs)
+  pub same-for-each : (f : FractionField)
+      → FractionsMeet columns f rs ↔ ((d : ℤ) (s : ℕ → ℤ) (l : ℤ) → WrittenOver columns f d s l → FieldMeets s l d rs)
   -- a field of whole numbers over n is one
-  pub whole-numbers : (n : ℤ) (h : pos 0 <ℤ n) (s : ℕ → ℤ) (l : ℤ) → FieldMeets s l n rs → FractionsMeet columns (fieldOver n h s l) rs
+  pub whole-numbers : (n : ℤ) (h : pos 0 <ℤ n) (s : ℕ → ℤ) (l : ℤ) → FieldMeets s l n rs
+      → FractionsMeet columns (fieldOver n h s l) rs
   -- its load is at most W/m
-  pub at-most : (f : FractionField) (w : ℕ → ℤ) → FractionsMeet columns f rs → MultipliersMeet w rs columns → f .load .value ≤ᶠ limitSum w rs over liveSum w rs
+  pub at-most : (f : FractionField) (w : ℕ → ℤ) → FractionsMeet columns f rs → MultipliersMeet w rs columns
+      → f .load .value ≤ᶠ limitSum w rs over liveSum w rs

@@ -58,7 +58,8 @@ lineOf from (g ∷ gs) k =
 
 -- ---- a file's lines, front to back
 
--- a file: the numbers of its refusals for form and for limits, its header, and the groups after the header, which the header's numbers tell
+-- a file: the numbers of its refusals for form and for limits, its header, and the groups after the header, which the
+-- header's numbers tell
 pub record Layout : Type 0 where
   pub formNumber : ℕ
   pub limitNumber : ℕ
@@ -89,4 +90,5 @@ count (negsuc n) = 0
 
 -- column c of line i of group j
 unfoldable pub entry : List Group → List ℤ → ℕ → ℕ → ℕ → ℤ
-entry gs ns j i c = at ns (numbersBefore gs j + i * width (getD gs j (record { lines = 0; limits = []; rules = [] })) + c)
+entry gs ns j i c = at ns
+    (numbersBefore gs j + i * width (getD gs j (record { lines = 0; limits = []; rules = [] })) + c)

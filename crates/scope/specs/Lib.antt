@@ -1,4 +1,5 @@
--- Document 01 as definitions on the numbers of a mesh and of a claim, each file after those that it uses: what is answered, the layout, rows, sums, the verdict; then what the theorems say of them.
+-- Document 01 as definitions on the numbers of a mesh and of a claim, each file after those that it uses: what is
+-- answered, the layout, rows, sums, the verdict; then what the theorems say of them.
 -- All of it a reader must believe, and nothing here is a contract between functions: the definitions down to Verdict;
 -- then the statements, which say the same a second time and share no helper with them where a slip could hide
 -- (Printed, PrintedColumns, Criterion, Meaning, Pairs, PolygonRule, RowNumbers). Members only names a thing; Worked

@@ -1,4 +1,5 @@
--- What the rows mean (document 01, 'Rows'; 001, 2.2 and 2.4): laws that show the printed rows to be balance, tractions and strength.
+-- What the rows mean (document 01, 'Rows'; 001, 2.2 and 2.4): laws that show the printed rows to be balance, tractions
+-- and strength.
 use mathlib.Core.Path.{_≡_}
 use mathlib.Core.Logic.{_↔_}
 use mathlib.Core.List.{List}
@@ -25,21 +26,26 @@ doubledArea x y = cornerSum (λ i. x i *ℤ y (next i) -ℤ x (next i) *ℤ y i)
 
 -- where the stresses are linear in x and y, the left sides are D·(∂sx/∂x + ∂t/∂y) and D·(∂t/∂x + ∂sy/∂y)
 pub record Divergence (x y : ℕ → ℤ) : Type 0 where
-  pub in-x : (sx ∂sx/∂x ∂sx/∂y t ∂t/∂x ∂t/∂y : ℤ) → forceX x y (linear sx ∂sx/∂x ∂sx/∂y x y) (linear t ∂t/∂x ∂t/∂y x y) ≡ doubledArea x y *ℤ (∂sx/∂x +ℤ ∂t/∂y)
-  pub in-y : (sy ∂sy/∂x ∂sy/∂y t ∂t/∂x ∂t/∂y : ℤ) → forceY x y (linear sy ∂sy/∂x ∂sy/∂y x y) (linear t ∂t/∂x ∂t/∂y x y) ≡ doubledArea x y *ℤ (∂t/∂x +ℤ ∂sy/∂y)
+  pub in-x : (sx ∂sx/∂x ∂sx/∂y t ∂t/∂x ∂t/∂y : ℤ)
+      → forceX x y (linear sx ∂sx/∂x ∂sx/∂y x y) (linear t ∂t/∂x ∂t/∂y x y) ≡ doubledArea x y *ℤ (∂sx/∂x +ℤ ∂t/∂y)
+  pub in-y : (sy ∂sy/∂x ∂sy/∂y t ∂t/∂x ∂t/∂y : ℤ)
+      → forceY x y (linear sy ∂sy/∂x ∂sy/∂y x y) (linear t ∂t/∂x ∂t/∂y x y) ≡ doubledArea x y *ℤ (∂t/∂x +ℤ ∂sy/∂y)
 
 -- "D twice its area": of two triangles, the second of which has none where the third corner is repeated; and above 0
 pub record Area (m : List ℤ) (e : ℕ) : Type 0 where
   pub within : twiceArea m e ≡ doubledArea (λ i. x m (corner m e i)) (λ i. y m (corner m e i))
-  pub triangles : twiceArea m e ≡ turn m (corner m e 0) (corner m e 1) (corner m e 2) +ℤ turn m (corner m e 2) (corner m e 3) (corner m e 0)
+  pub triangles : twiceArea m e
+      ≡ turn m (corner m e 0) (corner m e 1) (corner m e 2) +ℤ turn m (corner m e 2) (corner m e 3) (corner m e 0)
   pub repeated : corner m e 2 ≡ corner m e 3 → twiceArea m e ≡ turn m (corner m e 0) (corner m e 1) (corner m e 2)
   pub above-0 : LeftTurns m e → pos 0 <ℤ twiceArea m e
 
 -- so the rows say what 001 does: "stress divergence plus force is zero"
 pub record Balanced (x y : ℕ → ℤ) (n l : ℤ) : Type 0 where
-  pub in-x : (sx ∂sx/∂x ∂sx/∂y t ∂t/∂x ∂t/∂y Fx fx : ℤ) → BalanceX x y (linear sx ∂sx/∂x ∂sx/∂y x y) (linear t ∂t/∂x ∂t/∂y x y) (doubledArea x y) Fx fx n l
+  pub in-x : (sx ∂sx/∂x ∂sx/∂y t ∂t/∂x ∂t/∂y Fx fx : ℤ)
+      → BalanceX x y (linear sx ∂sx/∂x ∂sx/∂y x y) (linear t ∂t/∂x ∂t/∂y x y) (doubledArea x y) Fx fx n l
       ↔ (∂sx/∂x +ℤ ∂t/∂y +ℤ (n *ℤ Fx +ℤ l *ℤ fx) ≡ pos 0)
-  pub in-y : (sy ∂sy/∂x ∂sy/∂y t ∂t/∂x ∂t/∂y Fy fy : ℤ) → BalanceY x y (linear sy ∂sy/∂x ∂sy/∂y x y) (linear t ∂t/∂x ∂t/∂y x y) (doubledArea x y) Fy fy n l
+  pub in-y : (sy ∂sy/∂x ∂sy/∂y t ∂t/∂x ∂t/∂y Fy fy : ℤ)
+      → BalanceY x y (linear sy ∂sy/∂x ∂sy/∂y x y) (linear t ∂t/∂x ∂t/∂y x y) (doubledArea x y) Fy fy n l
       ↔ (∂t/∂x +ℤ ∂sy/∂y +ℤ (n *ℤ Fy +ℤ l *ℤ fy) ≡ pos 0)
 
 -- ---- sides
@@ -56,7 +62,8 @@ pub record Tractions (u w sx sy t : ℤ) : Type 0 where
   pub normal : normalForce u w sx sy t ≡ tractionX u w sx t *ℤ w +ℤ tractionY u w sy t *ℤ negℤ u
   pub shear : shearForce u w sx sy t ≡ tractionX u w sx t *ℤ u +ℤ tractionY u w sy t *ℤ w
 
--- a uniform pressure presses on every side as it is: where sx and sy are n·dead + l·live and t is 0, edge g's normal row holds at v
+-- a uniform pressure presses on every side as it is: where sx and sy are n·dead + l·live and t is 0, edge g's normal
+-- row holds at v
 abbrev pub Pressure : List ℤ → (ℕ → ℤ) → ℤ → ℤ → ℕ → ℕ → Type 0
 Pressure m s l n g v =
     let P : ℤ = n *ℤ edgeEntry m g 3 +ℤ l *ℤ edgeEntry m g 5 in
@@ -64,7 +71,8 @@ Pressure m s l n g v =
 
 -- "outward normal (w, -u)": from the from-node of edge g the node z lies inward
 abbrev pub Inward : List ℤ → ℕ → ℕ → Type 0
-Inward m g z = (stepY m g *ℤ (x m z -ℤ x m (fromNode m g)) +ℤ negℤ (stepX m g) *ℤ (y m z -ℤ y m (fromNode m g))) <ℤ pos 0
+Inward m g z =
+    (stepY m g *ℤ (x m z -ℤ x m (fromNode m g)) +ℤ negℤ (stepX m g) *ℤ (y m z -ℤ y m (fromNode m g))) <ℤ pos 0
 
 -- and so do the other corners, one or two, of the element whose side from corner i to the next the edge is
 abbrev pub OutwardNormal : List ℤ → ℕ → ℕ → Type 0
@@ -83,4 +91,5 @@ pub record AtCorner (r : ℤ) (v : Point) (p q h C n sx sy t : ℤ) : Type 0 whe
 pub record SideMeaning (r : ℤ) (s : Side) (p q h C n sx sy t : ℤ) : Type 0 where
   pub at-from : AtCorner r (s .from) p q h C n sx sy t → deviator r s h sx sy t ≡ resistance s p q C n sx sy
   pub at-to : AtCorner r (s .to) p q h C n sx sy t → deviator r s h sx sy t ≡ resistance s p q C n sx sy
-  pub at-centre : sx ≡ sy → t ≡ pos 0 → pos 0 <ℤ cross (s .from) (s .to) → pos 0 <ℤ circleRadius p q C n sx sy → deviator r s h sx sy t <ℤ resistance s p q C n sx sy
+  pub at-centre : sx ≡ sy → t ≡ pos 0 → pos 0 <ℤ cross (s .from) (s .to) → pos 0 <ℤ circleRadius p q C n sx sy
+      → deviator r s h sx sy t <ℤ resistance s p q C n sx sy

@@ -43,7 +43,8 @@ meshHeader = record {
   rules = [];
 }
 
--- how many columns each line has: of the header, of a soil, of a node, of an element, of an edge (`MeshFacts` counts a mesh's numbers by them)
+-- how many columns each line has: of the header, of a soil, of a node, of an element, of an edge (`MeshFacts` counts a
+-- mesh's numbers by them)
 abbrev pub meshHeaderColumns : ℕ
 meshHeaderColumns = 5
 
@@ -74,7 +75,8 @@ edges m = count (at m 3)
 unfoldable pub sides : List ℤ → ℕ
 sides m = count (at m 4)
 
--- "Each soil: p 0 to 1,000, q 1 to 1,000, h 1 to 1,000, cohesion C 0 to 10,000, dead force x and y, live force x and y (each -1,000 to 1,000)"
+-- "Each soil: p 0 to 1,000, q 1 to 1,000, h 1 to 1,000, cohesion C 0 to 10,000, dead force x and y, live force x and y
+-- (each -1,000 to 1,000)"
 unfoldable pub soilLines : ℕ → Group
 soilLines n = record {
   lines = n;
@@ -99,7 +101,8 @@ elementLines n ns ss = record {
   rules = naming ((0, ns) ∷ (1, ns) ∷ (2, ns) ∷ (3, ns) ∷ (4, ss) ∷ []) ∷ [];
 }
 
--- "Each edge: from-node, to-node, what is fixed (1 normal, 2 shear, 3 both), dead normal, dead shear, live normal, live shear (-10,000 to 10,000)"
+-- "Each edge: from-node, to-node, what is fixed (1 normal, 2 shear, 3 both), dead normal, dead shear, live normal,
+-- live shear (-10,000 to 10,000)"
 unfoldable pub edgeLines : ℕ → ℕ → Group
 edgeLines n ns = record {
   lines = n;
@@ -169,11 +172,13 @@ y m v = entry (meshGroups m) m 2 v 1
 unfoldable pub corner : List ℤ → ℕ → ℕ → ℕ
 corner m e i = count (entry (meshGroups m) m 3 e i) - 1
 
--- "An element whose third and fourth nodes are the same is to be read as a triangle" (document 02, N1): how many corners it has
+-- "An element whose third and fourth nodes are the same is to be read as a triangle" (document 02, N1): how many
+-- corners it has
 unfoldable pub cornerCount : List ℤ → ℕ → ℕ
 cornerCount m e = cond (eqb (corner m e 2) (corner m e 3)) 3 4
 
--- its corners in order, after the last the first again: left turns and sides go by these, so that "The repeat makes no side"
+-- its corners in order, after the last the first again: left turns and sides go by these, so that "The repeat makes no
+-- side"
 unfoldable pub around : List ℤ → ℕ → ℕ → ℕ
 around m e i = corner m e (i % cornerCount m e)
 

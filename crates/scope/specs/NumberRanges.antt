@@ -1,4 +1,5 @@
--- What sound lines say of a mesh and of a claim, by what their numbers are: counts, limits, names. Every sum is bounded by these.
+-- What sound lines say of a mesh and of a claim, by what their numbers are: counts, limits, names. Every sum is
+-- bounded by these.
 use mathlib.Core.Path.{_≡_}
 use mathlib.Core.Logic.{_⊎_}
 use mathlib.Core.List.{List}
@@ -18,7 +19,8 @@ pub record Between (lo hi z : ℤ) : Type 0 where
   pub least : lo ≤ℤ z
   pub most : z ≤ℤ hi
 
--- "nodes 4 to 100, elements 1 to 100, soils 1 to 16, edges 0 to 60, sides 12, 20 or 36"; a count of edges below 0 would be read as 0, so the number itself is bounded
+-- "nodes 4 to 100, elements 1 to 100, soils 1 to 16, edges 0 to 60, sides 12, 20 or 36"; a count of edges below 0
+-- would be read as 0, so the number itself is bounded
 pub record Counts (m : List ℤ) : Type 0 where
   pub nodesLeast : 4 ≤ nodes m
   pub nodesMost : nodes m ≤ mostNodes
@@ -61,7 +63,8 @@ pub record EdgeFacts (m : List ℤ) (g : ℕ) : Type 0 where
 -- a mesh whose lines are sound: all its numbers are there, and none is left over
 pub record MeshFacts (m : List ℤ) : Type 0 where
   pub counts : Counts m
-  pub size : length m ≡ meshHeaderColumns + soils m * soilColumns + nodes m * nodeColumns + elements m * elementColumns + edges m * edgeColumns
+  pub size : length m
+      ≡ meshHeaderColumns + soils m * soilColumns + nodes m * nodeColumns + elements m * elementColumns + edges m * edgeColumns
   pub soil : (s : ℕ) → s < soils m → SoilFacts m s
   pub node : (v : ℕ) → v < nodes m → NodeFacts m v
   pub element : (e : ℕ) → e < elements m → ElementFacts m e
@@ -81,7 +84,9 @@ pub record ClaimFacts (m c : List ℤ) : Type 0 where
       + ifThere (hasMultipliers c) (elements m) * elementRows
       + ifThere (hasMultipliers c) (edges m) * edgeRows
       + ifThere (hasMultipliers c) (pairCount m) * sides m
-  pub stressRange : at c 0 ≡ pos 1 → (j : ℕ) → j < nodes m * stressColumns → Between (negℤ (pos 1000000000)) (pos 1000000000) (stress m c j)
-  pub equalityRange : at c 1 ≡ pos 1 → (k : ℕ) → k < equalityCount m → Between (negℤ (pos 100000)) (pos 100000) (multiplier m c k)
+  pub stressRange : at c 0 ≡ pos 1 → (j : ℕ) → j < nodes m * stressColumns
+      → Between (negℤ (pos 1000000000)) (pos 1000000000) (stress m c j)
+  pub equalityRange : at c 1 ≡ pos 1 → (k : ℕ) → k < equalityCount m
+      → Between (negℤ (pos 100000)) (pos 100000) (multiplier m c k)
   pub strengthRange : at c 1 ≡ pos 1 → (k : ℕ) → k < pairCount m * sides m
       → Between (pos 0) (pos 10000) (multiplier m c (equalityCount m + k))

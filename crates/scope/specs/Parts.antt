@@ -1,4 +1,5 @@
--- The bracket for accepted parts (document 01, "Loads compared"): "A claim's field carries l/n and its multipliers allow W/m, both as exact fractions", in one claim or in two.
+-- The bracket for accepted parts (document 01, "Loads compared"): "A claim's field carries l/n and its multipliers
+-- allow W/m, both as exact fractions", in one claim or in two.
 use mathlib.Core.Path.{_≡_}
 use mathlib.Core.Logic.{_↔_, _⊎_}
 use mathlib.Core.List.{List, [], _∷_, map}
@@ -18,14 +19,16 @@ use Rattle.scope.specs.Verdict.{openCount}
 use Rattle.scope.specs.Bracket.{Open, NoneOpen, Bracket}
 use Rattle.scope.specs.Tests.{rowAt}
 
--- the load l/n that the field of claim c carries, and the limit W/m that the multipliers of claim k on the mesh d allow
+-- the load l/n that the field of claim c carries, and the limit W/m that the multipliers of claim k on the mesh d
+-- allow
 unfoldable pub carried : List ℤ → Frac
 carried c = l c over n c
 
 unfoldable pub allowed : List ℤ → List ℤ → Frac
 allowed d k = limitSum (multiplier d k) (rowsOf d) over liveSum (multiplier d k) (rowsOf d)
 
--- "Parts are on the same mesh when they are judged against the same rows": the same rows in the same order, where two unfixed rows are the same whatever their numbers
+-- "Parts are on the same mesh when they are judged against the same rows": the same rows in the same order, where two
+-- unfixed rows are the same whatever their numbers
 abbrev pub SameRows : List ℤ → List ℤ → Type 0
 SameRows m d = map judged (rowsOf m) ≡ map judged (rowsOf d)
 
@@ -34,7 +37,9 @@ abbrev pub SameRow : R.Row → R.Row → Type 0
 SameRow r t = (r ≡ t) ⊎ ((r .kind ≡ R.unfixed) × (t .kind ≡ R.unfixed))
 
 abbrev pub SameRowsMeans : List ℤ → List ℤ → Type 0
-SameRowsMeans m d = SameRows m d ↔ ((length (rowsOf m) ≡ length (rowsOf d)) × ((k : ℕ) → k < length (rowsOf m) → SameRow (rowAt (rowsOf m) k) (rowAt (rowsOf d) k)))
+SameRowsMeans m d = SameRows m d
+    ↔ ((length (rowsOf m) ≡ length (rowsOf d))
+    × ((k : ℕ) → k < length (rowsOf m) → SameRow (rowAt (rowsOf m) k) (rowAt (rowsOf d) k)))
 
 -- an accepted field of claim c on the mesh m, and accepted multipliers of claim k on the mesh d
 pub record PartsBracket (m c d k : List ℤ) : Type 0 where
@@ -61,8 +66,10 @@ pub record NumberOf (P : ℕ → Type 0) (N k : ℕ) : Type 0 where
   pub ascending : Ascending places
   pub exactly : (i : ℕ) → (i ∈ places) ↔ ((i < N) × P i)
 
--- where an accepted claim has both parts: its count is the number of "strength rows with multiplier above 0 and left side below right", and 0 exactly when the loads are equal
+-- where an accepted claim has both parts: its count is the number of "strength rows with multiplier above 0 and left
+-- side below right", and 0 exactly when the loads are equal
 pub record OpenRowsCount (m c : List ℤ) : Type 0 where
   pub both : openCount m c ≡ Count (openRows (stress m c) (l c) (n c) (multiplier m c) (rowsOf m))
-  pub number : NumberOf (λ k. Open (stress m c) (l c) (n c) (multiplier m c k) (rowAt (rowsOf m) k)) (length (rowsOf m)) (openRows (stress m c) (l c) (n c) (multiplier m c) (rowsOf m))
+  pub number : NumberOf (λ k. Open (stress m c) (l c) (n c) (multiplier m c k) (rowAt (rowsOf m) k))
+      (length (rowsOf m)) (openRows (stress m c) (l c) (n c) (multiplier m c) (rowsOf m))
   pub none : (openRows (stress m c) (l c) (n c) (multiplier m c) (rowsOf m) ≡ 0) ↔ (carried c ≈ᶠ allowed m c)

@@ -1,4 +1,5 @@
--- Refusals in an order (document 01, 'Verdict and report', "Order"): phases one after the other, in each phase "lowest place first", at a place one step after the other.
+-- Refusals in an order (document 01, 'Verdict and report', "Order"): phases one after the other, in each phase "lowest
+-- place first", at a place one step after the other.
 -- A step has a plain statement, and a test that decides it once all before it holds.
 use mathlib.Core.Path.{_≡_}
 use mathlib.Core.Logic.{_⊎_}

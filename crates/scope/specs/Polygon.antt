@@ -1,4 +1,5 @@
--- The polygons (document 01, 'Rows', Strength): "Polygon corners are all whole-number points on the circle of radius r = 5, 25 or 65 (12, 20 or 36 sides), counterclockwise from (r, 0)".
+-- The polygons (document 01, 'Rows', Strength): "Polygon corners are all whole-number points on the circle of radius r
+-- = 5, 25 or 65 (12, 20 or 36 sides), counterclockwise from (r, 0)".
 use mathlib.Core.Bool.{true, false}
 use mathlib.Core.List.{List, [], _∷_, _++_, map}
 use Prim.Native.Nat.{ℕ}
@@ -48,7 +49,11 @@ fourQuadrants c =
     c ++ (second ++ (third ++ map quarterTurn third))
 
 unfoldable pub twelve : Polygon
-twelve = record { radius = pos 5; corners = fourQuadrants (point (pos 5) (pos 0) ∷ point (pos 4) (pos 3) ∷ point (pos 3) (pos 4) ∷ []) }
+twelve = record {
+  radius = pos 5;
+  corners = fourQuadrants
+      (point (pos 5) (pos 0) ∷ point (pos 4) (pos 3) ∷ point (pos 3) (pos 4) ∷ []);
+}
 
 unfoldable pub twenty : Polygon
 twenty = record {

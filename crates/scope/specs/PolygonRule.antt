@@ -1,4 +1,5 @@
--- The rule for a polygon (document 01, 'Rows', Strength): "Polygon corners are all whole-number points on the circle of radius r .., counterclockwise from (r, 0)".
+-- The rule for a polygon (document 01, 'Rows', Strength): "Polygon corners are all whole-number points on the circle
+-- of radius r .., counterclockwise from (r, 0)".
 use mathlib.Core.Path.{_≡_}
 use mathlib.Core.List.{List, _∷_, _++_}
 use Prim.Native.Nat.{ℕ, _*_, _≤_, _<_, max}
@@ -14,7 +15,8 @@ use Rattle.scope.specs.Bounds.{mostRadius, mostStep, mostCross, weighted
 abbrev pub OnCircle : ℤ → Point → Type 0
 OnCircle r v = v .px *ℤ v .px +ℤ v .py *ℤ v .py ≡ r *ℤ r
 
--- from (r, 0) along the upper half to (-r, 0), then along the lower half: with a left turn from each corner to the next this is once around, counterclockwise
+-- from (r, 0) along the upper half to (-r, 0), then along the lower half: with a left turn from each corner to the
+-- next this is once around, counterclockwise
 pub record OnceAround (r : ℤ) (corners : List Point) : Type 0 where
   pub upper : List Point
   pub lower : List Point

@@ -1,4 +1,5 @@
--- The rows as document 01 prints them ('Rows'), over whole numbers, with l and n on the side where it has them; and what a field that meets the rows of a mesh meets.
+-- The rows as document 01 prints them ('Rows'), over whole numbers, with l and n on the side where it has them; and
+-- what a field that meets the rows of a mesh meets.
 use mathlib.Core.Path.{_≡_}
 use mathlib.Core.Logic.{_↔_, _⊎_}
 use mathlib.Core.List.{List}
@@ -24,7 +25,8 @@ previous i = (i + 3) % 4
 abbrev pub cornerSum : (ℕ → ℤ) → ℤ
 cornerSum f = f 0 +ℤ f 1 +ℤ f 2 +ℤ f 3
 
--- "sum of (y[i+1]-y[i-1])·sx[i] + (x[i-1]-x[i+1])·t[i] = -D·(n·Fx + l·fx)": its left side, its right side, then the equation
+-- "sum of (y[i+1]-y[i-1])·sx[i] + (x[i-1]-x[i+1])·t[i] = -D·(n·Fx + l·fx)": its left side, its right side, then the
+-- equation
 abbrev pub forceX : (x y sx t : ℕ → ℤ) → ℤ
 forceX x y sx t = cornerSum (λ i. (y (next i) -ℤ y (previous i)) *ℤ sx i +ℤ (x (previous i) -ℤ x (next i)) *ℤ t i)
 
@@ -69,7 +71,8 @@ FixesShear fixed = (fixed ≡ pos 2) ⊎ (fixed ≡ pos 3)
 
 -- ---- strength
 
--- "r·h·[(d-b)(sx-sy) - 2(c-a)t] ≤ (ad-bc)·[2qCn - p(sx+sy)]", for the side from (a, b) to (c, d): its left side, the bracket on its right, its right side
+-- "r·h·[(d-b)(sx-sy) - 2(c-a)t] ≤ (ad-bc)·[2qCn - p(sx+sy)]", for the side from (a, b) to (c, d): its left side, the
+-- bracket on its right, its right side
 abbrev pub deviator : (r : ℤ) → Side → (h sx sy t : ℤ) → ℤ
 deviator r s h sx sy t =
     let a : ℤ = s .from .px in
@@ -98,27 +101,32 @@ module _ (m : List ℤ) (s : ℕ → ℤ) (l n : ℤ) where
   -- element e
   abbrev pub BalanceXAt : ℕ → Type 0
   BalanceXAt e =
-      BalanceX (λ i. x m (corner m e i)) (λ i. y m (corner m e i)) (λ i. s (sx (corner m e i))) (λ i. s (t (corner m e i)))
+      BalanceX (λ i. x m (corner m e i)) (λ i. y m (corner m e i)) (λ i. s (sx (corner m e i)))
+      (λ i. s (t (corner m e i)))
       (twiceArea m e) (deadX m (elementSoil m e)) (liveX m (elementSoil m e)) n l
 
   abbrev pub BalanceYAt : ℕ → Type 0
   BalanceYAt e =
-      BalanceY (λ i. x m (corner m e i)) (λ i. y m (corner m e i)) (λ i. s (sy (corner m e i))) (λ i. s (t (corner m e i)))
+      BalanceY (λ i. x m (corner m e i)) (λ i. y m (corner m e i)) (λ i. s (sy (corner m e i)))
+      (λ i. s (t (corner m e i)))
       (twiceArea m e) (deadY m (elementSoil m e)) (liveY m (elementSoil m e)) n l
 
   -- edge g at its end v: "An unfixed one .. asks nothing"
   abbrev pub NormalAt : ℕ → ℕ → Type 0
   NormalAt g v =
-      FixesNormal (edgeEntry m g 2) → Normal (stepX m g) (stepY m g) (s (sx v)) (s (sy v)) (s (t v)) (edgeEntry m g 3) (edgeEntry m g 5) n l
+      FixesNormal (edgeEntry m g 2)
+      → Normal (stepX m g) (stepY m g) (s (sx v)) (s (sy v)) (s (t v)) (edgeEntry m g 3) (edgeEntry m g 5) n l
 
   abbrev pub ShearAt : ℕ → ℕ → Type 0
   ShearAt g v =
-      FixesShear (edgeEntry m g 2) → Shear (stepX m g) (stepY m g) (s (sx v)) (s (sy v)) (s (t v)) (edgeEntry m g 4) (edgeEntry m g 6) n l
+      FixesShear (edgeEntry m g 2)
+      → Shear (stepX m g) (stepY m g) (s (sx v)) (s (sy v)) (s (t v)) (edgeEntry m g 4) (edgeEntry m g 6) n l
 
   -- the pair a of a node and a soil, for the side d of a polygon of radius r
   abbrev pub StrengthAt : ℤ → Pair → Side → Type 0
   StrengthAt r a d =
-      Strength r d (p m (a .soil)) (q m (a .soil)) (h m (a .soil)) (cohesion m (a .soil)) n (s (sx (a .at))) (s (sy (a .at))) (s (t (a .at)))
+      Strength r d (p m (a .soil)) (q m (a .soil)) (h m (a .soil)) (cohesion m (a .soil)) n (s (sx (a .at)))
+      (s (sy (a .at))) (s (t (a .at)))
 
   -- all that document 01 asks of the field
   pub record MeetsPrinted : Type 0 where
@@ -128,7 +136,8 @@ module _ (m : List ℤ) (s : ℕ → ℤ) (l n : ℤ) where
     pub shear-from : (g : ℕ) → g < edges m → ShearAt g (fromNode m g)
     pub normal-to : (g : ℕ) → g < edges m → NormalAt g (toNode m g)
     pub shear-to : (g : ℕ) → g < edges m → ShearAt g (toNode m g)
-    pub strength : (a : Pair) → a ∈ strengthPairs m → (d : Side) → d ∈ polygonSides (polygonOf (sides m) .corners) → StrengthAt (polygonOf (sides m) .radius) a d
+    pub strength : (a : Pair) → a ∈ strengthPairs m → (d : Side) → d ∈ polygonSides (polygonOf (sides m) .corners)
+        → StrengthAt (polygonOf (sides m) .radius) a d
 
   -- it meets the rows as data exactly when it meets them as printed
   abbrev pub FieldPrinted : Type 0

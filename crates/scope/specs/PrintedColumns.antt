@@ -1,4 +1,5 @@
--- The columns (document 01, 'Rows', Columns) from the rows as it prints them, with l and n on the side where it has them; and what accepted multipliers are in these terms.
+-- The columns (document 01, 'Rows', Columns) from the rows as it prints them, with l and n on the side where it has
+-- them; and what accepted multipliers are in these terms.
 -- Multipliers w are numbered as the rows are; a field is its stresses s by column, with l and n.
 use mathlib.Core.Path.{_≡_}
 use mathlib.Core.Logic.{_↔_}
@@ -19,19 +20,23 @@ use Rattle.scope.specs.Printed.{forceX, forceY, bodyForce, normalForce, 
 module _ (m : List ℤ) (s : ℕ → ℤ) (l n : ℤ) where
   abbrev pub lessX : ℕ → ℤ
   lessX e =
-      forceX (λ i. x m (corner m e i)) (λ i. y m (corner m e i)) (λ i. s (sx (corner m e i))) (λ i. s (t (corner m e i)))
+      forceX (λ i. x m (corner m e i)) (λ i. y m (corner m e i)) (λ i. s (sx (corner m e i)))
+      (λ i. s (t (corner m e i)))
       -ℤ bodyForce (twiceArea m e) (deadX m (elementSoil m e)) (liveX m (elementSoil m e)) n l
 
   abbrev pub lessY : ℕ → ℤ
   lessY e =
-      forceY (λ i. x m (corner m e i)) (λ i. y m (corner m e i)) (λ i. s (sy (corner m e i))) (λ i. s (t (corner m e i)))
+      forceY (λ i. x m (corner m e i)) (λ i. y m (corner m e i)) (λ i. s (sy (corner m e i)))
+      (λ i. s (t (corner m e i)))
       -ℤ bodyForce (twiceArea m e) (deadY m (elementSoil m e)) (liveY m (elementSoil m e)) n l
 
   abbrev pub lessNormal : ℕ → ℕ → ℤ
-  lessNormal g v = normalForce (stepX m g) (stepY m g) (s (sx v)) (s (sy v)) (s (t v)) -ℤ edgeForce (stepX m g) (stepY m g) (edgeEntry m g 3) (edgeEntry m g 5) n l
+  lessNormal g v = normalForce (stepX m g) (stepY m g) (s (sx v)) (s (sy v)) (s (t v))
+      -ℤ edgeForce (stepX m g) (stepY m g) (edgeEntry m g 3) (edgeEntry m g 5) n l
 
   abbrev pub lessShear : ℕ → ℕ → ℤ
-  lessShear g v = shearForce (stepX m g) (stepY m g) (s (sx v)) (s (sy v)) (s (t v)) -ℤ edgeForce (stepX m g) (stepY m g) (edgeEntry m g 4) (edgeEntry m g 6) n l
+  lessShear g v = shearForce (stepX m g) (stepY m g) (s (sx v)) (s (sy v)) (s (t v))
+      -ℤ edgeForce (stepX m g) (stepY m g) (edgeEntry m g 4) (edgeEntry m g 6) n l
 
   abbrev pub lessStrength : Pair → Side → ℤ
   lessStrength a d =
@@ -44,7 +49,8 @@ module _ (m : List ℤ) (s : ℕ → ℤ) (l n : ℤ) where
     pub balance-y : (e : ℕ) → leftSide s l (balanceY m e) -ℤ rightSide n (balanceY m e) ≡ lessY e
     pub normal : (g v : ℕ) → leftSide s l (normalRow m g v) -ℤ rightSide n (normalRow m g v) ≡ lessNormal g v
     pub shear : (g v : ℕ) → leftSide s l (shearRow m g v) -ℤ rightSide n (shearRow m g v) ≡ lessShear g v
-    pub strength : (a : Pair) (d : Side) → leftSide s l (pairRow m a d) -ℤ rightSide n (pairRow m a d) ≡ lessStrength a d
+    pub strength : (a : Pair) (d : Side)
+        → leftSide s l (pairRow m a d) -ℤ rightSide n (pairRow m a d) ≡ lessStrength a d
 
 -- ---- the columns
 
@@ -76,10 +82,13 @@ module _ (m : List ℤ) (w : ℕ → ℤ) where
       +ℤ ofEdge g 2 *ℤ lessNormal m s l n g (toNode m g)
       +ℤ ofEdge g 3 *ℤ lessShear m s l n g (toNode m g))
       (edges m)
-      +ℤ sumBelow (λ a. sumBelow (λ k. ofPair a k *ℤ lessStrength m s l n (pairAt m a) (sideAt (polygonOf (sides m)) k)) (sides m))
+      +ℤ sumBelow
+      (λ a. sumBelow (λ k. ofPair a k *ℤ lessStrength m s l n (pairAt m a) (sideAt (polygonOf (sides m)) k))
+      (sides m))
       (pairCount m)
 
-  -- "For each node and stress, multiplier times coefficient, summed over all rows": a row's coefficient is left minus right where this stress is 1 and all else is 0
+  -- "For each node and stress, multiplier times coefficient, summed over all rows": a row's coefficient is left minus
+  -- right where this stress is 1 and all else is 0
   abbrev pub printedColumn : ℕ → ℤ
   printedColumn j = weighedRows (unit j) (pos 0) (pos 0)
 
@@ -99,9 +108,12 @@ module _ (m : List ℤ) (w : ℕ → ℤ) where
 
   -- what document 01 asks of multipliers: none on an unfixed row, for each node and stress a sum of 0, and m above 0
   pub record MultipliersPrinted : Type 0 where
-    pub normal-unfixed : (g : ℕ) → g < edges m → ¬ FixesNormal (edgeEntry m g 2) → (ofEdge g 0 ≡ pos 0) × (ofEdge g 2 ≡ pos 0)
-    pub shear-unfixed : (g : ℕ) → g < edges m → ¬ FixesShear (edgeEntry m g 2) → (ofEdge g 1 ≡ pos 0) × (ofEdge g 3 ≡ pos 0)
-    pub columns : (v : ℕ) → v < nodes m → (printedColumn (sx v) ≡ pos 0) × (printedColumn (sy v) ≡ pos 0) × (printedColumn (t v) ≡ pos 0)
+    pub normal-unfixed : (g : ℕ) → g < edges m → ¬ FixesNormal (edgeEntry m g 2)
+        → (ofEdge g 0 ≡ pos 0) × (ofEdge g 2 ≡ pos 0)
+    pub shear-unfixed : (g : ℕ) → g < edges m → ¬ FixesShear (edgeEntry m g 2)
+        → (ofEdge g 1 ≡ pos 0) × (ofEdge g 3 ≡ pos 0)
+    pub columns : (v : ℕ) → v < nodes m
+        → (printedColumn (sx v) ≡ pos 0) × (printedColumn (sy v) ≡ pos 0) × (printedColumn (t v) ≡ pos 0)
     pub live : pos 0 <ℤ printedLive
 
   -- they meet the columns of the rows' data exactly when they meet these

@@ -34,9 +34,12 @@ AtAll count P = (k : ℕ) → k < count → P k
 pub data MeshRow (m : List ℤ) : ℕ → Place → Type 0 where
   of-lines : {k : ℕ} {p : Place} → LineRefusal meshLayout m k p → MeshRow m k p
   five : (e : ℕ) → LinesSound meshLayout m → LowestFails (elements m) (LeftTurns m) e → MeshRow m 5 (Element (suc e))
-  six : (e : ℕ) → LinesSound meshLayout m → AtAll (elements m) (LeftTurns m) → LowestFails (elements m) (OwnSides m) e → MeshRow m 6 (Element (suc e))
-  seven : (v : ℕ) → LinesSound meshLayout m → AtAll (elements m) (LeftTurns m) → AtAll (elements m) (OwnSides m) → LowestFails (nodes m) (InElement m) v → MeshRow m 7 (Node (suc v))
-  eight : (g : ℕ) → LinesSound meshLayout m → AtAll (elements m) (LeftTurns m) → AtAll (elements m) (OwnSides m) → AtAll (nodes m) (InElement m) → LowestFails (edges m) (OuterEdge m) g → MeshRow m 8 (Line (suc (edgeLine m g)))
+  six : (e : ℕ) → LinesSound meshLayout m → AtAll (elements m) (LeftTurns m) → LowestFails (elements m) (OwnSides m) e
+      → MeshRow m 6 (Element (suc e))
+  seven : (v : ℕ) → LinesSound meshLayout m → AtAll (elements m) (LeftTurns m) → AtAll (elements m) (OwnSides m)
+      → LowestFails (nodes m) (InElement m) v → MeshRow m 7 (Node (suc v))
+  eight : (g : ℕ) → LinesSound meshLayout m → AtAll (elements m) (LeftTurns m) → AtAll (elements m) (OwnSides m)
+      → AtAll (nodes m) (InElement m) → LowestFails (edges m) (OuterEdge m) g → MeshRow m 8 (Line (suc (edgeLine m g)))
   forty-two : (v : ℕ) → LinesSound meshLayout m → AtAll (elements m) (LeftTurns m) → AtAll (elements m) (OwnSides m)
       → AtAll (nodes m) (InElement m) → AtAll (edges m) (OuterEdge m)
       → LowestFails (nodes m) (PairsFit m) v → MeshRow m 42 (Node (suc v))
@@ -56,15 +59,19 @@ pub data TableRow (m c : List ℤ) : ℕ → Place → Type 0 where
   of-mesh : {k : ℕ} {p : Place} → MeshRow m k p → TableRow m c k p
   of-claim-lines : {k : ℕ} {p : Place} → MeshSound m → LineRefusal (claimLayout m) c k p → TableRow m c k p
   twenty-one : (k : ℕ) → Before21 m c → HasField c
-      → LowestFails (length (equalityRows m)) (λ i. RowMet (stress m c) (l c) (n c) (rowAt (equalityRows m) i)) k → TableRow m c 21 (Row (suc k))
+      → LowestFails (length (equalityRows m)) (λ i. RowMet (stress m c) (l c) (n c) (rowAt (equalityRows m) i)) k
+      → TableRow m c 21 (Row (suc k))
   twenty-two : (k : ℕ) → Before21 m c → HasField c
       → AtAll (length (equalityRows m)) (λ i. RowMet (stress m c) (l c) (n c) (rowAt (equalityRows m) i))
-      → LowestFails (length (strengthRows m)) (λ i. RowMet (stress m c) (l c) (n c) (rowAt (strengthRows m) i)) k → TableRow m c 22 (Row (suc k))
+      → LowestFails (length (strengthRows m)) (λ i. RowMet (stress m c) (l c) (n c) (rowAt (strengthRows m) i)) k
+      → TableRow m c 22 (Row (suc k))
   thirty-one : (k : ℕ) → Before31 m c → HasMultipliers c
-      → LowestFails (length (equalityRows m)) (λ i. NoneOnUnfixed (multiplier m c i) (rowAt (equalityRows m) i)) k → TableRow m c 31 (Row (suc k))
+      → LowestFails (length (equalityRows m)) (λ i. NoneOnUnfixed (multiplier m c i) (rowAt (equalityRows m) i)) k
+      → TableRow m c 31 (Row (suc k))
   thirty-two : (j : ℕ) → Before31 m c → HasMultipliers c
       → AtAll (length (equalityRows m)) (λ i. NoneOnUnfixed (multiplier m c i) (rowAt (equalityRows m) i))
-      → LowestFails (3 * nodes m) (λ i. columnSum (multiplier m c) (rowsOf m) i ≡ pos 0) j → TableRow m c 32 (Column (suc j))
+      → LowestFails (3 * nodes m) (λ i. columnSum (multiplier m c) (rowsOf m) i ≡ pos 0) j
+      → TableRow m c 32 (Column (suc j))
   thirty-three : Before31 m c → HasMultipliers c
       → AtAll (length (equalityRows m)) (λ i. NoneOnUnfixed (multiplier m c i) (rowAt (equalityRows m) i))
       → AtAll (3 * nodes m) (λ i. columnSum (multiplier m c) (rowsOf m) i ≡ pos 0)

@@ -1,5 +1,7 @@
--- When each refusal comes (document 01, 'Verdict and report'): its table of refusals as phases, and its order as lists of them.
--- A refusal with its place comes when all before it in the order holds and this place is the lowest that fails (`RefusedBy`).
+-- When each refusal comes (document 01, 'Verdict and report'): its table of refusals as phases, and its order as lists
+-- of them.
+-- A refusal with its place comes when all before it in the order holds and this place is the lowest that fails
+-- (`RefusedBy`).
 use mathlib.Core.Path.{_≡_}
 use mathlib.Core.Logic.{_↔_, _⊎_}
 use mathlib.Core.List.{List, [], _∷_, _++_}
@@ -115,7 +117,8 @@ strengthsPhase ss s l n =
 -- 31: "nonzero multiplier on an unfixed row", of multipliers w
 abbrev pub unfixedPhase : List R.Row → (ℕ → ℤ) → Phase
 unfixedPhase es w =
-    phase 31 (length es) (λ k. NoneOnUnfixed (w k) (rowAt es k)) (λ k. zeroIfUnfixed (w k) (rowAt es k)) (λ k. Row (suc k))
+    phase 31 (length es) (λ k. NoneOnUnfixed (w k) (rowAt es k)) (λ k. zeroIfUnfixed (w k) (rowAt es k))
+    (λ k. Row (suc k))
 
 -- 32: "column sum not 0", of some columns with these sums
 abbrev pub columnsPhase : (ℕ → ℤ) → ℕ → Phase
@@ -174,10 +177,12 @@ module _ (f : Layout) (ns : List ℤ) where
   abbrev pub SoundTo : ℕ → Type 0
   SoundTo k = (j : ℕ) → j < k → LineSound f ns j
 
-  -- line k has too few numbers; or all lines are sound and numbers are left over, which "belong to the line after the last"
+  -- line k has too few numbers; or all lines are sound and numbers are left over, which "belong to the line after the
+  -- last"
   pub record CountFails (k : ℕ) : Type 0 where
     pub before : SoundTo k
-    pub fails : ((k < lineCount (groups f ns)) × (¬ Complete f ns k)) ⊎ ((k ≡ lineCount (groups f ns)) × (¬ (length ns ≤ numberCount (groups f ns))))
+    pub fails : ((k < lineCount (groups f ns)) × (¬ Complete f ns k))
+        ⊎ ((k ≡ lineCount (groups f ns)) × (¬ (length ns ≤ numberCount (groups f ns))))
 
   -- line k has all its numbers, and one is outside its limit
   pub record LimitFails (k : ℕ) : Type 0 where
@@ -198,14 +203,17 @@ module _ (f : Layout) (ns : List ℤ) where
     pub hold : AllSay earlier (numbersAt f ns k)
     pub fails : ¬ Says r (numbersAt f ns k)
 
--- 1 "mesh form: .. bytes missing or left over", 2 "mesh number outside its limits", 3 "p² + q² is not h²", 4 "names a node or soil that isn't there"
+-- 1 "mesh form: .. bytes missing or left over", 2 "mesh number outside its limits", 3 "p² + q² is not h²", 4 "names a
+-- node or soil that isn't there"
 pub record MeshLineNumbers (m : List ℤ) : Type 0 where
   pub one : (k : ℕ) → LineRefusal meshLayout m 1 (Line (suc k)) ↔ CountFails meshLayout m k
   pub two : (k : ℕ) → LineRefusal meshLayout m 2 (Line (suc k)) ↔ LimitFails meshLayout m k
   pub three : (k : ℕ) → LineRefusal meshLayout m 3 (Line (suc k)) ↔ RuleFails meshLayout m rightAngle k
-  pub four : (k : ℕ) → LineRefusal meshLayout m 4 (Line (suc k)) ↔ ((cs : List (ℕ × ℕ)) × RuleFails meshLayout m (naming cs) k)
+  pub four : (k : ℕ)
+      → LineRefusal meshLayout m 4 (Line (suc k)) ↔ ((cs : List (ℕ × ℕ)) × RuleFails meshLayout m (naming cs) k)
 
--- 11 "claim form", 12 "claim number outside its limits", 13 "both parts absent; field with n = 0; no field and n or l not 0", "13, line 1"
+-- 11 "claim form", 12 "claim number outside its limits", 13 "both parts absent; field with n = 0; no field and n or l
+-- not 0", "13, line 1"
 pub record ClaimLineNumbers (m c : List ℤ) : Type 0 where
   pub eleven : (k : ℕ) → LineRefusal (claimLayout m) c 11 (Line (suc k)) ↔ CountFails (claimLayout m) c k
   pub twelve : (k : ℕ) → LineRefusal (claimLayout m) c 12 (Line (suc k)) ↔ LimitFails (claimLayout m) c k

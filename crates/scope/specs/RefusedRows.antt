@@ -20,10 +20,14 @@ module _ (m c : List ℤ) (place : ℕ) where
   pub record EqualityFails : Type 0 where
     pub balance-x : (e : ℕ) → e < elements m → place ≡ 2 * suc e - 1 → ¬ BalanceXAt m (stress m c) (l c) (n c) e
     pub balance-y : (e : ℕ) → e < elements m → place ≡ 2 * suc e → ¬ BalanceYAt m (stress m c) (l c) (n c) e
-    pub normal-from : (g : ℕ) → g < edges m → place ≡ 2 * elements m + 4 * g + 1 → ¬ NormalAt m (stress m c) (l c) (n c) g (fromNode m g)
-    pub shear-from : (g : ℕ) → g < edges m → place ≡ 2 * elements m + 4 * g + 2 → ¬ ShearAt m (stress m c) (l c) (n c) g (fromNode m g)
-    pub normal-to : (g : ℕ) → g < edges m → place ≡ 2 * elements m + 4 * g + 3 → ¬ NormalAt m (stress m c) (l c) (n c) g (toNode m g)
-    pub shear-to : (g : ℕ) → g < edges m → place ≡ 2 * elements m + 4 * g + 4 → ¬ ShearAt m (stress m c) (l c) (n c) g (toNode m g)
+    pub normal-from : (g : ℕ) → g < edges m → place ≡ 2 * elements m + 4 * g + 1
+        → ¬ NormalAt m (stress m c) (l c) (n c) g (fromNode m g)
+    pub shear-from : (g : ℕ) → g < edges m → place ≡ 2 * elements m + 4 * g + 2
+        → ¬ ShearAt m (stress m c) (l c) (n c) g (fromNode m g)
+    pub normal-to : (g : ℕ) → g < edges m → place ≡ 2 * elements m + 4 * g + 3
+        → ¬ NormalAt m (stress m c) (l c) (n c) g (toNode m g)
+    pub shear-to : (g : ℕ) → g < edges m → place ≡ 2 * elements m + 4 * g + 4
+        → ¬ ShearAt m (stress m c) (l c) (n c) g (toNode m g)
 
   -- refusal 22
   pub record StrengthFails : Type 0 where

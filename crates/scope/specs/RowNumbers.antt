@@ -23,17 +23,22 @@ sideNumbered g k = sideAt g (k - 1)
 
 -- the strength row of a pair and a side of the mesh's polygon
 abbrev pub pairRow : List ℤ → Pair → Side → Row
-pairRow m a d = strengthRow (polygonOf (sides m) .radius) (p m (a .soil)) (q m (a .soil)) (h m (a .soil)) (cohesion m (a .soil)) (a .at) d
+pairRow m a d = strengthRow (polygonOf (sides m) .radius) (p m (a .soil)) (q m (a .soil)) (h m (a .soil))
+    (cohesion m (a .soil)) (a .at) d
 
 pub record RowNumbers (m : List ℤ) : Type 0 where
   -- "row 2e-1", "row 2e"
   pub balance-x : (e : ℕ) → e < elements m → rowNumbered (equalityRows m) (2 * suc e - 1) ≡ balanceX m e
   pub balance-y : (e : ℕ) → e < elements m → rowNumbered (equalityRows m) (2 * suc e) ≡ balanceY m e
   -- "The four rows of an edge follow the balance rows: normal and shear at from, then at to"
-  pub normal-from : (g : ℕ) → g < edges m → rowNumbered (equalityRows m) (2 * elements m + 4 * g + 1) ≡ normalRow m g (fromNode m g)
-  pub shear-from : (g : ℕ) → g < edges m → rowNumbered (equalityRows m) (2 * elements m + 4 * g + 2) ≡ shearRow m g (fromNode m g)
-  pub normal-to : (g : ℕ) → g < edges m → rowNumbered (equalityRows m) (2 * elements m + 4 * g + 3) ≡ normalRow m g (toNode m g)
-  pub shear-to : (g : ℕ) → g < edges m → rowNumbered (equalityRows m) (2 * elements m + 4 * g + 4) ≡ shearRow m g (toNode m g)
+  pub normal-from : (g : ℕ) → g < edges m
+      → rowNumbered (equalityRows m) (2 * elements m + 4 * g + 1) ≡ normalRow m g (fromNode m g)
+  pub shear-from : (g : ℕ) → g < edges m
+      → rowNumbered (equalityRows m) (2 * elements m + 4 * g + 2) ≡ shearRow m g (fromNode m g)
+  pub normal-to : (g : ℕ) → g < edges m
+      → rowNumbered (equalityRows m) (2 * elements m + 4 * g + 3) ≡ normalRow m g (toNode m g)
+  pub shear-to : (g : ℕ) → g < edges m
+      → rowNumbered (equalityRows m) (2 * elements m + 4 * g + 4) ≡ shearRow m g (toNode m g)
   pub equalities : length (equalityRows m) ≡ 2 * elements m + 4 * edges m
   -- "Its number is (node-1)·sides + k", by pairs: pair `suc a`, side `suc k`
   pub strength : (a k : ℕ) → a < pairCount m → k < sides m
@@ -41,5 +46,7 @@ pub record RowNumbers (m : List ℤ) : Type 0 where
       ≡ pairRow m (pairAt m a) (sideNumbered (polygonOf (sides m)) (suc k))
   pub strengths : length (strengthRows m) ≡ pairCount m * sides m
   -- all rows, as multipliers are numbered: the equality rows, then the strength rows
-  pub equality-first : (k : ℕ) → k < 2 * elements m + 4 * edges m → rowNumbered (rowsOf m) (suc k) ≡ rowNumbered (equalityRows m) (suc k)
-  pub strength-after : (k : ℕ) → rowNumbered (rowsOf m) (2 * elements m + 4 * edges m + suc k) ≡ rowNumbered (strengthRows m) (suc k)
+  pub equality-first : (k : ℕ) → k < 2 * elements m + 4 * edges m
+      → rowNumbered (rowsOf m) (suc k) ≡ rowNumbered (equalityRows m) (suc k)
+  pub strength-after : (k : ℕ)
+      → rowNumbered (rowsOf m) (2 * elements m + 4 * edges m + suc k) ≡ rowNumbered (strengthRows m) (suc k)

@@ -1,4 +1,5 @@
--- The rows (document 01, 'Rows'), as data: "Move every stress and l to the left of each row, strength rows included; set n = 1 to read its right side".
+-- The rows (document 01, 'Rows'), as data: "Move every stress and l to the left of each row, strength rows included;
+-- set n = 1 to read its right side".
 -- A stress has a column: "columns are numbered node by node: sx, sy, t", from 0 here.
 use mathlib.Core.Bool.{Bool, true, false, cond, _&&_, _||_}
 use mathlib.Core.List.{List, [], _∷_, _++_, map}

@@ -1,4 +1,5 @@
--- What document 01 asks of a mesh and of a claim, in plain statements about whole numbers: no test, no order of checks.
+-- What document 01 asks of a mesh and of a claim, in plain statements about whole numbers: no test, no order of
+-- checks.
 use mathlib.Core.Path.{_≡_}
 use mathlib.Core.Logic.{_⊎_}
 use mathlib.Core.List.{List, [], _∷_}
@@ -77,7 +78,8 @@ pub record LinesSound (f : Layout) (ns : List ℤ) : Type 0 where
 
 -- ---- the mesh
 
--- "a left turn at all four corners", or at the three of a triangle: the triangle of a corner and its neighbours has an area above 0
+-- "a left turn at all four corners", or at the three of a triangle: the triangle of a corner and its neighbours has an
+-- area above 0
 abbrev pub LeftTurns : List ℤ → ℕ → Type 0
 LeftTurns m e =
     (i : ℕ) → i < cornerCount m e

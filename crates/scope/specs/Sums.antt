@@ -23,7 +23,8 @@ leftSide s l r = weightedSum s (r .entries) +ℤ r .live *ℤ l
 unfoldable pub rightSide : ℤ → Row → ℤ
 rightSide n r = r .right *ℤ n
 
--- a row holds: an equality that is asked, as an equation; "an unfixed one asks nothing"; a strength row, as an inequality
+-- a row holds: an equality that is asked, as an equation; "an unfixed one asks nothing"; a strength row, as an
+-- inequality
 unfoldable pub rowHolds : (ℕ → ℤ) → ℤ → ℤ → Row → Bool
 rowHolds s l n r =
     elim (r .kind) [

@@ -1,4 +1,5 @@
--- Triangles (document 02, N1), said without the corners around an element: which repeat is a triangle's, and that an element with four different corners is document 01's.
+-- Triangles (document 02, N1), said without the corners around an element: which repeat is a triangle's, and that an
+-- element with four different corners is document 01's.
 use mathlib.Core.Path.{_≡_}
 use mathlib.Core.List.{List}
 use Prim.Native.Nat.{ℕ, _+_, _<_}
@@ -9,11 +10,13 @@ use Rattle.scope.specs.Rows.{node}
 use Rattle.scope.specs.Tests.{turn}
 use Rattle.scope.specs.Statements.{LeftTurns}
 
--- "Every other repeat still gets 5": of an element that passes 5, two corners with the same node are the third and the fourth
+-- "Every other repeat still gets 5": of an element that passes 5, two corners with the same node are the third and the
+-- fourth
 abbrev pub OnlyRepeat : List ℤ → ℕ → Type 0
 OnlyRepeat m e = LeftTurns m e → (i j : ℕ) → i < j → j < 4 → corner m e i ≡ corner m e j → (i ≡ 2) × (j ≡ 3)
 
--- "three left turns are asked", and "The repeat makes no side": a triangle has the corners 1, 2 and 3, and after the third comes the first
+-- "three left turns are asked", and "The repeat makes no side": a triangle has the corners 1, 2 and 3, and after the
+-- third comes the first
 pub record Triangle (m : List ℤ) (e : ℕ) : Type 0 where
   pub three : cornerCount m e ≡ 3
   pub first : around m e 0 ≡ corner m e 0

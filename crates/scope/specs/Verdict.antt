@@ -1,4 +1,5 @@
--- The verdict on the numbers of a mesh and of a claim (document 01, 'Verdict and report'): the first phase that fails, and else what is accepted.
+-- The verdict on the numbers of a mesh and of a claim (document 01, 'Verdict and report'): the first phase that fails,
+-- and else what is accepted.
 use mathlib.Core.Bool.{cond, _&&_}
 use mathlib.Core.List.{List}
 use Prim.Native.Nat.{ℕ, suc}
@@ -64,7 +65,8 @@ upperLoad m c =
 -- "open rows need both parts"
 unfoldable pub openCount : List ℤ → List ℤ → OpenRows
 openCount m c =
-    cond (hasField c && hasMultipliers c) (Count (openRows (stress m c) (l c) (n c) (multiplier m c) (rowsOf m))) NoCount
+    cond (hasField c && hasMultipliers c)
+    (Count (openRows (stress m c) (l c) (n c) (multiplier m c) (rowsOf m))) NoCount
 
 -- a refusal as it is, and else what is accepted
 unfoldable pub answer : Outcome → Verdict → Verdict

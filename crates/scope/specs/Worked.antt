@@ -8,7 +8,8 @@ use lib.ListN.{replicate, getD}
 unfoldable pub zeros : ℕ → List ℤ
 zeros k = replicate k (pos 0)
 
--- "Mesh: 4 1 1 3 12 / 0 1 1 10 0 0 0 0 / 0 0 / 1 0 / 1 1 / 0 1 / 1 2 3 4 1 / 3 4 3 0 0 -1 0 / 2 3 3 0 0 0 0 / 4 1 3 0 0 0 0"
+-- "Mesh: 4 1 1 3 12 / 0 1 1 10 0 0 0 0 / 0 0 / 1 0 / 1 1 / 0 1 / 1 2 3 4 1 / 3 4 3 0 0 -1 0 / 2 3 3 0 0 0 0 / 4 1 3 0
+-- 0 0 0"
 unfoldable pub workedMesh : List ℤ
 workedMesh =
     (pos 4 ∷ pos 1 ∷ pos 1 ∷ pos 3 ∷ pos 12 ∷ [])
@@ -25,7 +26,8 @@ workedStresses l =
     let s : ℤ = negℤ (pos l) in
     pos 0 ∷ s ∷ pos 0 ∷ pos 0 ∷ s ∷ pos 0 ∷ pos 0 ∷ s ∷ pos 0 ∷ pos 0 ∷ s ∷ pos 0 ∷ []
 
--- "0 0; 30 0 0 0 / 0 0 -30 0 / 0 0 0 0; nodes 1, 2 and 4 twelve zeros each, node 3 (third) 1, ten zeros, 1", with y for -30
+-- "0 0; 30 0 0 0 / 0 0 -30 0 / 0 0 0 0; nodes 1, 2 and 4 twelve zeros each, node 3 (third) 1, ten zeros, 1", with y
+-- for -30
 unfoldable pub workedMultipliers : ℤ → List ℤ
 workedMultipliers y =
     zeros 2 ++ (pos 30 ∷ zeros 5) ++ (y ∷ zeros 29) ++ (pos 1 ∷ zeros 10) ++ (pos 1 ∷ zeros 12)
@@ -48,7 +50,8 @@ sheet19 = workedClaim 19 (negℤ (pos 30))
 unfoldable pub sheet29 : List ℤ
 sheet29 = workedClaim 19 (negℤ (pos 29))
 
--- the field of l 19 in fractions with other denominators, each one more than what is written: -38/2 and 0/5 at node 2, -57/3 and 0/7 at node 3
+-- the field of l 19 in fractions with other denominators, each one more than what is written: -38/2 and 0/5 at node 2,
+-- -57/3 and 0/7 at node 3
 unfoldable pub nineteenFractions : ℕ → ℤ × ℕ
 nineteenFractions k =
     let s : ℤ = negℤ (pos 19) in
@@ -67,7 +70,8 @@ nineteenSixths k =
 
 -- ---- meshes that differ in a number of an unfixed part
 
--- "4 1 1 1 12 / 0 1 1 10 0 0 0 0 / 0 0 / 1 0 / 1 1 / 0 1 / 1 2 3 4 1 / 2 3 1 0 z 0 0": the edge's shear is unfixed, with z as its dead number
+-- "4 1 1 1 12 / 0 1 1 10 0 0 0 0 / 0 0 / 1 0 / 1 1 / 0 1 / 1 2 3 4 1 / 2 3 1 0 z 0 0": the edge's shear is unfixed,
+-- with z as its dead number
 unfoldable pub oneEdge : ℤ → List ℤ
 oneEdge z =
     (pos 4 ∷ pos 1 ∷ pos 1 ∷ pos 1 ∷ pos 12 ∷ [])

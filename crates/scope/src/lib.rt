@@ -1,4 +1,5 @@
-// What is answered (document 01, 'Verdict and report'): the enums that the definitions and every crate speak of, and the number of a place.
+// What is answered (document 01, 'Verdict and report'): the enums that the definitions and every crate speak of, and
+// the number of a place.
 
 ghost use mathlib.Core.Path.{_≡_};
 ghost use Rattle.scope.specs.Answer.{placeNumber};

@@ -1,5 +1,6 @@
 // 8: each edge is an outer side, once.
-// Each edge takes its side in the table of sides: the byte is then FIRST_EDGE and the number of the lowest edge that has
+// Each edge takes its side in the table of sides: the byte is then FIRST_EDGE and the number of the lowest edge that
+// has
 // it.
 use mesh::sizes::MOST_ELEMENTS;
 use mesh::sizes::MOST_NODES;

@@ -33,7 +33,9 @@ const TABLE: usize = MOST_NODES * MOST_NODES;
 // Refusals 6 to 8, by a table in which no byte is given yet.
 fn checks_by_table(m: &[i64], s: Sizes, marks: &[u8; MARKS], t: &mut [u8]) -> Outcome
     requires { ⌜ Sized (now m) s × MarkTable (now m) (elements (now m)) (now marks) × SideTable (now m) 0 (now t) ⌝ }
-    ensures { λ r. ⌜ r ≡ checkPhases (ownSidesPhase (now (m .entry)) ∷ nodesPhase (now (m .entry)) ∷ edgesPhase (now (m .entry)) ∷ []) ⌝ }
+    ensures { λ r. ⌜ r
+        ≡ checkPhases
+        (ownSidesPhase (now (m .entry)) ∷ nodesPhase (now (m .entry)) ∷ edgesPhase (now (m .entry)) ∷ []) ⌝ }
 {
     side_table(m, s, t);
     let sides = sides_check(m, s, t);
@@ -52,10 +54,13 @@ fn checks_by_table(m: &[i64], s: Sizes, marks: &[u8; MARKS], t: &mut [u8]) -> Ou
     }
 }
 
-// Refusals 6 to 8. For speed a small mesh has a small table: the bytes that need no filling were 6 % of the time of the worked sheet.
+// Refusals 6 to 8. For speed a small mesh has a small table: the bytes that need no filling were 6 % of the time of
+// the worked sheet.
 fn sides_nodes_edges(m: &[i64], s: Sizes, marks: &[u8; MARKS]) -> Outcome
     requires { ⌜ Sized (now m) s × MarkTable (now m) (elements (now m)) (now marks) ⌝ }
-    ensures { λ r. ⌜ r ≡ checkPhases (ownSidesPhase (now (m .entry)) ∷ nodesPhase (now (m .entry)) ∷ edgesPhase (now (m .entry)) ∷ []) ⌝ }
+    ensures { λ r. ⌜ r
+        ≡ checkPhases
+        (ownSidesPhase (now (m .entry)) ∷ nodesPhase (now (m .entry)) ∷ edgesPhase (now (m .entry)) ∷ []) ⌝ }
 {
     if s.nodes <= SMALL_NODES {
         let mut small = [NONE; SMALL_TABLE];

@@ -13,7 +13,15 @@ ghost use Rattle.scope.specs.Mesh.{mostNodes, mostSoils, mostPairs, elements};
 ghost use Rattle.scope.specs.Phases.{checkPhase};
 ghost use Rattle.scope.specs.Refusals.{pairsPhase};
 ghost use Rattle.mesh.specs.MeshContracts.{Sized};
-ghost use Rattle.shape.specs.ShapeContracts.{MarkTable, isMarked, putPair, pairWhere, Added, markedPairs, PairedAs};
+ghost use Rattle.shape.specs.ShapeContracts.{
+  MarkTable,
+  isMarked,
+  putPair,
+  pairWhere,
+  Added,
+  markedPairs,
+  PairedAs,
+};
 use crate::marks::MARKS;
 use crate::marks::marked;
 
@@ -55,7 +63,8 @@ fn soil_pair(
     t: &mut [u8; PAIR_BYTES],
 ) -> usize
     requires { ⌜ (v < mostNodes) × (soil < mostSoils) × (count < mostPairs + mostSoils) ⌝ }
-    ensures { λ r. ⌜ Added (pairWhere (isMarked (now (marks .entry)) v soil) v soil) count (now (t .entry)) r (now (t .exit)) ⌝ }
+    ensures { λ r. ⌜ Added (pairWhere (isMarked (now (marks .entry)) v soil) v soil) count (now (t .entry)) r
+        (now (t .exit)) ⌝ }
 {
     if marked(marks, v, soil) {
         put_pair(t, count, v, soil);

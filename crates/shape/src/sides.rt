@@ -1,6 +1,7 @@
 // 6: no element has a directed side that a lower one has.
 // Sides are looked up in a table, MOST_NODES bytes for each node, that is filled first and then only read: the byte at
-// a * MOST_NODES + b is NONE where a to b is no element's side, and else the number, from 0, of the lowest element that
+// a * MOST_NODES + b is NONE where a to b is no element's side, and else the number, from 0, of the lowest element
+// that
 // has it.
 use mesh::sizes::MOST_NODES;
 use mesh::sizes::Sizes;
@@ -28,8 +29,11 @@ pub fn side_byte(t: &[u8], a: usize, b: usize) -> u8
 
 // Gives the number of element e to its side i.
 fn mark_side(m: &[i64], s: Sizes, e: usize, count: usize, i: usize, t: &mut [u8])
-    requires { ⌜ Sized (now m) s × (e < elements (now m)) × (count ≡ cornerCount (now m) e) × (i < count) × (nodes (now m) * mostNodes ≤ length (now t)) ⌝ }
-    ensures { λ _. ⌜ now (t .exit) ≡ keepFirst (now (t .entry)) (around (now (m .entry)) e i * mostNodes + around (now (m .entry)) e (i + 1)) e ⌝ }
+    requires { ⌜ Sized (now m) s × (e < elements (now m)) × (count ≡ cornerCount (now m) e) × (i < count)
+        × (nodes (now m) * mostNodes ≤ length (now t)) ⌝ }
+    ensures { λ _. ⌜ now (t .exit)
+        ≡ keepFirst (now (t .entry))
+        (around (now (m .entry)) e i * mostNodes + around (now (m .entry)) e (i + 1)) e ⌝ }
 {
     let a = corner_around(m, s, e, count, i);
     let b = corner_around(m, s, e, count, i + 1);
@@ -63,7 +67,8 @@ pub fn side_table(m: &[i64], s: Sizes, t: &mut [u8])
 
 // Whether side i of element e has its own number, so that no lower element has it.
 fn own_side(m: &[i64], s: Sizes, e: usize, count: usize, i: usize, t: &[u8]) -> bool
-    requires { ⌜ Sized (now m) s × (e < elements (now m)) × (count ≡ cornerCount (now m) e) × (i < count) × SideTable (now m) (elements (now m)) (now t) ⌝ }
+    requires { ⌜ Sized (now m) s × (e < elements (now m)) × (count ≡ cornerCount (now m) e) × (i < count)
+        × SideTable (now m) (elements (now m)) (now t) ⌝ }
     ensures { λ r. ⌜ r ≡ ownSideAt (now (m .entry)) e i ⌝ }
 {
     let a = corner_around(m, s, e, count, i);

@@ -20,7 +20,8 @@ use crate::corners::corner_count;
 
 // The cross product of two steps.
 fn cross(ux: i64, uy: i64, vx: i64, vy: i64) -> i64
-    requires { ⌜ Within mostCoordinate ux ⌝ ∗ ⌜ Within mostCoordinate uy ⌝ ∗ ⌜ Within mostCoordinate vx ⌝ ∗ ⌜ Within mostCoordinate vy ⌝ }
+    requires { ⌜ Within mostCoordinate ux ⌝ ∗ ⌜ Within mostCoordinate uy ⌝ ∗ ⌜ Within mostCoordinate vx ⌝
+        ∗ ⌜ Within mostCoordinate vy ⌝ }
     ensures { λ r. ⌜ Is r (ux *ℤ vy -ℤ vx *ℤ uy) mostArea ⌝ }
 {
     ux * vy - vx * uy

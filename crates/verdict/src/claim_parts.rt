@@ -47,7 +47,10 @@ fn claim_field(m: &[i64], c: &[i64], s: Sizes, pairs: &[u8], steps: &[i64]) -> O
 // The verdict by the parts. For speed the polygon's sides are made once and lent to each part.
 pub fn parts_verdict(m: &[i64], c: &[i64], s: Sizes, pairs: &[u8]) -> Verdict
     requires { ⌜ Judged (now m) (now c) s (now pairs) ⌝ }
-    ensures { λ r. ⌜ r ≡ answer (checkPhases (partPhases (now (m .entry)) (now (c .entry)))) (Verdict.Accepted (openCount (now (m .entry)) (now (c .entry))) (lowerLoad (now (c .entry))) (upperLoad (now (m .entry)) (now (c .entry)))) ⌝ }
+    ensures { λ r. ⌜ r
+        ≡ answer (checkPhases (partPhases (now (m .entry)) (now (c .entry))))
+        (Verdict.Accepted (openCount (now (m .entry)) (now (c .entry))) (lowerLoad (now (c .entry)))
+        (upperLoad (now (m .entry)) (now (c .entry)))) ⌝ }
 {
     let steps = steps_of(s.sides);
     let field = claim_field(m, c, s, pairs, &steps);

@@ -70,7 +70,8 @@ fn strength_number(a: usize, sides: usize, k: usize) -> u32
 // The first side whose strength row fails at a pair with these numbers; where each holds, their count.
 fn first_side(steps: &[i64], sides: usize, d: &[i64]) -> usize
     requires { ⌜ StepsFit (now steps) sides ⌝ ∗ ⌜ PairFits (now d) ⌝ }
-    ensures { λ r. ⌜ r ≡ firstFailing (λ k. leZ (pos 0) (sideSlack (now (d .entry)) (now (steps .entry)) k)) sides ⌝ ∗ ⌜ r ≤ sides ⌝ }
+    ensures { λ r. ⌜ r ≡ firstFailing (λ k. leZ (pos 0) (sideSlack (now (d .entry)) (now (steps .entry)) k)) sides ⌝
+        ∗ ⌜ r ≤ sides ⌝ }
 {
     let mut k: usize = 0;
     while k < sides {
@@ -85,7 +86,10 @@ fn first_side(steps: &[i64], sides: usize, d: &[i64]) -> usize
 // 22: the lowest strength row that fails, which is one of the lowest pair that has one.
 fn strengths_check(m: &[i64], c: &[i64], s: Sizes, pairs: &[u8], steps: &[i64]) -> Outcome
     requires { ⌜ Judged (now m) (now c) s (now pairs) × (at (now c) 0 ≡ pos 1) ⌝ ∗ ⌜ MeshSteps (now m) (now steps) ⌝ }
-    ensures { λ r. ⌜ r ≡ checkPhase (strengthsPhase (strengthRows (now (m .entry))) (stress (now (m .entry)) (now (c .entry))) (l (now (c .entry))) (n (now (c .entry)))) ⌝ }
+    ensures { λ r. ⌜ r
+        ≡ checkPhase
+        (strengthsPhase (strengthRows (now (m .entry))) (stress (now (m .entry)) (now (c .entry))) (l (now (c .entry)))
+        (n (now (c .entry)))) ⌝ }
 {
     let count = s.pairs;
     let mut a: usize = 0;
@@ -107,7 +111,10 @@ fn strengths_check(m: &[i64], c: &[i64], s: Sizes, pairs: &[u8], steps: &[i64]) 
 // 21, then 22: a field that is there, against the rows.
 pub fn field_check(m: &[i64], c: &[i64], s: Sizes, pairs: &[u8], steps: &[i64]) -> Outcome
     requires { ⌜ Judged (now m) (now c) s (now pairs) × (at (now c) 0 ≡ pos 1) ⌝ ∗ ⌜ MeshSteps (now m) (now steps) ⌝ }
-    ensures { λ r. ⌜ r ≡ checkPhases (fieldPhases (equalityRows (now (m .entry))) (strengthRows (now (m .entry))) (stress (now (m .entry)) (now (c .entry))) (l (now (c .entry))) (n (now (c .entry)))) ⌝ }
+    ensures { λ r. ⌜ r
+        ≡ checkPhases
+        (fieldPhases (equalityRows (now (m .entry))) (strengthRows (now (m .entry)))
+        (stress (now (m .entry)) (now (c .entry))) (l (now (c .entry))) (n (now (c .entry)))) ⌝ }
 {
     let n = number_at(c, 2);
     let l = number_at(c, 3);

@@ -31,7 +31,8 @@ pub struct MeshAnswer {
 
 // A mesh that is refused: it has no counts and no pairs.
 fn refused_mesh(number: u32, place: Place) -> MeshAnswer
-    ensures { λ r. ⌜ (r .outcome ≡ Outcome.Refused number place) × (r .sizes ≡ noSizes) × (r .pairs ≡ replicate (2 * mostPairs) 0) ⌝ }
+    ensures { λ r. ⌜ (r .outcome ≡ Outcome.Refused number place) × (r .sizes ≡ noSizes)
+        × (r .pairs ≡ replicate (2 * mostPairs) 0) ⌝ }
 {
     let sizes = Sizes {
         nodes: 0,
