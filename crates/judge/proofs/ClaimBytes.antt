@@ -1,7 +1,7 @@
 -- A claim file that passes 11 to 13 is as long as its header and its mesh say.
 use mathlib.Core.Path.{_≡_, ap, _∙_}
 use mathlib.Core.List.{List}
-use Prim.Native.Nat.{ℕ, _+_, _*_}
+use Prim.Native.Nat.{ℕ, _+_, _*_, _≤_, _<_}
 use native.Mathlib.Omega.{arith}
 use lib.IntN.{ℤ, pos}
 use lib.ListN.{length, take, length-replicate}
@@ -24,7 +24,7 @@ use Rattle.reader.specs.WellFormed.{bytesOf}
 use Rattle.reader.specs.TableBytes.{bytesIn}
 use Rattle.reader.proofs.TableBytes.{bytes-meant}
 use Rattle.reader.proofs.Regular.{claim-regular}
-use Rattle.reader.proofs.Cut.{passed-length, group-bytes, no-bytes}
+use Rattle.reader.proofs.Cut.{told-alike, passed-length, group-bytes, no-bytes}
 use Rattle.judge.specs.Judge.{claimNumbers}
 use Rattle.judge.specs.ClaimBytes.{claimBytes}
 use Rattle.judge.proofs.Numbers.{some-side}
@@ -38,6 +38,12 @@ claim-bytes m c = simp (group-bytes, no-bytes, length-replicate) (omega arith)
 pub by-header : (m c : List ℤ) → claimBytes m (take claimHeaderColumns c) ≡ claimBytes m c
 unfolding claimBytes claimLayout hasField hasMultipliers at
 by-header m c = rw (getD-take claimHeaderColumns c 0 (pos 0) (omega arith), getD-take claimHeaderColumns c 1 (pos 0) (omega arith))
+
+-- and so from its first n bytes, where the header is among them
+pub by-header-bytes : (m : List ℤ) (n : ℕ) (claim : List ℕ) → 0 < sides m → claimHeaderColumns * fileWidth + 1 ≤ n → claimBytes m (claimNumbers fileWidth m (take n claim)) ≡ claimBytes m (claimNumbers fileWidth m claim)
+unfolding claimBytes claimNumbers lineBytes claimLayout claimHeader
+by-header-bytes m n claim s l =
+    ap (λ (gs : List Group). (claimHeaderColumns * fileWidth + 1) + bytesOf fileWidth (widths gs)) (told-alike fileWidth (claimLayout m) (claim-regular m s) n claim l)
 
 -- every claim that passes 11 to 13 on a mesh that passes has exactly that length
 pub claim-length : (m : List ℤ) (claim : List ℕ) → meshCheck m ≡ Passed → linesCheck (claimLayout m) (claimNumbers fileWidth m claim) ≡ Passed → length claim ≡ claimBytes m (claimNumbers fileWidth m claim)

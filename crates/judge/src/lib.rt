@@ -37,9 +37,9 @@ pub struct JudgedMesh {
 
 // Rooms for the numbers of a file. An array is filled with zeros before it is used, and for small files that is a
 // large part of the time: so the room is chosen by the bytes.
-const SMALL_ROOM: usize = 256;
+pub const SMALL_ROOM: usize = 256;
 
-const MIDDLE_MESH: usize = 512;
+pub const MIDDLE_MESH: usize = 512;
 
 const MIDDLE_CLAIM: usize = 1024;
 

@@ -117,6 +117,30 @@ numbers-told : (w : ℕ) (f : Layout) → Regular f → (bs : List ℕ) (h : Lis
 unfolding numbersOf
 numbers-told w f r bs h o = rw (o, numbersOf) (r .byHeader h _ (line-means w (width (f .header)) bs h .0 o .count))
 
+-- and so do those of its first n bytes, where the header is among them
+pub told-alike : (w : ℕ) (f : Layout) → Regular f → (n : ℕ) (bs : List ℕ) → lineBytes w (width (f .header)) ≤ n → f .body (numbersOf w f (take n bs)) ≡ f .body (numbersOf w f bs)
+unfolding numbersOf
+told-alike w f r n bs l = by (readLine w (width (f .header)) bs) refl
+  where
+    same : readLine w (width (f .header)) (take n bs) ≡ readLine w (width (f .header)) bs
+    same = line-cut w (width (f .header)) n bs l
+
+    by : (o : Option (List ℤ)) → readLine w (width (f .header)) bs ≡ o → f .body (numbersOf w f (take n bs)) ≡ f .body (numbersOf w f bs)
+    by none o = rw (same ∙ o, o, numbersOf)
+    by (some h) o = numbers-told w f r (take n bs) h (same ∙ o) ∙ sym (numbers-told w f r bs h o)
+
+-- where the header is not there or does not pass, nothing after it counts
+pub header-alone : (w : ℕ) (f : Layout) (n : ℕ) (bs : List ℕ) → lineBytes w (width (f .header)) ≤ n → ((h : List ℤ) → readLine w (width (f .header)) bs ≡ some h → headerPasses f h ≡ false) → numbersOf w f (take n bs) ≡ numbersOf w f bs
+unfolding numbersOf
+header-alone w f n bs l t = by (readLine w (width (f .header)) bs) refl
+  where
+    same : readLine w (width (f .header)) (take n bs) ≡ readLine w (width (f .header)) bs
+    same = line-cut w (width (f .header)) n bs l
+
+    by : (o : Option (List ℤ)) → readLine w (width (f .header)) bs ≡ o → numbersOf w f (take n bs) ≡ numbersOf w f bs
+    by none o = rw (same ∙ o, o, numbersOf)
+    by (some h) o = rw (same ∙ o, o, numbersOf) (rw (t h o))
+
 -- where all checks of a file's lines pass, its bytes are those of its lines
 pub passed-length : (w : ℕ) (f : Layout) → Regular f → (bs : List ℕ) → linesCheck f (numbersOf w f bs) ≡ Passed → length bs ≡ lineBytes w (width (f .header)) + bytesOf w (widths (f .body (numbersOf w f bs)))
 unfolding bytesOf

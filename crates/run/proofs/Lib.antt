@@ -1,0 +1,4 @@
+-- The theorems about a run.
+pub mod NextLaws
+pub mod RunLaws
+pub mod InTurn

@@ -1,0 +1,313 @@
+-- A run goes claim by claim: those that are done and those that are left are together all that get a report.
+use mathlib.Core.Path.{_≡_, refl, sym, ap, ap₂, _∙_, subst}
+use mathlib.Core.Bool.{Bool, true, false, cond}
+use mathlib.Core.List.{List, [], _∷_, _++_, append-assoc, append-nil, flatMap}
+use Prim.Native.Nat.{ℕ, zero, suc, _+_, _*_, _-_, _/_, _≤_, _<_}
+use native.Mathlib.Nat.{zero-mul, suc-mul, sub-zero, div-eq-of-lt, div-eq-sub-div}
+use native.Mathlib.Numerals.{add-one}
+use native.Mathlib.Omega.{arith}
+use lib.Dec.{ltb}
+use lib.IntN.{ℤ}
+use lib.ListN.{length, take, drop, getD, length-append, length-drop, drop-of-length-le}
+use lib.Seq.{take-all, take-at, drop-at, drop-drop, drop-length}
+use borrow.Author.Tests.{le-ltb, lt-ltb, ltb-true, ltb-false}
+use borrow.Rule.Slice.PartMut.{midOf, putMid, same-len-mid}
+use borrow.Table.Steps.{cases}
+use Rattle.scope.specs.declared.Place.{Place}
+use Rattle.scope.specs.declared.Outcome.the-variants.{Passed, Refused as Fails}
+use Rattle.scope.specs.declared.Verdict.{Verdict}
+use Rattle.scope.specs.declared.Verdict.the-variants.{Refused}
+use Rattle.scope.specs.Verdict.{meshCheck, verdict, answer}
+use Rattle.report.specs.Report.{reportBytes, reportLine, decimals}
+use Rattle.report.specs.declared.Reported.{Reported}
+use Rattle.report.specs.declared.Reported.the-variants.{Written, TooShort}
+use Rattle.report.specs.Buffer.{afterReport, reported, Reports}
+use Rattle.run.specs.declared.NextClaim.{NextClaim}
+use Rattle.run.specs.declared.RunAnswer.{RunAnswer}
+use Rattle.run.specs.Run.{ownBytes, verdictOn, endsRun, takenOf, lineOf, claimsJudged, ran, run, RunAnswers}
+use Rattle.run.specs.NextClaim.{NextOf}
+use Rattle.run.proofs.NextLaws.{own-length}
+
+-- ---- the claims that get a report
+
+module _ (m : List ℤ) (passes : meshCheck m ≡ Passed) where
+  pub judged-none : (room : ℕ) → claimsJudged room m [] ≡ []
+  unfolding claimsJudged
+  judged-none zero = refl
+  judged-none (suc room) = rw (passes, claimsJudged)
+
+  pub judged-next : (room : ℕ) (left : List ℕ) → 0 < length left → claimsJudged (suc room) m left ≡ ownBytes m left ∷ cond (endsRun (verdictOn m (ownBytes m left))) [] (claimsJudged room m (drop (length (ownBytes m left)) left))
+  unfolding claimsJudged
+  judged-next room [] l = absurd (omega arith)
+  judged-next room (b ∷ bs) l = rw (passes, claimsJudged)
+
+pub judged-refused : (m : List ℤ) (left : List ℕ) (room k : ℕ) (p : Place) → meshCheck m ≡ Fails k p → claimsJudged (suc room) m left ≡ [] ∷ []
+unfolding claimsJudged
+judged-refused m left room k p e = rw (e, claimsJudged)
+
+pub no-room : (n : ℕ) → n < reportBytes → n / reportBytes ≡ 0
+no-room n l = div-eq-of-lt l
+
+pub one-room : (n : ℕ) → reportBytes ≤ n → n / reportBytes ≡ suc ((n - reportBytes) / reportBytes)
+one-room n l = div-eq-sub-div {m = reportBytes} {n = n} (omega arith) l ∙ add-one ((n - reportBytes) / reportBytes)
+
+-- ---- a part of a list, and a report in it
+
+-- a part up to the end is all that is left, and nothing follows it
+pub up-to-end : (from : ℕ) (l : List ℕ) → take (length l - from) (drop from l) ≡ drop from l
+up-to-end from l = take-all (length l - from) (drop from l) (omega (arith, length-drop from l))
+
+none-after : (from : ℕ) (l : List ℕ) → drop (length l - from) (drop from l) ≡ []
+none-after from l = drop-of-length-le (drop from l) {i = length l - from} (omega (arith, length-drop from l))
+
+written-there : {after : List ℕ} {w : Reported} (v : Verdict) (before : List ℕ) → reportBytes ≤ length before → Reports decimals v before after w → after ≡ reportLine decimals v ++ drop reportBytes before
+unfolding afterReport
+written-there v before l r = r .buffer ∙ rw (le-ltb (length before) reportBytes l, afterReport)
+
+-- ---- lists of lists
+
+pub flat-append : (f : List ℕ → List ℕ) (xs ys : List (List ℕ)) → flatMap f (xs ++ ys) ≡ flatMap f xs ++ flatMap f ys
+unfolding flatMap
+flat-append f [] ys = refl
+flat-append f (x ∷ xs) ys = ap (λ (l : List ℕ). f x ++ l) (flat-append f xs ys) ∙ sym (append-assoc (f x) (flatMap f xs) (flatMap f ys))
+
+pub flat-last : (f : List ℕ → List ℕ) (xs : List (List ℕ)) (x : List ℕ) → flatMap f (xs ++ (x ∷ [])) ≡ flatMap f xs ++ f x
+unfolding flatMap
+flat-last f xs x = flat-append f xs (x ∷ []) ∙ ap (λ (l : List ℕ). flatMap f xs ++ l) (append-nil (f x))
+
+-- where each list has k elements, they stand k apart
+module _ (f : List ℕ → List ℕ) (k : ℕ) (each : (x : List ℕ) → length (f x) ≡ k) where
+  pub flat-length : (xs : List (List ℕ)) → length (flatMap f xs) ≡ length xs * k
+  unfolding flatMap
+  flat-length [] = sym (zero-mul k)
+  flat-length (x ∷ xs) = omega (arith, length-append (f x) (flatMap f xs), each x, flat-length xs, suc-mul (length xs) k)
+
+  pub flat-at : (xs : List (List ℕ)) (tail : List ℕ) (i : ℕ) → i < length xs → take k (drop (i * k) (flatMap f xs ++ tail)) ≡ f (getD xs i [])
+  unfolding flatMap
+  flat-at [] tail i l = absurd (omega arith)
+  flat-at (x ∷ xs) tail zero l = rw (zero-mul k, append-assoc (f x) (flatMap f xs) tail) (take-at (f x) (flatMap f xs ++ tail) k (each x))
+  flat-at (x ∷ xs) tail (suc i) l =
+      let e : suc i * k ≡ k + i * k = omega (arith, suc-mul i k) in
+      rw (e, append-assoc (f x) (flatMap f xs) tail)
+      (ap (take k) (sym (drop-drop (i * k) k (f x ++ (flatMap f xs ++ tail))) ∙ ap (drop (i * k)) (drop-at (f x) (flatMap f xs ++ tail) k (each x)))
+      ∙ flat-at xs tail i (omega arith))
+
+-- ---- so far
+
+-- the claims `done` have their reports: `at` bytes of the claims are taken, and the bytes before `from` are written
+pub record SoFar (m : List ℤ) (claims before : List ℕ) (at from count : ℕ) (buffer : List ℕ) : Type 0 where
+  pub done : List (List ℕ)
+  pub all : claimsJudged (length before / reportBytes) m claims ≡ done ++ claimsJudged ((length before - from) / reportBytes) m (drop at claims)
+  pub counts : count ≡ length done
+  pub places : from ≡ count * reportBytes
+  pub room : from ≤ length before
+  pub takes : at ≡ length (flatMap (takenOf m) done)
+  pub within : at ≤ length claims
+  pub lines : length (flatMap (lineOf m) done) ≡ from
+  pub written : buffer ≡ flatMap (lineOf m) done ++ drop from before
+
+pub none-done : (m : List ℤ) (claims before : List ℕ) → SoFar m claims before 0 0 0 before
+unfolding flatMap
+none-done m claims before = record {
+  done = [];
+  all = rw (sub-zero (length before));
+  counts = refl;
+  places = refl;
+  room = omega arith;
+  takes = refl;
+  within = omega arith;
+  lines = refl;
+  written = refl;
+}
+
+-- a run whose claims are `done`
+pub ran-over : {m : List ℤ} {claims before after : List ℕ} {r : RunAnswer} (done : List (List ℕ)) → claimsJudged (length before / reportBytes) m claims ≡ done → r .reports ≡ length done → r .bytes ≡ length (flatMap (takenOf m) done) → after ≡ flatMap (lineOf m) done ++ drop (length (flatMap (lineOf m) done)) before → RunAnswers m claims before r after
+unfolding run ran
+ran-over {m} {claims} {before} done e a b w = record {
+  reportsAre = a ∙ ap length (sym e);
+  bytesAre = b ∙ ap (λ (cs : List (List ℕ)). length (flatMap (takenOf m) cs)) (sym e);
+  bufferIs = w ∙ ap (λ (cs : List (List ℕ)). flatMap (lineOf m) cs ++ drop (length (flatMap (lineOf m) cs)) before) (sym e);
+}
+
+pub same-mesh : {m n : List ℤ} {claims before after : List ℕ} {r : RunAnswer} → m ≡ n → RunAnswers m claims before r after → RunAnswers n claims before r after
+same-mesh {claims = claims} {before} {after} {r} e h = subst (λ (m : List ℤ). RunAnswers m claims before r after) e h
+
+module _ {m : List ℤ} {claims before : List ℕ} {at from count : ℕ} {buffer : List ℕ} (h : SoFar m claims before at from count buffer) where
+  ended : {r : RunAnswer} → claimsJudged ((length before - from) / reportBytes) m (drop at claims) ≡ [] → (r .reports ≡ count) × (r .bytes ≡ at) → RunAnswers m claims before r buffer
+  ended e a =
+      ran-over (h .done)
+      (h .all ∙ ap (λ (cs : List (List ℕ)). h .done ++ cs) e ∙ append-nil (h .done))
+      (a .0 ∙ h .counts)
+      (a .1 ∙ h .takes)
+      (h .written ∙ ap (λ (n : ℕ). flatMap (lineOf m) (h .done) ++ drop n before) (sym (h .lines)))
+
+  -- "A run ends first of all when the buffer lacks 113 bytes for the next report"
+  pub ends-for-room : {r : RunAnswer} → length before - from < reportBytes → (r .reports ≡ count) × (r .bytes ≡ at) → RunAnswers m claims before r buffer
+  unfolding claimsJudged
+  ends-for-room l a = ended (ap (λ (n : ℕ). claimsJudged n m (drop at claims)) (no-room (length before - from) l)) a
+
+  -- "With no claim byte left it ends without a further report"
+  pub ends-for-claims : {r : RunAnswer} → meshCheck m ≡ Passed → at ≡ length claims → (r .reports ≡ count) × (r .bytes ≡ at) → RunAnswers m claims before r buffer
+  ends-for-claims p l a =
+      ended (ap (claimsJudged ((length before - from) / reportBytes) m) (ap (λ (n : ℕ). drop n claims) l ∙ drop-length claims) ∙ judged-none m p ((length before - from) / reportBytes)) a
+
+  pub same-size : length buffer ≡ length before
+  same-size = ap length (h .written) ∙ omega (arith, length-append (flatMap (lineOf m) (h .done)) (drop from before), length-drop from before, h .lines, h .room)
+
+  -- the next claim, and the part of the buffer that its report was written into
+  module _ (p : meshCheck m ≡ Passed) (more : reportBytes ≤ length buffer - from) (left : at < length claims) {next : NextClaim} {w : Reported} (part : List ℕ) (n′ : NextOf m (take (length claims - at) (drop at claims)) next) (rep : Reports decimals (next .verdict) (midOf from (length buffer - from) buffer) part w) (same : length part ≡ length (midOf from (length buffer - from) buffer)) where
+    n : NextOf m (drop at claims) next
+    n = rw (up-to-end at claims) at n′
+
+    mid-long : length (midOf from (length buffer - from) buffer) ≡ length buffer - from
+    mid-long = ap length (up-to-end from buffer) ∙ length-drop from buffer
+
+    part-is : part ≡ reportLine decimals (next .verdict) ++ drop reportBytes (drop from buffer)
+    part-is =
+        written-there (next .verdict) (midOf from (length buffer - from) buffer) (omega (arith, mid-long)) rep
+        ∙ ap (λ (l : List ℕ). reportLine decimals (next .verdict) ++ drop reportBytes l) (up-to-end from buffer)
+
+    long : length (reportLine decimals (next .verdict)) ≡ reportBytes
+    long = omega (arith, ap length part-is, same, mid-long, length-append (reportLine decimals (next .verdict)) (drop reportBytes (drop from buffer)), length-drop reportBytes (drop from buffer), length-drop from buffer)
+
+    -- the buffer with one report more
+    abbrev pub oneMore : List ℕ
+    oneMore = putMid from (length buffer - from) buffer part
+
+    put-is : oneMore ≡ take from buffer ++ (reportLine decimals (next .verdict) ++ drop reportBytes (drop from buffer))
+    put-is = ap (λ (l : List ℕ). take from buffer ++ l) (ap (λ (l : List ℕ). part ++ l) (none-after from buffer) ∙ append-nil part ∙ part-is)
+
+    pub size-more : length oneMore ≡ length before
+    size-more = same-len-mid from (length buffer - from) buffer part same ∙ same-size
+
+    own : List ℕ
+    own = ownBytes m (drop at claims)
+
+    line-is : lineOf m own ≡ reportLine decimals (next .verdict)
+    unfolding own lineOf
+    line-is = ap (reportLine decimals) (sym (n .verdictIs))
+
+    lines-more : flatMap (lineOf m) (h .done ++ (own ∷ [])) ≡ flatMap (lineOf m) (h .done) ++ reportLine decimals (next .verdict)
+    lines-more = flat-last (lineOf m) (h .done) own ∙ ap (λ (l : List ℕ). flatMap (lineOf m) (h .done) ++ l) line-is
+
+    lines-long : length (flatMap (lineOf m) (h .done ++ (own ∷ []))) ≡ from + reportBytes
+    lines-long = ap length lines-more ∙ omega (arith, length-append (flatMap (lineOf m) (h .done)) (reportLine decimals (next .verdict)), h .lines, long)
+
+    written-more : oneMore ≡ flatMap (lineOf m) (h .done ++ (own ∷ [])) ++ drop (from + reportBytes) before
+    written-more =
+        let front = ap (take from) (h .written) ∙ take-at (flatMap (lineOf m) (h .done)) (drop from before) from (h .lines) in
+        let back = ap (drop from) (h .written) ∙ drop-at (flatMap (lineOf m) (h .done)) (drop from before) from (h .lines) in
+        put-is
+        ∙ ap₂ (λ (x y : List ℕ). x ++ (reportLine decimals (next .verdict) ++ drop reportBytes y)) front back
+        ∙ rw (drop-drop reportBytes from before, lines-more, append-assoc)
+
+    room-less : (length before - from) / reportBytes ≡ suc ((length before - (from + reportBytes)) / reportBytes)
+    room-less =
+        let e : length before - from - reportBytes ≡ length before - (from + reportBytes) = omega arith in
+        one-room (length before - from) (omega (arith, same-size)) ∙ ap (λ (n : ℕ). suc (n / reportBytes)) e
+
+    all-next : claimsJudged (length before / reportBytes) m claims ≡ h .done ++ (own ∷ cond (endsRun (next .verdict)) [] (claimsJudged ((length before - (from + reportBytes)) / reportBytes) m (drop (at + next .bytes) claims)))
+    unfolding own
+    all-next =
+        h .all
+        ∙ ap (λ (cs : List (List ℕ)). h .done ++ cs)
+        (ap (λ (n : ℕ). claimsJudged n m (drop at claims)) room-less
+        ∙ judged-next m p ((length before - (from + reportBytes)) / reportBytes) (drop at claims) (omega (arith, length-drop at claims))
+        ∙ rw (n .verdictIs, n .bytesAre, drop-drop (length (ownBytes m (drop at claims))) at claims))
+
+    taken-more : flatMap (takenOf m) (h .done ++ (own ∷ [])) ≡ flatMap (takenOf m) (h .done) ++ cond (endsRun (next .verdict)) [] own
+    unfolding takenOf own
+    taken-more = flat-last (takenOf m) (h .done) own ∙ rw (n .verdictIs)
+
+    none-more : endsRun (next .verdict) ≡ true → flatMap (takenOf m) (h .done ++ (own ∷ [])) ≡ flatMap (takenOf m) (h .done)
+    none-more e = taken-more ∙ rw e (append-nil (flatMap (takenOf m) (h .done)))
+
+    own-more : endsRun (next .verdict) ≡ false → flatMap (takenOf m) (h .done ++ (own ∷ [])) ≡ flatMap (takenOf m) (h .done) ++ own
+    own-more e = taken-more ∙ rw e
+
+    counts-more : count + 1 ≡ length (h .done ++ (own ∷ []))
+    counts-more = omega (arith, length-append (h .done) (own ∷ []), h .counts)
+
+    -- "A claim refused with 11, 12 or 13 ends the run after its report, and its bytes aren't taken"
+    pub ends-for-claim : {r : RunAnswer} → endsRun (next .verdict) ≡ true → (r .reports ≡ count + 1) × (r .bytes ≡ at) → RunAnswers m claims before r oneMore
+    ends-for-claim e a =
+        ran-over (h .done ++ (own ∷ []))
+        (all-next ∙ rw e)
+        (a .0 ∙ counts-more)
+        (a .1 ∙ h .takes ∙ ap length (sym (none-more e)))
+        (written-more ∙ ap (λ (n : ℕ). flatMap (lineOf m) (h .done ++ (own ∷ [])) ++ drop n before) (sym lines-long))
+
+    pub taken-within : at + next .bytes ≤ length claims
+    taken-within = omega (arith, n .bytesAre, own-length m (drop at claims), length-drop at claims)
+
+    takes-more : endsRun (next .verdict) ≡ false → at + next .bytes ≡ length (flatMap (takenOf m) (h .done ++ (own ∷ [])))
+    unfolding own
+    takes-more e =
+        ap₂ (λ (x y : ℕ). x + y) (h .takes) (n .bytesAre)
+        ∙ sym (length-append (flatMap (takenOf m) (h .done)) own)
+        ∙ ap length (sym (own-more e))
+
+    -- "Bytes after a full claim begin the next"
+    pub goes-on : endsRun (next .verdict) ≡ false → SoFar m claims before (at + next .bytes) (from + reportBytes) (count + 1) oneMore
+    goes-on e = record {
+      done = h .done ++ (own ∷ []);
+      all = all-next ∙ rw e (sym (append-assoc (h .done) (own ∷ []) (claimsJudged ((length before - (from + reportBytes)) / reportBytes) m (drop (at + next .bytes) claims))));
+      counts = counts-more;
+      places = omega (arith, h .places);
+      room = omega (arith, h .room, same-size);
+      takes = takes-more e;
+      within = taken-within;
+      lines = lines-long;
+      written = written-more;
+    }
+
+-- ---- a refused mesh
+
+room-there : (buffer : List ℕ) → Written ≡ reported buffer → reportBytes ≤ length buffer
+unfolding reported
+room-there buffer e =
+    cases (ltb (length buffer) reportBytes)
+    (λ t. let f : Written ≡ TooShort = rw (t, reported) at e in absurd (let z : _≡_ {A = ℕ} 0 1 = cc in omega arith))
+    (λ t. omega (arith, ltb-false (length buffer) reportBytes t))
+
+room-lacks : (buffer : List ℕ) → TooShort ≡ reported buffer → length buffer < reportBytes
+unfolding reported
+room-lacks buffer e =
+    cases (ltb (length buffer) reportBytes)
+    (λ t. omega (arith, ltb-true (length buffer) reportBytes t))
+    (λ t. let f : TooShort ≡ Written = rw (t, reported) at e in absurd (let z : _≡_ {A = ℕ} 0 1 = cc in omega arith))
+
+-- the verdict on every claim is the mesh's refusal
+refused-line : (m : List ℤ) (k : ℕ) (p : Place) → meshCheck m ≡ Fails k p → lineOf m [] ≡ reportLine decimals (Refused k p)
+unfolding lineOf verdictOn verdict answer
+refused-line m k p e = rw e
+
+-- and no byte is taken
+pub none-taken : (m : List ℤ) → length (flatMap (takenOf m) ([] ∷ [])) ≡ 0
+unfolding flatMap takenOf
+none-taken m = by (endsRun (verdictOn m []))
+  where
+    by : (b : Bool) → length {A = ℕ} (cond b [] [] ++ []) ≡ 0
+    by true = refl
+    by false = refl
+
+module _ (m : List ℤ) (claims before : List ℕ) (k : ℕ) (p : Place) (e : meshCheck m ≡ Fails k p) where
+  -- "A refused mesh writes its report once, even with no claim byte, and takes no claim"
+  pub mesh-reported : {r : RunAnswer} {after : List ℕ} → Reports decimals (Refused k p) before after Written → length after ≡ length before → (r .reports ≡ 1) × (r .bytes ≡ 0) → RunAnswers m claims before r after
+  unfolding flatMap
+  mesh-reported {after = after} w same a =
+      let room = room-there before (w .answer) in
+      let is = written-there (Refused k p) before room w in
+      let long : length (reportLine decimals (Refused k p)) ≡ reportBytes = omega (arith, ap length is, same, length-append (reportLine decimals (Refused k p)) (drop reportBytes before), length-drop reportBytes before) in
+      let line : flatMap (lineOf m) ([] ∷ []) ≡ reportLine decimals (Refused k p) = append-nil (lineOf m []) ∙ refused-line m k p e in
+      ran-over ([] ∷ [])
+      (ap (λ (n : ℕ). claimsJudged n m claims) (one-room (length before) room) ∙ judged-refused m claims ((length before - reportBytes) / reportBytes) k p e)
+      (a .0)
+      (a .1 ∙ sym (none-taken m))
+      (is ∙ sym (ap (λ (l : List ℕ). l ++ drop (length l) before) line ∙ ap (λ (n : ℕ). reportLine decimals (Refused k p) ++ drop n before) long))
+
+  pub no-report : {r : RunAnswer} {after : List ℕ} → Reports decimals (Refused k p) before after TooShort → (r .reports ≡ 0) × (r .bytes ≡ 0) → RunAnswers m claims before r after
+  unfolding claimsJudged flatMap afterReport
+  no-report w a =
+      let short = room-lacks before (w .answer) in
+      ran-over [] (ap (λ (n : ℕ). claimsJudged n m claims) (no-room (length before) short)) (a .0) (a .1) (w .buffer ∙ rw (lt-ltb (length before) reportBytes short, afterReport))

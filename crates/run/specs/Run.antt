@@ -1,0 +1,88 @@
+-- A solver's run handed over whole (document 02, N3): "One call is to take claims written one after another and write
+-- their reports in turn."
+-- A mesh is given by its numbers m, as the claims are judged on it.
+use mathlib.Core.Path.{_≡_}
+use mathlib.Core.Bool.{Bool, true, false, cond, _||_}
+use mathlib.Core.List.{List, [], _∷_, _++_, flatMap}
+use Prim.Native.Nat.{ℕ, zero, suc, _/_}
+use lib.Dec.{eqb}
+use lib.IntN.{ℤ}
+use lib.ListN.{length, take, drop}
+use Rattle.scope.specs.declared.Outcome.the-variants.{Passed, Refused as Fails}
+use Rattle.scope.specs.declared.Verdict.{Verdict}
+use Rattle.scope.specs.declared.Verdict.the-variants.{Accepted, Refused}
+use Rattle.scope.specs.Verdict.{meshCheck, verdict}
+use Rattle.reader.specs.File.{fileWidth}
+use Rattle.report.specs.Report.{reportBytes, reportLine, decimals}
+use Rattle.judge.specs.Judge.{claimNumbers}
+use Rattle.judge.specs.ClaimBytes.{claimBytes}
+use Rattle.run.specs.declared.RunAnswer.{RunAnswer}
+
+-- ---- one claim
+
+-- "Each claim's length follows from its header and the mesh": the bytes that are the next claim's own, at the front of
+-- those that are left; "a claim cut short" has what is left of them
+unfoldable pub ownBytes : List ℤ → List ℕ → List ℕ
+ownBytes m left = take (claimBytes m (claimNumbers fileWidth m left)) left
+
+-- the verdict of a single call on a claim: "the reports equal those of single calls"
+unfoldable pub verdictOn : List ℤ → List ℕ → Verdict
+verdictOn m claim = verdict m (claimNumbers fileWidth m claim)
+
+-- "A claim refused with 11, 12 or 13 ends the run"
+unfoldable pub endsRun : Verdict → Bool
+endsRun (Accepted o lower upper) = false
+endsRun (Refused k place) = eqb k 11 || eqb k 12 || eqb k 13
+
+-- ".. and its bytes aren't taken"
+unfoldable pub takenOf : List ℤ → List ℕ → List ℕ
+takenOf m claim = cond (endsRun (verdictOn m claim)) [] claim
+
+unfoldable pub lineOf : List ℤ → List ℕ → List ℕ
+lineOf m claim = reportLine decimals (verdictOn m claim)
+
+-- ---- all claims
+
+-- the claims that get a report, each by its own bytes, where the buffer has room for so many reports:
+-- "A run ends first of all when the buffer lacks 113 bytes for the next report";
+-- "A refused mesh writes its report once, even with no claim byte, and takes no claim";
+-- "With no claim byte left it ends without a further report";
+-- else the next claim, and where it does not end the run those that begin after it: "Bytes after a full claim begin
+-- the next"
+unfoldable pub claimsJudged : ℕ → List ℤ → List ℕ → List (List ℕ)
+claimsJudged zero m left = []
+claimsJudged (suc room) m left =
+    elim (meshCheck m) [
+      | Fails k place ↦ [] ∷ []
+      | Passed ↦ elim left [
+        | [] ↦ []
+        | b ∷ bs ↦
+            let own : List ℕ = ownBytes m (b ∷ bs) in
+            own ∷ cond (endsRun (verdictOn m own)) [] (claimsJudged room m (drop (length own) (b ∷ bs)))
+      ]
+    ]
+
+-- ---- the whole run
+
+-- what is answered, "reports written and claim bytes taken", and what the buffer holds afterwards
+pub record Ran : Type 0 where
+  pub reports : ℕ
+  pub bytes : ℕ
+  pub buffer : List ℕ
+
+-- the reports stand one after another at the buffer's front, and no other byte is written
+unfoldable pub ran : List ℤ → List (List ℕ) → List ℕ → Ran
+ran m judged buffer = record {
+  reports = length judged;
+  bytes = length (flatMap (takenOf m) judged);
+  buffer = flatMap (lineOf m) judged ++ drop (length (flatMap (lineOf m) judged)) buffer;
+}
+
+unfoldable pub run : List ℤ → List ℕ → List ℕ → Ran
+run m claims buffer = ran m (claimsJudged (length buffer / reportBytes) m claims) buffer
+
+-- a run answers r and makes the bytes `before` of the buffer `after`
+pub record RunAnswers (m : List ℤ) (claims before : List ℕ) (r : RunAnswer) (after : List ℕ) : Type 0 where
+  pub reportsAre : r .reports ≡ run m claims before .reports
+  pub bytesAre : r .bytes ≡ run m claims before .bytes
+  pub bufferIs : after ≡ run m claims before .buffer
