@@ -7,3 +7,5 @@ pub mod Words
 pub mod OpenColumn
 pub mod Promises
 pub mod PromisesApplied
+pub mod RunPromises
+pub mod RunApplied

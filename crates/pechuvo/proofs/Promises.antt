@@ -127,7 +127,7 @@ not-41 m c = by (verdict-cases m c)
     by (inr e) = rw e (λ z. omega arith)
 
 -- the line that is printed
-says-line : (m c : List ℤ) → LineSays decimals (verdict m c) (reportLine decimals (verdict m c))
+pub says-line : (m c : List ℤ) → LineSays decimals (verdict m c) (reportLine decimals (verdict m c))
 unfolding decimals
 says-line m c = line-says 6 (verdict m c) (omega arith) (held m c)
 

@@ -1,13 +1,14 @@
 -- What a caller of `pechuvo_check` may rely on: demands 1, 2 and 3 of document 01, each promise a plain statement
--- about the number and the place that are returned and about the bytes of the buffer.
--- Each is proved of every call (`proofs/Promises.antt`) and applied to document 01's sheet
--- (`proofs/PromisesApplied.antt`). What number and place say of the two files' numbers is said as for numbers handed
+-- about the number and the place that are returned and about the bytes of the buffer; and a caller of
+-- `pechuvo_check_run` (document 02, N3).
+-- Each is proved of every call (`proofs/Promises.antt`, `proofs/RunPromises.antt`) and applied to document 01's sheet
+-- (`proofs/PromisesApplied.antt`, `proofs/RunApplied.antt`). What number and place say of the two files' numbers is said as for numbers handed
 -- over (`numbers/specs/Promises.antt`).
 use mathlib.Core.Path.{_≡_}
 use mathlib.Core.Logic.{_↔_, _⊎_, _≢_}
 use mathlib.Core.List.{List}
 use mathlib.Core.Option.{some}
-use Prim.Native.Nat.{ℕ, suc, _≤_, _<_}
+use Prim.Native.Nat.{ℕ, suc, _*_, _/_, _≤_, _<_}
 use lib.IntN.{ℤ, pos, _+ℤ_, _-ℤ_}
 use lib.ListN.{length, take, drop}
 use Rattle.integer.specs.Fraction.{_over_, _≈ᶠ_, _≤ᶠ_, _<ᶠ_}
@@ -30,6 +31,8 @@ use Rattle.report.specs.Report.{reportBytes, reportLine, decimals}
 use Rattle.report.specs.Says.{columnOf, LineSays}
 use Rattle.judge.specs.Judge.{meshNumbers, claimNumbers, filesVerdict}
 use Rattle.judge.specs.Handed.{Handed, files, numbers, meshOf, claimOf, HasAcceptedMultipliers, OnTheSameMesh, HandedBracket}
+use Rattle.run.specs.Run.{claimsJudged}
+use Rattle.run.specs.InTurn.{claimAt, InTurn}
 use Rattle.pechuvo.specs.Check.{mostFileBytes}
 use Rattle.pechuvo.specs.Answers.{Answers}
 use Rattle.pechuvo.specs.Sheets.{Sheet}
@@ -160,3 +163,33 @@ pub record AsAFile (m c : List ℤ) (r : NumbersAnswer) : Type 0 where
 abbrev pub Written : Sheet → Type 0
 Written s = (before after : List ℕ) (number place : ℕ) → Answers (s .mesh) (s .claim) before number place after
     → reportBytes ≤ length before → take reportBytes after ≡ s .line
+
+-- ==== A solver's run handed over whole (document 02, N3)
+
+-- report i of a run
+abbrev pub reportAt : ℕ → List ℕ → List ℕ
+reportAt i buffer = take reportBytes (drop (i * reportBytes) buffer)
+
+-- a line is what each single call on this mesh and this claim writes
+abbrev pub SingleCall : (mesh claim line : List ℕ) → Type 0
+SingleCall mesh claim line = (before after : List ℕ) (number place : ℕ) → Answers mesh claim before number place after
+    → reportBytes ≤ length before → take reportBytes after ≡ line
+
+-- the claims that have a report, each by its own bytes
+abbrev pub judgedIn : (mesh claims before : List ℕ) → List (List ℕ)
+judgedIn mesh claims before = claimsJudged (length before / reportBytes) (meshIn mesh) claims
+
+-- "The answer counts reports written and claim bytes taken"
+pub record RunCall (mesh claims before : List ℕ) (judged : List (List ℕ)) (reports bytes : ℕ) (after : List ℕ) : Type 0 where
+  pub count : reports ≡ length judged
+  -- "the reports equal those of single calls", and no other byte is written
+  pub single-calls : (i : ℕ) → i < reports → SingleCall mesh (claimAt judged i) (reportAt i after)
+  pub rest : drop (reports * reportBytes) after ≡ drop (reports * reportBytes) before
+  pub size : length after ≡ length before
+  -- on an accepted mesh: which claims, how many bytes, and where it ends
+  pub in-turn : MeshSound (meshIn mesh) → InTurn (meshIn mesh) (length before / reportBytes) claims judged bytes
+  -- "A refused mesh writes its report once, even with no claim byte, and takes no claim"
+  pub mesh-refused : (¬ MeshSound (meshIn mesh)) → reportBytes ≤ length before
+      → (reports ≡ 1) × (bytes ≡ 0) × ((claim : List ℕ) → SingleCall mesh claim (reportAt 0 after))
+  -- "A run ends first of all when the buffer lacks 113 bytes for the next report, without 41"
+  pub no-room : length before < reportBytes → (reports ≡ 0) × (bytes ≡ 0) × (after ≡ before)

@@ -1,16 +1,21 @@
 // Every call that C makes: the check of a mesh file and a claim file, two byte strings into a report line and the
-// verdict's numbers; and the check of the numbers themselves.
+// verdict's numbers; the check of claims for one mesh, one after another; and the check of the numbers themselves.
 
 use judge::judge_files;
 use numbers::numbers_answer::NumbersAnswer;
 use report::Reported;
 use report::write_report;
+use run::RunAnswer;
+use run::check_run;
 use scope::Verdict;
 use scope::place_number;
 ghost use mathlib.Core.Path.{_≡_};
 ghost use Rattle.scope.specs.Verdict.{verdict};
 ghost use Rattle.numbers.specs.NumbersAnswer.{answerOf};
+ghost use Rattle.reader.specs.File.{fileWidth};
 ghost use Rattle.report.specs.Buffer.{reportedNumber, reportedPlace};
+ghost use Rattle.judge.specs.Judge.{meshNumbers};
+ghost use Rattle.run.specs.Run.{RunAnswers};
 ghost use Rattle.pechuvo.specs.Answers.{Answers};
 
 // What is returned: 0 and 0 for an accepted claim, else a refusal's number and its place.
@@ -51,6 +56,15 @@ pub extern "C" fn pechuvo_check(mesh: &[u8], claim: &[u8], report: &mut [u8]) ->
     let v = judge_files(mesh, claim);
     let reported = write_report(v, report);
     answer_of(v, reported)
+}
+
+// The reports of claims for one mesh, written one after another, in turn at the front of the buffer that is lent.
+#[no_mangle]
+pub extern "C" fn pechuvo_check_run(mesh: &[u8], claims: &[u8], reports: &mut [u8]) -> RunAnswer
+    ensures { λ r. ⌜ RunAnswers (meshNumbers fileWidth (now (mesh .entry))) (now (claims .entry))
+        (now (reports .entry)) r (now (reports .exit)) ⌝ }
+{
+    check_run(mesh, claims, reports)
 }
 
 // The same check of the numbers of a mesh and of a claim, for a solver that writes no files.
