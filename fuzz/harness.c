@@ -1,20 +1,24 @@
-/* libFuzzer harness: the archive against the independent implementation, files and numbers.
-   An input is a mesh file, a byte 0 and a claim file. */
+/* libFuzzer harness: the archive against the independent implementation, every entry of both.
+   An input is a mesh file, a byte 0 and a claim file, or several claims one after another. */
 #include <stdint.h>
 #include <stdio.h>
 #include <stdlib.h>
 #include <string.h>
 
+#include "entries.h"
 #include "memory.h"
-#include "pechuvo.h"
 
-enum { LINE = 113, ROOM = 120, COLUMN = 12, MOST = 8192 };
+enum { LINE = 113, ROOM = 3 * LINE + 7, COLUMN = 12, MOST = 8192 };
 
-struct pechuvo_answer independent_check(const uint8_t *mesh, size_t mesh_len, const uint8_t *claim,
-                                        size_t claim_len, uint8_t *report, size_t report_len);
-struct pechuvo_numbers independent_check_numbers(const int64_t *mesh, size_t mesh_len,
-                                                 const int64_t *claim, size_t claim_len);
 size_t LLVMFuzzerMutate(uint8_t *data, size_t size, size_t largest);
+
+/* The files of one input. */
+struct input {
+  const uint8_t *mesh;
+  size_t mesh_len;
+  const uint8_t *claim;
+  size_t claim_len;
+};
 
 static void must(int good, const char *what) {
   if (!good) {
@@ -23,32 +27,47 @@ static void must(int good, const char *what) {
   }
 }
 
-/* The archive has no counters and no sanitizer of its own, so what is lent to it ends, or begins, at
-   a closed page: a byte read or written outside is a crash. */
-static struct pechuvo_answer check_closed(const uint8_t *mesh, size_t mesh_len, const uint8_t *claim,
-                                          size_t claim_len, uint8_t *report, size_t room) {
-  enum lending how = (mesh_len + claim_len) % 4 == 0 ? AT_START : AT_END;
-  struct block m = lend(mesh, mesh_len, how), c = lend(claim, claim_len, how);
-  struct block r = lend(report, room, how);
-  close_for_writing(m);
-  close_for_writing(c);
-  struct pechuvo_answer a = pechuvo_check(m.bytes, mesh_len, c.bytes, claim_len, r.bytes, room);
-  memcpy(report, r.bytes, room);
-  give_back(m);
-  give_back(c);
-  give_back(r);
-  return a;
+/* What is lent to the archive for one call. It has no counters and no sanitizer of its own, so each
+   block ends, or begins, at a closed page: a byte read or written outside is a crash. */
+struct lent {
+  struct block mesh, claim, report;
+};
+
+static struct lent lend_all(struct input in, const uint8_t *report, size_t room) {
+  enum lending how = (in.mesh_len + in.claim_len) % 4 == 0 ? AT_START : AT_END;
+  struct lent all = {lend(in.mesh, in.mesh_len, how), lend(in.claim, in.claim_len, how),
+                     lend(report, room, how)};
+  close_for_writing(all.mesh);
+  close_for_writing(all.claim);
+  return all;
 }
 
-static void compare_files(const uint8_t *mesh, size_t mesh_len, const uint8_t *claim,
-                          size_t claim_len, size_t room) {
-  uint8_t proved[ROOM], independent[ROOM];
-  memset(proved, 0xA5, sizeof proved);
+static void give_all_back(struct lent all) {
+  give_back(all.mesh);
+  give_back(all.claim);
+  give_back(all.report);
+}
+
+static void compare_files(struct input in, size_t room) {
+  uint8_t independent[ROOM];
   memset(independent, 0xA5, sizeof independent);
-  struct pechuvo_answer a = check_closed(mesh, mesh_len, claim, claim_len, proved, room);
-  struct pechuvo_answer b = independent_check(mesh, mesh_len, claim, claim_len, independent, room);
+  struct lent on = lend_all(in, independent, room);
+  struct answer a = pechuvo_check(on.mesh.bytes, in.mesh_len, on.claim.bytes, in.claim_len, on.report.bytes, room);
+  struct answer b = independent_check(in.mesh, in.mesh_len, in.claim, in.claim_len, independent, room);
   must(a.number == b.number && a.place == b.place, "the answer");
-  must(memcmp(proved, independent, ROOM) == 0, "the buffer");
+  must(memcmp(on.report.bytes, independent, room) == 0, "the buffer");
+  give_all_back(on);
+}
+
+static void compare_run(struct input in, size_t room) {
+  uint8_t independent[ROOM];
+  memset(independent, 0xA5, sizeof independent);
+  struct lent on = lend_all(in, independent, room);
+  struct run a = pechuvo_check_run(on.mesh.bytes, in.mesh_len, on.claim.bytes, in.claim_len, on.report.bytes, room);
+  struct run b = independent_check_run(in.mesh, in.mesh_len, in.claim, in.claim_len, independent, room);
+  must(a.reports == b.reports && a.bytes == b.bytes, "the run");
+  must(memcmp(on.report.bytes, independent, room) == 0, "the reports");
+  give_all_back(on);
 }
 
 /* The numbers of a file as far as its columns go; what is no number counts as strtoll says. */
@@ -64,31 +83,35 @@ static size_t numbers_of(const uint8_t *file, size_t length, int64_t *numbers) {
   return count;
 }
 
-static void compare_numbers(const uint8_t *mesh, size_t mesh_len, const uint8_t *claim,
-                            size_t claim_len) {
+static void compare_numbers(struct input in) {
   static int64_t m[MOST], c[MOST];
-  size_t m_len = numbers_of(mesh, mesh_len, m), c_len = numbers_of(claim, claim_len, c);
+  size_t m_len = numbers_of(in.mesh, in.mesh_len, m), c_len = numbers_of(in.claim, in.claim_len, c);
   struct block mesh_end = lend(m, m_len * sizeof m[0], AT_END);
   struct block claim_end = lend(c, c_len * sizeof c[0], AT_END);
-  struct pechuvo_numbers a = pechuvo_check_numbers((const int64_t *)(void *)mesh_end.bytes, m_len,
-                                                   (const int64_t *)(void *)claim_end.bytes, c_len);
+  struct numbers a = pechuvo_check_numbers((const int64_t *)(void *)mesh_end.bytes, m_len,
+                                           (const int64_t *)(void *)claim_end.bytes, c_len);
   give_back(mesh_end);
   give_back(claim_end);
-  struct pechuvo_numbers b = independent_check_numbers(m, m_len, c, c_len);
+  struct numbers b = independent_check_numbers(m, m_len, c, c_len);
   must(a.number == b.number && a.place == b.place, "the answer on numbers");
   must(a.field == b.field && a.multipliers == b.multipliers, "the parts");
   must(a.l == b.l && a.n == b.n && a.w == b.w && a.m == b.m, "the loads");
   must(a.open_rows == b.open_rows, "the open rows");
 }
 
+/* The input up to its first byte 0, and what follows. */
+static struct input cut(const uint8_t *data, size_t size) {
+  const uint8_t *end = size ? memchr(data, 0, size) : NULL;
+  size_t mesh_len = end ? (size_t)(end - data) : size;
+  struct input in = {data, mesh_len, end ? end + 1 : data + size, end ? size - mesh_len - 1 : 0};
+  return in;
+}
+
 int LLVMFuzzerTestOneInput(const uint8_t *data, size_t size) {
-  const uint8_t *cut = size ? memchr(data, 0, size) : NULL;
-  size_t mesh_len = cut ? (size_t)(cut - data) : size;
-  const uint8_t *claim = cut ? cut + 1 : data + size;
-  size_t claim_len = cut ? size - mesh_len - 1 : 0;
-  size_t room = size % 16 == 0 ? size / 16 % LINE : LINE + size % 8;
-  compare_files(data, mesh_len, claim, claim_len, room);
-  compare_numbers(data, mesh_len, claim, claim_len);
+  struct input in = cut(data, size);
+  compare_files(in, size % 16 == 0 ? size / 16 % LINE : LINE + size % 8);
+  compare_run(in, size % 16 == 0 ? size / 16 % LINE : 3 * LINE + size % 8);
+  compare_numbers(in);
   return 0;
 }
 

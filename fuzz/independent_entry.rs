@@ -1,6 +1,6 @@
 //! The independent implementation under C names, for the fuzzer's harness.
 
-use independent::{Answer, Numbers};
+use independent::{Answer, Numbers, Run};
 
 /// A length of 0 goes with any pointer.
 unsafe fn slice<'a, T>(start: *const T, length: usize) -> &'a [T] {
@@ -37,4 +37,20 @@ unsafe extern "C" fn independent_check_numbers(
 ) -> Numbers {
     // SAFETY: as above.
     unsafe { independent::check_numbers(slice(mesh, mesh_len), slice(claim, claim_len)) }
+}
+
+#[no_mangle]
+unsafe extern "C" fn independent_check_run(
+    mesh: *const u8,
+    mesh_len: usize,
+    claims: *const u8,
+    claims_len: usize,
+    reports: *mut u8,
+    reports_len: usize,
+) -> Run {
+    // SAFETY: as above.
+    unsafe {
+        let reports = std::slice::from_raw_parts_mut(reports, reports_len);
+        independent::check_run(slice(mesh, mesh_len), slice(claims, claims_len), reports)
+    }
 }

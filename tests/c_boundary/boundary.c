@@ -9,7 +9,7 @@
 #include "memory.h"
 #include "pechuvo.h"
 
-enum { LINE = 113, ROOM = 160, LARGEST = 70000 };
+enum { LINE = 113, ROOM = 160, RUN = 3 * LINE - 1, LARGEST = 70000 };
 
 static unsigned long calls;
 
@@ -76,6 +76,36 @@ static void call_each_way(struct block mesh, struct block claim, size_t room, in
   call(mesh, claim, room, AT_START, answer, line);
 }
 
+/* The claim twice in one call, from memory lent in one way: the line of a single call for each, and no
+   other byte of a buffer that has room for two. Claims that end a run are left out. */
+static void call_run(struct block mesh, struct block claim, enum lending how) {
+  unsigned char before[RUN], line[LINE];
+  memset(before, 0xA5, sizeof before);
+  struct pechuvo_answer one =
+      pechuvo_check(mesh.bytes, mesh.length, claim.bytes, claim.length, line, LINE);
+  if (one.number != 0 && (one.number < 21 || one.number > 33)) {
+    return;
+  }
+  struct block twice = lend(NULL, 2 * claim.length, ON_HEAP);
+  memcpy(twice.bytes, claim.bytes, claim.length);
+  memcpy(twice.bytes + claim.length, claim.bytes, claim.length);
+  struct block m = lend(mesh.bytes, mesh.length, how);
+  struct block c = lend(twice.bytes, twice.length, how);
+  struct block reports = lend(before, RUN, how);
+  close_for_writing(m);
+  close_for_writing(c);
+  struct pechuvo_run got =
+      pechuvo_check_run(m.bytes, m.length, c.bytes, c.length, reports.bytes, reports.length);
+  expect(got.reports == 2 && got.bytes == c.length, "a run of two claims");
+  expect(memcmp(reports.bytes, line, LINE) == 0, "the first report of a run");
+  expect(memcmp(reports.bytes + LINE, line, LINE) == 0, "the second report of a run");
+  expect(memcmp(reports.bytes + 2 * LINE, before, LINE - 1) == 0, "bytes beyond the reports are kept");
+  give_back(m);
+  give_back(c);
+  give_back(reports);
+  give_back(twice);
+}
+
 /* The files cut short at every `step`th byte: nothing behind the cut is read. */
 static void cut_files(struct block mesh, struct block claim, size_t step, int heap) {
   struct block part = mesh;
@@ -101,6 +131,12 @@ static void empty_slices(struct block mesh, struct block claim) {
     expect(got.number == 11 && got.place == 1, "an empty claim gets 11, line 1");
     got = pechuvo_check(mesh.bytes, mesh.length, claim.bytes, claim.length, any, 0);
     expect(got.number == 41 && got.place == 0, "an empty buffer gets 41, place 0");
+    struct pechuvo_run run = pechuvo_check_run(any, 0, claim.bytes, claim.length, line, LINE);
+    expect(run.reports == 1 && run.bytes == 0, "a run on an empty mesh has one report");
+    run = pechuvo_check_run(mesh.bytes, mesh.length, any, 0, line, LINE);
+    expect(run.reports == 0 && run.bytes == 0, "a run of no claim has no report");
+    run = pechuvo_check_run(mesh.bytes, mesh.length, claim.bytes, claim.length, any, 0);
+    expect(run.reports == 0 && run.bytes == 0, "a run into an empty buffer has no report");
     struct pechuvo_numbers numbers = pechuvo_check_numbers((int64_t *)(void *)any, 0, NULL, 0);
     expect(numbers.number == 1 && numbers.place == 1, "an empty list gets 1, line 1");
   }
@@ -165,6 +201,8 @@ static void sheet(const char *name, int heap) {
     call_each_way(mesh, claim, room, heap);
   }
   call_each_way(mesh, claim, LINE, heap);
+  call_run(mesh, claim, heap ? ON_HEAP : AT_END);
+  call_run(mesh, claim, heap ? ON_HEAP : AT_START);
   cut_files(mesh, claim, step, heap);
   lists(mesh, claim, step / 8 + 1, heap);
   empty_slices(mesh, claim);

@@ -25,32 +25,21 @@ pub struct Claim {
 }
 
 impl Claim {
+    /// A claim with nothing after it.
     pub fn read(lines: &mut impl Lines, mesh: &Mesh) -> Result<Claim, Refusal> {
         let mut reader = Reader { lines, place: 0 };
-        let (has_field, has_multipliers, n, l) = reader.header()?;
-        let mut field = None;
-        if has_field {
-            let stresses = reader.group(mesh.nodes.len(), 1_000_000_000)?;
-            field = Some(Field { n, l, stresses });
-        }
-        let mut multipliers = None;
-        if has_multipliers {
-            let balance = reader.group(mesh.elements.len(), 100_000)?;
-            let sides = reader.group(mesh.edges.len(), 100_000)?;
-            let strength = reader.strength(mesh.pairs.len(), mesh.polygon.sides.len())?;
-            multipliers = Some(Multipliers {
-                balance,
-                sides,
-                strength,
-            });
-        }
+        let claim = reader.claim(mesh)?;
         if !reader.lines.at_end() {
             return refuse(11, reader.place + 1);
         }
-        Ok(Claim { field, multipliers })
+        Ok(claim)
+    }
+
+    /// The claim in front; whatever comes after it is left.
+    pub fn read_front(lines: &mut impl Lines, mesh: &Mesh) -> Result<Claim, Refusal> {
+        Reader { lines, place: 0 }.claim(mesh)
     }
 }
-
 /// Reads lines and knows which one it has read.
 struct Reader<'a, L: Lines> {
     lines: &'a mut L,
@@ -58,6 +47,27 @@ struct Reader<'a, L: Lines> {
 }
 
 impl<L: Lines> Reader<'_, L> {
+    fn claim(&mut self, mesh: &Mesh) -> Result<Claim, Refusal> {
+        let (has_field, has_multipliers, n, l) = self.header()?;
+        let mut field = None;
+        if has_field {
+            let stresses = self.group(mesh.nodes.len(), 1_000_000_000)?;
+            field = Some(Field { n, l, stresses });
+        }
+        let mut multipliers = None;
+        if has_multipliers {
+            let balance = self.group(mesh.elements.len(), 100_000)?;
+            let sides = self.group(mesh.edges.len(), 100_000)?;
+            let strength = self.strength(mesh.pairs.len(), mesh.polygon.sides.len())?;
+            multipliers = Some(Multipliers {
+                balance,
+                sides,
+                strength,
+            });
+        }
+        Ok(Claim { field, multipliers })
+    }
+
     fn line(&mut self, out: &mut [i64], low: i64, high: i64) -> Result<(), Refusal> {
         self.place += 1;
         if !self.lines.next(out) {

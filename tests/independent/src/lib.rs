@@ -9,12 +9,14 @@ pub mod mesh;
 pub mod multipliers;
 pub mod polygon;
 pub mod report;
+pub mod run;
 pub mod shape;
 pub mod sheet;
 
 use claim::Claim;
 use lines::Lines;
 use mesh::Mesh;
+pub use run::{check_run, Run};
 
 /// A refusal: its number in the table and its place.
 #[derive(Clone, Copy, Debug, PartialEq, Eq)]
@@ -50,15 +52,20 @@ pub type Verdict = Result<Accepted, Refusal>;
 fn judge(mut mesh: impl Lines, mut claim: impl Lines) -> Verdict {
     let mesh = Mesh::read(&mut mesh)?;
     let claim = Claim::read(&mut claim, &mesh)?;
+    judge_claim(&mesh, &claim)
+}
+
+/// The verdict on a claim whose lines have passed: 21, 22 and 31 to 33.
+fn judge_claim(mesh: &Mesh, claim: &Claim) -> Verdict {
     if let Some(part) = &claim.field {
-        field::check(&mesh, part)?;
+        field::check(mesh, part)?;
     }
     let limit = match &claim.multipliers {
-        Some(part) => Some(multipliers::check(&mesh, part)?),
+        Some(part) => Some(multipliers::check(mesh, part)?),
         None => None,
     };
     let open_rows = match (&claim.field, &claim.multipliers) {
-        (Some(f), Some(y)) => Some(field::open_rows(&mesh, f, &y.strength)),
+        (Some(f), Some(y)) => Some(field::open_rows(mesh, f, &y.strength)),
         _ => None,
     };
     let carried = claim.field.as_ref().map(|f| Load {

@@ -4,6 +4,7 @@
 #[path = "../../independent/programs/compare/archive.rs"]
 mod archive;
 mod lists;
+mod runs;
 
 use independent::Answer;
 use std::fs;
@@ -16,6 +17,7 @@ struct Make {
     name: &'static str,
     check: fn(&[u8], &[u8], &mut [u8]) -> Answer,
     check_numbers: fn(&[i64], &[i64]) -> independent::Numbers,
+    check_run: fn(&[u8], &[u8], &mut [u8]) -> independent::Run,
 }
 
 const MAKES: [Make; 2] = [
@@ -23,11 +25,13 @@ const MAKES: [Make; 2] = [
         name: "proved",
         check: archive::check,
         check_numbers: archive::check_numbers,
+        check_run: archive::check_run,
     },
     Make {
         name: "independent",
         check: independent::check,
         check_numbers: independent::check_numbers,
+        check_run: independent::check_run,
     },
 ];
 
@@ -101,6 +105,10 @@ fn main() {
     let mut tally = Tally::default();
     files(&mut tally, &folder);
     lists::all(&mut tally, &format!("{folder}/numbers"));
+    runs::all(&mut tally, &format!("{folder}/runs"));
+    std::env::args()
+        .skip(2)
+        .for_each(|runs| runs::all(&mut tally, &runs));
     println!("{} answers, {} of them differ", tally.answers, tally.wrong);
     std::process::exit(if tally.wrong == 0 && tally.answers > 0 {
         0

@@ -1,9 +1,9 @@
-//! The proved program's two C entries.
+//! The proved program's C entries.
 
-use independent::{Answer, Numbers};
+use independent::{Answer, Numbers, Run};
 
 mod raw {
-    use independent::{Answer, Numbers};
+    use independent::{Answer, Numbers, Run};
 
     extern "C" {
         pub fn pechuvo_check(
@@ -20,6 +20,14 @@ mod raw {
             claim: *const i64,
             claim_len: usize,
         ) -> Numbers;
+        pub fn pechuvo_check_run(
+            mesh: *const u8,
+            mesh_len: usize,
+            claims: *const u8,
+            claims_len: usize,
+            reports: *mut u8,
+            reports_len: usize,
+        ) -> Run;
     }
 }
 
@@ -40,4 +48,18 @@ pub fn check(mesh: &[u8], claim: &[u8], report: &mut [u8]) -> Answer {
 pub fn check_numbers(mesh: &[i64], claim: &[i64]) -> Numbers {
     // SAFETY: as above.
     unsafe { raw::pechuvo_check_numbers(mesh.as_ptr(), mesh.len(), claim.as_ptr(), claim.len()) }
+}
+
+pub fn check_run(mesh: &[u8], claims: &[u8], reports: &mut [u8]) -> Run {
+    // SAFETY: as above.
+    unsafe {
+        raw::pechuvo_check_run(
+            mesh.as_ptr(),
+            mesh.len(),
+            claims.as_ptr(),
+            claims.len(),
+            reports.as_mut_ptr(),
+            reports.len(),
+        )
+    }
 }

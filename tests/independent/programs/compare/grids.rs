@@ -41,6 +41,23 @@ struct Grid {
     t: Vec<[i64; 2]>,
 }
 
+fn common_divisor(a: i64, b: i64) -> i64 {
+    if b == 0 {
+        a.abs()
+    } else {
+        common_divisor(b, a % b)
+    }
+}
+
+fn common_multiple(a: i64, b: i64) -> i64 {
+    a / common_divisor(a, b) * b
+}
+
+/// The least number above 0 that makes a whole number of `number` over `by`.
+fn whole_from(number: i64, by: i64) -> i64 {
+    by / common_divisor(by, number)
+}
+
 fn coordinates(random: &mut Random, cells: usize) -> Vec<i64> {
     let mut at = random.between(0, 2);
     let mut all = vec![at];
@@ -276,12 +293,16 @@ impl Grid {
         let (difference, friction) = (2 * r * soil[2] * rise * sign, 2 * soil[0] * r * rise);
         let right = self.ys[self.rows] - self.ys[self.rows - 1];
         let top = self.xs[self.columns] - self.xs[self.columns - 1];
-        let y = right.max(top).pow(2) * random.between(1, 2);
+        let (across, down) = (difference + friction, friction - difference);
+        let y = common_multiple(
+            whole_from(across, right * right),
+            whole_from(down, top * top),
+        ) * random.between(1, 2);
         let elements = self.elements.len();
         let last = lines.len() - 1;
         rows.iter().for_each(|&row| lines[last][row] += y);
-        lines[elements][2] -= y * (difference + friction) / (right * right);
-        lines[elements + self.rows][0] -= y * (friction - difference) / (top * top);
+        lines[elements][2] -= y * across / (right * right);
+        lines[elements + self.rows][0] -= y * down / (top * top);
     }
 
     /// A rigid step (a, b) of the whole grid; every outer side has an edge with both parts fixed.
@@ -306,31 +327,42 @@ impl Grid {
             }
         }
     }
+
+    fn claim(&self, random: &mut Random, edges: &Lines) -> Lines {
+        let parts = random.pick(&[[1, 0], [0, 1], [1, 1], [1, 1]]);
+        let mut claim = vec![vec![parts[0], parts[1], 0, 0]];
+        if parts[0] == 1 {
+            let n = random.between(1, 50) * random.pick(&[1, 1, 1, 40, 2000]);
+            let l = n * random.between(-9, 9) + random.between(-50, 50);
+            claim[0][2..].copy_from_slice(&[n, l]);
+            claim.extend(self.field(n, l));
+        }
+        if parts[1] == 1 {
+            let mut lines = self.zero_multipliers(edges.len());
+            self.add_corner(random, &mut lines);
+            if edges.len() == 2 * (self.columns + self.rows)
+                && edges.iter().all(|edge| edge[2] == 3)
+            {
+                self.add_rigid(random, edges, &mut lines);
+            }
+            claim.extend(lines);
+        }
+        claim
+    }
 }
 
 /// One sheet; most of them are accepted.
 pub fn sheet(random: &mut Random) -> Sheet {
+    let (mesh, mut claims) = family(random, 1);
+    let claim = claims.pop().expect("a claim");
+    Sheet { mesh, claim }
+}
+
+/// A mesh and claims for it.
+pub fn family(random: &mut Random, claims: usize) -> (Lines, Vec<Lines>) {
     let grid = Grid::new(random);
     let all_fixed = random.one_in(2);
     let edges = grid.edges(random, all_fixed);
-    let parts = random.pick(&[[1, 0], [0, 1], [1, 1], [1, 1]]);
-    let mut claim = vec![vec![parts[0], parts[1], 0, 0]];
-    if parts[0] == 1 {
-        let n = random.between(1, 50) * random.pick(&[1, 1, 1, 40, 2000]);
-        let l = n * random.between(-9, 9) + random.between(-50, 50);
-        claim[0][2..].copy_from_slice(&[n, l]);
-        claim.extend(grid.field(claim[0][2], claim[0][3]));
-    }
-    if parts[1] == 1 {
-        let mut lines = grid.zero_multipliers(edges.len());
-        grid.add_corner(random, &mut lines);
-        if all_fixed && edges.iter().all(|edge| edge[2] == 3) {
-            grid.add_rigid(random, &edges, &mut lines);
-        }
-        claim.extend(lines);
-    }
-    Sheet {
-        mesh: grid.mesh(&edges),
-        claim,
-    }
+    let claims = (0..claims).map(|_| grid.claim(random, &edges)).collect();
+    (grid.mesh(&edges), claims)
 }

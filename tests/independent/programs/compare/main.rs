@@ -8,6 +8,7 @@ mod causes;
 mod damage;
 mod grids;
 mod random;
+mod runs;
 mod tally;
 
 use independent::sheet::{self, Sheet};
@@ -122,6 +123,8 @@ fn main() {
         tally.sheet(&mut random, &grid);
         damaged(&mut tally, &mut random, &grid);
     }
+    runs::by_hand(&mut tally);
+    (0..6_000).for_each(|_| runs::at_random(&mut tally, &mut random));
     for _ in 0..500 {
         seeds
             .iter()

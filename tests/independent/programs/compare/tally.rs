@@ -3,6 +3,7 @@
 use crate::archive;
 use crate::random::Random;
 use independent::sheet::Sheet;
+use independent::Run;
 use std::collections::BTreeMap;
 
 /// Every number that a file can get.
@@ -15,11 +16,13 @@ const NUMBERS: [u32; 18] = [
 pub struct Tally {
     files: BTreeMap<u32, u64>,
     lists: BTreeMap<u32, u64>,
+    /// Runs by how many reports they wrote.
+    runs: BTreeMap<u64, u64>,
     disagreements: u64,
 }
 
 impl Tally {
-    fn disagree(&mut self, what: &str, mesh: &[u8], claim: &[u8]) {
+    pub fn disagree(&mut self, what: &str, mesh: &[u8], claim: &[u8]) {
         self.disagreements += 1;
         if self.disagreements <= 3 {
             println!("DISAGREEMENT: {what}");
@@ -69,6 +72,20 @@ impl Tally {
         }
     }
 
+    /// Both runs on one buffer; the answer is the independent one.
+    pub fn run(&mut self, mesh: &[u8], claims: &[u8], room: usize, fill: u8) -> Run {
+        let mut proved = vec![fill; room];
+        let mut independent = proved.clone();
+        let theirs = archive::check_run(mesh, claims, &mut proved);
+        let ours = independent::check_run(mesh, claims, &mut independent);
+        *self.runs.entry(ours.reports).or_default() += 1;
+        if theirs != ours || proved != independent {
+            let what = format!("{theirs:?} not {ours:?}, a run, room {room}");
+            self.disagree(&what, mesh, claims);
+        }
+        ours
+    }
+
     /// A sheet as files and as numbers.
     pub fn sheet(&mut self, random: &mut Random, sheet: &Sheet) {
         let room = match random.below(16) {
@@ -95,6 +112,7 @@ impl Tally {
                 count(&self.lists)
             );
         }
+        println!("runs by reports: {:?}", self.runs);
         println!("disagreements: {}", self.disagreements);
     }
 
