@@ -1,15 +1,15 @@
 #!/usr/bin/env python3
 """Makes the sheets of this repository again: make_sheets.py FOLDER writes NAME.mesh and NAME.claim
-for every sheet, and FOLDER/expected with the report line of each, worked out by rows.py. Where a
-paper says the line, the two are compared. Needs glpsol; the sheets are kept in sheets/, so that
-checking them needs no solver."""
+for every sheet, and FOLDER/expected with the report line of each, worked out by rows.py; where
+sheet_list.py says the line, the two are compared. FOLDER/runs gets the runs. Needs glpsol; the
+sheets are kept in sheets/, so that checking them needs no solver."""
 
 import os
 import sys
 
 import claim_from_solver
 import rows
-from sheet_list import SHEETS
+from sheet_list import RUNS, SHEETS
 
 
 def write(folder, name, data):
@@ -34,9 +34,27 @@ def write_sheet(folder, sheet):
     return f"{sheet.name} {line}"
 
 
+def write_run(folder, run):
+    """One run; returns its line: name, bytes of the buffer, reports, bytes taken."""
+    mesh, claims = rows.text_of(run.mesh), b""
+    for claim in run.claims:
+        lines = claim_from_solver.make_claim(mesh, *claim)[0] if isinstance(claim, tuple) else claim
+        claims += rows.text_of(lines)
+    claims = claims[: len(claims) - run.short]
+    written, reports, taken = rows.check_run(mesh, claims, run.room)
+    for end, data in ((".mesh", mesh), (".claims", claims), (".out", written)):
+        write(folder, run.name + end, data)
+    print(f"run {run.name}: {reports} reports, {taken} of {len(claims)} bytes taken")
+    return f"{run.name}\t{run.room}\t{reports}\t{taken}\n"
+
+
 def main():
     folder = sys.argv[1]
     lines = [write_sheet(folder, sheet) for sheet in sorted(SHEETS, key=lambda s: s.name)]
+    write(folder, "expected", "".join(lines).encode("ascii"))
+    folder = os.path.join(folder, "runs")
+    os.makedirs(folder, exist_ok=True)
+    lines = [write_run(folder, run) for run in sorted(RUNS)]
     write(folder, "expected", "".join(lines).encode("ascii"))
 
 

@@ -181,6 +181,14 @@ def claim_lines(mesh, claim):
     return lines
 
 
+def claim_bytes(mesh, field, multipliers):
+    """The length of a claim with these parts."""
+    lines = [(1, len(CLAIM_HEADER))]
+    lines += [(len(mesh.nodes), 3)] if field else []
+    lines += [(count, columns) for count, columns, _ in multiplier_groups(mesh)] if multipliers else []
+    return sum(count * (WIDTH * columns + 1) for count, columns in lines)
+
+
 def text_of(lines):
     """Each number right-justified in 12 characters, each line closed by byte 10."""
     return "".join("".join(f"{number:{WIDTH}d}" for number in line) + "\n" for line in lines).encode("ascii")
@@ -439,12 +447,16 @@ def judged_mesh(mesh_lines):
     return mesh, rows_of(mesh)
 
 
+def refused(refusal):
+    return Verdict(refusal.number, refusal.place, refusal.kind)
+
+
 def verdict_of(mesh_lines, claim_lines):
     try:
         mesh, rows = judged_mesh(mesh_lines)
         return judge_claim(mesh, rows, claim_of(claim_lines, mesh))
     except Refused as refusal:
-        return Verdict(refusal.number, refusal.place, refusal.kind)
+        return refused(refusal)
 
 
 def check_numbers(mesh, claim):
@@ -458,6 +470,37 @@ def check(mesh, claim, room=REPORT):
         return Verdict(41, 0, "none"), None
     verdict = verdict_of(FileLines(mesh, 1), FileLines(claim, 11))
     return verdict, report(verdict)
+
+
+def next_claim(mesh, claims):
+    """The bytes of the claim at the front of a run: its header and the mesh give its length. Where the header is
+    refused, all that is left."""
+    try:
+        field, multipliers, _, _ = claim_header(FileLines(claims, 11))
+    except Refused:
+        return claims
+    return claims[: claim_bytes(mesh, field, multipliers)]
+
+
+def check_run(mesh_text, claims, room):
+    """Claims written one after another (document 02, N3): all that is written, the reports and the bytes taken."""
+    written, taken = b"", 0
+    try:
+        mesh, rows = judged_mesh(FileLines(mesh_text, 1))
+    except Refused as refusal:
+        written = report(refused(refusal)) if room >= REPORT else b""
+        return written, len(written) // REPORT, taken
+    while room - len(written) >= REPORT and claims:
+        claim = next_claim(mesh, claims)
+        try:
+            verdict = judge_claim(mesh, rows, claim_of(FileLines(claim, 11), mesh))
+        except Refused as refusal:
+            verdict = refused(refusal)
+        written += report(verdict)
+        if verdict.number in (11, 12, 13):
+            break
+        taken, claims = taken + len(claim), claims[len(claim) :]
+    return written, len(written) // REPORT, taken
 
 
 def decimal(load, up, decimals):

@@ -1,6 +1,7 @@
 #!/usr/bin/env python3
 """Holds rows.py to sheets/expected and to cases of another make: rows_test.py [FOLDER..], each folder with
-`expected` (name, number, place, report line, kind of place, room, decimals) and the files that it names."""
+`expected` (name, number, place, report line, kind of place, room, decimals) and the files that it names, and
+where they are there `numbers` and `runs`, as sheets/runs is."""
 
 import os
 import sys
@@ -46,13 +47,24 @@ def differing_numbers(folder):
             yield f"{name}: {verdict}, expected {line}"
 
 
+def differing_runs(folder):
+    for line in lines_of(folder, "expected"):
+        name, room, reports, taken = line.split("\t")
+        mesh, claims, out = (rows.read(os.path.join(folder, name + end)) for end in (".mesh", ".claims", ".out"))
+        if rows.check_run(mesh, claims, int(room)) != (out, int(reports), int(taken)):
+            yield f"{name}: {rows.check_run(mesh, claims, int(room))[1:]}, expected {line}"
+
+
 def main():
-    differing = [f"sheet {name}" for name in differing_sheets(SHEETS)]
-    count = len(lines_of(SHEETS, "expected"))
+    parts = [(SHEETS, "", differing_sheets), (SHEETS, "runs", differing_runs)]
     for folder in sys.argv[1:]:
-        for part, compare in (("", differing_files), ("numbers", differing_numbers)):
-            differing += [f"{folder}/{part} {words}" for words in compare(os.path.join(folder, part))]
-            count += len(lines_of(folder, part, "expected"))
+        parts += [(folder, "", differing_files), (folder, "numbers", differing_numbers), (folder, "runs", differing_runs)]
+    differing, count = [], 0
+    for folder, part, compare in parts:
+        path = os.path.join(folder, part)
+        if os.path.exists(os.path.join(path, "expected")):
+            differing += [f"{path} {words}" for words in compare(path)]
+            count += len(lines_of(path, "expected"))
     print("\n".join(differing + [f"{count} cases, {len(differing)} differ"]))
     sys.exit(bool(differing))
 

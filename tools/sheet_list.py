@@ -5,6 +5,10 @@ from collections import namedtuple
 # claim: None, or the lines themselves; line: None, or the report's four columns.
 Sheet = namedtuple("Sheet", "name mesh part margin spread claim line", defaults=("both", 0.0, 0.0, None, None))
 
+# Claims one after another: each a part and a margin for the solver, or the lines themselves; the report buffer
+# has `room` bytes, and the last claim ends `short` bytes too early.
+Run = namedtuple("Run", "name mesh claims room short", defaults=(0,))
+
 FREE = (3, 0, 0, 0, 0)
 SMOOTH = (2, 0, 0, 0, 0)
 
@@ -429,3 +433,19 @@ def pair_sheets():
 
 SHEETS = paper_sheets() + known_sheets() + other_sheets() + load_sheets() + corner_sheets() + triangle_sheets()
 SHEETS += pair_sheets()
+
+
+def runs():
+    """Solver runs handed over whole (document 02, N3)."""
+    steps = [("field", 0.2), ("field", 0.1), ("field", 0.05), ("field", 0.02), ("both", 0.0), ("multipliers", 0.0)]
+    good, above, tilted = worked_claim(1, 20, -20), worked_claim(1, 21, -21), worked_claim(1, 20, -20, -29)
+    large_n = worked_claim(100_001, 20, -20)
+    return [
+        Run("footing_steps", footing(4, 3, 10, 1, [clay(10)], 12), steps, 50 * 113),
+        Run("worked_refused", worked_mesh(), [good, above, tilted, good, large_n, good], 50 * 113),
+        Run("worked_little_room", worked_mesh(), [good] * 5, 400),
+        Run("worked_cut_short", worked_mesh(), [good, good], 50 * 113, 13),
+    ]
+
+
+RUNS = runs()
