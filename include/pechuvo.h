@@ -1,10 +1,10 @@
 /* The check of load factor certificates on quadrilateral soil meshes, for C.
 
-   One archive has both calls: target/staticlib/libpechuvo.a, which rt staticlib pechuvo builds.
+   One archive has every call: target/staticlib/libpechuvo.a, which rt staticlib pechuvo builds.
 
-   Both calls take every input, whatever its bytes or numbers, and answer in bounded time. They
+   The calls take every input, whatever its bytes or numbers, and answer in bounded time. They
    read only what is lent, keep nothing from call to call, allocate nothing and write nothing but
-   the report, so calls in several threads do not disturb each other.
+   reports, so calls in several threads do not disturb each other.
 
    What the caller sees to:
    - Each pointer goes with the length of what it points to, in elements. A length of 0 goes with
@@ -70,6 +70,25 @@ struct pechuvo_answer {
 struct pechuvo_answer pechuvo_check(const uint8_t *mesh, size_t mesh_length,
                                     const uint8_t *claim, size_t claim_length,
                                     uint8_t *report, size_t report_length);
+
+struct pechuvo_run {
+  uint64_t reports; /* reports written */
+  uint64_t bytes;   /* claim bytes taken */
+};
+
+/* Checks claims for one mesh, written one after another with nothing between, and writes their
+   reports in turn, each as pechuvo_check writes it: report i stands at byte 113 * i of the buffer,
+   and no byte after the last is written. The mesh is read and judged once. A claim has as many
+   bytes as its header and the mesh say; where fewer are left it is judged on those.
+   At each step, in this order:
+   - The buffer lacks 113 bytes for the next report: the run ends. There is no 41.
+   - The mesh is refused: its report is written once, no claim is taken, and the run ends.
+   - No claim byte is left: the run ends.
+   - Else the next claim is judged and its report written. Refused with 11, 12 or 13 it ends the
+     run, and its bytes are not taken; else they are, and the run goes on. */
+struct pechuvo_run pechuvo_check_run(const uint8_t *mesh, size_t mesh_length,
+                                     const uint8_t *claims, size_t claims_length,
+                                     uint8_t *reports, size_t reports_length);
 
 /* The loads of an accepted claim as exact fractions, l/n and w/m, as they stand and not reduced. */
 struct pechuvo_numbers {
