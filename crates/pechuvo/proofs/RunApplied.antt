@@ -1,11 +1,10 @@
 -- The promises of a run applied to several claims on document 01's sheet and to a refused mesh: antt computes what is answered and written, and the promise says the rest.
-use mathlib.Core.Path.{_≡_, refl, sym, _∙_, subst}
+use mathlib.Core.Path.{_≡_, refl, sym, subst}
 use mathlib.Core.Logic.{inl, inr}
-use mathlib.Core.List.{List, [], _∷_, _++_, map, flatMap, flatten}
-use Prim.Native.Nat.{ℕ, _*_, _≤_, _<_}
+use mathlib.Core.List.{List, [], _∷_, map, flatMap, flatten}
+use Prim.Native.Nat.{ℕ, _*_, _≤_}
 use native.Mathlib.Omega.{arith}
-use lib.IntN.{ℤ}
-use lib.ListN.{length, take, drop, replicate, getD, length-replicate}
+use lib.ListN.{length, take, drop, replicate, length-replicate}
 use Rattle.scope.specs.Statements.{MeshSound}
 use Rattle.scope.specs.declared.Outcome.the-variants.{Passed}
 use Rattle.scope.specs.Verdict.{meshCheck}
@@ -15,8 +14,7 @@ use Rattle.judge.specs.ClaimBytes.{claimBytes}
 use Rattle.reader.specs.WellFormed.{bytesOf}
 use Rattle.run.specs.declared.RunAnswer.{RunAnswer}
 use Rattle.run.specs.Run.{ownBytes, verdictOn, endsRun, takenOf, lineOf, claimsJudged, ran, run, RunAnswers}
-use Rattle.run.specs.InTurn.{RefusedByLines, claimAt, startOf, InTurn}
-use Rattle.pechuvo.specs.Answers.{Answers}
+use Rattle.run.specs.InTurn.{RefusedByLines, claimAt, startOf}
 use Rattle.pechuvo.specs.Sheets.{workedMesh}
 use Rattle.pechuvo.specs.RunSheets.{claimsOn, runSheet, lent, left, ranOn, told, good, beyond, field, limit, refusedMesh, refusedLine, goodLine, several, meshAlone, runSheets}
 use Rattle.pechuvo.specs.Promises.{meshIn, reportAt, SingleCall, judgedIn, RunCall}

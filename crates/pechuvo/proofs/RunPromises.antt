@@ -5,7 +5,7 @@ use Prim.Native.Nat.{ℕ, _*_, _-_, _/_, _≤_, _<_}
 use native.Mathlib.Nat.{le-div-iff-mul-le}
 use native.Mathlib.Omega.{arith}
 use lib.IntN.{ℤ}
-use lib.ListN.{length, take, drop, length-append, length-drop}
+use lib.ListN.{length, drop, length-append, length-drop}
 use lib.Seq.{drop-at}
 use Rattle.scope.specs.declared.Place.{Place}
 use Rattle.scope.specs.declared.Outcome.{Outcome}
@@ -22,7 +22,6 @@ use Rattle.run.specs.Run.{verdictOn, lineOf, takenOf, claimsJudged, ran, run, R
 use Rattle.run.specs.InTurn.{claimAt, InTurn}
 use Rattle.run.proofs.RunLaws.{judged-refused, no-room, one-room, flat-at, flat-length, none-taken}
 use Rattle.run.proofs.InTurn.{in-turn, few-judged}
-use Rattle.pechuvo.specs.Answers.{Answers}
 use Rattle.pechuvo.specs.Promises.{meshIn, reportAt, SingleCall, judgedIn, RunCall}
 use Rattle.pechuvo.proofs.Promises.{any-call, says-line}
 

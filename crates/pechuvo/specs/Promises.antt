@@ -2,8 +2,8 @@
 -- about the number and the place that are returned and about the bytes of the buffer; and a caller of
 -- `pechuvo_check_run` (document 02, N3).
 -- Each is proved of every call (`proofs/Promises.antt`, `proofs/RunPromises.antt`) and applied to document 01's sheet
--- (`proofs/PromisesApplied.antt`, `proofs/RunApplied.antt`). What number and place say of the two files' numbers is said as for numbers handed
--- over (`numbers/specs/Promises.antt`).
+-- (`proofs/PromisesApplied.antt`, `proofs/RunApplied.antt`). What number and place say of the two files' numbers is
+-- said as for numbers handed over (`numbers/specs/Promises.antt`).
 use mathlib.Core.Path.{_≡_}
 use mathlib.Core.Logic.{_↔_, _⊎_, _≢_}
 use mathlib.Core.List.{List}
@@ -180,7 +180,8 @@ abbrev pub judgedIn : (mesh claims before : List ℕ) → List (List ℕ)
 judgedIn mesh claims before = claimsJudged (length before / reportBytes) (meshIn mesh) claims
 
 -- "The answer counts reports written and claim bytes taken"
-pub record RunCall (mesh claims before : List ℕ) (judged : List (List ℕ)) (reports bytes : ℕ) (after : List ℕ) : Type 0 where
+pub record RunCall (mesh claims before : List ℕ) (judged : List (List ℕ)) (reports bytes : ℕ) (after : List ℕ)
+    : Type 0 where
   pub count : reports ≡ length judged
   -- "the reports equal those of single calls", and no other byte is written
   pub single-calls : (i : ℕ) → i < reports → SingleCall mesh (claimAt judged i) (reportAt i after)

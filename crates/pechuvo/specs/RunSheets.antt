@@ -1,5 +1,5 @@
--- Runs of claims (document 02, N3), each with all that is written, the reports and the bytes that are taken. Meshes and
--- claims are shown as in Sheets.
+-- Runs of claims (document 02, N3), each with all that is written, the reports and the bytes that are taken. Meshes
+-- and claims are shown as in Sheets.
 use mathlib.Core.List.{List, [], _∷_, _++_, flatMap}
 use Prim.Native.Nat.{ℕ, _-_}
 use Prim.Native.String.{String}

@@ -3,27 +3,24 @@ use mathlib.Core.Path.{_≡_, refl, sym, ap, ap₂, _∙_, subst}
 use mathlib.Core.Logic.{_⊎_, inl, inr}
 use mathlib.Core.Bool.{Bool, true, false, cond, _||_}
 use mathlib.Core.List.{List, [], _∷_, _++_, append-nil, flatMap, flatten}
-use mathlib.Core.Option.{some}
-use Prim.Native.Nat.{ℕ, zero, suc, _+_, _*_, _≤_, _<_}
+use Prim.Native.Nat.{ℕ, zero, suc, _+_, _≤_, _<_}
 use native.Mathlib.Decide.{decLe}
 use native.Mathlib.Omega.{arith}
 use lib.Dec.{eqb}
 use lib.IntN.{ℤ}
-use lib.ListN.{length, take, drop, getD, length-append, length-drop}
+use lib.ListN.{length, take, drop, length-append, length-drop}
 use lib.Seq.{take-add}
-use borrow.Author.Tests.{eqb-true, eqb-false, eq-eqb}
+use borrow.Author.Tests.{eqb-true}
 use borrow.Table.Steps.{cases}
-use Rattle.scope.specs.declared.Place.{Place}
 use Rattle.scope.specs.declared.Outcome.{Outcome}
 use Rattle.scope.specs.declared.Outcome.the-variants.{Passed, Refused as Fails}
 use Rattle.scope.specs.declared.Verdict.{Verdict}
 use Rattle.scope.specs.declared.Verdict.the-variants.{Accepted, Refused}
-use Rattle.scope.specs.Answer.{numberOf}
 use Rattle.scope.specs.Mesh.{meshLayout, sides}
-use Rattle.scope.specs.Claim.{claimHeaderColumns, claimHeader, claimLayout}
+use Rattle.scope.specs.Claim.{claimHeader, claimLayout}
 use Rattle.scope.specs.Verdict.{meshCheck, verdict}
 use Rattle.scope.proofs.Refusals.{lines-passed, mesh-passed}
-use Rattle.reader.specs.File.{fileWidth, lineBytes, readLine, headerPasses}
+use Rattle.reader.specs.File.{fileWidth, lineBytes}
 use Rattle.reader.proofs.Cut.{header-alone}
 use Rattle.judge.specs.Judge.{claimNumbers}
 use Rattle.judge.specs.ClaimBytes.{claimBytes}

@@ -1,7 +1,7 @@
 -- The next claim's own bytes: its header stands in the first bytes that are left, and with the mesh it says how many are its own.
-use mathlib.Core.Path.{_≡_, sym, ap, _∙_, subst}
+use mathlib.Core.Path.{_≡_, sym, ap, _∙_}
 use mathlib.Core.List.{List}
-use Prim.Native.Nat.{ℕ, min, _+_, _*_, _≤_, _<_}
+use Prim.Native.Nat.{ℕ, min, _+_, _*_, _≤_}
 use native.Mathlib.Decide.{decLe}
 use native.Mathlib.Nat.{div-lt-iff-lt-mul}
 use native.Mathlib.Omega.{arith}
@@ -9,7 +9,6 @@ use lib.IntN.{ℤ}
 use lib.ListN.{length, take, length-take}
 use lib.Seq.{take-all, take-length}
 use Rattle.scope.specs.declared.Verdict.{Verdict}
-use Rattle.scope.specs.Mesh.{sides}
 use Rattle.scope.specs.Layout.{Layout}
 use Rattle.scope.specs.Claim.{claimHeaderColumns}
 use Rattle.scope.specs.Verdict.{claimVerdict}
@@ -25,7 +24,6 @@ use Rattle.judge.specs.Judge.{claimNumbers}
 use Rattle.judge.specs.ClaimBytes.{claimBytes}
 use Rattle.judge.proofs.ClaimBytes.{by-header-bytes}
 use Rattle.judge.proofs.FilesJudged.{front}
-use Rattle.run.specs.declared.NextClaim.{NextClaim}
 use Rattle.run.specs.Run.{ownBytes, verdictOn}
 use Rattle.run.specs.NextClaim.{NextOf}
 

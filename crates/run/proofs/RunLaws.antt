@@ -11,7 +11,7 @@ use lib.IntN.{ℤ}
 use lib.ListN.{length, take, drop, getD, length-append, length-drop, drop-of-length-le}
 use lib.Seq.{take-all, take-at, drop-at, drop-drop, drop-length}
 use borrow.Author.Tests.{le-ltb, lt-ltb, ltb-true, ltb-false}
-use borrow.Rule.Slice.PartMut.{midOf, putMid, same-len-mid}
+use borrow.Rule.Slice.PartMut.{midOf, putMid}
 use borrow.Table.Steps.{cases}
 use Rattle.scope.specs.declared.Place.{Place}
 use Rattle.scope.specs.declared.Outcome.the-variants.{Passed, Refused as Fails}
@@ -176,9 +176,6 @@ module _ {m : List ℤ} {claims before : List ℕ} {at from count : ℕ} {buffer
 
     put-is : oneMore ≡ take from buffer ++ (reportLine decimals (next .verdict) ++ drop reportBytes (drop from buffer))
     put-is = ap (λ (l : List ℕ). take from buffer ++ l) (ap (λ (l : List ℕ). part ++ l) (none-after from buffer) ∙ append-nil part ∙ part-is)
-
-    pub size-more : length oneMore ≡ length before
-    size-more = same-len-mid from (length buffer - from) buffer part same ∙ same-size
 
     own : List ℕ
     own = ownBytes m (drop at claims)

@@ -9,7 +9,7 @@ use Prim.Native.Nat.{ℕ, suc, _+_, _≤_, _<_}
 use lib.IntN.{ℤ}
 use lib.ListN.{length, take, getD}
 use Rattle.scope.specs.declared.Place.{Place}
-use Rattle.scope.specs.declared.Outcome.the-variants.{Passed, Refused as Fails}
+use Rattle.scope.specs.declared.Outcome.the-variants.{Refused as Fails}
 use Rattle.scope.specs.declared.Verdict.{Verdict}
 use Rattle.scope.specs.Answer.{numberOf}
 use Rattle.scope.specs.Claim.{claimHeaderColumns, claimLayout}

@@ -2,7 +2,7 @@
 -- their reports in turn."
 -- A mesh is given by its numbers m, as the claims are judged on it.
 use mathlib.Core.Path.{_≡_}
-use mathlib.Core.Bool.{Bool, true, false, cond, _||_}
+use mathlib.Core.Bool.{Bool, false, cond, _||_}
 use mathlib.Core.List.{List, [], _∷_, _++_, flatMap}
 use Prim.Native.Nat.{ℕ, zero, suc, _/_}
 use lib.Dec.{eqb}

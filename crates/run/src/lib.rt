@@ -170,8 +170,8 @@ fn run_in(mesh: &[u8], claims: &[u8], reports: &mut [u8], numbers: &mut [i64]) -
     }
 }
 
-// The reports of the claims on a mesh file, one after another at the front of the buffer that is lent. The room for the
-// mesh's numbers is chosen by its bytes, as in `judge_files`.
+// The reports of the claims on a mesh file, one after another at the front of the buffer that is lent. The room for
+// the mesh's numbers is chosen by its bytes, as in `judge_files`.
 pub fn check_run(mesh: &[u8], claims: &[u8], reports: &mut [u8]) -> RunAnswer
     ensures { λ r. ⌜ RunAnswers (meshNumbers fileWidth (now (mesh .entry))) (now (claims .entry))
         (now (reports .entry)) r (now (reports .exit)) ⌝ }
