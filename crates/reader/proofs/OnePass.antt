@@ -1,6 +1,6 @@
 -- After a column's bytes what is kept says exactly what the column spells: by induction on the bytes that follow, from each phase.
 use mathlib.Core.Path.{_≡_, refl, sym, ap, subst, _∙_}
-use mathlib.Core.Bool.{Bool, true, false, cond}
+use mathlib.Core.Bool.{Bool, true, false, false≢true, cond}
 use mathlib.Core.List.{List, [], _∷_, _++_}
 use mathlib.Core.Option.{none, some, Option·map}
 use Prim.Native.Nat.{ℕ, zero, suc, _+_, _*_, _-_, _/_, _%_, _^_, _≤_, _<_}
@@ -19,7 +19,8 @@ use Rattle.reader.specs.declared.column.Kept.{Kept}
 use Rattle.reader.specs.declared.column.Reading.{Reading}
 use Rattle.reader.specs.declared.column.Reading.the-variants.{Number, Malformed}
 use Rattle.reader.specs.Spelling.{unsigned, negated, signed, readColumn}
-use Rattle.reader.specs.OnePass.{Phase, bad, blank, sign, nought, up, down, turn, digitOf, phaseAfter, valueOver, meant, shift, Table, Stepped, Said, After, Partway, OnlySpaces, Joined, FourBytes, FourStepped, readingOf}
+use Rattle.reader.specs.File.{fileWidth}
+use Rattle.reader.specs.OnePass.{Phase, bad, blank, sign, nought, up, down, turn, digitOf, phaseAfter, valueOver, meant, shift, Table, Stepped, Said, After, Partway, OnlySpaces, readingOf, valueBound, InOnePass}
 
 -- ---- from each phase, the bytes that follow
 
@@ -184,8 +185,8 @@ value-fits a k [] h = rw (add-zero k) h
 value-fits a k (b ∷ bs) h =
     rw (add-suc k (length bs), ← suc-add k (length bs)) (value-fits (a * 10 + digitOf b) (suc k) bs (omega (arith, pow-suc 10 k, digit-small b)))
 
-value-below : (bs : List ℕ) → length bs ≤ 12 → valueOver 0 bs < 1000000000000
-value-below bs l = lt-of-lt-of-le (value-fits 0 0 bs (omega arith)) (pow-le-pow-right {n = 10} (omega arith) {j = 12} (omega arith))
+value-below : (bs : List ℕ) → length bs ≤ fileWidth → valueOver 0 bs < valueBound
+value-below bs l = lt-of-lt-of-le (value-fits 0 0 bs (omega arith)) (pow-le-pow-right {n = 10} (omega arith) {j = fileWidth} (omega arith))
 
 -- ---- the program's state after some bytes
 
@@ -276,11 +277,11 @@ module _ {bs : List ℕ} {at i : ℕ} {c : Kept} (h : Partway bs at i c) where
   pub part-phase : c .phase < 64
   part-phase = phase-below (take i (drop at bs)) c (h .state)
 
-  pub part-value : c .value < 1000000000000
+  pub part-value : c .value < valueBound
   part-value =
       rw (h .state .value) (value-below (take i (drop at bs)) (omega (arith, length-take i (drop at bs))))
 
-  pub part-next : {r : Kept} → i < 12 → at + i < length bs → Stepped c (getD bs (at + i) 0) r → Partway bs at (i + 1) r
+  pub part-next : {r : Kept} → i < fileWidth → at + i < length bs → Stepped c (getD bs (at + i) 0) r → Partway bs at (i + 1) r
   part-next {r} m l s =
       let n : i < length (drop at bs) = omega (arith, length-drop at bs) in
       record {
@@ -288,9 +289,9 @@ module _ {bs : List ℕ} {at i : ℕ} {c : Kept} (h : Partway bs at i c) where
         state = rw (add-one i, take-suc (drop at bs) i 0 n, getD-drop at bs i 0) (after-more (take i (drop at bs)) (getD bs (at + i) 0) c r (h .state) s);
       }
 
-  pub part-last : {r : Reading} → 12 ≤ i → Said c r → r ≡ readingOf (readColumn (take 12 (drop at bs)))
+  pub part-last : {r : Reading} → fileWidth ≤ i → Said c r → r ≡ readingOf (readColumn (take fileWidth (drop at bs)))
   part-last {r} l s =
-      let e : 12 ≡ i = omega (arith, h .most) in
+      let e : fileWidth ≡ i = omega (arith, h .most) in
       rw e (read-all (take i (drop at bs)) c r (h .state) s)
 
 -- a space after spaces
@@ -306,41 +307,20 @@ blank-stepped e = rw e (record { phase = by; below = omega arith; value = refl }
     by up e = absurd (omega arith)
     by down e = absurd (omega arith)
 
--- ---- four bytes at once
+-- one byte more, where the flag says that it too is a space
+pub spaces-next : {bs : List ℕ} {at i : ℕ} {t : Bool} → (t ≡ true → OnlySpaces bs at i) → i < fileWidth → at + i < length bs → true ≡ cond (eqb (getD bs (at + i) 0) 32) t false → OnlySpaces bs at (i + 1)
+spaces-next {bs} {at} {i} {t} h m l e =
+    cases (eqb (getD bs (at + i) 0) 32)
+    (λ s. part-next (h (sym (rw s at e))) m l (blank-stepped (eqb-true (getD bs (at + i) 0) 32 s)))
+    (λ n. absurd (false≢true (sym (rw n at e))))
 
-pub bytes-joined : {a b c d : ℕ} → a < 256 → b < 256 → c < 256 → d < 256 → Joined a b c d (a + b * 256 + c * 65536 + d * 16777216)
-bytes-joined la lb lc ld = record { below = omega arith; first = omega arith; second = omega arith; third = omega arith; fourth = omega arith }
+-- ---- the promise
 
--- each step makes the value at most ten times as large, and nine more
-pub step-most : {c r : Kept} {b k : ℕ} → Stepped c b r → c .value < k → r .value < k * 10
-step-most {b = b} s h = omega (arith, s .value, digit-small b)
-
-pub four-most : {c r : Kept} {n : ℕ} → FourStepped c n r → r .value < (c .value + 1) * 10000
-four-most {c} s =
-    let v = step-most (s .fourth) (step-most (s .third) (step-most (s .second) (step-most {k = c .value + 1} (s .first) (omega arith)))) in
-    omega (arith, v)
-
-module _ {bs : List ℕ} {at i : ℕ} {c : Kept} (h : Partway bs at i c) where
-  -- one byte more, whose place is j
-  at-next : {r : Kept} {b : ℕ} (j : ℕ) → j ≡ at + i → i < 12 → j < length bs → b ≡ getD bs j 0 → Stepped c b r → Partway bs at (i + 1) r
-  at-next {r} j e m l d s = part-next h m (omega arith) (subst (λ b. Stepped c b r) (d ∙ ap (λ k. getD bs k 0) e) s)
-
-pub four-next : {bs : List ℕ} {at i : ℕ} {c r : Kept} {n : ℕ} (j : ℕ) → Partway bs at i c → j ≡ at + i → i + 4 ≤ 12 → j + 4 ≤ length bs → FourBytes bs j n → FourStepped c n r → Partway bs at (i + 1 + 1 + 1 + 1) r
-four-next j h e m l f s =
-    let a = at-next h j e (omega arith) (omega arith) (f .first) (s .first) in
-    let b = at-next a (j + 1) (omega arith) (omega arith) (omega arith) (f .second) (s .second) in
-    let c = at-next b (j + 2) (omega arith) (omega arith) (omega arith) (f .third) (s .third) in
-    at-next c (j + 3) (omega arith) (omega arith) (omega arith) (f .fourth) (s .fourth)
-
-pub four-spaces-next : {bs : List ℕ} {at i : ℕ} {n : ℕ} (j : ℕ) → OnlySpaces bs at i → j ≡ at + i → i + 4 ≤ 12 → j + 4 ≤ length bs → FourBytes bs j n → n ≡ 538976288 → OnlySpaces bs at (i + 1 + 1 + 1 + 1)
-four-spaces-next {n = n} j h e m l f z =
-    four-next j h e m l f
-    (record {
-      one = record { phase = 6; value = 0 };
-      two = record { phase = 6; value = 0 };
-      three = record { phase = 6; value = 0 };
-      first = blank-stepped (ap (λ k. k % 256) z);
-      second = blank-stepped (ap (λ k. k / 256 % 256) z);
-      third = blank-stepped (ap (λ k. k / 65536 % 256) z);
-      fourth = blank-stepped (ap (λ k. k / 16777216) z);
-    })
+pub in-one-pass : InOnePass
+unfolding phaseAfter valueOver
+in-one-pass = record {
+  starts = refl;
+  goesOn = λ bs b. rw (phase-more blank bs b, value-more 0 bs b);
+  fixedSize = value-below;
+  says = λ bs h. one-pass bs;
+}

@@ -1,14 +1,16 @@
 -- A column read in one pass, each byte taken once, front to back: what is kept after some of its bytes, and how the
 -- program keeps it.
-use mathlib.Core.Path.{_≡_}
+use mathlib.Core.Path.{_≡_, refl}
 use mathlib.Core.Bool.{true, false, cond}
-use mathlib.Core.List.{List, [], _∷_}
+use mathlib.Core.List.{List, [], _∷_, _++_}
 use mathlib.Core.Option.{Option, none, some}
 use Prim.Native.Nat.{ℕ, _+_, _*_, _-_, _/_, _%_, _^_, _≤_, _<_}
 use lib.Dec.{eqb}
-use lib.IntN.{ℤ, pos, negℤ}
-use lib.ListN.{getD, take, drop}
-use Rattle.integer.specs.Decimal.{isDigit}
+use lib.IntN.{ℤ, pos, negsuc, negℤ}
+use lib.ListN.{length, getD, take, drop}
+use Rattle.integer.specs.Decimal.{digitsWithin, digits, rightJustified, isDigit}
+use Rattle.reader.specs.Spelling.{spelling, column, readColumn}
+use Rattle.reader.specs.File.{fileWidth}
 use Rattle.reader.specs.declared.column.Kept.{Kept}
 use Rattle.reader.specs.declared.column.Reading.{Reading}
 use Rattle.reader.specs.declared.column.Reading.the-variants.{Number, Malformed}
@@ -54,6 +56,35 @@ meant nought v = some (pos v)
 meant up v = some (pos v)
 meant down v = some (negℤ (pos v))
 
+-- ---- what document 02 asks of the reading (N4)
+
+-- "a kept state of fixed size that copies none of them": the state after some bytes of a column
+abbrev pub stateAfter : List ℕ → Phase × ℕ
+stateAfter bs = (phaseAfter blank bs, valueOver 0 bs)
+
+-- example: the twelve bytes of -20
+example-state : stateAfter (column fileWidth (negsuc 19)) ≡ (down, 20)
+unfolding column spelling rightJustified digits digitsWithin phaseAfter valueOver turn digitOf isDigit
+example-state = refl
+
+-- the state that the byte b makes of the state s
+abbrev pub nextState : Phase × ℕ → ℕ → Phase × ℕ
+nextState s b = (turn (s .0) b, s .1 * 10 + digitOf b)
+
+-- the digits of a column have a value below this
+abbrev pub valueBound : ℕ
+valueBound = 10 ^ fileWidth
+
+-- "a column's bytes are to be taken once each, front to back, into a kept state of fixed size ..; after the twelfth,
+-- spelling and value follow from that state, with no byte read again. For every twelve bytes they are shown to be
+-- document 01's."
+pub record InOnePass : Type 0 where
+  pub starts : stateAfter [] ≡ (blank, 0)
+  -- the state after one byte more is a function of the state and that byte alone
+  pub goesOn : (bs : List ℕ) (b : ℕ) → stateAfter (bs ++ (b ∷ [])) ≡ nextState (stateAfter bs) b
+  pub fixedSize : (bs : List ℕ) → length bs ≤ fileWidth → stateAfter bs .1 < valueBound
+  pub says : (bs : List ℕ) → length bs ≡ fileWidth → meant (stateAfter bs .0) (stateAfter bs .1) ≡ readColumn bs
+
 -- ---- how the program keeps it
 
 -- a phase is kept as the place of six bits in a byte's entry
@@ -90,37 +121,13 @@ pub record Said (c : Kept) (r : Reading) : Type 0 where
 
 -- the program's state c is the one after the bytes bs, and after i bytes of the column that begins at a place
 pub record After (bs : List ℕ) (c : Kept) : Type 0 where
-  pub phase : c .phase ≡ shift (phaseAfter blank bs)
-  pub value : c .value ≡ valueOver 0 bs
+  pub phase : c .phase ≡ shift (stateAfter bs .0)
+  pub value : c .value ≡ stateAfter bs .1
 
 pub record Partway (bs : List ℕ) (at i : ℕ) (c : Kept) : Type 0 where
-  pub most : i ≤ 12
+  pub most : i ≤ fileWidth
   pub state : After (take i (drop at bs)) c
 
 -- the first i bytes of the column that begins at a place are spaces, so that nothing is kept of them
 abbrev pub OnlySpaces : List ℕ → ℕ → ℕ → Type 0
 OnlySpaces bs at i = Partway bs at i (record { phase = 6; value = 0 })
-
--- ---- four bytes at once
-
--- the number n is the bytes a, b, c, d, the first the lowest
-pub record Joined (a b c d n : ℕ) : Type 0 where
-  pub below : n < 4294967296
-  pub first : n % 256 ≡ a
-  pub second : n / 256 % 256 ≡ b
-  pub third : n / 65536 % 256 ≡ c
-  pub fourth : n / 16777216 ≡ d
-
--- it is the four bytes from a place on
-abbrev pub FourBytes : List ℕ → ℕ → ℕ → Type 0
-FourBytes bs at n = Joined (getD bs at 0) (getD bs (at + 1) 0) (getD bs (at + 2) 0) (getD bs (at + 3) 0) n
-
--- the program's state c becomes r by the four bytes of the number n, one after another
-pub record FourStepped (c : Kept) (n : ℕ) (r : Kept) : Type 0 where
-  pub one : Kept
-  pub two : Kept
-  pub three : Kept
-  pub first : Stepped c (n % 256) one
-  pub second : Stepped one (n / 256 % 256) two
-  pub third : Stepped two (n / 65536 % 256) three
-  pub fourth : Stepped three (n / 16777216) r

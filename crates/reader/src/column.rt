@@ -1,23 +1,20 @@
 // A column's bytes, taken once each, front to back, into a state of fixed size that copies none of them.
 ghost use mathlib.Core.Path.{_≡_};
+ghost use mathlib.Core.Bool.{false, cond};
 ghost use Prim.Native.Nat.{_+_, _≤_, _<_};
+ghost use lib.Dec.{eqb};
 ghost use lib.ListN.{length, take, drop};
 ghost use Rattle.reader.specs.Spelling.{readColumn};
 ghost use Rattle.reader.specs.File.{fileWidth};
-ghost use Rattle.reader.specs.OnePass.{
-  Table,
-  Stepped,
-  Said,
-  Partway,
-  OnlySpaces,
-  Joined,
-  FourBytes,
-  FourStepped,
-  readingOf,
-};
+ghost use Rattle.reader.specs.OnePass.{Table, valueBound, Stepped, Said, Partway, OnlySpaces, readingOf};
 
 // The bytes of a column.
 pub const COLUMN_BYTES: usize = 12;
+
+// The place of the last of them, and how many come before those of a number of up to four bytes.
+const LAST_BYTE: usize = COLUMN_BYTES - 1;
+
+const FRONT_BYTES: usize = COLUMN_BYTES - 4;
 
 // What is kept of the bytes so far: the phase, which says what they spell, and the value of their digits.
 struct Kept {
@@ -74,8 +71,11 @@ const EIGHT: u64 = DIGIT + (8 << 60);
 
 const NINE: u64 = DIGIT + (9 << 60);
 
-// Four spaces as one number.
-const FOUR_SPACES: u64 = 538976288;
+// What is kept before the first byte.
+const NONE_TAKEN: Kept = Kept {
+    phase: BLANK,
+    value: 0,
+};
 
 // The entries of all bytes, made once for a file and lent.
 pub fn table() -> [u64; 256]
@@ -99,7 +99,7 @@ pub fn table() -> [u64; 256]
 
 // The state after one byte more.
 fn step(table: &[u64; 256], c: Kept, b: u8) -> Kept
-    requires { ⌜ Table (now table) ⌝ ∗ ⌜ c .phase < 64 ⌝ ∗ ⌜ c .value < 1000000000000 ⌝ }
+    requires { ⌜ Table (now table) ⌝ ∗ ⌜ c .phase < 64 ⌝ ∗ ⌜ c .value < valueBound ⌝ }
     ensures { λ r. ⌜ Stepped c b r ⌝ }
 {
     let entry = table[b as usize];
@@ -111,7 +111,7 @@ fn step(table: &[u64; 256], c: Kept, b: u8) -> Kept
 
 // What the state after a column's last byte says.
 fn said(c: Kept) -> Reading
-    requires { ⌜ c .value < 1000000000000 ⌝ }
+    requires { ⌜ c .value < valueBound ⌝ }
     ensures { λ r. ⌜ Said c r ⌝ }
 {
     if c.phase < NOUGHT {
@@ -138,82 +138,53 @@ fn rest_of(table: &[u64; 256], bytes: &[u8], at: usize, from: usize, c: Kept) ->
     said(kept)
 }
 
-// Four bytes as one number.
-fn joined(a: u8, b: u8, c: u8, d: u8) -> u64
-    ensures { λ r. ⌜ Joined a b c d r ⌝ }
-{
-    a as u64 + b as u64 * 256 + c as u64 * 65536 + d as u64 * 16777216
-}
-
-// Four bytes of a column, taken at once.
-fn four_bytes(bytes: &[u8], at: usize) -> u64
-    requires { ⌜ at + 4 ≤ length (now bytes) ⌝ }
-    ensures { λ r. ⌜ FourBytes (now (bytes .entry)) at r ⌝ }
-{
-    joined(bytes[at], bytes[at + 1], bytes[at + 2], bytes[at + 3])
-}
-
-// The state after four bytes more.
-fn four_steps(table: &[u64; 256], c: Kept, four: u64) -> Kept
-    requires { ⌜ Table (now table) ⌝ ∗ ⌜ c .phase < 64 ⌝ ∗ ⌜ c .value < 100000000 ⌝ ∗ ⌜ four < 4294967296 ⌝ }
-    ensures { λ r. ⌜ FourStepped c four r ⌝ }
-{
-    let one = step(table, c, (four % 256) as u8);
-    let two = step(table, one, (four / 256 % 256) as u8);
-    let three = step(table, two, (four / 65536 % 256) as u8);
-    step(table, three, (four / 16777216) as u8)
-}
-
-// A column of which the first eight bytes are taken, as two numbers.
-fn wide(table: &[u64; 256], bytes: &[u8], at: usize, first: u64, second: u64) -> Reading
-    requires { ⌜ Table (now table) ⌝ ∗ ⌜ at + fileWidth ≤ length (now bytes) ⌝ ∗ ⌜ FourBytes (now bytes) at first ⌝
-        ∗ ⌜ FourBytes (now bytes) (at + 4) second ⌝ }
+// What a column says whose bytes before byte `from` are spaces. Spaces leave the first state as it is, so for speed a
+// loop of its own passes over them, and the first other byte is stepped from the local that was compared. The last byte
+// of a number is a digit, so it is stepped without being compared.
+fn after_spaces(table: &[u64; 256], bytes: &[u8], at: usize, from: usize) -> Reading
+    requires { ⌜ Table (now table) ⌝ ∗ ⌜ at + fileWidth ≤ length (now bytes) ⌝ ∗ ⌜ OnlySpaces (now bytes) at from ⌝ }
     ensures { λ r. ⌜ r ≡ readingOf (readColumn (take fileWidth (drop at (now (bytes .entry))))) ⌝ }
 {
-    let blank = Kept {
-        phase: BLANK,
-        value: 0,
-    };
-    let c = four_steps(table, blank, first);
-    let d = four_steps(table, c, second);
-    rest_of(table, bytes, at, 8, d)
-}
-
-// A column of which the first eight bytes are spaces. Spaces leave the state as it is, so for speed the others are
-// passed over too.
-fn narrow(table: &[u64; 256], bytes: &[u8], at: usize) -> Reading
-    requires { ⌜ Table (now table) ⌝ ∗ ⌜ at + fileWidth ≤ length (now bytes) ⌝ ∗ ⌜ OnlySpaces (now bytes) at 8 ⌝ }
-    ensures { λ r. ⌜ r ≡ readingOf (readColumn (take fileWidth (drop at (now (bytes .entry))))) ⌝ }
-{
-    let mut i: usize = 8;
-    while i < COLUMN_BYTES {
+    let mut i = from;
+    while i < LAST_BYTE {
         let b = bytes[at + i];
         if b != 32 {
-            let blank = Kept {
-                phase: BLANK,
-                value: 0,
-            };
-            let c = step(table, blank, b);
+            let c = step(table, NONE_TAKEN, b);
             return rest_of(table, bytes, at, i + 1, c);
         }
         i += 1;
     }
-    Reading::Malformed
+    rest_of(table, bytes, at, i, NONE_TAKEN)
 }
 
-// The column whose first byte has the place `at`. Most bytes of a large claim are spaces, so for speed eight are taken
-// at once.
+// Whether only spaces have come, after one byte more.
+fn still_blank(before: bool, b: u8) -> bool
+    ensures { λ r. ⌜ r ≡ cond (eqb b 32) before false ⌝ }
+{
+    if b != 32 {
+        return false;
+    }
+    before
+}
+
+// The column whose first byte has the place `at`: each byte is indexed once, front to back, and goes into the state.
+// Where only spaces have come the state is the first one: the program goes on with that, so that it need not wait for
+// the steps.
 pub fn column(table: &[u64; 256], bytes: &[u8], at: usize) -> Reading
     requires { ⌜ Table (now table) ⌝ ∗ ⌜ at + fileWidth ≤ length (now bytes) ⌝ }
     ensures { λ r. ⌜ r ≡ readingOf (readColumn (take fileWidth (drop at (now (bytes .entry))))) ⌝ }
 {
-    let first = four_bytes(bytes, at);
-    let second = four_bytes(bytes, at + 4);
-    if first != FOUR_SPACES {
-        return wide(table, bytes, at, first, second);
+    let mut kept = NONE_TAKEN;
+    let mut blank = true;
+    let mut i: usize = 0;
+    while i < FRONT_BYTES {
+        let b = bytes[at + i];
+        kept = step(table, kept, b);
+        blank = still_blank(blank, b);
+        i += 1;
     }
-    if second != FOUR_SPACES {
-        return wide(table, bytes, at, first, second);
+    if blank {
+        return after_spaces(table, bytes, at, i);
     }
-    narrow(table, bytes, at)
+    rest_of(table, bytes, at, i, kept)
 }

@@ -1,6 +1,7 @@
 -- `reader::column::rest_of` meets its contract. The loop's invariant: the state is that after the first i bytes of the column.
 use Prim.Native.Nat.{_-_}
 use native.Mathlib.Omega.{arith}
+use Rattle.reader.specs.File.{fileWidth}
 use Rattle.reader.specs.OnePass.{Partway}
 use Rattle.reader.proofs.OnePass.{part-phase, part-value, part-next, part-last}
 use Rattle.reader.proofs.column.rest_of.Statement.{statement}
@@ -10,7 +11,7 @@ abbrev Inv-loop : tie.InvT-loop
 Inv-loop table bytes at from kept₀ i₀ kept i = Partway bytes at i kept
 
 abbrev μ-loop : tie.MeasureT-loop
-μ-loop table bytes at from kept₀ i₀ kept i = 12 - i
+μ-loop table bytes at from kept₀ i₀ kept i = fileWidth - i
 
 loop-holds : tie.Need-loop-holds Inv-loop μ-loop
 loop-holds c = c .before .pre .1 .1

@@ -1,16 +1,17 @@
--- `reader::column::narrow` meets its contract. The loop's invariant: the bytes passed are spaces, so the state is the first one.
+-- `reader::column::after_spaces` meets its contract. The loop's invariant: the bytes passed are spaces, so the state is the first one.
 use Prim.Native.Nat.{_-_}
 use native.Mathlib.Omega.{arith}
+use Rattle.reader.specs.File.{fileWidth}
 use Rattle.reader.specs.OnePass.{OnlySpaces}
-use Rattle.reader.proofs.OnePass.{part-phase, part-value, part-next, part-last, blank-stepped, said-malformed}
-use Rattle.reader.proofs.column.narrow.Statement.{statement}
-use Rattle.reader.proofs.column.narrow.Tie as tie
+use Rattle.reader.proofs.OnePass.{part-phase, part-value, part-next, blank-stepped}
+use Rattle.reader.proofs.column.after_spaces.Statement.{statement}
+use Rattle.reader.proofs.column.after_spaces.Tie as tie
 
 abbrev Inv-loop : tie.InvT-loop
-Inv-loop table bytes at i₀ i = OnlySpaces bytes at i
+Inv-loop table bytes at from i₀ i = OnlySpaces bytes at i
 
 abbrev μ-loop : tie.MeasureT-loop
-μ-loop table bytes at i₀ i = 12 - i
+μ-loop table bytes at from i₀ i = fileWidth - i
 
 loop-holds : tie.Need-loop-holds Inv-loop μ-loop
 loop-holds c = c .before .pre .1 .1
@@ -42,11 +43,14 @@ loop-less c = omega arith
 loop-again : tie.Need-loop-again Inv-loop μ-loop
 loop-again c = part-next (c .before .before .before .loop .inv) (omega arith) (omega arith) (blank-stepped (omega arith))
 
-returns-2 : tie.Need-returns-2 Inv-loop μ-loop
-returns-2 c = part-last (c .before .loop .inv) (omega arith) (said-malformed (record { phase = 6; value = 0 }) (omega arith))
+rest-of-requires-2 : tie.Need-rest-of-requires-2 Inv-loop μ-loop
+rest-of-requires-2 c κs = (c .before .before .before .pre .0, (c .before .before .before .pre .1 .0, c .before .loop .inv))
 
-pub narrow-spec : {M : Type 1} → statement M
-narrow-spec =
+returns-2 : tie.Need-returns-2 Inv-loop μ-loop
+returns-2 c = c .rest-of2 .ensures
+
+pub after-spaces-spec : {M : Type 1} → statement M
+after-spaces-spec =
     tie.close
     (tie.spec
     Inv-loop
@@ -61,4 +65,5 @@ narrow-spec =
     add-i
     loop-less
     loop-again
+    rest-of-requires-2
     returns-2)
