@@ -5,6 +5,7 @@
 
 mod archive;
 mod causes;
+mod columns;
 mod damage;
 mod grids;
 mod random;
@@ -123,6 +124,7 @@ fn main() {
         tally.sheet(&mut random, &grid);
         damaged(&mut tally, &mut random, &grid);
     }
+    columns::all(&mut tally, &mut random);
     runs::by_hand(&mut tally);
     (0..6_000).for_each(|_| runs::at_random(&mut tally, &mut random));
     for _ in 0..500 {
