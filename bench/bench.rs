@@ -27,13 +27,13 @@ struct Sheet {
 #[no_mangle]
 #[inline(never)]
 extern "C" fn archive_check(sheet: &Sheet, line: &mut [u8; LINE]) -> Answer {
-    archive::check(&sheet.mesh, &sheet.claim, line)
+    archive::check(&sheet.mesh, &sheet.claim, 6, line)
 }
 
 #[no_mangle]
 #[inline(never)]
 extern "C" fn independent_check(sheet: &Sheet, line: &mut [u8; LINE]) -> Answer {
-    independent::check(&sheet.mesh, &sheet.claim, line)
+    independent::check(&sheet.mesh, &sheet.claim, 6, line)
 }
 
 /// Nanoseconds a call: the best of nine rounds, each of a twentieth of a second or more.

@@ -22,7 +22,8 @@ struct run {
 
 #define ENTRIES(make)                                                                              \
   struct answer make##_check(const uint8_t *mesh, size_t mesh_len, const uint8_t *claim,           \
-                             size_t claim_len, uint8_t *report, size_t report_len);                \
+                             size_t claim_len, int64_t decimals, uint8_t *report,                  \
+                             size_t report_len);                                                   \
   struct numbers make##_check_numbers(const int64_t *mesh, size_t mesh_len, const int64_t *claim,  \
                                       size_t claim_len);                                           \
   struct run make##_check_run(const uint8_t *mesh, size_t mesh_len, const uint8_t *claims,         \

@@ -48,12 +48,13 @@ static void give_all_back(struct lent all) {
   give_back(all.report);
 }
 
-static void compare_files(struct input in, size_t room) {
+static void compare_files(struct input in, int64_t decimals, size_t room) {
   uint8_t independent[ROOM];
   memset(independent, 0xA5, sizeof independent);
   struct lent on = lend_all(in, independent, room);
-  struct answer a = pechuvo_check(on.mesh.bytes, in.mesh_len, on.claim.bytes, in.claim_len, on.report.bytes, room);
-  struct answer b = independent_check(in.mesh, in.mesh_len, in.claim, in.claim_len, independent, room);
+  struct answer a = pechuvo_check(on.mesh.bytes, in.mesh_len, on.claim.bytes, in.claim_len, decimals,
+                                  on.report.bytes, room);
+  struct answer b = independent_check(in.mesh, in.mesh_len, in.claim, in.claim_len, decimals, independent, room);
   must(a.number == b.number && a.place == b.place, "the answer");
   must(memcmp(on.report.bytes, independent, room) == 0, "the buffer");
   give_all_back(on);
@@ -109,7 +110,7 @@ static struct input cut(const uint8_t *data, size_t size) {
 
 int LLVMFuzzerTestOneInput(const uint8_t *data, size_t size) {
   struct input in = cut(data, size);
-  compare_files(in, size % 16 == 0 ? size / 16 % LINE : LINE + size % 8);
+  compare_files(in, (int64_t)(size / 8 % 10) - 1, size % 16 == 0 ? size / 16 % LINE : LINE + size % 8);
   compare_run(in, size % 16 == 0 ? size / 16 % LINE : 3 * LINE + size % 8);
   compare_numbers(in);
   return 0;

@@ -18,13 +18,19 @@ unsafe extern "C" fn independent_check(
     mesh_len: usize,
     claim: *const u8,
     claim_len: usize,
+    decimals: i64,
     report: *mut u8,
     report_len: usize,
 ) -> Answer {
     // SAFETY: the harness lends each pointer with its own length; its report is never null.
     unsafe {
         let report = std::slice::from_raw_parts_mut(report, report_len);
-        independent::check(slice(mesh, mesh_len), slice(claim, claim_len), report)
+        independent::check(
+            slice(mesh, mesh_len),
+            slice(claim, claim_len),
+            decimals,
+            report,
+        )
     }
 }
 

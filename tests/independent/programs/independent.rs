@@ -16,6 +16,6 @@ fn main() -> std::io::Result<()> {
     let mesh = file_start(arguments.next());
     let claim = file_start(arguments.next());
     let mut line = [0; independent::report::LINE];
-    independent::check(&mesh, &claim, &mut line);
+    independent::check(&mesh, &claim, 6, &mut line);
     std::io::stdout().write_all(&line)
 }

@@ -1,18 +1,30 @@
 //! Prints what the independent implementation answers to the sheets of document 01's section
 //! "A whole sheet, and its neighbours"; the answers that it gives are in worked.expected.
 
-use independent::sheet::{file, printed, Sheet};
+use independent::sheet::{file, printed, Files, Sheet};
 
-fn show(name: &str, mesh: &[u8], claim: &[u8], room: usize) {
+fn show(name: &str, files: &Files, decimals: i64, room: usize) {
     let mut buffer = vec![b'#'; room];
-    let answer = independent::check(mesh, claim, &mut buffer);
+    let answer = independent::check(&files.mesh, &files.claim, decimals, &mut buffer);
     let text = String::from_utf8_lossy(&buffer).replace('\n', "|");
     let line = text.split_whitespace().collect::<Vec<_>>().join(" ");
     println!("{name}: {}, {}: {line}", answer.number, answer.place);
 }
 
 fn show_sheet(name: &str, sheet: &Sheet) {
-    show(name, &sheet.mesh_file(), &sheet.claim_file(), 113);
+    show(name, &sheet.files(), 6, 113);
+}
+
+/// Decimals to taste (document 02, N5).
+fn show_decimals(name: &str, sheet: &Sheet) {
+    for decimals in [0, 3, 7] {
+        show(
+            &format!("{name}, {decimals} decimals"),
+            &sheet.files(),
+            decimals,
+            113,
+        );
+    }
 }
 
 /// The worked sheet with another load and another sy at every node.
@@ -49,7 +61,7 @@ fn one_in_three_million() -> Sheet {
     }
 }
 
-fn hundred_nodes(nodes: i64) -> Vec<u8> {
+fn hundred_nodes(nodes: i64) -> Files {
     let mut mesh = vec![vec![nodes, 81, 1, 0, 12], vec![0, 1, 1, 10, 0, 0, 0, 0]];
     mesh.extend((0..nodes).map(|node| vec![node % 10, node / 10]));
     let corner = |e: i64| e / 9 * 10 + e % 9 + 1;
@@ -58,7 +70,10 @@ fn hundred_nodes(nodes: i64) -> Vec<u8> {
             .map(corner)
             .map(|c| vec![c, c + 1, c + 11, c + 10, 1]),
     );
-    file(&mesh)
+    Files {
+        mesh: file(&mesh),
+        claim: Vec::new(),
+    }
 }
 
 fn main() {
@@ -69,17 +84,24 @@ fn main() {
     let mut sheet = Sheet::worked();
     sheet.claim[7][2] = -29;
     show_sheet("-30 as -29", &sheet);
-    show("empty mesh", b"", &Sheet::worked().claim_file(), 113);
+    let mut empty = Sheet::worked();
+    empty.mesh.clear();
+    show_sheet("empty mesh", &empty);
     let mut sheet = Sheet::worked();
     sheet.mesh[1][..3].copy_from_slice(&[3, 4, 6]);
     show_sheet("soil 3 4 6", &sheet);
     show_sheet("1/3", &thirds(0, 60, 1));
     show_sheet("-1/3", &thirds(40, 60, -1));
     show_sheet("-1/3000000", &one_in_three_million());
-    let worked = Sheet::worked();
-    show("112 bytes", &worked.mesh_file(), &worked.claim_file(), 112);
-    show("113 bytes", &worked.mesh_file(), &worked.claim_file(), 113);
-    show("115 bytes", &worked.mesh_file(), &worked.claim_file(), 115);
-    show("100 nodes", &hundred_nodes(100), b"", 113);
-    show("101 nodes", &hundred_nodes(101), b"", 113);
+    let worked = Sheet::worked().files();
+    show("112 bytes", &worked, 6, 112);
+    show("113 bytes", &worked, 6, 113);
+    show("115 bytes", &worked, 6, 115);
+    show("100 nodes", &hundred_nodes(100), 6, 113);
+    show("101 nodes", &hundred_nodes(101), 6, 113);
+    show_decimals("2/3", &thirds(0, 30, 2));
+    show_decimals("-1/3", &thirds(40, 60, -1));
+    show_decimals("-1/3000000", &one_in_three_million());
+    show("-1 decimals", &worked, -1, 113);
+    show("8 decimals, 112 bytes", &worked, 8, 112);
 }

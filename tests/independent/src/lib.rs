@@ -92,21 +92,26 @@ pub struct Answer {
     pub place: u32,
 }
 
-/// The whole check: the line goes into the first 113 bytes, a shorter buffer stays untouched.
-pub fn check(mesh: &[u8], claim: &[u8], report: &mut [u8]) -> Answer {
+impl Answer {
+    /// A number that has no place.
+    fn alone(number: u32) -> Answer {
+        Answer { number, place: 0 }
+    }
+}
+
+/// The whole check: the line, its loads with so many decimals, goes into the first 113 bytes. A
+/// shorter buffer stays untouched, and so does any where there are no such decimals.
+pub fn check(mesh: &[u8], claim: &[u8], decimals: i64, report: &mut [u8]) -> Answer {
+    let Some(decimals) = report::decimals(decimals) else {
+        return Answer::alone(43);
+    };
     let Some(line) = report.first_chunk_mut::<{ report::LINE }>() else {
-        return Answer {
-            number: 41,
-            place: 0,
-        };
+        return Answer::alone(41);
     };
     let verdict = judge_files(mesh, claim);
-    report::write(&verdict, line);
+    report::write(&verdict, decimals, line);
     match verdict {
-        Ok(_) => Answer {
-            number: 0,
-            place: 0,
-        },
+        Ok(_) => Answer::alone(0),
         Err(Refusal { number, place }) => Answer { number, place },
     }
 }

@@ -4,9 +4,15 @@ use crate::{Load, Refusal, Verdict};
 
 const COLUMN: usize = 28;
 pub const LINE: usize = 4 * COLUMN + 1;
-const MILLION: i128 = 1_000_000;
+/// The decimals of the desk program and of runs.
+pub const SIX: usize = 6;
 
-pub fn write(verdict: &Verdict, line: &mut [u8; LINE]) {
+/// A number of decimals that a report can have (document 02, N5).
+pub fn decimals(number: i64) -> Option<usize> {
+    usize::try_from(number).ok().filter(|&number| number <= 7)
+}
+
+pub fn write(verdict: &Verdict, decimals: usize, line: &mut [u8; LINE]) {
     line.fill(b' ');
     line[LINE - 1] = b'\n';
     let (first, rest) = line.split_at_mut(COLUMN);
@@ -26,21 +32,26 @@ pub fn write(verdict: &Verdict, line: &mut [u8; LINE]) {
                 Some(open) => put_count(second, open),
                 None => put_word(second),
             }
-            put_load(third, accepted.carried, floor);
-            put_load(fourth, accepted.limit, ceiling);
+            put_load(third, accepted.carried, decimals, floor);
+            put_load(fourth, accepted.limit, decimals, ceiling);
         }
     }
 }
 
-fn floor(load: Load) -> i128 {
-    (i128::from(load.numerator) * MILLION).div_euclid(i128::from(load.denominator))
+/// A load times `unit`, rounded down.
+fn floor(load: Load, unit: i128) -> i128 {
+    (i128::from(load.numerator) * unit).div_euclid(i128::from(load.denominator))
 }
 
-fn ceiling(load: Load) -> i128 {
-    -floor(Load {
-        numerator: -load.numerator,
-        ..load
-    })
+/// A load times `unit`, rounded up.
+fn ceiling(load: Load, unit: i128) -> i128 {
+    -floor(
+        Load {
+            numerator: -load.numerator,
+            ..load
+        },
+        unit,
+    )
 }
 
 fn put_word(column: &mut [u8]) {
@@ -64,20 +75,23 @@ fn put_count(column: &mut [u8], number: u64) {
     put_digits(column, COLUMN, number);
 }
 
-/// A load in millionths, as `round` gives it, with six decimals.
-fn put_load(column: &mut [u8], load: Option<Load>, round: fn(Load) -> i128) {
+/// A load with so many decimals, rounded once; with none there is no point.
+fn put_load(column: &mut [u8], load: Option<Load>, decimals: usize, round: fn(Load, i128) -> i128) {
     let Some(load) = load else {
         return put_word(column);
     };
-    let millionths = round(load);
-    let size = millionths.unsigned_abs();
-    let whole = (size / MILLION as u128) as u64;
-    let part = (size % MILLION as u128) as u64;
-    column[COLUMN - 6..].fill(b'0');
-    put_digits(column, COLUMN, part);
-    column[COLUMN - 7] = b'.';
-    let start = put_digits(column, COLUMN - 7, whole);
-    if millionths < 0 {
+    let unit = 10i128.pow(decimals as u32);
+    let rounded = round(load, unit);
+    let (size, unit) = (rounded.unsigned_abs(), unit as u128);
+    let mut end = COLUMN;
+    if decimals > 0 {
+        column[COLUMN - decimals..].fill(b'0');
+        put_digits(column, COLUMN, (size % unit) as u64);
+        end -= decimals + 1;
+        column[end] = b'.';
+    }
+    let start = put_digits(column, end, (size / unit) as u64);
+    if rounded < 0 {
         column[start - 1] = b'-';
     }
 }

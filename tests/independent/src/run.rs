@@ -23,7 +23,7 @@ pub fn check_run(mesh: &[u8], claims: &[u8], reports: &mut [u8]) -> Run {
     let mesh = match Mesh::read(&mut { mesh }) {
         Ok(mesh) => mesh,
         Err(refusal) => {
-            report::write(&Err(refusal), first);
+            report::write(&Err(refusal), report::SIX, first);
             run.reports = 1;
             return run;
         }
@@ -34,7 +34,7 @@ pub fn check_run(mesh: &[u8], claims: &[u8], reports: &mut [u8]) -> Run {
             break;
         }
         let (verdict, after) = next_claim(&mesh, rest);
-        report::write(&verdict, room);
+        report::write(&verdict, report::SIX, room);
         run.reports += 1;
         let Some(after) = after else {
             break;

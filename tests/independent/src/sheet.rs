@@ -11,6 +11,20 @@ pub struct Sheet {
     pub claim: Lines,
 }
 
+/// The bytes of a sheet's files.
+#[derive(Clone)]
+pub struct Files {
+    pub mesh: Vec<u8>,
+    pub claim: Vec<u8>,
+}
+
+/// A sheet's numbers, file by file.
+#[derive(Clone)]
+pub struct Lists {
+    pub mesh: Vec<i64>,
+    pub claim: Vec<i64>,
+}
+
 /// The lines of a file as document 01 prints them: numbers apart by a space, lines by " / ".
 pub fn printed(text: &str) -> Lines {
     let line = |line: &str| {
@@ -63,11 +77,17 @@ impl Sheet {
         }
     }
 
-    pub fn mesh_file(&self) -> Vec<u8> {
-        file(&self.mesh)
+    pub fn files(&self) -> Files {
+        Files {
+            mesh: file(&self.mesh),
+            claim: file(&self.claim),
+        }
     }
 
-    pub fn claim_file(&self) -> Vec<u8> {
-        file(&self.claim)
+    pub fn lists(&self) -> Lists {
+        Lists {
+            mesh: self.mesh.concat(),
+            claim: self.claim.concat(),
+        }
     }
 }

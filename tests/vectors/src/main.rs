@@ -15,7 +15,7 @@ const FILL: u8 = b'#';
 /// One of the two programs that are held to the cases.
 struct Make {
     name: &'static str,
-    check: fn(&[u8], &[u8], &mut [u8]) -> Answer,
+    check: fn(&[u8], &[u8], i64, &mut [u8]) -> Answer,
     check_numbers: fn(&[i64], &[i64]) -> independent::Numbers,
     check_run: fn(&[u8], &[u8], &mut [u8]) -> independent::Run,
 }
@@ -87,10 +87,11 @@ fn files(tally: &mut Tally, folder: &str) {
             number: number(&case[1]),
             place: number(&case[2]),
         };
-        let (mesh, claim, room) = (part("mesh"), part("claim"), number(&case[5]));
+        let (mesh, claim) = (part("mesh"), part("claim"));
+        let (room, decimals) = (number(&case[5]), number(&case[6]));
         for make in &MAKES {
             let mut report = vec![FILL; room];
-            let answer = (make.check)(&mesh, &claim, &mut report);
+            let answer = (make.check)(&mesh, &claim, decimals, &mut report);
             let good = answer == expected && report == buffer(&case[3], room);
             let text = String::from_utf8_lossy(&report);
             tally.hold(good, || {

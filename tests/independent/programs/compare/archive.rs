@@ -11,6 +11,7 @@ mod raw {
             mesh_len: usize,
             claim: *const u8,
             claim_len: usize,
+            decimals: i64,
             report: *mut u8,
             report_len: usize,
         ) -> Answer;
@@ -31,7 +32,7 @@ mod raw {
     }
 }
 
-pub fn check(mesh: &[u8], claim: &[u8], report: &mut [u8]) -> Answer {
+pub fn check(mesh: &[u8], claim: &[u8], decimals: i64, report: &mut [u8]) -> Answer {
     // SAFETY: each pointer is lent with its own length for the time of the call.
     unsafe {
         raw::pechuvo_check(
@@ -39,6 +40,7 @@ pub fn check(mesh: &[u8], claim: &[u8], report: &mut [u8]) -> Answer {
             mesh.len(),
             claim.as_ptr(),
             claim.len(),
+            decimals,
             report.as_mut_ptr(),
             report.len(),
         )

@@ -3,18 +3,21 @@
 
 use crate::random::Random;
 use crate::tally::Tally;
-use independent::sheet::{file, Sheet};
+use independent::sheet::{file, Files, Sheet};
 
 const WIDTH: usize = 12;
 
 /// A mesh without edges and forces, and a field of zeros up to its load.
-fn files() -> (Vec<u8>, Vec<u8>) {
+fn files() -> Files {
     let mut sheet = Sheet::worked();
     sheet.mesh[0][3] = 0;
     sheet.mesh.truncate(7);
     let mut claim = vec![vec![1, 0, 1, 0]];
     claim.extend(vec![vec![0; 3]; 4]);
-    (file(&sheet.mesh), file(&claim))
+    Files {
+        mesh: file(&sheet.mesh),
+        claim: file(&claim),
+    }
 }
 
 /// A column is well formed exactly where it is the printed form of a number.
@@ -26,8 +29,7 @@ fn printed(column: &[u8; WIDTH]) -> Option<i64> {
 
 struct Columns<'a> {
     tally: &'a mut Tally,
-    mesh: Vec<u8>,
-    claim: Vec<u8>,
+    files: Files,
 }
 
 impl Columns<'_> {
@@ -38,15 +40,15 @@ impl Columns<'_> {
             Some(l) if l.abs() > 100_000_000 => (12, 1, None),
             Some(l) => (0, 0, Some(l)),
         };
-        self.claim[3 * WIDTH..4 * WIDTH].copy_from_slice(column);
-        self.tally.expect(&self.mesh, &self.claim, number, place, 0);
-        let shown = independent::judge_files(&self.mesh, &self.claim).ok();
+        self.files.claim[3 * WIDTH..4 * WIDTH].copy_from_slice(column);
+        self.tally.expect(&self.files, number, place, 0);
+        let shown = independent::judge_files(&self.files.mesh, &self.files.claim).ok();
         let shown = shown
             .and_then(|accepted| accepted.carried)
             .map(|load| load.numerator);
         if shown != load {
             let what = format!("column {:?}", String::from_utf8_lossy(column));
-            self.tally.disagree(&what, &self.mesh, &self.claim);
+            self.tally.disagree(&what, &self.files);
         }
     }
 
@@ -90,8 +92,8 @@ impl Columns<'_> {
 }
 
 pub fn all(tally: &mut Tally, random: &mut Random) {
-    let (mesh, claim) = files();
-    let mut columns = Columns { tally, mesh, claim };
+    let files = files();
+    let mut columns = Columns { tally, files };
     columns.endings(b" -019+");
     columns.every_byte(b"            ");
     columns.every_byte(b"           0");

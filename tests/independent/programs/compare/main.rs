@@ -12,31 +12,55 @@ mod random;
 mod runs;
 mod tally;
 
-use independent::sheet::{self, Sheet};
+use independent::sheet::{self, Files, Sheet};
 use random::Random;
-use tally::Tally;
+use tally::{How, Tally};
 
-/// Every buffer length up to 120, on an accepted and on a refused sheet.
-fn every_room(tally: &mut Tally, sheet: &Sheet) {
-    let (mesh, claim) = (sheet.mesh_file(), sheet.claim_file());
+/// Every buffer length up to 120 with every number of decimals, on an accepted and on a refused sheet.
+fn every_call(tally: &mut Tally, sheet: &Sheet) {
+    let accepted = sheet.files();
+    let mut refused = accepted.clone();
+    refused.claim.pop();
     for room in 0..=120 {
-        tally.file(&mesh, &claim, room, b'#');
-        tally.file(&mesh, &claim[..claim.len() - 1], room, 0);
+        for decimals in [-2, -1, 0, 1, 2, 3, 4, 5, 6, 7, 8, 9, i64::MIN, i64::MAX] {
+            for (files, fill) in [(&accepted, b'#'), (&refused, 0)] {
+                let how = How {
+                    decimals,
+                    room,
+                    fill,
+                };
+                let number = tally.file(files, how).number;
+                let expected = match (decimals, room) {
+                    (0..=7, 113..) => number,
+                    (0..=7, _) => 41,
+                    _ => 43,
+                };
+                if number != expected {
+                    tally.disagree(&format!("{number}, by hand {expected}: {how:?}"), files);
+                }
+            }
+        }
     }
 }
 
 /// Every length of both files, and every byte of the mesh replaced.
 fn every_byte(tally: &mut Tally, random: &mut Random, sheet: &Sheet) {
-    let (mut mesh, claim) = (sheet.mesh_file(), sheet.claim_file());
-    (0..mesh.len()).for_each(|end| tally.file(&mesh[..end], &claim, 113, b'#'));
-    (0..claim.len()).for_each(|end| tally.file(&mesh, &claim[..end], 113, b'#'));
-    for at in 0..mesh.len() {
-        let kept = mesh[at];
+    let whole = sheet.files();
+    let mut cut = whole.clone();
+    while cut.mesh.pop().is_some() {
+        tally.file(&cut, How::PLAIN);
+    }
+    let mut cut = whole.clone();
+    while cut.claim.pop().is_some() {
+        tally.file(&cut, How::PLAIN);
+    }
+    let mut changed = whole.clone();
+    for at in 0..whole.mesh.len() {
         for byte in [b' ', b'0', b'1', b'-', b'\n', random.below(256) as u8] {
-            mesh[at] = byte;
-            tally.file(&mesh, &claim, 113, b'#');
+            changed.mesh[at] = byte;
+            tally.file(&changed, How::PLAIN);
         }
-        mesh[at] = kept;
+        changed.mesh[at] = whole.mesh[at];
     }
 }
 
@@ -44,26 +68,31 @@ fn every_byte(tally: &mut Tally, random: &mut Random, sheet: &Sheet) {
 fn every_cause(tally: &mut Tally, random: &mut Random) {
     for (sheet, table) in &causes::tables() {
         for (k, (changes, number, place)) in table.iter().enumerate() {
-            let damaged = causes::changed(sheet, changes);
-            tally.expect(
-                &damaged.mesh_file(),
-                &damaged.claim_file(),
-                *number,
-                *place,
-                k,
-            );
-            tally.sheet(random, &damaged);
+            let changed = causes::changed(sheet, changes);
+            tally.expect(&changed.files(), *number, *place, k);
+            tally.sheet(random, &changed);
         }
-        if sheet.claim.is_empty() {
-            continue;
+        if !sheet.claim.is_empty() {
+            every_form(tally, &sheet.files());
         }
-        let (mesh, claim) = (sheet.mesh_file(), sheet.claim_file());
-        for (k, (bytes, line)) in causes::misformed(&mesh).iter().enumerate() {
-            tally.expect(bytes, &claim, 1, *line, k);
-        }
-        for (k, (bytes, line)) in causes::misformed(&claim).iter().enumerate() {
-            tally.expect(&mesh, bytes, 11, *line, k);
-        }
+    }
+}
+
+/// Each file with its form damaged.
+fn every_form(tally: &mut Tally, whole: &Files) {
+    for (k, (mesh, line)) in causes::misformed(&whole.mesh).into_iter().enumerate() {
+        let files = Files {
+            mesh,
+            ..whole.clone()
+        };
+        tally.expect(&files, 1, line, k);
+    }
+    for (k, (claim, line)) in causes::misformed(&whole.claim).into_iter().enumerate() {
+        let files = Files {
+            claim,
+            ..whole.clone()
+        };
+        tally.expect(&files, 11, line, k);
     }
 }
 
@@ -72,9 +101,14 @@ fn every_found(tally: &mut Tally, folder: &str) {
     let mut found = 0;
     for entry in std::fs::read_dir(folder).expect("the folder of found inputs") {
         let bytes = std::fs::read(entry.expect("an entry").path()).expect("a found input");
-        let cut = bytes.iter().position(|&b| b == 0).unwrap_or(bytes.len());
-        let claim = bytes.get(cut + 1..).unwrap_or(&[]);
-        tally.file(&bytes[..cut], claim, 113, b'#');
+        let mut parts = bytes.splitn(2, |&byte| byte == 0);
+        let mut next = || parts.next().unwrap_or_default().to_vec();
+        let files = Files {
+            mesh: next(),
+            claim: next(),
+        };
+        tally.file(&files, How::PLAIN);
+        tally.run(&files, 400, b'#');
         found += 1;
     }
     println!("inputs found by fuzzing: {found}");
@@ -88,13 +122,16 @@ fn damaged(tally: &mut Tally, random: &mut Random, seed: &Sheet) {
     }
     tally.sheet(random, &sheet);
     let kept = if random.one_in(2) { seed } else { &sheet };
-    let mut files = [kept.mesh_file(), kept.claim_file()];
-    let mut lists = [kept.mesh.concat(), kept.claim.concat()];
-    let which = random.below(2);
-    damage::bytes(random, &mut files[which]);
-    damage::list(random, &mut lists[which]);
-    tally.file(&files[0], &files[1], 113, b'#');
-    tally.list(&lists[0], &lists[1]);
+    let (mut files, mut lists) = (kept.files(), kept.lists());
+    if random.one_in(2) {
+        damage::bytes(random, &mut files.mesh);
+        damage::list(random, &mut lists.mesh);
+    } else {
+        damage::bytes(random, &mut files.claim);
+        damage::list(random, &mut lists.claim);
+    }
+    tally.file(&files, How::PLAIN);
+    tally.list(&lists);
 }
 
 fn read_sheet(name: &str) -> Sheet {
@@ -117,7 +154,7 @@ fn main() {
         .iter()
         .for_each(|sheet| tally.sheet(&mut random, sheet));
     every_cause(&mut tally, &mut random);
-    every_room(&mut tally, &Sheet::worked());
+    every_call(&mut tally, &Sheet::worked());
     every_byte(&mut tally, &mut random, &Sheet::worked());
     for _ in 0..30_000 {
         let grid = grids::sheet(&mut random);

@@ -5,7 +5,7 @@ use crate::damage;
 use crate::grids;
 use crate::random::Random;
 use crate::tally::Tally;
-use independent::sheet::{file, Sheet};
+use independent::sheet::{file, Files, Sheet};
 use independent::Run;
 
 /// The bytes of a report.
@@ -17,8 +17,8 @@ type Listed<'a> = (&'a [u8], &'a [&'a [u8]], usize, u64, usize);
 /// Runs whose answers were worked out by hand.
 pub fn by_hand(tally: &mut Tally) {
     let worked = Sheet::worked();
-    let claim = |changes: &[Change]| changed(&worked, changes).claim_file();
-    let (mesh, good) = (worked.mesh_file(), claim(&[]));
+    let claim = |changes: &[Change]| changed(&worked, changes).files().claim;
+    let (mesh, good) = (worked.files().mesh, claim(&[]));
     let beyond = claim(&[Change::FieldColumn(2, -21), Change::Claim(1, 4, 21)]);
     let limit = claim(&[Change::Claim(9, 4, 100_001)]);
     let neither = claim(&[Change::Claim(1, 3, 0)]);
@@ -56,10 +56,12 @@ pub fn by_hand(tally: &mut Tally) {
         (b"", &[], LINE, 1, 0),
     ];
     for (k, (mesh, claims, room, reports, bytes)) in cases.into_iter().enumerate() {
-        let run = tally.run(mesh, &claims.concat(), room, b'#');
+        let (mesh, claim) = (mesh.to_vec(), claims.concat());
+        let files = Files { mesh, claim };
+        let run = tally.run(&files, room, b'#');
         let bytes = bytes as u64;
         if run != (Run { reports, bytes }) {
-            tally.disagree(&format!("{run:?}: run {k} by hand"), mesh, &claims.concat());
+            tally.disagree(&format!("{run:?}: run {k} by hand"), &files);
         }
     }
 }
@@ -72,7 +74,7 @@ fn by_single_calls(mesh: &[u8], claims: &[Vec<u8>], room: usize) -> (Run, Vec<u8
             break;
         }
         let mut report = [0; LINE];
-        let answer = independent::check(mesh, claim, &mut report);
+        let answer = independent::check(mesh, claim, 6, &mut report);
         written.extend(report);
         run.reports += 1;
         if answer.number < 20 && answer.number != 0 {
@@ -87,25 +89,27 @@ fn by_single_calls(mesh: &[u8], claims: &[Vec<u8>], room: usize) -> (Run, Vec<u8
 pub fn at_random(tally: &mut Tally, random: &mut Random) {
     let count = random.below(7);
     let (mesh, claims) = grids::family(random, count);
-    let (mut mesh, mut claims): (_, Vec<_>) = (file(&mesh), claims.iter().map(file).collect());
+    let mut claims: Vec<_> = claims.iter().map(file).collect();
     if let (Some(last), true) = (claims.last_mut(), random.one_in(2)) {
         last.truncate(random.below(last.len()) + 1);
     }
     let room = random.pick(&[0, 112, 113, 300, 4 * LINE, 8 * LINE]) + random.below(3);
-    let run = tally.run(&mesh, &claims.concat(), room, b'#');
-    let (expected, written) = by_single_calls(&mesh, &claims, room);
+    let mut files = Files {
+        mesh: file(&mesh),
+        claim: claims.concat(),
+    };
+    let run = tally.run(&files, room, b'#');
+    let (expected, written) = by_single_calls(&files.mesh, &claims, room);
     let mut reports = vec![0; room];
-    independent::check_run(&mesh, &claims.concat(), &mut reports);
-    let accepted = independent::check(&mesh, b"", &mut [0; LINE]).number == 11;
+    independent::check_run(&files.mesh, &files.claim, &mut reports);
+    let accepted = independent::check(&files.mesh, b"", 6, &mut [0; LINE]).number == 11;
     if accepted && (run != expected || !reports.starts_with(&written)) {
-        let what = format!("{run:?}, by single calls {expected:?}");
-        tally.disagree(&what, &mesh, &claims.concat());
+        tally.disagree(&format!("{run:?}, by single calls {expected:?}"), &files);
     }
-    let mut claims = claims.concat();
     if random.one_in(4) {
-        damage::bytes(random, &mut mesh);
+        damage::bytes(random, &mut files.mesh);
     } else {
-        damage::bytes(random, &mut claims);
+        damage::bytes(random, &mut files.claim);
     }
-    tally.run(&mesh, &claims, room, random.below(256) as u8);
+    tally.run(&files, room, random.below(256) as u8);
 }

@@ -2,14 +2,49 @@
 
 use crate::archive;
 use crate::random::Random;
-use independent::sheet::Sheet;
-use independent::Run;
+use independent::sheet::{Files, Lists, Sheet};
+use independent::{Answer, Run};
 use std::collections::BTreeMap;
 
-/// Every number that a file can get.
+/// Every number that a file can get, and those that have to do with the call.
 const NUMBERS: [u32; 18] = [
     0, 1, 2, 3, 4, 5, 6, 7, 8, 42, 11, 12, 13, 21, 22, 31, 32, 33,
 ];
+const CALLS: [u32; 2] = [41, 43];
+
+/// How a check is called: decimals, and a buffer of `room` bytes, filled with `fill` before.
+#[derive(Clone, Copy, Debug)]
+pub struct How {
+    pub decimals: i64,
+    pub room: usize,
+    pub fill: u8,
+}
+
+impl How {
+    pub const PLAIN: How = How {
+        decimals: 6,
+        room: 113,
+        fill: b'#',
+    };
+
+    fn at_random(random: &mut Random) -> How {
+        let room = match random.below(16) {
+            0 => random.below(113),
+            1..=3 => 113 + random.below(8),
+            _ => 113,
+        };
+        let decimals = match random.below(32) {
+            0 => random.pick(&[-1, 8, i64::MIN, i64::MAX, 1 << 32]),
+            1..=16 => random.between(0, 7),
+            _ => 6,
+        };
+        How {
+            decimals,
+            room,
+            fill: random.below(256) as u8,
+        }
+    }
+}
 
 /// How often each number came, and how often the two disagreed.
 #[derive(Default)]
@@ -22,89 +57,80 @@ pub struct Tally {
 }
 
 impl Tally {
-    pub fn disagree(&mut self, what: &str, mesh: &[u8], claim: &[u8]) {
+    pub fn disagree(&mut self, what: &str, files: &Files) {
         self.disagreements += 1;
         if self.disagreements <= 3 {
             println!("DISAGREEMENT: {what}");
-            println!("mesh:\n{}", String::from_utf8_lossy(mesh));
-            println!("claim:\n{}", String::from_utf8_lossy(claim));
+            println!("mesh:\n{}", String::from_utf8_lossy(&files.mesh));
+            println!("claim:\n{}", String::from_utf8_lossy(&files.claim));
         }
     }
 
-    /// Both checks on one buffer of `room` bytes, filled with `fill` before.
-    pub fn file(&mut self, mesh: &[u8], claim: &[u8], room: usize, fill: u8) {
-        let mut proved = vec![fill; room];
+    /// Both checks, called one way; the answer is the independent one.
+    pub fn file(&mut self, files: &Files, how: How) -> Answer {
+        let Files { mesh, claim } = files;
+        let mut proved = vec![how.fill; how.room];
         let mut independent = proved.clone();
-        let theirs = archive::check(mesh, claim, &mut proved);
-        let ours = independent::check(mesh, claim, &mut independent);
+        let theirs = archive::check(mesh, claim, how.decimals, &mut proved);
+        let ours = independent::check(mesh, claim, how.decimals, &mut independent);
         *self.files.entry(ours.number).or_default() += 1;
         if theirs != ours || proved != independent {
             let line = String::from_utf8_lossy(&proved).into_owned();
-            self.disagree(
-                &format!("{theirs:?} not {ours:?}, room {room}: {line}"),
-                mesh,
-                claim,
-            );
+            self.disagree(&format!("{theirs:?} not {ours:?}, {how:?}: {line}"), files);
         }
+        ours
     }
 
     /// Both give the answer that was worked out by hand for cause number `k`.
-    pub fn expect(&mut self, mesh: &[u8], claim: &[u8], number: u32, place: u32, k: usize) {
-        self.file(mesh, claim, 113, b'#');
-        let ours = independent::check(mesh, claim, &mut [0; 113]);
+    pub fn expect(&mut self, files: &Files, number: u32, place: u32, k: usize) {
+        let ours = self.file(files, How::PLAIN);
         if (ours.number, ours.place) != (number, place) {
             let what = format!("{ours:?}, by hand {number}, {place}: cause {k}");
-            self.disagree(&what, mesh, claim);
+            self.disagree(&what, files);
         }
     }
 
-    pub fn list(&mut self, mesh: &[i64], claim: &[i64]) {
+    pub fn list(&mut self, lists: &Lists) {
+        let Lists { mesh, claim } = lists;
         let theirs = archive::check_numbers(mesh, claim);
         let ours = independent::check_numbers(mesh, claim);
         *self.lists.entry(ours.number).or_default() += 1;
         if theirs != ours {
             let text = |list: &[i64]| format!("{list:?}").into_bytes();
-            self.disagree(
-                &format!("{theirs:?} not {ours:?}"),
-                &text(mesh),
-                &text(claim),
-            );
+            let files = Files {
+                mesh: text(mesh),
+                claim: text(claim),
+            };
+            self.disagree(&format!("{theirs:?} not {ours:?}"), &files);
         }
     }
 
-    /// Both runs on one buffer; the answer is the independent one.
-    pub fn run(&mut self, mesh: &[u8], claims: &[u8], room: usize, fill: u8) -> Run {
+    /// Both runs, the claims as one file, on one buffer; the answer is the independent one.
+    pub fn run(&mut self, files: &Files, room: usize, fill: u8) -> Run {
+        let Files { mesh, claim } = files;
         let mut proved = vec![fill; room];
         let mut independent = proved.clone();
-        let theirs = archive::check_run(mesh, claims, &mut proved);
-        let ours = independent::check_run(mesh, claims, &mut independent);
+        let theirs = archive::check_run(mesh, claim, &mut proved);
+        let ours = independent::check_run(mesh, claim, &mut independent);
         *self.runs.entry(ours.reports).or_default() += 1;
         if theirs != ours || proved != independent {
-            let what = format!("{theirs:?} not {ours:?}, a run, room {room}");
-            self.disagree(&what, mesh, claims);
+            self.disagree(
+                &format!("{theirs:?} not {ours:?}, a run, room {room}"),
+                files,
+            );
         }
         ours
     }
 
     /// A sheet as files and as numbers.
     pub fn sheet(&mut self, random: &mut Random, sheet: &Sheet) {
-        let room = match random.below(16) {
-            0 => random.below(113),
-            1..=3 => 113 + random.below(8),
-            _ => 113,
-        };
-        self.file(
-            &sheet.mesh_file(),
-            &sheet.claim_file(),
-            room,
-            random.below(256) as u8,
-        );
-        self.list(&sheet.mesh.concat(), &sheet.claim.concat());
+        self.file(&sheet.files(), How::at_random(random));
+        self.list(&sheet.lists());
     }
 
     pub fn print(&self) {
         println!("number      files    numbers");
-        for number in NUMBERS.iter().chain(&[41]) {
+        for number in NUMBERS.iter().chain(&CALLS) {
             let count = |of: &BTreeMap<u32, u64>| of.get(number).copied().unwrap_or(0);
             println!(
                 "{number:>6} {:>10} {:>10}",
@@ -118,10 +144,11 @@ impl Tally {
 
     /// Every number came, and the two agreed each time.
     pub fn good(&self) -> bool {
+        let in_files = |n: &u32| self.files.contains_key(n);
         self.disagreements == 0
             && NUMBERS
                 .iter()
-                .all(|n| self.files.contains_key(n) && self.lists.contains_key(n))
-            && self.files.contains_key(&41)
+                .all(|n| in_files(n) && self.lists.contains_key(n))
+            && CALLS.iter().all(in_files)
     }
 }
