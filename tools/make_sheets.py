@@ -1,15 +1,16 @@
 #!/usr/bin/env python3
 """Makes the sheets of this repository again: make_sheets.py FOLDER writes NAME.mesh and NAME.claim
 for every sheet, and FOLDER/expected with the report line of each, worked out by rows.py; where
-sheet_list.py says the line, the two are compared. FOLDER/runs gets the runs. Needs glpsol; the
-sheets are kept in sheets/, so that checking them needs no solver."""
+sheet_list.py says the line, the two are compared. FOLDER/decimals has lines with other decimals,
+FOLDER/runs the runs. Needs glpsol; the sheets are kept in sheets/, so that checking them needs no
+solver."""
 
 import os
 import sys
 
 import claim_from_solver
 import rows
-from sheet_list import RUNS, SHEETS
+from sheet_list import DECIMALS, RUNS, SHEETS
 
 
 def write(folder, name, data):
@@ -34,6 +35,13 @@ def write_sheet(folder, sheet):
     return f"{sheet.name} {line}"
 
 
+def decimals_line(folder, name, decimals):
+    """Name, decimals, number, place, report line or -."""
+    mesh, claim = (rows.read(os.path.join(folder, name + end)) for end in (".mesh", ".claim"))
+    verdict, written = rows.check(mesh, claim, decimals)
+    return f"{name}\t{decimals}\t{verdict.number}\t{verdict.place}\t{rows.told(written)}\n"
+
+
 def write_run(folder, run):
     """One run; returns its line: name, bytes of the buffer, reports, bytes taken."""
     mesh, claims = rows.text_of(run.mesh), b""
@@ -52,6 +60,8 @@ def main():
     folder = sys.argv[1]
     lines = [write_sheet(folder, sheet) for sheet in sorted(SHEETS, key=lambda s: s.name)]
     write(folder, "expected", "".join(lines).encode("ascii"))
+    lines = [decimals_line(folder, *case) for case in DECIMALS]
+    write(folder, "decimals", "".join(lines).encode("ascii"))
     folder = os.path.join(folder, "runs")
     os.makedirs(folder, exist_ok=True)
     lines = [write_run(folder, run) for run in sorted(RUNS)]

@@ -9,6 +9,7 @@ from fractions import Fraction
 WIDTH = 12
 COLUMN = 28
 REPORT = 113
+DECIMALS = range(8)
 
 # The first quadrant of each polygon's corners, by its number of sides.
 QUADRANTS = {
@@ -464,12 +465,15 @@ def check_numbers(mesh, claim):
     return verdict_of(NumberLines(mesh, 1), NumberLines(claim, 11))
 
 
-def check(mesh, claim, room=REPORT):
-    """Two byte strings and the room of the report buffer: the verdict, and the report or None."""
+def check(mesh, claim, decimals=6, room=REPORT):
+    """Two byte strings, the decimals of both loads and the room of the report buffer: the verdict, and the report
+    or None."""
+    if decimals not in DECIMALS:
+        return Verdict(43, 0, "none"), None
     if room < REPORT:
         return Verdict(41, 0, "none"), None
     verdict = verdict_of(FileLines(mesh, 1), FileLines(claim, 11))
-    return verdict, report(verdict)
+    return verdict, report(verdict, decimals)
 
 
 def next_claim(mesh, claims):
@@ -504,12 +508,12 @@ def check_run(mesh_text, claims, room):
 
 
 def decimal(load, up, decimals):
-    """A load with so many decimals, rounded once, towards plus or minus infinity."""
+    """A load with so many decimals, rounded once, towards plus or minus infinity; no point at 0 decimals."""
     scaled = load * 10**decimals
     whole = -(-scaled // 1) if up else scaled // 1
     digits = f"{abs(whole):0{decimals + 1}d}"
     point = len(digits) - decimals
-    return ("-" if whole < 0 else "") + digits[:point] + "." + digits[point:]
+    return ("-" if whole < 0 else "") + digits[:point] + ("." if decimals else "") + digits[point:]
 
 
 def report(verdict, decimals=6):
@@ -522,6 +526,11 @@ def report(verdict, decimals=6):
         if verdict.m is not None:
             parts[3] = decimal(Fraction(verdict.w, verdict.m), True, decimals)
     return "".join(f"{part:>{COLUMN}}" for part in parts).encode("ascii") + b"\n"
+
+
+def told(written):
+    """A report without its byte 10; - where none is written."""
+    return "-" if written is None else written.decode("ascii").rstrip("\n")
 
 
 def read(path):

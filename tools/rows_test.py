@@ -30,12 +30,21 @@ def differing_sheets(folder):
 
 def differing_files(folder):
     for line in lines_of(folder, "expected"):
-        name, number, place, text, kind, room, _ = line.split("\t")[:7]
+        name, number, place, text, kind, room, decimals = line.split("\t")[:7]
         mesh, claim = (rows.read(os.path.join(folder, name + end)) for end in (".mesh", ".claim"))
-        verdict, written = rows.check(mesh, claim, int(room))
-        told = "-" if written is None else written.decode("ascii").rstrip("\n")
+        verdict, written = rows.check(mesh, claim, int(decimals), int(room))
+        told = rows.told(written)
         if [str(verdict.number), str(verdict.place), told, verdict.kind] != [number, place, text, kind]:
             yield f"{name}: {verdict}, expected {line}"
+
+
+def differing_decimals(folder):
+    for line in lines_of(folder, "decimals"):
+        name, decimals, *expected = line.split("\t")
+        mesh, claim = (rows.read(os.path.join(folder, name + end)) for end in (".mesh", ".claim"))
+        verdict, written = rows.check(mesh, claim, int(decimals))
+        if [str(verdict.number), str(verdict.place), rows.told(written)] != expected:
+            yield f"{name} with {decimals} decimals"
 
 
 def differing_numbers(folder):
@@ -56,15 +65,17 @@ def differing_runs(folder):
 
 
 def main():
-    parts = [(SHEETS, "", differing_sheets), (SHEETS, "runs", differing_runs)]
+    parts = [(SHEETS, "expected", differing_sheets), (SHEETS, "decimals", differing_decimals)]
+    parts += [(SHEETS, "runs/expected", differing_runs)]
     for folder in sys.argv[1:]:
-        parts += [(folder, "", differing_files), (folder, "numbers", differing_numbers), (folder, "runs", differing_runs)]
+        parts += [(folder, "expected", differing_files), (folder, "numbers/expected", differing_numbers)]
+        parts += [(folder, "runs/expected", differing_runs)]
     differing, count = [], 0
     for folder, part, compare in parts:
         path = os.path.join(folder, part)
-        if os.path.exists(os.path.join(path, "expected")):
-            differing += [f"{path} {words}" for words in compare(path)]
-            count += len(lines_of(path, "expected"))
+        if os.path.exists(path):
+            differing += [f"{path}: {words}" for words in compare(os.path.dirname(path))]
+            count += len(lines_of(path))
     print("\n".join(differing + [f"{count} cases, {len(differing)} differ"]))
     sys.exit(bool(differing))
 

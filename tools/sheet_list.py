@@ -302,6 +302,7 @@ def paper_sheets():
         sheet("worked_column", worked_mesh(), worked_claim(1, 20, -20, -29), *refused(32, 7)),
         sheet("third", worked_mesh(0, -60), worked_claim(3, 1, -60), "0", "0", "0.333333", "0.333334"),
         sheet("third_below_zero", worked_mesh(-40, -60), worked_claim(3, -1, -60), "0", "0", "-0.333334", "-0.333333"),
+        sheet("two_thirds", worked_mesh(0, -30), worked_claim(3, 2, -60), "0", "0", "0.666666", "0.666667"),
         sheet("one_in_three_million", corner_mesh, corner_claim, "0", "none", "none", "0.000000"),
     ]
 
@@ -449,3 +450,8 @@ def runs():
 
 
 RUNS = runs()
+
+# Sheets and decimals (document 02, N5): 43 for -1 and 8, a claim that is refused, the widest loads.
+DECIMALS = [(name, decimals) for name in ("third_below_zero", "two_thirds") for decimals in (0, 3, 7)]
+DECIMALS += [("widest_limit", 0), ("widest_limit", 7), ("lowest_limit", 7), ("one_in_three_million", 7)]
+DECIMALS += [("worked_above", 3), ("worked", -1), ("worked", 8)]
