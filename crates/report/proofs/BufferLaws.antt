@@ -1,13 +1,23 @@
 -- The line in the buffer: each column is put behind those before it, and the bytes after the line stay.
-use mathlib.Core.Path.{_≡_, sym, ap, ap₂, _∙_}
+use mathlib.Core.Path.{_≡_, refl, sym, ap, ap₂, subst, _∙_}
+use mathlib.Core.Bool.{Bool, true, false, not}
 use mathlib.Core.List.{List, _∷_, _++_, append-assoc}
-use Prim.Native.Nat.{ℕ, _+_, _≤_, _<_}
+use Prim.Native.Nat.{ℕ, _+_, _^_, _≤_, _<_}
 use native.Mathlib.Omega.{arith}
+use lib.Dec.{T}
+use lib.IntN.{ℤ, pos, negsuc, natAbs}
+use lib.Signed.{_≤ℤ_, _<ℤ_, leZ, nonNeg, leZ-yes, yes-nonNeg, clashℤ}
+use lib.Ieee.Bits.{is-true}
 use lib.ListN.{length, take, drop, set, getD, length-append, length-set, length-drop}
 use lib.Seq.{take-at, drop-at, drop-drop, drop-cons, set-at, length-take-le}
+use mir.Facts.{toZ-ofZ, and-yes}
+use mir.Syntax.{w64}
+use mir.Val.{Fits, SFits}
 use borrow.Author.Tests.{lt-ltb, le-ltb}
 use borrow.Rule.Slice.PartMut.{midOf, postOf, putMid, same-len-mid}
 use Rattle.integer.specs.Decimal.{digits, rightJustified}
+use Rattle.integer.proofs.Order.{nonneg, pos-≤ℤ, ≤ℤ-pos}
+use Rattle.integer.proofs.TestLaws.{yes-leZ}
 use Rattle.scope.specs.declared.Place.{Place}
 use Rattle.scope.specs.declared.Load.{Load}
 use Rattle.scope.specs.declared.Load.the-variants.{Absent}
@@ -17,9 +27,10 @@ use Rattle.scope.specs.declared.Verdict.{Verdict}
 use Rattle.scope.specs.declared.Verdict.the-variants.{Accepted, Refused}
 use Rattle.scope.specs.Answer.{placeNumber}
 use Rattle.report.specs.Text.{noneText}
-use Rattle.report.specs.Report.{reportBytes, loadText, lowerText, upperText, openText, fourColumns, reportLine}
-use Rattle.report.specs.declared.Reported.the-variants.{Written, TooShort}
-use Rattle.report.specs.Buffer.{afterReport, reported, Reports}
+use Rattle.report.specs.Report.{reportBytes, loadText, lowerText, upperText, openText, fourColumns, reportLine, mostDecimals, Decimals, isDecimals}
+use Rattle.report.specs.declared.Reported.the-variants.{Written, TooShort, OtherDecimals}
+use Rattle.report.specs.Buffer.{reported, afterAnswer, afterReport, Reports}
+use Rattle.report.proofs.DivisionLaws.{read}
 
 -- a column behind the `front` that stands already
 behind : (k : ℕ) (front y bytes : List ℕ) → length front ≡ k → putMid k 28 (front ++ drop k bytes) y ≡ (front ++ y) ++ drop (k + 28) bytes
@@ -109,16 +120,76 @@ pub refused-line : (d : ℕ) (v : Verdict) (k n : ℕ) (place : Place) (rest : L
 unfolding reportLine openText lowerText upperText loadText
 refused-line d v k n place rest e m f = rw (e, ← m) f
 
--- ---- by the buffer's length
+-- ---- by the number of decimals
 
-pub too-short : (d : ℕ) (v : Verdict) (buffer : List ℕ) → length buffer < reportBytes → Reports d v buffer buffer TooShort
-unfolding afterReport reported
-too-short d v buffer h =
-    let t = lt-ltb (length buffer) reportBytes h in
-    record { buffer = rw (t, afterReport); answer = rw (t, reported) }
+-- the test of the code is the definition's
+pub below-zero : {z : ℤ} → z <ℤ pos 0 → isDecimals z ≡ false
+unfolding isDecimals
+below-zero {z = pos n} h = clashℤ h (nonneg n)
+below-zero {z = negsuc n} h = refl
 
-pub written : (d : ℕ) (v : Verdict) (buffer : List ℕ) {after : List ℕ} → reportBytes ≤ length buffer → after ≡ reportLine d v ++ drop reportBytes buffer → Reports d v buffer after Written
-unfolding afterReport reported
-written d v buffer h e =
-    let t = le-ltb (length buffer) reportBytes h in
-    record { buffer = rw (t, afterReport) e; answer = rw (t, reported) }
+pub from-zero : {z : ℤ} → pos 0 ≤ℤ z → isDecimals z ≡ leZ z (pos mostDecimals)
+unfolding isDecimals
+from-zero {z} h = rw (is-true (leZ (pos 0) z) (yes-leZ h))
+
+pub these-decimals : {d : ℕ} → d ≤ mostDecimals → Decimals (pos d)
+these-decimals {d} h = record { from-0 = nonneg d; to-most = pos-≤ℤ h }
+
+pub is-decimals : {z : ℤ} → Decimals z → isDecimals z ≡ true
+is-decimals {z} h = from-zero (h .from-0) ∙ is-true (leZ z (pos mostDecimals)) (yes-leZ (h .to-most))
+
+pub decimals-told : (z : ℤ) → isDecimals z ≡ true → Decimals z
+unfolding isDecimals
+decimals-told z e =
+    let t = and-yes (leZ (pos 0) z) (leZ z (pos mostDecimals)) (subst T (sym e) tt) in
+    record { from-0 = leZ-yes (t .0); to-most = leZ-yes (t .1) }
+
+pub other-told : (z : ℤ) → isDecimals z ≡ false → ¬ Decimals z
+other-told z e d = subst T (sym (is-decimals d) ∙ e) tt
+
+pub decimals-small : (z : ℤ) → Decimals z → natAbs z ≤ mostDecimals
+decimals-small (pos n) h = ≤ℤ-pos (h .to-most)
+decimals-small (negsuc n) h = absurd (h .from-0 .le)
+
+-- ---- by the number of decimals and the buffer's length
+
+other : (b : Bool) → not b ≡ true → b ≡ false
+other false h = refl
+other true h = absurd (subst T (sym h) tt)
+
+one : (b : Bool) → not b ≡ false → b ≡ true
+one true h = refl
+one false h = absurd (subst T h tt)
+
+module _ (z : ℤ) {b : Bool} (f : SFits w64 z) (e : b ≡ isDecimals (read z)) where
+  is-asked : b ≡ isDecimals z
+  is-asked = e ∙ ap isDecimals (toZ-ofZ f)
+
+  pub other-decimals : (v : Verdict) (buffer : List ℕ) → not b ≡ true → Reports z v buffer buffer OtherDecimals
+  unfolding afterReport afterAnswer reported
+  other-decimals v buffer t = let o = sym is-asked ∙ other b t in record { buffer = rw (o, reported); answer = rw (o, reported) }
+
+  module _ (t : not b ≡ false) where
+    told : isDecimals z ≡ true
+    told = sym is-asked ∙ one b t
+
+    pub decimals-nonneg : T (nonNeg (read z))
+    decimals-nonneg = rw (toZ-ofZ f) (yes-nonNeg (decimals-told z told .from-0))
+
+    pub decimals-most : natAbs (read z) ≤ mostDecimals
+    decimals-most = rw (toZ-ofZ f) (decimals-small z (decimals-told z told))
+
+    pub decimals-fit : Fits w64 (natAbs (read z))
+    decimals-fit = omega (arith, decimals-most)
+
+    pub too-short : (v : Verdict) (buffer : List ℕ) → length buffer < reportBytes → Reports z v buffer buffer TooShort
+    unfolding afterReport afterAnswer reported
+    too-short v buffer h =
+        let s = lt-ltb (length buffer) reportBytes h in
+        record { buffer = rw (told, s, reported); answer = rw (told, s, reported) }
+
+    pub written : (v : Verdict) (buffer : List ℕ) {after : List ℕ} → reportBytes ≤ length buffer → after ≡ reportLine (natAbs (read z)) v ++ drop reportBytes buffer → Reports z v buffer after Written
+    unfolding afterReport afterAnswer reported
+    written v buffer h g =
+        let s = le-ltb (length buffer) reportBytes h in
+        record { buffer = rw (told, s, reported) (rw (toZ-ofZ f) at g); answer = rw (told, s, reported) }

@@ -13,7 +13,7 @@ use lib.Seq.{take-at, drop-append-add}
 use Rattle.integer.proofs.RingLaws.{natAbs-negℤ, natAbs-*ℤ}
 use Rattle.integer.proofs.Order.{≤ℤ-pos}
 use Rattle.integer.specs.Fraction.{_over_, _≤ᶠ_, _<ᶠ_}
-use Rattle.integer.specs.Decimal.{digits, rightJustified}
+use Rattle.integer.specs.Decimal.{digitsWithin, digits, lastDigits, rightJustified}
 use Rattle.integer.proofs.DecimalLaws.{rightJustified-length}
 use Rattle.integer.specs.Round.{floorDiv, ceilDiv, Floor, Ceil}
 use Rattle.integer.proofs.RoundLaws.{floorDiv-is, ceilDiv-is}
@@ -24,8 +24,8 @@ use Rattle.scope.specs.declared.OpenRows.the-variants.{Absent as NoCount, Count
 use Rattle.scope.specs.declared.Verdict.{Verdict}
 use Rattle.scope.specs.declared.Verdict.the-variants.{Accepted, Refused}
 use Rattle.scope.specs.Answer.{placeNumber}
-use Rattle.report.specs.Text.{fixed, noneText, Said, word, number, said}
-use Rattle.report.specs.Report.{loadText, lowerText, upperText, openText, fourColumns, reportLine}
+use Rattle.report.specs.Text.{pointed, fixed, noneText, Said, word, number, said}
+use Rattle.report.specs.Report.{columnBytes, mostDecimals, loadText, lowerText, upperText, openText, fourColumns, reportLine}
 use Rattle.report.specs.Says.{columnOf, HeldLoad, HeldRows, Held, NoLoad, NoLower, NoUpper, LoadSays, no-load, rounded, RowsSay, no-rows, rows, Says, says-accepted, says-refused, LineSays}
 use Rattle.report.proofs.Text.{said-column, said-none, said-fixed, said-digits, digits-length-64, fixed-length}
 
@@ -142,6 +142,18 @@ lower-fits = load-fits Floor floorDiv floor-small (λ z den p. floorDiv-is z p)
 upper-fits : (d : ℕ) → d ≤ 7 → (load : Load) → HeldLoad load → (s : Said) × Fits (upperText d load) s × LoadSays Ceil d load s
 unfolding upperText
 upper-fits = load-fits Ceil ceilDiv ceil-small (λ z den p. ceilDiv-is z p)
+
+-- "in the same 28 characters": 19 digits, a minus, a point and seven decimals
+pub lower-room : (d : ℕ) (load : Load) → d ≤ mostDecimals → HeldLoad load → length (lowerText d load) ≤ columnBytes
+lower-room d load h x = lower-fits d h load x .1 .room
+
+pub upper-room : (d : ℕ) (load : Load) → d ≤ mostDecimals → HeldLoad load → length (upperText d load) ≤ columnBytes
+upper-room d load h x = upper-fits d h load x .1 .room
+
+-- the load that 64 bits hold farthest from 0 fills its column
+pub widest-fills : length (lowerText mostDecimals (Exact (negsuc 9223372036854775807) (pos 1))) ≡ columnBytes
+unfolding lowerText loadText fixed pointed digitsWithin digits lastDigits
+widest-fills = refl
 
 rows-fit : (o : OpenRows) → HeldRows o → (s : Said) × Fits (openText o) s × RowsSay o s
 unfolding openText

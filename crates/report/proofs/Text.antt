@@ -130,7 +130,7 @@ minus-below v d (some (zero, b)) e = let z : _≡_ {A = ℕ} 0 1 = cc in absurd 
 minus-below v d (some (suc k, b)) e = let f : negsuc k ≡ v = cc in rw (← f) (ltZ-yes tt)
 
 pub minus-said : MinusSaid
-minus-said bs v d e = minus-below v d (decimal bs) (sym (from-minus bs) ∙ e)
+minus-said k bs v d e = minus-below v d (decimal bs) (sym (said-spaces k (45 ∷ bs) ∙ from-minus bs) ∙ e)
 
 -- ---- the length of a text
 

@@ -1,8 +1,10 @@
 -- The report line (document 01, 'Verdict and report'): "The report is 113 bytes: four columns of 28, right-justified,
 -- and byte 10."
+use mathlib.Core.Bool.{Bool, _&&_}
 use mathlib.Core.List.{List, [], _∷_, _++_}
 use Prim.Native.Nat.{ℕ, zero, suc, _+_, _*_, _^_}
 use lib.IntN.{ℤ, pos, negsuc, _*ℤ_}
+use lib.Signed.{_≤ℤ_, leZ}
 use Rattle.integer.specs.Decimal.{digits, rightJustified}
 use Rattle.integer.specs.Round.{floorDiv, ceilDiv}
 use Rattle.scope.specs.declared.Load.{Load}
@@ -51,6 +53,19 @@ unfoldable pub reportLine : ℕ → Verdict → List ℕ
 reportLine d (Accepted o lower upper) = fourColumns (digits 0) (openText o) (lowerText d lower) (upperText d upper)
 reportLine d (Refused k place) = fourColumns (digits k) (digits (placeNumber place)) noneText noneText
 
--- "Both loads have six decimals"
-unfoldable pub decimals : ℕ
-decimals = 6
+-- ---- how many decimals (document 02, N5)
+
+-- "The report takes a number of decimals from 0 to 7 for both loads"
+abbrev pub mostDecimals : ℕ
+mostDecimals = 7
+
+pub record Decimals (z : ℤ) : Type 0 where
+  pub from-0 : pos 0 ≤ℤ z
+  pub to-most : z ≤ℤ pos mostDecimals
+
+unfoldable pub isDecimals : ℤ → Bool
+isDecimals z = leZ (pos 0) z && leZ z (pos mostDecimals)
+
+-- "The desk program and N3's runs go on with six"
+unfoldable pub usualDecimals : ℕ
+usualDecimals = 6

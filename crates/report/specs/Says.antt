@@ -1,6 +1,5 @@
 -- What a report line says of a verdict (document 01, 'Verdict and report'), by its four columns as they are read, with
 -- no look at how they were written.
--- The number of decimals d is a parameter: six in the report.
 use mathlib.Core.Path.{_≡_}
 use mathlib.Core.List.{List, [], _∷_}
 use mathlib.Core.Option.{some}

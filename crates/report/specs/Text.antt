@@ -1,7 +1,6 @@
--- How the report spells a load (document 01, 'Verdict and report'): "Both loads have six decimals and at least one
--- digit before the point; a zero has no minus."
--- The number of decimals d is a parameter: six in the report. And what such a text says, read with no look at how it
--- was written.
+-- How the report spells a load (document 01, 'Verdict and report'): "at least one digit before the point; a zero has
+-- no minus"; with d decimals, "with no point at 0" (document 02, N5).
+-- And what such a text says, read with no look at how it was written.
 use mathlib.Core.Path.{_≡_}
 use mathlib.Core.Bool.{Bool, true, false, cond, _&&_}
 use mathlib.Core.List.{List, [], _∷_, _++_}
@@ -10,7 +9,7 @@ use Prim.Native.Nat.{ℕ, zero, suc, _/_, _^_}
 use lib.IntN.{ℤ, pos, negsuc}
 use lib.Signed.{_<ℤ_}
 use lib.Dec.{eqb}
-use lib.ListN.{length}
+use lib.ListN.{length, replicate}
 use Rattle.integer.specs.Decimal.{digits, lastDigits, properDigits, allDigits, valueAfter}
 
 -- ---- writing
@@ -99,6 +98,6 @@ said (b ∷ bs) =
       | false ↦ cond (isNone (b ∷ bs)) (some word) (signedDecimal (b ∷ bs))
     ]
 
--- "a zero has no minus": a text with a minus says a number below 0, or nothing
+-- "a zero has no minus": a column with a minus says a number below 0, or nothing
 abbrev pub MinusSaid : Type 0
-MinusSaid = (bs : List ℕ) (v : ℤ) (d : ℕ) → said (45 ∷ bs) ≡ some (number v d) → v <ℤ pos 0
+MinusSaid = (k : ℕ) (bs : List ℕ) (v : ℤ) (d : ℕ) → said (replicate k 32 ++ (45 ∷ bs)) ≡ some (number v d) → v <ℤ pos 0

@@ -3,6 +3,7 @@
 ghost use mathlib.Core.Path.{_≡_};
 ghost use Prim.Native.Nat.{_+_, _*_, _%_, _^_, _≤_, _<_};
 ghost use lib.IntN.{natAbs};
+ghost use Rattle.report.specs.Report.{mostDecimals};
 ghost use Rattle.report.specs.Quotient.{partsOf, unitsOf, nextDigit, divide, roundedTo};
 
 // whole·10^d + part units.
@@ -34,7 +35,7 @@ pub fn magnitude(num: i64) -> u64
 
 // 10^d
 fn ten_to(d: usize) -> u64
-    requires { ⌜ d ≤ 7 ⌝ }
+    requires { ⌜ d ≤ mostDecimals ⌝ }
     ensures { λ r. ⌜ r ≡ 10 ^ d ⌝ }
 {
     let mut power: u64 = 1;
@@ -67,7 +68,7 @@ fn next_digit(rest: u64, den: u64) -> Digit
 
 // m / den, down to d decimals, and what is left: one decimal after another.
 fn by_digits(m: u64, den: u64, d: usize) -> Quotient
-    requires { ⌜ 0 < den ⌝ ∗ ⌜ den < 2 ^ 63 ⌝ ∗ ⌜ d ≤ 7 ⌝ }
+    requires { ⌜ 0 < den ⌝ ∗ ⌜ den < 2 ^ 63 ⌝ ∗ ⌜ d ≤ mostDecimals ⌝ }
     ensures { λ r. ⌜ r ≡ divide d m den ⌝ }
 {
     let whole = m / den;
@@ -85,7 +86,7 @@ fn by_digits(m: u64, den: u64, d: usize) -> Quotient
 
 // The same, where what the whole part leaves has room for d decimals in 64 bits.
 fn at_once(m: u64, den: u64, d: usize) -> Quotient
-    requires { ⌜ 0 < den ⌝ ∗ ⌜ m % den < 1000000000000 ⌝ ∗ ⌜ d ≤ 7 ⌝ }
+    requires { ⌜ 0 < den ⌝ ∗ ⌜ m % den < 1000000000000 ⌝ ∗ ⌜ d ≤ mostDecimals ⌝ }
     ensures { λ r. ⌜ r ≡ divide d m den ⌝ }
 {
     let units = m % den * ten_to(d);
@@ -98,7 +99,7 @@ fn at_once(m: u64, den: u64, d: usize) -> Quotient
 
 // The same. For speed it is done at once where it can be: for all denominators up to 10^12.
 fn divided(m: u64, den: u64, d: usize) -> Quotient
-    requires { ⌜ 0 < den ⌝ ∗ ⌜ den < 2 ^ 63 ⌝ ∗ ⌜ d ≤ 7 ⌝ }
+    requires { ⌜ 0 < den ⌝ ∗ ⌜ den < 2 ^ 63 ⌝ ∗ ⌜ d ≤ mostDecimals ⌝ }
     ensures { λ r. ⌜ r ≡ divide d m den ⌝ }
 {
     if m % den < 1000000000000 {
@@ -109,7 +110,7 @@ fn divided(m: u64, den: u64, d: usize) -> Quotient
 
 // One unit more, which may carry into the whole part.
 fn next_unit(p: Parts, d: usize) -> Parts
-    requires { ⌜ p .whole ≤ 2 ^ 63 ⌝ ∗ ⌜ p .part < 10 ^ d ⌝ ∗ ⌜ d ≤ 7 ⌝ }
+    requires { ⌜ p .whole ≤ 2 ^ 63 ⌝ ∗ ⌜ p .part < 10 ^ d ⌝ ∗ ⌜ d ≤ mostDecimals ⌝ }
     ensures { λ r. ⌜ r ≡ partsOf d (unitsOf d p + 1) ⌝ }
 {
     let part = p.part + 1;
@@ -127,7 +128,7 @@ fn next_unit(p: Parts, d: usize) -> Parts
 
 // m / den, rounded once to d decimals.
 pub fn rounded(m: u64, den: u64, up: bool, d: usize) -> Parts
-    requires { ⌜ m ≤ 2 ^ 63 ⌝ ∗ ⌜ 0 < den ⌝ ∗ ⌜ den < 2 ^ 63 ⌝ ∗ ⌜ d ≤ 7 ⌝ }
+    requires { ⌜ m ≤ 2 ^ 63 ⌝ ∗ ⌜ 0 < den ⌝ ∗ ⌜ den < 2 ^ 63 ⌝ ∗ ⌜ d ≤ mostDecimals ⌝ }
     ensures { λ r. ⌜ r ≡ partsOf d (roundedTo up (m * 10 ^ d) den) ⌝ }
 {
     let q = divided(m, den, d);

@@ -24,14 +24,16 @@ ghost use Rattle.report.specs.Report.{
   openText,
   fourColumns,
   reportLine,
-  decimals,
+  mostDecimals,
+  isDecimals,
 };
 ghost use Rattle.report.specs.Buffer.{Reports};
 
-// Whether the line was written, or the buffer has no room for it.
+// Whether the line was written, the buffer has no room for it, or no report has so many decimals.
 pub enum Reported {
     Written,
     TooShort,
+    OtherDecimals,
 }
 
 // Where the columns after the first begin, and where the last ends.
@@ -46,8 +48,11 @@ const END: usize = 4 * WIDTH;
 // "The report is 113 bytes": four columns and byte 10.
 pub const LINE: usize = END + 1;
 
-// "Both loads have six decimals"
-const DECIMALS: usize = 6;
+// "a number of decimals from 0 to 7"
+const MOST_DECIMALS: i64 = 7;
+
+// "The desk program and N3's runs go on with six"
+pub const USUAL_DECIMALS: i64 = 6;
 
 // The open rows, or none where there is no count.
 fn put_open(column: &mut [u8], open_rows: OpenRows)
@@ -64,7 +69,7 @@ fn put_open(column: &mut [u8], open_rows: OpenRows)
 
 // Four columns and byte 10. The second is a number or none, as the open rows are.
 fn put_line(buffer: &mut [u8], number: u64, second: OpenRows, lower: Load, upper: Load, d: usize)
-    requires { ⌜ d ≤ 7 ⌝ ∗ ⌜ reportBytes ≤ length (now buffer) ⌝ }
+    requires { ⌜ d ≤ mostDecimals ⌝ ∗ ⌜ reportBytes ≤ length (now buffer) ⌝ }
     ensures { λ _. ⌜ now (buffer .exit)
         ≡ fourColumns (digits number) (openText second) (lowerText d lower) (upperText d upper)
         ++ drop reportBytes (now (buffer .entry)) ⌝ }
@@ -78,7 +83,7 @@ fn put_line(buffer: &mut [u8], number: u64, second: OpenRows, lower: Load, upper
 
 // "Accepted .. reports: 0; the open rows ..; l/n; W/m"; "Refused: number, place, none, none"
 fn write_line(v: Verdict, buffer: &mut [u8], d: usize)
-    requires { ⌜ reportBytes ≤ length (now buffer) ⌝ ∗ ⌜ d ≤ 7 ⌝ }
+    requires { ⌜ reportBytes ≤ length (now buffer) ⌝ ∗ ⌜ d ≤ mostDecimals ⌝ }
     ensures { λ _. ⌜ now (buffer .exit) ≡ reportLine d v ++ drop reportBytes (now (buffer .entry)) ⌝ }
 {
     match v {
@@ -96,13 +101,25 @@ fn write_line(v: Verdict, buffer: &mut [u8], d: usize)
     }
 }
 
-// The report of a verdict at the front of the buffer that is lent.
-pub fn write_report(v: Verdict, buffer: &mut [u8]) -> Reported
+fn has_decimals(decimals: i64) -> bool
+    ensures { λ r. ⌜ r ≡ isDecimals decimals ⌝ }
+{
+    if decimals < 0 {
+        return false;
+    }
+    decimals <= MOST_DECIMALS
+}
+
+// The report of a verdict, with so many decimals, at the front of the buffer that is lent.
+pub fn write_report(v: Verdict, buffer: &mut [u8], decimals: i64) -> Reported
     ensures { λ r. ⌜ Reports decimals v (now (buffer .entry)) (now (buffer .exit)) r ⌝ }
 {
+    if !has_decimals(decimals) {
+        return Reported::OtherDecimals;
+    }
     if buffer.len() < LINE {
         return Reported::TooShort;
     }
-    write_line(v, buffer, DECIMALS);
+    write_line(v, buffer, decimals as usize);
     Reported::Written
 }

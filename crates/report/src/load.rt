@@ -16,14 +16,14 @@ ghost use lib.IntN.{pos, _*ℤ_};
 ghost use lib.ListN.{length};
 ghost use Rattle.integer.specs.Decimal.{rightJustified};
 ghost use Rattle.report.specs.Text.{pointed, fixed};
-ghost use Rattle.report.specs.Report.{columnBytes, loadText};
+ghost use Rattle.report.specs.Report.{columnBytes, loadText, mostDecimals};
 ghost use Rattle.report.specs.Column.{endingAt, Ends};
 ghost use Rattle.report.specs.Quotient.{unitsOf};
 ghost use Rattle.report.specs.Spelled.{minusText, decimalsText, roundTo};
 
 // The point and d decimals at the end of a column; their first place is answered.
 fn put_decimals(column: &mut [u8], part: u64, d: usize) -> usize
-    requires { ⌜ length (now column) ≡ columnBytes ⌝ ∗ ⌜ d ≤ 7 ⌝ }
+    requires { ⌜ length (now column) ≡ columnBytes ⌝ ∗ ⌜ d ≤ mostDecimals ⌝ }
     ensures { λ r. ⌜ Ends columnBytes (decimalsText d part) (now (column .entry)) r (now (column .exit)) ⌝ }
 {
     if d == 0 {
@@ -46,7 +46,8 @@ fn put_minus(column: &mut [u8], end: usize, minus: bool)
 
 // A number of units, with a minus or without.
 fn put_units(column: &mut [u8], minus: bool, p: Parts, d: usize)
-    requires { ⌜ length (now column) ≡ columnBytes ⌝ ∗ ⌜ p .whole ≤ 2 ^ 63 ⌝ ∗ ⌜ p .part < 10 ^ d ⌝ ∗ ⌜ d ≤ 7 ⌝ }
+    requires { ⌜ length (now column) ≡ columnBytes ⌝ ∗ ⌜ p .whole ≤ 2 ^ 63 ⌝ ∗ ⌜ p .part < 10 ^ d ⌝
+        ∗ ⌜ d ≤ mostDecimals ⌝ }
     ensures { λ _. ⌜ now (column .exit) ≡ rightJustified columnBytes (minusText minus ++ pointed d (unitsOf d p)) ⌝ }
 {
     blank(column);
@@ -66,7 +67,7 @@ fn above_zero(p: Parts) -> bool
 
 // num / den, rounded once: below 0 the magnitude goes the other way, and "a zero has no minus".
 fn put_exact(column: &mut [u8], num: i64, den: u64, up: bool, d: usize)
-    requires { ⌜ length (now column) ≡ columnBytes ⌝ ∗ ⌜ 0 < den ⌝ ∗ ⌜ den < 2 ^ 63 ⌝ ∗ ⌜ d ≤ 7 ⌝ }
+    requires { ⌜ length (now column) ≡ columnBytes ⌝ ∗ ⌜ 0 < den ⌝ ∗ ⌜ den < 2 ^ 63 ⌝ ∗ ⌜ d ≤ mostDecimals ⌝ }
     ensures { λ _. ⌜ now (column .exit)
         ≡ rightJustified columnBytes (fixed d (roundTo up (num *ℤ pos (10 ^ d)) den)) ⌝ }
 {
@@ -82,7 +83,7 @@ fn put_exact(column: &mut [u8], num: i64, den: u64, up: bool, d: usize)
 
 // A load, or none where there is none.
 pub fn put_load(column: &mut [u8], load: Load, up: bool, d: usize)
-    requires { ⌜ length (now column) ≡ columnBytes ⌝ ∗ ⌜ d ≤ 7 ⌝ }
+    requires { ⌜ length (now column) ≡ columnBytes ⌝ ∗ ⌜ d ≤ mostDecimals ⌝ }
     ensures { λ _. ⌜ now (column .exit) ≡ rightJustified columnBytes (loadText (roundTo up) d load) ⌝ }
 {
     match load {
