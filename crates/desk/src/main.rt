@@ -3,11 +3,12 @@
 use libc::STDOUT_FILENO;
 use pechuvo::pechuvo_check;
 use report::LINE;
+use report::USUAL_DECIMALS;
 ghost use mathlib.Core.Path.{_≡_};
 ghost use Rattle.io.specs.Counts.{Counts};
 ghost use Rattle.reader.specs.File.{fileWidth};
 ghost use Rattle.judge.specs.Judge.{filesVerdict};
-ghost use Rattle.report.specs.Report.{reportLine, decimals};
+ghost use Rattle.report.specs.Report.{reportLine, usualDecimals};
 
 // Reads the file that argument i names, as far as `bytes` goes, and answers how many bytes it has. "A file that can't
 // be opened counts as empty"; so does a missing argument, whose name is empty.
@@ -25,12 +26,12 @@ fn read_argument(i: usize, bytes: &mut [u8]) -> usize
     count
 }
 
-// The report line of two files.
+// The report line of two files: "The desk program and N3's runs go on with six".
 fn report_line(mesh: &[u8], claim: &[u8]) -> [u8; LINE]
-    ensures { λ r. ⌜ r ≡ reportLine decimals (filesVerdict fileWidth (now (mesh .entry)) (now (claim .entry))) ⌝ }
+    ensures { λ r. ⌜ r ≡ reportLine usualDecimals (filesVerdict fileWidth (now (mesh .entry)) (now (claim .entry))) ⌝ }
 {
     let mut line = [0u8; LINE];
-    pechuvo_check(mesh, claim, &mut line);
+    pechuvo_check(mesh, claim, USUAL_DECIMALS, &mut line);
     line
 }
 

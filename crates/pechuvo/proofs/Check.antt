@@ -36,7 +36,7 @@ use Rattle.judge.specs.Judge.{meshNumbers, claimNumbers, filesVerdict}
 use Rattle.judge.specs.ClaimBytes.{claimBytes}
 use Rattle.judge.proofs.Numbers.{some-side}
 use Rattle.judge.proofs.ClaimBytes.{claim-bytes}
-use Rattle.report.specs.Report.{reportBytes}
+use Rattle.report.specs.Report.{reportBytes, isDecimals}
 use Rattle.pechuvo.specs.Check.{mostFileBytes, check}
 
 -- ---- how long a mesh and a claim can be
@@ -117,13 +117,16 @@ files-cut mesh claim = by (meshCheck m) refl
         rw same (sym (mesh-refused m (numbersOf 12 (claimLayout m) (take mostFileBytes claim)) e) ∙ mesh-refused m (numbersOf 12 (claimLayout m) claim) e)
 
 -- the check of two files is the check of each file cut to 65,536 bytes
-pub check-cut : (mesh claim buffer : List ℕ)
-    → check mesh claim buffer ≡ check (take mostFileBytes mesh) (take mostFileBytes claim) buffer
+pub check-cut : (mesh claim : List ℕ) (z : ℤ) (buffer : List ℕ)
+    → check mesh claim z buffer ≡ check (take mostFileBytes mesh) (take mostFileBytes claim) z buffer
 unfolding check
-check-cut mesh claim buffer =
+check-cut mesh claim z buffer =
+    cases (isDecimals z)
+    (λ s.
     cases (ltb (length buffer) reportBytes)
-    (λ t. rw (t, check))
-    (λ t. rw (t, check) (rw (files-cut mesh claim)))
+    (λ t. rw (s, t, check))
+    (λ t. rw (s, t, check) (rw (files-cut mesh claim))))
+    (λ s. rw (s, check))
 
 -- ---- a longer file
 
@@ -143,13 +146,16 @@ accepted-short mesh claim e =
     )
 
 -- "a longer file is too long for any mesh or claim": it is never accepted
-pub longer-refused : (mesh claim buffer : List ℕ) → (mostFileBytes < length mesh) ⊎ (mostFileBytes < length claim)
-    → check mesh claim buffer .number ≢ 0
+pub longer-refused : (mesh claim : List ℕ) (z : ℤ) (buffer : List ℕ)
+    → (mostFileBytes < length mesh) ⊎ (mostFileBytes < length claim) → check mesh claim z buffer .number ≢ 0
 unfolding check
-longer-refused mesh claim buffer l e =
+longer-refused mesh claim z buffer l e =
+    cases (isDecimals z)
+    (λ s.
     cases (ltb (length buffer) reportBytes)
-    (λ t. let z : _≡_ {A = ℕ} 41 0 = rw (t, check) at e in omega arith)
-    (λ t. by l (accepted-short mesh claim (rw (t, check) at e)))
+    (λ t. let x : _≡_ {A = ℕ} 41 0 = rw (s, t, check) at e in omega arith)
+    (λ t. by l (accepted-short mesh claim (rw (s, t, check) at e))))
+    (λ s. let x : _≡_ {A = ℕ} 43 0 = rw (s, check) at e in omega arith)
   where
     by : (mostFileBytes < length mesh) ⊎ (mostFileBytes < length claim)
         → (length mesh < mostFileBytes) × (length claim < mostFileBytes) → ⊥

@@ -7,10 +7,10 @@ use mathlib.Core.Option.{some}
 use Prim.Native.Nat.{ℕ, suc, _^_, _≤_, _<_}
 use native.Mathlib.Omega.{arith}
 use lib.Dec.{ltb}
-use lib.IntN.{ℤ, pos, _+ℤ_, _-ℤ_}
+use lib.IntN.{ℤ, pos, natAbs, _+ℤ_, _-ℤ_}
 use lib.Signed.{_<ℤ_, <ℤ-irrefl, <ℤ-≤ℤ-trans}
 use lib.Ieee.Bits.{is-true}
-use lib.ListN.{length, take, drop, replicate, length-append, length-drop}
+use lib.ListN.{length, take, drop, length-append, length-drop}
 use lib.Seq.{take-at, drop-at}
 use borrow.Author.Tests.{ltb-true, ltb-false}
 use borrow.Table.Steps.{cases}
@@ -46,10 +46,12 @@ use Rattle.numbers.specs.NumbersAnswer.{answerOf}
 use Rattle.numbers.specs.Promises as Handed-over
 use Rattle.numbers.specs.Promises.{Returned, TellsField}
 use Rattle.numbers.proofs.Promises.{returned, returns-zero-exactly, refuses-exactly, numbers-listed, rows-refused, field-exactly, multipliers-exactly, pairs-asked, criterion-for-each-pair, fractions-allowed}
-use Rattle.report.specs.Text.{Said, number as shows}
-use Rattle.report.specs.Report.{reportBytes, reportLine, decimals}
-use Rattle.report.specs.Says.{LoadSays, no-load, rounded, Says, says-accepted, says-refused, LineSays}
-use Rattle.report.proofs.Line.{line-says, lower-within, upper-within}
+use Rattle.report.specs.Text.{Said, number as shows, said}
+use Rattle.report.specs.Report.{reportBytes, reportLine, mostDecimals, Decimals, isDecimals, usualDecimals}
+use Rattle.report.specs.Says.{columnOf, LoadSays, no-load, rounded, Says, says-accepted, says-refused, LineSays}
+use Rattle.report.proofs.Text.{minus-said}
+use Rattle.report.proofs.Line.{line-says, lower-within, upper-within, lower-room, upper-room}
+use Rattle.report.proofs.BufferLaws.{these-decimals, decimals-told, other-told, decimals-small}
 use Rattle.reader.specs.File.{fileWidth}
 use Rattle.judge.specs.Judge.{meshNumbers, claimNumbers, filesVerdict}
 use Rattle.reader.proofs.Regular.{mesh-regular, claim-regular}
@@ -58,78 +60,89 @@ use Rattle.judge.specs.Handed.{Handed, meshOf, claimOf}
 use Rattle.judge.proofs.Numbers.{some-side, numbers-verdict, width-there}
 use Rattle.judge.proofs.Form as Form
 use Rattle.judge.proofs.Handed.{handed-bracket}
-use Rattle.pechuvo.specs.Check.{check}
-use Rattle.pechuvo.specs.Sheets.{Sheet, printed, starred}
+use Rattle.pechuvo.specs.Check.{Answered, check}
+use Rattle.pechuvo.specs.Sheets.{Sheet, printedWith, printed, starred}
 use Rattle.pechuvo.specs.Answers.{Answers}
-use Rattle.pechuvo.specs.Promises.{meshIn, claimIn, AnyCall, LongFiles, OnFiles, FormExactly, LowerPrinted, UpperPrinted, Prints, OpenRowsPrinted, Call, on-files, on-numbers, AcceptedFiles, TwoCalls, CallAndMultipliers, FractionsAndCall, AsAFile, Written}
+use Rattle.pechuvo.specs.Promises.{meshIn, claimIn, Room, AnyCall, LongFiles, OnFiles, FormExactly, MinusBelowZero, LowerPrinted, UpperPrinted, Millionths, TextsFit, Prints, OpenRowsPrinted, Call, on-files, on-numbers, AcceptedFiles, TwoCalls, CallAndMultipliers, FractionsAndCall, AsAFile, Written}
 use Rattle.pechuvo.proofs.Check.{check-cut, longer-refused}
-use Rattle.pechuvo.proofs.VerdictFits.{held}
+use Rattle.pechuvo.proofs.VerdictFits.{held, lower-held, upper-held}
 use Rattle.pechuvo.proofs.Words.{lower-word, upper-word, rows-word}
 use Rattle.pechuvo.proofs.OpenColumn.{open-column}
 use Rattle.pechuvo.proofs.Sheets.{starred-sheets}
 
--- ---- the two cases of a call
+-- ---- the three cases of a call
 
 -- the verdict on the numbers of two files
 abbrev fileVerdict : List ℕ → List ℕ → Verdict
 fileVerdict mesh claim = verdict (meshIn mesh) (claimIn mesh claim)
 
-is-short : (mesh claim before : List ℕ) → ltb (length before) reportBytes ≡ true
-    → check mesh claim before ≡ record { number = 41; place = 0; buffer = before }
-unfolding check
-is-short mesh claim before t = rw (t, check)
+module _ (mesh claim : List ℕ) (z : ℤ) (before : List ℕ) (number place : ℕ) (after : List ℕ) where
+  -- nothing is written, and k is returned
+  pub record Untouched (k : ℕ) : Type 0 where
+    pub number-is : number ≡ k
+    pub place-0 : place ≡ 0
+    pub untouched : after ≡ before
 
-is-line : (mesh claim before : List ℕ) → ltb (length before) reportBytes ≡ false
-    → check mesh claim before ≡ record { number = numberOf (fileVerdict mesh claim); place = placeOf (fileVerdict mesh claim); buffer = reportLine decimals (fileVerdict mesh claim) ++ drop reportBytes before }
-unfolding check filesVerdict
-is-line mesh claim before t = rw (t, check)
+  pub record LineWritten : Type 0 where
+    pub returns : Returned (meshIn mesh) (claimIn mesh claim) number place
+    pub writes : after ≡ reportLine (natAbs z) (fileVerdict mesh claim) ++ drop reportBytes before
 
-pub record TooShort (before : List ℕ) (number place : ℕ) (after : List ℕ) : Type 0 where
-  pub short : length before < reportBytes
-  pub number-41 : number ≡ 41
-  pub place-0 : place ≡ 0
-  pub untouched : after ≡ before
+  pub data Cases : Type 0 where
+    other : ¬ Decimals z → Untouched 43 → Cases
+    short : Decimals z → length before < reportBytes → Untouched 41 → Cases
+    line : Room z before → LineWritten → Cases
 
-pub record LineWritten (mesh claim before : List ℕ) (number place : ℕ) (after : List ℕ) : Type 0 where
-  pub room : reportBytes ≤ length before
-  pub returns : Returned (meshIn mesh) (claimIn mesh claim) number place
-  pub writes : after ≡ reportLine decimals (fileVerdict mesh claim) ++ drop reportBytes before
+  by-cases : Answers mesh claim z before number place after → Cases
+  unfolding check filesVerdict
+  by-cases h =
+      cases (isDecimals z)
+      (λ s.
+      cases (ltb (length before) reportBytes)
+      (λ t. short (decimals-told z s) (ltb-true (length before) reportBytes t) (untouched 41 (rw (s, t, check))))
+      (λ t. line (record { decimals = decimals-told z s; bytes = ltb-false (length before) reportBytes t }) (written (rw (s, t, check)))))
+      (λ s. other (other-told z s) (untouched 43 (rw (s, check))))
+    where
+      untouched : (k : ℕ) → check mesh claim z before ≡ record { number = k; place = 0; buffer = before } → Untouched k
+      untouched k e = record {
+        number-is = h .numberIs ∙ ap (λ x. x .number) e;
+        place-0 = h .placeIs ∙ ap (λ x. x .place) e;
+        untouched = h .bufferIs ∙ ap (λ x. x .buffer) e;
+      }
 
-two-cases : {mesh claim before : List ℕ} {number place : ℕ} {after : List ℕ} → Answers mesh claim before number place after → TooShort before number place after ⊎ LineWritten mesh claim before number place after
-two-cases {mesh} {claim} {before} h =
-    cases (ltb (length before) reportBytes)
-    (λ t.
-    let e = is-short mesh claim before t in
-    inl (record { short = ltb-true (length before) reportBytes t; number-41 = h .numberIs ∙ ap (λ x. x .number) e; place-0 = h .placeIs ∙ ap (λ x. x .place) e; untouched = h .bufferIs ∙ ap (λ x. x .buffer) e }))
-    (λ t.
-    let e = is-line mesh claim before t in
-    inr (record { room = ltb-false (length before) reportBytes t; returns = record { numberIs = h .numberIs ∙ ap (λ x. x .number) e; placeIs = h .placeIs ∙ ap (λ x. x .place) e }; writes = h .bufferIs ∙ ap (λ x. x .buffer) e }))
+      written : check mesh claim z before ≡ record { number = numberOf (fileVerdict mesh claim); place = placeOf (fileVerdict mesh claim); buffer = reportLine (natAbs z) (fileVerdict mesh claim) ++ drop reportBytes before } → LineWritten
+      written e = record {
+        returns = record { numberIs = h .numberIs ∙ ap (λ x. x .number) e; placeIs = h .placeIs ∙ ap (λ x. x .place) e };
+        writes = h .bufferIs ∙ ap (λ x. x .buffer) e;
+      }
 
--- no verdict has the number 41
-not-41 : (m c : List ℤ) → numberOf (verdict m c) ≢ 41
-not-41 m c = by (verdict-cases m c)
+-- no verdict has a number above 33 but 42, so none has 41 or 43
+not-of-a-verdict : (x : ℕ) → 33 < x → x ≢ 42 → (m c : List ℤ) → numberOf (verdict m c) ≢ x
+not-of-a-verdict x above not-42 m c = by (verdict-cases m c)
   where
-    of-mesh : {k : ℕ} → (k ≤ 13) ⊎ (k ≡ 42) → k ≢ 41
-    of-mesh (inl h) e = omega arith
-    of-mesh (inr h) e = omega arith
+    of-mesh : {k : ℕ} → (k ≤ 13) ⊎ (k ≡ 42) → k ≢ x
+    of-mesh (inl h) e = omega (arith, above)
+    of-mesh (inr h) e = not-42 (sym e ∙ h)
 
-    each : EachIn (λ k p. k ≢ 41) (meshPhases m ++ claimPhases m c)
+    each : EachIn (λ k p. k ≢ x) (meshPhases m ++ claimPhases m c)
     each =
-        each-number (λ k p. k ≢ 41) m c (λ k p h. of-mesh (h .1))
-        (λ k n h l r e. omega (arith, own-number {k = 21} refl r), λ i. (λ k n h l r e. omega (arith, own-number {k = 22} refl r), λ i. tt))
+        each-number (λ k p. k ≢ x) m c (λ k p h. of-mesh (h .1))
+        (λ k n h l r e. omega (arith, above, own-number {k = 21} refl r), λ i. (λ k n h l r e. omega (arith, above, own-number {k = 22} refl r), λ i. tt))
         (λ a b d. (
-          λ k n h l r e. omega (arith, own-number {k = 31} refl r),
-          λ i. (λ k n h l r e. omega (arith, own-number {k = 32} refl r), λ i. (λ k n h l r e. omega (arith, own-number {k = 33} refl r), λ i. tt)),
+          λ k n h l r e. omega (arith, above, own-number {k = 31} refl r),
+          λ i. (λ k n h l r e. omega (arith, above, own-number {k = 32} refl r), λ i. (λ k n h l r e. omega (arith, above, own-number {k = 33} refl r), λ i. tt)),
         ))
 
-    by : ((k : ℕ) × (p : Place) × (verdict m c ≡ Refused k p)) ⊎ (verdict m c ≡ Accepted (openCount m c) (lowerLoad c) (upperLoad m c)) → numberOf (verdict m c) ≢ 41
-    by (inl (k, p, e)) = rw e (each-refusal (λ k p. k ≢ 41) (meshPhases m ++ claimPhases m c) each (refused-exactly m c k p .0 e .by))
-    by (inr e) = rw e (λ z. omega arith)
+    by : ((k : ℕ) × (p : Place) × (verdict m c ≡ Refused k p)) ⊎ (verdict m c ≡ Accepted (openCount m c) (lowerLoad c) (upperLoad m c)) → numberOf (verdict m c) ≢ x
+    by (inl (k, p, e)) = rw e (each-refusal (λ k p. k ≢ x) (meshPhases m ++ claimPhases m c) each (refused-exactly m c k p .0 e .by))
+    by (inr e) = rw e (λ y. omega (arith, above))
 
 -- the line that is printed
-pub says-line : (m c : List ℤ) → LineSays decimals (verdict m c) (reportLine decimals (verdict m c))
-unfolding decimals
-says-line m c = line-says 6 (verdict m c) (omega arith) (held m c)
+pub says-line : (d : ℕ) → d ≤ mostDecimals → (m c : List ℤ) → LineSays d (verdict m c) (reportLine d (verdict m c))
+says-line d h m c = line-says d (verdict m c) h (held m c)
+
+-- in a text that reads as a number, a minus stands before a number below 0 only
+minus-below-zero : (v : ℤ) (d : ℕ) {column : List ℕ} → said column ≡ some (shows v d) → MinusBelowZero v column
+minus-below-zero v d r k rest e = minus-said k rest v d (sym (ap said e) ∙ r)
 
 -- ---- what the columns of a verdict's line say
 
@@ -168,114 +181,141 @@ module _ (m c : List ℤ) where
   accepted : numberOf (verdict m c) ≡ 0 → verdict m c ≡ Accepted (openCount m c) (lowerLoad c) (upperLoad m c)
   accepted z = accepted-exactly m c .1 (returns-zero m c .0 z)
 
-  prints-lower : numberOf (verdict m c) ≡ 0 → HasField c → LowerPrinted c (reportLine decimals (verdict m c))
-  unfolding decimals carried
-  prints-lower z f =
-      let line = says-line m c in
-      let says : LoadSays Floor 6 (Exact (l c) (n c)) (line .third) = subst (λ (x : Load). LoadSays Floor 6 x (line .third)) (lower-exact f) (third-says (subst (λ (v : Verdict). Says 6 v (line .first) (line .second) (line .third) (line .fourth)) (accepted z) (line .says))) in
-      let (v, e, a, b) = floor-says (field-n m c (claim-by-parts m c .0 (returns-zero m c .0 z) .2 f)) says in
-      record { millionths = v; reads = line .readThird ∙ ap some e; at-most = a; within = b }
+  module _ (d : ℕ) (h : d ≤ mostDecimals) where
+    prints-lower : numberOf (verdict m c) ≡ 0 → HasField c → LowerPrinted d c (reportLine d (verdict m c))
+    unfolding carried
+    prints-lower z f =
+        let line = says-line d h m c in
+        let says : LoadSays Floor d (Exact (l c) (n c)) (line .third) = subst (λ (x : Load). LoadSays Floor d x (line .third)) (lower-exact f) (third-says (subst (λ (v : Verdict). Says d v (line .first) (line .second) (line .third) (line .fourth)) (accepted z) (line .says))) in
+        let (v, e, a, b) = floor-says (field-n m c (claim-by-parts m c .0 (returns-zero m c .0 z) .2 f)) says in
+        let r = line .readThird ∙ ap some e in
+        record { units = v; reads = r; at-most = a; within = b; minus = minus-below-zero v d r }
 
-  prints-upper : numberOf (verdict m c) ≡ 0 → HasMultipliers c → UpperPrinted m c (reportLine decimals (verdict m c))
-  unfolding decimals allowed
-  prints-upper z f =
-      let line = says-line m c in
-      let says : LoadSays Ceil 6 (Exact (limitSum (multiplier m c) (rowsOf m)) (liveSum (multiplier m c) (rowsOf m))) (line .fourth) = subst (λ (x : Load). LoadSays Ceil 6 x (line .fourth)) (upper-exact f) (fourth-says (subst (λ (v : Verdict). Says 6 v (line .first) (line .second) (line .third) (line .fourth)) (accepted z) (line .says))) in
-      let (v, e, a, b) = ceil-says (returns-zero m c .0 z .multipliersMeet f .live) says in
-      record { millionths = v; reads = line .readFourth ∙ ap some e; at-least = a; within = b }
+    prints-upper : numberOf (verdict m c) ≡ 0 → HasMultipliers c → UpperPrinted d m c (reportLine d (verdict m c))
+    unfolding allowed
+    prints-upper z f =
+        let line = says-line d h m c in
+        let says : LoadSays Ceil d (Exact (limitSum (multiplier m c) (rowsOf m)) (liveSum (multiplier m c) (rowsOf m))) (line .fourth) = subst (λ (x : Load). LoadSays Ceil d x (line .fourth)) (upper-exact f) (fourth-says (subst (λ (v : Verdict). Says d v (line .first) (line .second) (line .third) (line .fourth)) (accepted z) (line .says))) in
+        let (v, e, a, b) = ceil-says (returns-zero m c .0 z .multipliersMeet f .live) says in
+        let r = line .readFourth ∙ ap some e in
+        record { units = v; reads = r; at-least = a; within = b; minus = minus-below-zero v d r }
 
-  prints : Prints m c (numberOf (verdict m c)) (placeOf (verdict m c)) (reportLine decimals (verdict m c))
-  unfolding decimals
-  prints =
-      let line = says-line m c in
-      record {
-        first = line .readFirst ∙ ap some (first-says (line .says));
-        refused = λ z. line .readSecond ∙ ap some (second-refused (line .says) z);
-        lower = prints-lower;
-        lower-none = lower-word m c 6 (omega arith);
-        upper = prints-upper;
-        upper-none = upper-word m c 6 (omega arith);
-        rows-none = rows-word m c 6 (omega arith);
-      }
+    prints : Prints d m c (numberOf (verdict m c)) (placeOf (verdict m c)) (reportLine d (verdict m c))
+    prints =
+        let line = says-line d h m c in
+        record {
+          first = line .readFirst ∙ ap some (first-says (line .says));
+          refused = λ z. line .readSecond ∙ ap some (second-refused (line .says) z);
+          lower = prints-lower;
+          lower-none = lower-word m c d h;
+          upper = prints-upper;
+          upper-none = upper-word m c d h;
+          rows-none = rows-word m c d h;
+        }
 
-  prints-open : numberOf (verdict m c) ≡ 0 → HasField c → HasMultipliers c → OpenRowsPrinted m c (reportLine decimals (verdict m c))
-  unfolding decimals
-  prints-open z f w =
-      let a : ClaimAccepted m c = returns-zero m c .0 z in
-      let parts = claim-by-parts m c .0 a in
-      let count = open-rows-count m c (parts .2 f) (parts .3 w) in
-      record {
-        number = openRows (stress m c) (l c) (n c) (multiplier m c) (rowsOf m);
-        reads = open-column 6 m c (omega arith) a f w;
-        count = count .number;
-        closed = count .none;
-      }
+    prints-open : numberOf (verdict m c) ≡ 0 → HasField c → HasMultipliers c → OpenRowsPrinted m c (reportLine d (verdict m c))
+    prints-open z f w =
+        let a : ClaimAccepted m c = returns-zero m c .0 z in
+        let parts = claim-by-parts m c .0 a in
+        let count = open-rows-count m c (parts .2 f) (parts .3 w) in
+        record {
+          number = openRows (stress m c) (l c) (n c) (multiplier m c) (rowsOf m);
+          reads = open-column d m c h a f w;
+          count = count .number;
+          closed = count .none;
+        }
+
+    -- "in the same 28 characters"
+    pub texts-fit : ClaimAccepted m c → TextsFit d m c
+    texts-fit a = record { lower = lower-room d (lowerLoad c) h (lower-held m c a); upper = upper-room d (upperLoad m c) h (upper-held m c a) }
+
+-- six decimals are millionths
+pub millionths : {m c : List ℤ} {place : ℕ} {line : List ℕ} → Prints 6 m c 0 place line → Millionths m c line
+millionths p = record {
+  lower = λ f. let l = p .lower refl f in (l .units, l .reads, l .at-most, l .within);
+  upper = λ f. let u = p .upper refl f in (u .units, u .reads, u .at-least, u .within);
+}
 
 -- ==== Demand 1
 
-module _ (mesh claim before : List ℕ) (number place : ℕ) (after : List ℕ) (h : Answers mesh claim before number place after) where
-  never-short : {X : Type 0} → reportBytes ≤ length before → TooShort before number place after → X
-  never-short b s = absurd (omega (arith, s .short))
+module _ (mesh claim : List ℕ) (z : ℤ) (before : List ℕ) (number place : ℕ) (after : List ℕ) (h : Answers mesh claim z before number place after) where
+  came : Cases mesh claim z before number place after
+  came = by-cases mesh claim z before number place after h
 
-  written : reportBytes ≤ length before → LineWritten mesh claim before number place after
-  written b = by (two-cases h)
+  written : Room z before → LineWritten mesh claim z before number place after
+  written b = by came
     where
-      by : TooShort before number place after ⊎ LineWritten mesh claim before number place after → LineWritten mesh claim before number place after
-      by (inl s) = never-short b s
-      by (inr w) = w
+      by : Cases mesh claim z before number place after → LineWritten mesh claim z before number place after
+      by (other n u) = absurd (n (b .decimals))
+      by (short d l u) = absurd (omega (arith, l, b .bytes))
+      by (line r w) = w
 
-  line-bytes : length (reportLine decimals (fileVerdict mesh claim)) ≡ reportBytes
-  line-bytes = says-line (meshIn mesh) (claimIn mesh claim) .bytes
+  line-bytes : Decimals z → length (reportLine (natAbs z) (fileVerdict mesh claim)) ≡ reportBytes
+  line-bytes d = says-line (natAbs z) (decimals-small z d) (meshIn mesh) (claimIn mesh claim) .bytes
 
-  line-is : reportBytes ≤ length before → take reportBytes after ≡ reportLine decimals (fileVerdict mesh claim)
-  line-is b = ap (take reportBytes) (written b .writes) ∙ take-at (reportLine decimals (fileVerdict mesh claim)) (drop reportBytes before) reportBytes line-bytes
+  line-is : Room z before → take reportBytes after ≡ reportLine (natAbs z) (fileVerdict mesh claim)
+  line-is b = ap (take reportBytes) (written b .writes) ∙ take-at (reportLine (natAbs z) (fileVerdict mesh claim)) (drop reportBytes before) reportBytes (line-bytes (b .decimals))
 
-  pub any-call : AnyCall mesh claim before number place after
+  pub any-call : AnyCall mesh claim z before number place after
   unfolding filesVerdict
   any-call = record {
-    too-short = λ b. short b (two-cases h);
-    only-then = λ e. forty-one e (two-cases h);
+    other-decimals = λ n. forty-three n came;
+    only-others = λ e. then-others e came;
+    too-short = λ d l. forty-one d l came;
+    only-then = λ e. then-short e came;
     returns = λ b. written b .returns;
     line = line-is;
-    says = λ b. rw (line-is b) (says-line (meshIn mesh) (claimIn mesh claim));
-    rest = beyond (two-cases h);
-    size = as-long (two-cases h);
+    says = λ b. rw (line-is b) (says-line (natAbs z) (decimals-small z (b .decimals)) (meshIn mesh) (claimIn mesh claim));
+    rest = beyond came;
+    size = as-long came;
   }
     where
-      short : length before < reportBytes
-          → TooShort before number place after ⊎ LineWritten mesh claim before number place after
-          → (number ≡ 41) × (place ≡ 0) × (after ≡ before)
-      short b (inl s) = (s .number-41, s .place-0, s .untouched)
-      short b (inr w) = absurd (omega (arith, w .room))
+      of-the-call : (x : ℕ) → 33 < x → x ≢ 42 → number ≡ x → LineWritten mesh claim z before number place after → ⊥
+      of-the-call x a o e w = not-of-a-verdict x a o (meshIn mesh) (claimIn mesh claim) (sym (w .returns .numberIs) ∙ e)
 
-      forty-one : number ≡ 41
-          → TooShort before number place after ⊎ LineWritten mesh claim before number place after
-          → length before < reportBytes
-      forty-one e (inl s) = s .short
-      forty-one e (inr w) = absurd (not-41 (meshIn mesh) (claimIn mesh claim) (sym (w .returns .numberIs) ∙ e))
+      forty-three : ¬ Decimals z → Cases mesh claim z before number place after → (number ≡ 43) × (place ≡ 0) × (after ≡ before)
+      forty-three n (other o u) = (u .number-is, u .place-0, u .untouched)
+      forty-three n (short d l u) = absurd (n d)
+      forty-three n (line r w) = absurd (n (r .decimals))
 
-      beyond : TooShort before number place after ⊎ LineWritten mesh claim before number place after
-          → drop reportBytes after ≡ drop reportBytes before
-      beyond (inl s) = ap (drop reportBytes) (s .untouched)
-      beyond (inr w) = ap (drop reportBytes) (w .writes) ∙ drop-at (reportLine decimals (fileVerdict mesh claim)) (drop reportBytes before) reportBytes line-bytes
+      then-others : number ≡ 43 → Cases mesh claim z before number place after → ¬ Decimals z
+      then-others e (other o u) = o
+      then-others e (short d l u) = absurd (omega (arith, u .number-is))
+      then-others e (line r w) = absurd (of-the-call 43 (omega arith) (λ x. omega arith) e w)
 
-      as-long : TooShort before number place after ⊎ LineWritten mesh claim before number place after → length after ≡ length before
-      as-long (inl s) = ap length (s .untouched)
-      as-long (inr w) = omega (arith, ap length (w .writes), length-append (reportLine decimals (fileVerdict mesh claim)) (drop reportBytes before), line-bytes, length-drop reportBytes before, w .room)
+      forty-one : Decimals z → length before < reportBytes → Cases mesh claim z before number place after → (number ≡ 41) × (place ≡ 0) × (after ≡ before)
+      forty-one d l (other o u) = absurd (o d)
+      forty-one d l (short e k u) = (u .number-is, u .place-0, u .untouched)
+      forty-one d l (line r w) = absurd (omega (arith, r .bytes))
 
-  pub long-files : LongFiles mesh claim before number place after
+      then-short : number ≡ 41 → Cases mesh claim z before number place after → Decimals z × (length before < reportBytes)
+      then-short e (other o u) = absurd (omega (arith, u .number-is))
+      then-short e (short d l u) = (d, l)
+      then-short e (line r w) = absurd (of-the-call 41 (omega arith) (λ x. omega arith) e w)
+
+      beyond : Cases mesh claim z before number place after → drop reportBytes after ≡ drop reportBytes before
+      beyond (other o u) = ap (drop reportBytes) (u .untouched)
+      beyond (short d l u) = ap (drop reportBytes) (u .untouched)
+      beyond (line r w) = ap (drop reportBytes) (w .writes) ∙ drop-at (reportLine (natAbs z) (fileVerdict mesh claim)) (drop reportBytes before) reportBytes (line-bytes (r .decimals))
+
+      as-long : Cases mesh claim z before number place after → length after ≡ length before
+      as-long (other o u) = ap length (u .untouched)
+      as-long (short d l u) = ap length (u .untouched)
+      as-long (line r w) = omega (arith, ap length (w .writes), length-append (reportLine (natAbs z) (fileVerdict mesh claim)) (drop reportBytes before), line-bytes (r .decimals), length-drop reportBytes before, r .bytes)
+
+  pub long-files : LongFiles mesh claim z before number place after
   long-files = record {
     cut = record {
-      numberIs = h .numberIs ∙ ap (λ x. x .number) (check-cut mesh claim before);
-      placeIs = h .placeIs ∙ ap (λ x. x .place) (check-cut mesh claim before);
-      bufferIs = h .bufferIs ∙ ap (λ x. x .buffer) (check-cut mesh claim before);
+      numberIs = h .numberIs ∙ ap (λ x. x .number) (check-cut mesh claim z before);
+      placeIs = h .placeIs ∙ ap (λ x. x .place) (check-cut mesh claim z before);
+      bufferIs = h .bufferIs ∙ ap (λ x. x .buffer) (check-cut mesh claim z before);
     };
-    never-accepted = λ b e. longer-refused mesh claim before b (sym (h .numberIs) ∙ e);
+    never-accepted = λ b e. longer-refused mesh claim z before b (sym (h .numberIs) ∙ e);
   }
 
   -- ==== Demand 2
 
-  pub on-numbers-read : reportBytes ≤ length before → OnFiles mesh claim number place
+  pub on-numbers-read : Room z before → OnFiles mesh claim number place
   on-numbers-read b =
       let r : Returned (meshIn mesh) (claimIn mesh claim) number place = written b .returns in
       record {
@@ -289,7 +329,7 @@ module _ (mesh claim before : List ℕ) (number place : ℕ) (after : List ℕ) 
         criterion = criterion-for-each-pair (meshIn mesh) (claimIn mesh claim) number place r;
       }
 
-  pub form-exactly : reportBytes ≤ length before → FormExactly mesh claim number place
+  pub form-exactly : Room z before → FormExactly mesh claim number place
   unfolding placeFor filesVerdict
   form-exactly b =
       let refuses = on-numbers-read b .refuses .exactly in
@@ -299,46 +339,51 @@ module _ (mesh claim before : List ℕ) (number place : ℕ) (after : List ℕ) 
       }
 
   -- what is accepted passes the checks of its lines, so its bytes are those of its numbers
-  pub accepted-files : reportBytes ≤ length before → AcceptedFiles mesh claim number
+  pub accepted-files : Room z before → AcceptedFiles mesh claim number
   unfolding meshNumbers claimNumbers
   accepted-files b =
       let accepted : number ≡ 0 → ClaimAccepted (meshIn mesh) (claimIn mesh claim) = on-numbers-read b .returns-zero .exactly .0 in
       record {
-        mesh-file = λ z. written-back fileWidth meshLayout mesh-regular mesh (lines-passed meshLayout (meshIn mesh) .passed (accepted z .mesh .lines));
-        claim-file = λ z.
-            let mesh-lines = lines-passed meshLayout (meshIn mesh) .passed (accepted z .mesh .lines) in
-            written-back fileWidth (claimLayout (meshIn mesh)) (claim-regular (meshIn mesh) (some-side (meshIn mesh) mesh-lines)) claim (lines-passed (claimLayout (meshIn mesh)) (claimIn mesh claim) .passed (accepted z .lines));
+        mesh-file = λ e. written-back fileWidth meshLayout mesh-regular mesh (lines-passed meshLayout (meshIn mesh) .passed (accepted e .mesh .lines));
+        claim-file = λ e.
+            let mesh-lines = lines-passed meshLayout (meshIn mesh) .passed (accepted e .mesh .lines) in
+            written-back fileWidth (claimLayout (meshIn mesh)) (claim-regular (meshIn mesh) (some-side (meshIn mesh) mesh-lines)) claim (lines-passed (claimLayout (meshIn mesh)) (claimIn mesh claim) .passed (accepted e .lines));
       }
 
-  pub prints-columns : reportBytes ≤ length before
-      → Prints (meshIn mesh) (claimIn mesh claim) number place (take reportBytes after)
-  prints-columns b = let r = written b .returns in rw (r .numberIs, r .placeIs, line-is b) (prints (meshIn mesh) (claimIn mesh claim))
+  pub prints-columns : Room z before
+      → Prints (natAbs z) (meshIn mesh) (claimIn mesh claim) number place (take reportBytes after)
+  prints-columns b = let r = written b .returns in rw (r .numberIs, r .placeIs, line-is b) (prints (meshIn mesh) (claimIn mesh claim) (natAbs z) (decimals-small z (b .decimals)))
 
   -- ==== Demand 3
 
-  pub prints-open-rows : reportBytes ≤ length before → number ≡ 0 → HasField (claimIn mesh claim)
+  pub prints-open-rows : Room z before → number ≡ 0 → HasField (claimIn mesh claim)
       → HasMultipliers (claimIn mesh claim)
       → OpenRowsPrinted (meshIn mesh) (claimIn mesh claim) (take reportBytes after)
-  prints-open-rows b z f w = rw (line-is b) (prints-open (meshIn mesh) (claimIn mesh claim) (sym (written b .returns .numberIs) ∙ z) f w)
+  prints-open-rows b e f w = rw (line-is b) (prints-open (meshIn mesh) (claimIn mesh claim) (natAbs z) (decimals-small z (b .decimals)) (sym (written b .returns .numberIs) ∙ e) f w)
 
 -- an accepted field, and accepted multipliers, of a call on files or on numbers
 call-field : {a : Handed} {i : ℕ} → Call a i → TellsField (claimOf a) i → FieldAccepted (meshOf a) (claimOf a)
 unfolding meshOf claimOf
-call-field (on-files mesh claim before number place after h) t = by (two-cases h) (t .1)
+call-field (on-files mesh claim z before number place after h) t = by (by-cases mesh claim z before number place after h)
   where
-    by : TooShort before number place after ⊎ LineWritten mesh claim before number place after → (number ≡ 0) ⊎ ((31 ≤ number) × (number ≤ 33)) → FieldAccepted (meshIn mesh) (claimIn mesh claim)
-    by (inl s) (inl z) = absurd (omega (arith, s .number-41))
-    by (inl s) (inr z) = absurd (omega (arith, s .number-41, z .1))
-    by (inr w) z = field-exactly (meshIn mesh) (claimIn mesh claim) number place (w .returns) .told .1 (t .0, z)
+    not-above : (k : ℕ) → 33 < k → Untouched mesh claim z before number place after k → (number ≡ 0) ⊎ ((31 ≤ number) × (number ≤ 33)) → ⊥
+    not-above k a u (inl e) = omega (arith, a, u .number-is)
+    not-above k a u (inr e) = omega (arith, a, u .number-is, e .1)
+
+    by : Cases mesh claim z before number place after → FieldAccepted (meshIn mesh) (claimIn mesh claim)
+    by (other o u) = absurd (not-above 43 (omega arith) u (t .1))
+    by (short d l u) = absurd (not-above 41 (omega arith) u (t .1))
+    by (line r w) = field-exactly (meshIn mesh) (claimIn mesh claim) number place (w .returns) .told .1 t
 call-field (on-numbers m c r h) t = field-exactly m c (r .number) (r .place) (returned h) .told .1 t
 
 call-multipliers : {a : Handed} {i : ℕ} → Call a i → HasMultipliers (claimOf a) → i ≡ 0 → MultipliersAccepted (meshOf a) (claimOf a)
 unfolding meshOf claimOf
-call-multipliers (on-files mesh claim before number place after h) t z = by (two-cases h)
+call-multipliers (on-files mesh claim z before number place after h) t e = by (by-cases mesh claim z before number place after h)
   where
-    by : TooShort before number place after ⊎ LineWritten mesh claim before number place after → MultipliersAccepted (meshIn mesh) (claimIn mesh claim)
-    by (inl s) = absurd (omega (arith, s .number-41))
-    by (inr w) = multipliers-exactly (meshIn mesh) (claimIn mesh claim) number place (w .returns) .told .0 (t, z) .0
+    by : Cases mesh claim z before number place after → MultipliersAccepted (meshIn mesh) (claimIn mesh claim)
+    by (other o u) = absurd (omega (arith, u .number-is))
+    by (short d l u) = absurd (omega (arith, u .number-is))
+    by (line r w) = multipliers-exactly (meshIn mesh) (claimIn mesh claim) number place (w .returns) .told .0 (t, e) .0
 call-multipliers (on-numbers m c r h) t z = multipliers-exactly m c (r .number) (r .place) (returned h) .told .0 (t, z) .0
 
 -- the field of one call and the multipliers of another or of the same, each on files or on numbers, on meshes with the same rows
@@ -363,13 +408,14 @@ same-at : {A B : Type 0} (f g : A → B) (xs : List A) → map f xs ≡ map g xs
 same-at f g (a ∷ xs) e x (List·Memᴰ·head p) = let h : f a ≡ g a = cc in rw p h
 same-at f g (a ∷ xs) e x (List·Memᴰ·tail t) = let h : map f xs ≡ map g xs = cc in same-at f g xs h x t
 
-printed-line : (s : Sheet) → printed s ≡ reportLine decimals (fileVerdict (s .mesh) (s .claim))
-unfolding printed
-printed-line s = ap (λ x. x .buffer) (is-line (s .mesh) (s .claim) (replicate reportBytes 0) refl) ∙ append-nil (reportLine decimals (fileVerdict (s .mesh) (s .claim)))
+printed-line : (s : Sheet) → printed s ≡ reportLine usualDecimals (fileVerdict (s .mesh) (s .claim))
+unfolding printed printedWith check filesVerdict isDecimals usualDecimals
+printed-line s = append-nil (reportLine 6 (fileVerdict (s .mesh) (s .claim)))
 
 -- the starred sheets, as one table
 pub starred-written : (s : Sheet) → s ∈ starred → Written s
+unfolding usualDecimals
 starred-written s i before after number place h b =
-    line-is (s .mesh) (s .claim) before number place after h b
+    line-is (s .mesh) (s .claim) (pos usualDecimals) before number place after h (record { decimals = these-decimals (omega arith); bytes = b })
     ∙ sym (printed-line s)
     ∙ same-at printed (λ s. s .line) starred starred-sheets s i

@@ -4,7 +4,7 @@ use mathlib.Core.List.{List, [], _∷_, _++_, flatMap}
 use Prim.Native.Nat.{ℕ, _*_, _-_, _/_, _≤_, _<_}
 use native.Mathlib.Nat.{le-div-iff-mul-le}
 use native.Mathlib.Omega.{arith}
-use lib.IntN.{ℤ}
+use lib.IntN.{ℤ, pos}
 use lib.ListN.{length, drop, length-append, length-drop}
 use lib.Seq.{drop-at}
 use Rattle.scope.specs.declared.Place.{Place}
@@ -15,7 +15,8 @@ use Rattle.scope.specs.Verdict.{meshCheck}
 use Rattle.scope.proofs.Refusals.{mesh-passed}
 use Rattle.verdict.proofs.VerdictLaws.{mesh-refused}
 use Rattle.reader.specs.File.{fileWidth}
-use Rattle.report.specs.Report.{reportBytes, reportLine, decimals}
+use Rattle.report.specs.Report.{reportBytes, reportLine, mostDecimals, usualDecimals}
+use Rattle.report.proofs.BufferLaws.{these-decimals}
 use Rattle.judge.specs.Judge.{claimNumbers, filesVerdict}
 use Rattle.run.specs.declared.RunAnswer.{RunAnswer}
 use Rattle.run.specs.Run.{verdictOn, lineOf, takenOf, claimsJudged, ran, run, RunAnswers}
@@ -25,19 +26,24 @@ use Rattle.run.proofs.InTurn.{in-turn, few-judged}
 use Rattle.pechuvo.specs.Promises.{meshIn, reportAt, SingleCall, judgedIn, RunCall}
 use Rattle.pechuvo.proofs.Promises.{any-call, says-line}
 
+few-decimals : usualDecimals ≤ mostDecimals
+unfolding usualDecimals
+few-decimals = omega arith
+
 -- a single call writes the line of its claim
 single : (mesh claim line : List ℕ) → line ≡ lineOf (meshIn mesh) claim → SingleCall mesh claim line
 unfolding lineOf verdictOn filesVerdict
-single mesh claim line e before after number place h b = any-call mesh claim before number place after h .line b ∙ sym e
+single mesh claim line e before after number place h b =
+    any-call mesh claim (pos usualDecimals) before number place after h .line (record { decimals = these-decimals few-decimals; bytes = b }) ∙ sym e
 
 -- every claim on a refused mesh has the mesh's line
 same-line : (m : List ℤ) (k : ℕ) (p : Place) → meshCheck m ≡ Fails k p → (a b : List ℕ) → lineOf m a ≡ lineOf m b
 unfolding lineOf verdictOn
-same-line m k p e a b = ap (reportLine decimals) (sym (mesh-refused m (claimNumbers fileWidth m a) e) ∙ mesh-refused m (claimNumbers fileWidth m b) e)
+same-line m k p e a b = ap (reportLine usualDecimals) (sym (mesh-refused m (claimNumbers fileWidth m a) e) ∙ mesh-refused m (claimNumbers fileWidth m b) e)
 
 line-long : (m : List ℤ) (claim : List ℕ) → length (lineOf m claim) ≡ reportBytes
 unfolding lineOf verdictOn
-line-long m claim = says-line m (claimNumbers fileWidth m claim) .bytes
+line-long m claim = says-line usualDecimals few-decimals m (claimNumbers fileWidth m claim) .bytes
 
 module _ (mesh claims before : List ℕ) (r : RunAnswer) (after : List ℕ) (h : RunAnswers (meshIn mesh) claims before r after) where
   abbrev judged : List (List ℕ)

@@ -71,11 +71,11 @@ module _ (m c : List ℤ) (a : ClaimAccepted m c) where
         mesh .counts,
       ))
 
-  lower-held : HeldLoad (lowerLoad c)
+  pub lower-held : HeldLoad (lowerLoad c)
   unfolding lowerLoad
   lower-held = if-load (hasField c) (l c) (n c) (λ t. omega (arith, between (claim .lRange) .within))
 
-  upper-held : HeldLoad (upperLoad m c)
+  pub upper-held : HeldLoad (upperLoad m c)
   unfolding upperLoad hasMultipliers
   upper-held =
       if-load (hasMultipliers c) (limitSum (multiplier m c) (rowsOf m)) (liveSum (multiplier m c) (rowsOf m))

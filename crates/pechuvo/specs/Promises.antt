@@ -1,16 +1,17 @@
--- What a caller of `pechuvo_check` may rely on: demands 1, 2 and 3 of document 01, each promise a plain statement
--- about the number and the place that are returned and about the bytes of the buffer; and a caller of
--- `pechuvo_check_run` (document 02, N3).
+-- What a caller of `pechuvo_check` may rely on: demands 1, 2 and 3 of document 01, with the decimals of document 02,
+-- N5, each promise a plain statement about the number and the place that are returned and about the bytes of the
+-- buffer; and a caller of `pechuvo_check_run` (document 02, N3).
 -- Each is proved of every call (`proofs/Promises.antt`, `proofs/RunPromises.antt`) and applied to document 01's sheet
 -- (`proofs/PromisesApplied.antt`, `proofs/RunApplied.antt`). What number and place say of the two files' numbers is
 -- said as for numbers handed over (`numbers/specs/Promises.antt`).
 use mathlib.Core.Path.{_≡_}
 use mathlib.Core.Logic.{_↔_, _⊎_, _≢_}
-use mathlib.Core.List.{List}
+use mathlib.Core.List.{List, _∷_, _++_}
 use mathlib.Core.Option.{some}
-use Prim.Native.Nat.{ℕ, suc, _*_, _/_, _≤_, _<_}
-use lib.IntN.{ℤ, pos, _+ℤ_, _-ℤ_}
-use lib.ListN.{length, take, drop}
+use Prim.Native.Nat.{ℕ, suc, _*_, _/_, _^_, _≤_, _<_}
+use lib.IntN.{ℤ, pos, natAbs, _+ℤ_, _-ℤ_}
+use lib.Signed.{_<ℤ_}
+use lib.ListN.{length, take, drop, replicate}
 use Rattle.integer.specs.Fraction.{_over_, _≈ᶠ_, _≤ᶠ_, _<ᶠ_}
 use Rattle.scope.specs.Columns.{n, l}
 use Rattle.scope.specs.Mesh.{meshLayout}
@@ -20,6 +21,7 @@ use Rattle.scope.specs.Statements.{MeshSound, HasField, HasMultipliers}
 use Rattle.scope.specs.Bracket.{Open}
 use Rattle.scope.specs.Parts.{carried, allowed, SameRows, NumberOf}
 use Rattle.scope.specs.Tests.{rowAt}
+use Rattle.scope.specs.Verdict.{lowerLoad, upperLoad}
 use Rattle.numbers.specs.declared.numbers_answer.NumbersAnswer.{NumbersAnswer}
 use Rattle.numbers.specs.Promises as Handed-over
 use Rattle.numbers.specs.Promises.{Returned, ReturnsZero, RefusesExactly, NumbersListed, TellsField, RowsRefused, FieldExactly, MultipliersExactly, CriterionForEachPair, PairsAsked, FractionsBracket}
@@ -27,7 +29,7 @@ use Rattle.numbers.specs.NumbersAnswer.{answerOf}
 use Rattle.reader.specs.File.{fileOf, fileWidth}
 use Rattle.reader.specs.WellFormed.{Fit, FormFails}
 use Rattle.report.specs.Text.{word, number as shows, said}
-use Rattle.report.specs.Report.{reportBytes, reportLine, decimals}
+use Rattle.report.specs.Report.{columnBytes, reportBytes, lowerText, upperText, reportLine, Decimals, usualDecimals}
 use Rattle.report.specs.Says.{columnOf, LineSays}
 use Rattle.judge.specs.Judge.{meshNumbers, claimNumbers, filesVerdict}
 use Rattle.judge.specs.Handed.{Handed, files, numbers, meshOf, claimOf, HasAcceptedMultipliers, OnTheSameMesh, HandedBracket}
@@ -44,29 +46,35 @@ meshIn mesh = meshNumbers fileWidth mesh
 abbrev pub claimIn : List ℕ → List ℕ → List ℤ
 claimIn mesh claim = claimNumbers fileWidth (meshIn mesh) claim
 
+-- a line is asked for that can be written: with 0 to 7 decimals, in a buffer that has its bytes
+pub record Room (z : ℤ) (before : List ℕ) : Type 0 where
+  pub decimals : Decimals z
+  pub bytes : reportBytes ≤ length before
+
 -- ==== Demand 1: what any call returns and writes
 
-pub record AnyCall (mesh claim before : List ℕ) (number place : ℕ) (after : List ℕ) : Type 0 where
-  -- "41, place 0, untouched: buffer under 113 bytes", and 41 in no other case
-  pub too-short : length before < reportBytes → (number ≡ 41) × (place ≡ 0) × (after ≡ before)
-  pub only-then : number ≡ 41 → length before < reportBytes
+pub record AnyCall (mesh claim : List ℕ) (z : ℤ) (before : List ℕ) (number place : ℕ) (after : List ℕ) : Type 0 where
+  -- "43, place 0, buffer untouched, for any other number", and 43 in no other case (document 02, N5)
+  pub other-decimals : ¬ Decimals z → (number ≡ 43) × (place ≡ 0) × (after ≡ before)
+  pub only-others : number ≡ 43 → ¬ Decimals z
+  -- "41, place 0, untouched: buffer under 113 bytes", and 41 in no other case: 43 is "checked before 41"
+  pub too-short : Decimals z → length before < reportBytes → (number ≡ 41) × (place ≡ 0) × (after ≡ before)
+  pub only-then : number ≡ 41 → Decimals z × (length before < reportBytes)
   -- else the verdict's number and place, and its line: "four columns of 28, right-justified, and byte 10"
-  pub returns : reportBytes ≤ length before → Returned (meshIn mesh) (claimIn mesh claim) number place
-  pub line : reportBytes ≤ length before
-      → take reportBytes after ≡ reportLine decimals (filesVerdict fileWidth mesh claim)
-  pub says : reportBytes ≤ length before
-      → LineSays decimals (filesVerdict fileWidth mesh claim) (take reportBytes after)
+  pub returns : Room z before → Returned (meshIn mesh) (claimIn mesh claim) number place
+  pub line : Room z before → take reportBytes after ≡ reportLine (natAbs z) (filesVerdict fileWidth mesh claim)
+  pub says : Room z before → LineSays (natAbs z) (filesVerdict fileWidth mesh claim) (take reportBytes after)
   -- "Bytes beyond 113 are never written"
   pub rest : drop reportBytes after ≡ drop reportBytes before
   pub size : length after ≡ length before
 
 -- "at most 65,536 bytes of each ..; a longer file is too long for any mesh or claim and is refused as its first 65,536
 -- bytes are"
-pub record LongFiles (mesh claim before : List ℕ) (number place : ℕ) (after : List ℕ) : Type 0 where
-  pub cut : Answers (take mostFileBytes mesh) (take mostFileBytes claim) before number place after
+pub record LongFiles (mesh claim : List ℕ) (z : ℤ) (before : List ℕ) (number place : ℕ) (after : List ℕ) : Type 0 where
+  pub cut : Answers (take mostFileBytes mesh) (take mostFileBytes claim) z before number place after
   pub never-accepted : (mostFileBytes < length mesh) ⊎ (mostFileBytes < length claim) → number ≢ 0
 
--- ==== Demand 2: what is accepted, what is refused, what is printed; where the buffer has 113 bytes
+-- ==== Demand 2: what is accepted, what is refused, what is printed; where a line is written (`Room`)
 
 -- 0 exactly when, each refusal with its place exactly when, no number but those of the table, each part accepted
 -- exactly when, and the pairs with the criterion for each
@@ -92,29 +100,50 @@ pub record AcceptedFiles (mesh claim : List ℕ) (number : ℕ) : Type 0 where
   pub mesh-file : number ≡ 0 → mesh ≡ fileOf fileWidth meshLayout (meshIn mesh)
   pub claim-file : number ≡ 0 → claim ≡ fileOf fileWidth (claimLayout (meshIn mesh)) (claimIn mesh claim)
 
--- "Both loads have six decimals .. The lower goes towards minus infinity": the third column reads as v millionths,
--- v/10^6 ≤ l/n < (v + 1)/10^6
-pub record LowerPrinted (c : List ℤ) (line : List ℕ) : Type 0 where
-  pub millionths : ℤ
-  pub reads : said (columnOf 2 line) ≡ some (shows millionths 6)
-  pub at-most : millionths over pos 1000000 ≤ᶠ carried c
-  pub within : carried c <ᶠ (millionths +ℤ pos 1) over pos 1000000
+-- a printed text of this number: "a zero has no minus", so where the text has one, the number is below 0
+abbrev pub MinusBelowZero : ℤ → List ℕ → Type 0
+MinusBelowZero v column = (k : ℕ) (rest : List ℕ) → column ≡ replicate k 32 ++ (45 ∷ rest) → v <ℤ pos 0
 
--- ".. the upper towards plus infinity": the fourth column, (v - 1)/10^6 < W/m ≤ v/10^6
-pub record UpperPrinted (m c : List ℤ) (line : List ℕ) : Type 0 where
-  pub millionths : ℤ
-  pub reads : said (columnOf 3 line) ≡ some (shows millionths 6)
-  pub at-least : allowed m c ≤ᶠ millionths over pos 1000000
-  pub within : (millionths -ℤ pos 1) over pos 1000000 <ᶠ allowed m c
+-- "each load is still rounded once in its own direction and is off by less than one in the last place" (document 02,
+-- N5); "The lower goes towards minus infinity". With d decimals the third column reads as v in the last place,
+-- v/10^d ≤ l/n < (v + 1)/10^d
+pub record LowerPrinted (d : ℕ) (c : List ℤ) (line : List ℕ) : Type 0 where
+  pub units : ℤ
+  pub reads : said (columnOf 2 line) ≡ some (shows units d)
+  pub at-most : units over pos (10 ^ d) ≤ᶠ carried c
+  pub within : carried c <ᶠ (units +ℤ pos 1) over pos (10 ^ d)
+  pub minus : MinusBelowZero units (columnOf 2 line)
+
+-- ".. the upper towards plus infinity": the fourth column, (v - 1)/10^d < W/m ≤ v/10^d
+pub record UpperPrinted (d : ℕ) (m c : List ℤ) (line : List ℕ) : Type 0 where
+  pub units : ℤ
+  pub reads : said (columnOf 3 line) ≡ some (shows units d)
+  pub at-least : allowed m c ≤ᶠ units over pos (10 ^ d)
+  pub within : (units -ℤ pos 1) over pos (10 ^ d) <ᶠ allowed m c
+  pub minus : MinusBelowZero units (columnOf 3 line)
+
+-- the case of six decimals, demand 2's millionth: 0 ≤ l/n - v/10^6 < 10^-6, and 0 ≤ v/10^6 - W/m < 10^-6
+pub record Millionths (m c : List ℤ) (line : List ℕ) : Type 0 where
+  pub lower : HasField c → (v : ℤ)
+      × (said (columnOf 2 line) ≡ some (shows v 6)) × (v over pos 1000000 ≤ᶠ carried c)
+      × (carried c <ᶠ (v +ℤ pos 1) over pos 1000000)
+  pub upper : HasMultipliers c → (v : ℤ)
+      × (said (columnOf 3 line) ≡ some (shows v 6)) × (allowed m c ≤ᶠ v over pos 1000000)
+      × ((v -ℤ pos 1) over pos 1000000 <ᶠ allowed m c)
+
+-- "in the same 28 characters": no load of an accepted claim has a longer text
+pub record TextsFit (d : ℕ) (m c : List ℤ) : Type 0 where
+  pub lower : length (lowerText d (lowerLoad c)) ≤ columnBytes
+  pub upper : length (upperText d (upperLoad m c)) ≤ columnBytes
 
 -- the four columns: "Accepted .. reports: 0; the open rows ..; l/n; W/m"; "Refused: number, place, none, none";
 -- "Whichever part the claim lacks gives the four letters none"
-pub record Prints (m c : List ℤ) (number place : ℕ) (line : List ℕ) : Type 0 where
+pub record Prints (d : ℕ) (m c : List ℤ) (number place : ℕ) (line : List ℕ) : Type 0 where
   pub first : said (columnOf 0 line) ≡ some (shows (pos number) 0)
   pub refused : number ≢ 0 → said (columnOf 1 line) ≡ some (shows (pos place) 0)
-  pub lower : number ≡ 0 → HasField c → LowerPrinted c line
+  pub lower : number ≡ 0 → HasField c → LowerPrinted d c line
   pub lower-none : (said (columnOf 2 line) ≡ some word) ↔ ((number ≢ 0) ⊎ (¬ HasField c))
-  pub upper : number ≡ 0 → HasMultipliers c → UpperPrinted m c line
+  pub upper : number ≡ 0 → HasMultipliers c → UpperPrinted d m c line
   pub upper-none : (said (columnOf 3 line) ≡ some word) ↔ ((number ≢ 0) ⊎ (¬ HasMultipliers c))
   pub rows-none : number ≡ 0 → (said (columnOf 1 line) ≡ some word) ↔ ((¬ HasField c) ⊎ (¬ HasMultipliers c))
 
@@ -131,8 +160,8 @@ pub record OpenRowsPrinted (m c : List ℤ) (line : List ℕ) : Type 0 where
 
 -- a call that was made, on two files or on numbers, and the number that it returned
 pub data Call : Handed → ℕ → Type 0 where
-  on-files : (mesh claim before : List ℕ) (number place : ℕ) (after : List ℕ)
-      → Answers mesh claim before number place after → Call (files mesh claim) number
+  on-files : (mesh claim : List ℕ) (z : ℤ) (before : List ℕ) (number place : ℕ) (after : List ℕ)
+      → Answers mesh claim z before number place after → Call (files mesh claim) number
   on-numbers : (m c : List ℤ) (r : NumbersAnswer) → Handed-over.Answers m c r → Call (numbers m c) (r .number)
 
 -- "Parts are on the same mesh when they are judged against the same rows": the field of one call and the multipliers
@@ -159,10 +188,11 @@ pub record AsAFile (m c : List ℤ) (r : NumbersAnswer) : Type 0 where
 
 -- ==== The sheets
 
--- each sheet's line stands at the front of the buffer
+-- each sheet's line, which has six decimals, stands at the front of the buffer
 abbrev pub Written : Sheet → Type 0
-Written s = (before after : List ℕ) (number place : ℕ) → Answers (s .mesh) (s .claim) before number place after
-    → reportBytes ≤ length before → take reportBytes after ≡ s .line
+Written s = (before after : List ℕ) (number place : ℕ)
+    → Answers (s .mesh) (s .claim) (pos usualDecimals) before number place after → reportBytes ≤ length before
+    → take reportBytes after ≡ s .line
 
 -- ==== A solver's run handed over whole (document 02, N3)
 
@@ -170,10 +200,11 @@ Written s = (before after : List ℕ) (number place : ℕ) → Answers (s .mesh)
 abbrev pub reportAt : ℕ → List ℕ → List ℕ
 reportAt i buffer = take reportBytes (drop (i * reportBytes) buffer)
 
--- a line is what each single call on this mesh and this claim writes
+-- a line is what each single call on this mesh and this claim writes with six decimals
 abbrev pub SingleCall : (mesh claim line : List ℕ) → Type 0
-SingleCall mesh claim line = (before after : List ℕ) (number place : ℕ) → Answers mesh claim before number place after
-    → reportBytes ≤ length before → take reportBytes after ≡ line
+SingleCall mesh claim line = (before after : List ℕ) (number place : ℕ)
+    → Answers mesh claim (pos usualDecimals) before number place after → reportBytes ≤ length before
+    → take reportBytes after ≡ line
 
 -- the claims that have a report, each by its own bytes
 abbrev pub judgedIn : (mesh claims before : List ℕ) → List (List ℕ)

@@ -5,12 +5,13 @@
 use mathlib.Core.List.{List, [], _∷_}
 use Prim.Native.Nat.{ℕ}
 use Prim.Native.String.{String}
+use lib.IntN.{ℤ, pos}
 use lib.ListN.{replicate}
 use Rattle.scope.specs.Mesh.{meshLayout}
 use Rattle.scope.specs.Claim.{claimLayout}
 use Rattle.reader.specs.File.{fileOf, fileWidth}
 use Rattle.pechuvo.specs.Bytes.{bytes, numbers}
-use Rattle.report.specs.Report.{reportBytes}
+use Rattle.report.specs.Report.{reportBytes, usualDecimals}
 use Rattle.pechuvo.specs.Check.{check}
 
 -- the bytes of two files, and the line that they give
@@ -27,14 +28,24 @@ sheet m c line = record {
   line = bytes line;
 }
 
--- what the check writes into a buffer of 113 bytes
+-- what the check writes into a buffer of 113 bytes, with z decimals, and with six
+unfoldable pub printedWith : ℤ → Sheet → List ℕ
+printedWith z s = check (s .mesh) (s .claim) z (replicate reportBytes 0) .buffer
+
 unfoldable pub printed : Sheet → List ℕ
-printed s = check (s .mesh) (s .claim) (replicate reportBytes 0) .buffer
+printed = printedWith (pos usualDecimals)
 
 -- ---- the starred sheets
 
 unfoldable pub workedMesh : String
 workedMesh = "4 1 1 3 12 / 0 1 1 10 0 0 0 0 / 0 0 / 1 0 / 1 1 / 0 1 / 1 2 3 4 1 / 3 4 3 0 0 -1 0 / 2 3 3 0 0 0 0 / 4 1 3 0 0 0 0"
+
+-- a dead pull of 40 and a live pull of 60 on that mesh: -1/3
+unfoldable pub pullMesh : String
+pullMesh = "4 1 1 3 12 / 0 1 1 10 0 0 0 0 / 0 0 / 1 0 / 1 1 / 0 1 / 1 2 3 4 1 / 3 4 3 40 0 60 0 / 2 3 3 0 0 0 0 / 4 1 3 0 0 0 0"
+
+unfoldable pub pullClaim : String
+pullClaim = "1 1 3 -1 / 0 60 0 / 0 60 0 / 0 60 0 / 0 60 0 / 0 0 / -30 0 0 0 / 0 0 30 0 / 0 0 0 0 / 0 0 0 0 0 0 0 0 0 0 0 0 / 0 0 0 0 0 0 0 0 0 0 0 0 / 0 0 0 0 0 1 1 0 0 0 0 0 / 0 0 0 0 0 0 0 0 0 0 0 0"
 
 unfoldable pub starred : List Sheet
 starred =
@@ -70,9 +81,9 @@ starred =
     ∷ sheet "4 1 1 3 12 / 0 1 1 10 0 0 0 0 / 0 0 / 1 0 / 1 1 / 0 1 / 1 2 3 4 1 / 3 4 3 0 0 -60 0 / 2 3 3 0 0 0 0 / 4 1 3 0 0 0 0"
     "1 1 3 1 / 0 -60 0 / 0 -60 0 / 0 -60 0 / 0 -60 0 / 0 0 / 30 0 0 0 / 0 0 -30 0 / 0 0 0 0 / 0 0 0 0 0 0 0 0 0 0 0 0 / 0 0 0 0 0 0 0 0 0 0 0 0 / 1 0 0 0 0 0 0 0 0 0 0 1 / 0 0 0 0 0 0 0 0 0 0 0 0"
     "                           0                           0                    0.333333                    0.333334\n"
-    -- -1/3 as lower -0.333334, as upper -0.333333: a dead pull of 40 and a live pull of 60
-    ∷ sheet "4 1 1 3 12 / 0 1 1 10 0 0 0 0 / 0 0 / 1 0 / 1 1 / 0 1 / 1 2 3 4 1 / 3 4 3 40 0 60 0 / 2 3 3 0 0 0 0 / 4 1 3 0 0 0 0"
-    "1 1 3 -1 / 0 60 0 / 0 60 0 / 0 60 0 / 0 60 0 / 0 0 / -30 0 0 0 / 0 0 30 0 / 0 0 0 0 / 0 0 0 0 0 0 0 0 0 0 0 0 / 0 0 0 0 0 0 0 0 0 0 0 0 / 0 0 0 0 0 1 1 0 0 0 0 0 / 0 0 0 0 0 0 0 0 0 0 0 0"
+    -- -1/3 as lower -0.333334, as upper -0.333333
+    ∷ sheet pullMesh
+    pullClaim
     "                           0                           0                   -0.333334                   -0.333333\n"
     -- -1/3000000 as upper 0.000000: a dead pull of 1 on a side of length 1 against a live force of 1,000 on 3,000
     -- units of area
@@ -86,7 +97,6 @@ starred =
 unfoldable pub unitSquare : String
 unitSquare = "4 1 1 0 12 / 0 1 1 10 0 0 0 0 / 0 0 / 1 0 / 1 1 / 0 1 / 1 2 3 4 1"
 
--- each field and each rule of the mesh and the claim that the starred sheets leave at 0 or do not reach
 -- a seam of clay (c = 10) between two layers of fill (c = 30): nodes 3 to 6 are corners of both, and the fill has the
 -- lower elements ("Soft clay under fill was passed at the fill's strength", document 02, N2)
 unfoldable pub seamMesh : String
@@ -99,6 +109,7 @@ seamFault =
     "1 0 1 60 / 0 -60 0 / 0 -60 0 / 0 -60 0 / 0 -60 0 / 0 -60 0 / 0 -60 0 / 0 -60 0 / 0 -60 0"
     "                          22                          37                        none                        none\n"
 
+-- each field and each rule of the mesh and the claim that the starred sheets leave at 0 or do not reach
 unfoldable pub noticing : List Sheet
 noticing =
     -- a dead and a live body force, on an element with no parallel sides, with stresses linear in x and y
@@ -229,4 +240,36 @@ noticing =
     ∷ sheet seamMesh
     "1 1 1 20 / 0 0 0 / 0 -40 0 / 0 -20 0 / 0 -20 0 / 0 -20 0 / 0 -20 0 / 0 -20 0 / 0 -20 0 / 0 0 / 0 -30 / 15 -15 / 0 0 0 0 / 0 0 -3 2 / 0 -1 0 0 / -3 2 0 3 / 3 0 3 3 / 0 0 0 -7 / 0 0 0 0 / 0 0 0 0 / 0 0 0 0 0 0 0 0 0 0 0 0 / 0 0 0 0 0 0 0 0 0 0 0 0 / 0 0 0 0 0 0 0 0 0 0 0 0 / 10 0 0 0 0 0 0 0 0 0 0 0 / 0 0 0 0 0 0 0 0 0 0 0 0 / 10 0 0 0 0 0 0 0 0 0 0 0 / 0 0 0 0 0 0 0 0 0 0 0 0 / 10 0 0 0 0 0 0 0 0 0 0 0 / 0 0 0 0 0 0 0 0 0 0 0 0 / 10 0 0 0 0 0 0 0 0 0 0 0 / 0 0 0 0 0 0 0 0 0 0 0 0 / 0 0 0 0 0 0 0 0 0 0 0 0"
     "                           0                           0                   20.000000                   20.000000\n"
+    ∷ []
+
+-- ---- other decimals (document 02, N5)
+
+-- document 01's sheet under a live pressure of 30: 2/3
+unfoldable pub twoThirdsMesh : String
+twoThirdsMesh = "4 1 1 3 12 / 0 1 1 10 0 0 0 0 / 0 0 / 1 0 / 1 1 / 0 1 / 1 2 3 4 1 / 3 4 3 0 0 -30 0 / 2 3 3 0 0 0 0 / 4 1 3 0 0 0 0"
+
+unfoldable pub twoThirdsClaim : String
+twoThirdsClaim =
+    "1 1 3 2 / 0 -60 0 / 0 -60 0 / 0 -60 0 / 0 -60 0 / 0 0 / 30 0 0 0 / 0 0 -30 0 / 0 0 0 0 / 0 0 0 0 0 0 0 0 0 0 0 0 / 0 0 0 0 0 0 0 0 0 0 0 0 / 1 0 0 0 0 0 0 0 0 0 0 1 / 0 0 0 0 0 0 0 0 0 0 0 0"
+
+-- each with its number of decimals
+unfoldable pub withDecimals : List (ℤ × Sheet)
+withDecimals =
+    -- -1/3: lower to -1 and upper to 0, which has no minus; no point at 0 decimals
+    (pos 0, sheet pullMesh pullClaim "                           0                           0                          -1                           0\n")
+    ∷ (pos 3, sheet pullMesh pullClaim "                           0                           0                      -0.334                      -0.333\n")
+    ∷ (pos 7, sheet pullMesh pullClaim "                           0                           0                  -0.3333334                  -0.3333333\n")
+    -- 2/3
+    ∷ (pos 0, sheet twoThirdsMesh twoThirdsClaim "                           0                           0                           0                           1\n")
+    ∷ (pos 3, sheet twoThirdsMesh twoThirdsClaim "                           0                           0                       0.666                       0.667\n")
+    ∷ (pos 7, sheet twoThirdsMesh twoThirdsClaim "                           0                           0                   0.6666666                   0.6666667\n")
+    -- the widest load that we have of an accepted claim, with loads and multipliers at their limits: m is 1, and W is
+    -- 8·10,000 times 26,356, the cross products around the polygon, times 2·1,000·10,000 for strength, and 8·100,000
+    -- times 1,000²·10,000 for the dead shear
+    ∷ (
+      pos 7,
+      sheet "8 2 1 6 36 / 0 1000 1000 10000 0 0 0 0 / 0 0 / 1000 0 / 1000 1000 / 0 1000 / 0 0 / 1 0 / 1 1 / 0 1 / 1 2 3 4 1 / 5 6 7 8 1 / 1 2 3 0 10000 0 0 / 2 3 3 0 10000 0 0 / 3 4 3 0 10000 0 0 / 4 1 3 0 10000 0 0 / 5 6 3 0 0 0 0 / 6 7 3 0 0 0 -1"
+          "0 1 0 0 / 0 0 / 0 0 / 0 100000 0 100000 / 0 100000 0 100000 / 0 100000 0 100000 / 0 100000 0 100000 / 0 0 0 1 / 0 1 0 0 / 10000 10000 10000 10000 10000 10000 10000 10000 10000 10000 10000 10000 10000 10000 10000 10000 10000 10000 10000 10000 10000 10000 10000 10000 10000 10000 10000 10000 10000 10000 10000 10000 10000 10000 10000 10000 / 10000 10000 10000 10000 10000 10000 10000 10000 10000 10000 10000 10000 10000 10000 10000 10000 10000 10000 10000 10000 10000 10000 10000 10000 10000 10000 10000 10000 10000 10000 10000 10000 10000 10000 10000 10000 / 10000 10000 10000 10000 10000 10000 10000 10000 10000 10000 10000 10000 10000 10000 10000 10000 10000 10000 10000 10000 10000 10000 10000 10000 10000 10000 10000 10000 10000 10000 10000 10000 10000 10000 10000 10000 / 10000 10000 10000 10000 10000 10000 10000 10000 10000 10000 10000 10000 10000 10000 10000 10000 10000 10000 10000 10000 10000 10000 10000 10000 10000 10000 10000 10000 10000 10000 10000 10000 10000 10000 10000 10000 / 10000 10000 10000 10000 10000 10000 10000 10000 10000 10000 10000 10000 10000 10000 10000 10000 10000 10000 10000 10000 10000 10000 10000 10000 10000 10000 10000 10000 10000 10000 10000 10000 10000 10000 10000 10000 / 10000 10000 10000 10000 10000 10000 10000 10000 10000 10000 10000 10000 10000 10000 10000 10000 10000 10000 10000 10000 10000 10000 10000 10000 10000 10000 10000 10000 10000 10000 10000 10000 10000 10000 10000 10000 / 10000 10000 10000 10000 10000 10000 10000 10000 10000 10000 10000 10000 10000 10000 10000 10000 10000 10000 10000 10000 10000 10000 10000 10000 10000 10000 10000 10000 10000 10000 10000 10000 10000 10000 10000 10000 / 10000 10000 10000 10000 10000 10000 10000 10000 10000 10000 10000 10000 10000 10000 10000 10000 10000 10000 10000 10000 10000 10000 10000 10000 10000 10000 10000 10000 10000 10000 10000 10000 10000 10000 10000 10000"
+          "                           0                        none                        none   50169600000000000.0000000\n",
+    )
     ∷ []

@@ -10,6 +10,7 @@ use run::check_run;
 use scope::Verdict;
 use scope::place_number;
 ghost use mathlib.Core.Path.{_≡_};
+ghost use Rattle.scope.specs.Answer.{numberOf, placeOf};
 ghost use Rattle.scope.specs.Verdict.{verdict};
 ghost use Rattle.numbers.specs.NumbersAnswer.{answerOf};
 ghost use Rattle.reader.specs.File.{fileWidth};
@@ -25,16 +26,10 @@ pub struct Answer {
     pub place: u32,
 }
 
-// "41, place 0: buffer under 113 bytes"; else the verdict's number and place.
-fn answer_of(v: Verdict, reported: Reported) -> Answer
-    ensures { λ r. ⌜ (r .number ≡ reportedNumber v reported) × (r .place ≡ reportedPlace v reported) ⌝ }
+// 0 and 0, or the refusal's number and place.
+fn verdict_answer(v: Verdict) -> Answer
+    ensures { λ r. ⌜ (r .number ≡ numberOf v) × (r .place ≡ placeOf v) ⌝ }
 {
-    if let Reported::TooShort = reported {
-        return Answer {
-            number: 41,
-            place: 0,
-        };
-    }
     match v {
         Verdict::Accepted { .. } => Answer {
             number: 0,
@@ -47,14 +42,37 @@ fn answer_of(v: Verdict, reported: Reported) -> Answer
     }
 }
 
-// The report of a mesh file and a claim file at the front of the buffer that is lent.
+// "43, place 0" for another number of decimals; "41, place 0: buffer under 113 bytes"; else the verdict's number and
+// place.
+fn answer_of(v: Verdict, reported: Reported) -> Answer
+    ensures { λ r. ⌜ (r .number ≡ reportedNumber v reported) × (r .place ≡ reportedPlace v reported) ⌝ }
+{
+    match reported {
+        Reported::OtherDecimals => Answer {
+            number: 43,
+            place: 0,
+        },
+        Reported::TooShort => Answer {
+            number: 41,
+            place: 0,
+        },
+        Reported::Written => verdict_answer(v),
+    }
+}
+
+// The report of a mesh file and a claim file, with so many decimals, at the front of the buffer that is lent.
 #[no_mangle]
-pub extern "C" fn pechuvo_check(mesh: &[u8], claim: &[u8], report: &mut [u8]) -> Answer
-    ensures { λ r. ⌜ Answers (now (mesh .entry)) (now (claim .entry)) (now (report .entry)) (r .number) (r .place)
-        (now (report .exit)) ⌝ }
+pub extern "C" fn pechuvo_check(
+    mesh: &[u8],
+    claim: &[u8],
+    decimals: i64,
+    report: &mut [u8],
+) -> Answer
+    ensures { λ r. ⌜ Answers (now (mesh .entry)) (now (claim .entry)) decimals (now (report .entry)) (r .number)
+        (r .place) (now (report .exit)) ⌝ }
 {
     let v = judge_files(mesh, claim);
-    let reported = write_report(v, report);
+    let reported = write_report(v, report, decimals);
     answer_of(v, reported)
 }
 

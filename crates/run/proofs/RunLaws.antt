@@ -7,21 +7,19 @@ use native.Mathlib.Nat.{zero-mul, suc-mul, sub-zero, div-eq-of-lt, div-eq-sub-di
 use native.Mathlib.Numerals.{add-one}
 use native.Mathlib.Omega.{arith}
 use lib.Dec.{ltb}
-use lib.IntN.{ℤ}
+use lib.IntN.{ℤ, pos}
 use lib.ListN.{length, take, drop, getD, length-append, length-drop, drop-of-length-le}
 use lib.Seq.{take-all, take-at, drop-at, drop-drop, drop-length}
-use borrow.Author.Tests.{le-ltb, lt-ltb, ltb-true, ltb-false}
+use borrow.Author.Tests.{le-ltb}
 use borrow.Rule.Slice.PartMut.{midOf, putMid}
-use borrow.Table.Steps.{cases}
 use Rattle.scope.specs.declared.Place.{Place}
 use Rattle.scope.specs.declared.Outcome.the-variants.{Passed, Refused as Fails}
 use Rattle.scope.specs.declared.Verdict.{Verdict}
 use Rattle.scope.specs.declared.Verdict.the-variants.{Refused}
 use Rattle.scope.specs.Verdict.{meshCheck, verdict, answer}
-use Rattle.report.specs.Report.{reportBytes, reportLine, decimals}
+use Rattle.report.specs.Report.{reportBytes, reportLine, isDecimals, usualDecimals}
 use Rattle.report.specs.declared.Reported.{Reported}
-use Rattle.report.specs.declared.Reported.the-variants.{Written, TooShort}
-use Rattle.report.specs.Buffer.{afterReport, reported, Reports}
+use Rattle.report.specs.Buffer.{reported, afterAnswer, afterReport, Reports}
 use Rattle.run.specs.declared.NextClaim.{NextClaim}
 use Rattle.run.specs.declared.RunAnswer.{RunAnswer}
 use Rattle.run.specs.Run.{ownBytes, verdictOn, endsRun, takenOf, lineOf, claimsJudged, ran, run, RunAnswers}
@@ -60,9 +58,9 @@ up-to-end from l = take-all (length l - from) (drop from l) (omega (arith, lengt
 none-after : (from : ℕ) (l : List ℕ) → drop (length l - from) (drop from l) ≡ []
 none-after from l = drop-of-length-le (drop from l) {i = length l - from} (omega (arith, length-drop from l))
 
-written-there : {after : List ℕ} {w : Reported} (v : Verdict) (before : List ℕ) → reportBytes ≤ length before → Reports decimals v before after w → after ≡ reportLine decimals v ++ drop reportBytes before
-unfolding afterReport
-written-there v before l r = r .buffer ∙ rw (le-ltb (length before) reportBytes l, afterReport)
+written-there : {after : List ℕ} {w : Reported} (v : Verdict) (before : List ℕ) → reportBytes ≤ length before → Reports (pos usualDecimals) v before after w → after ≡ reportLine usualDecimals v ++ drop reportBytes before
+unfolding afterReport afterAnswer reported isDecimals usualDecimals
+written-there v before l r = r .buffer ∙ rw (le-ltb (length before) reportBytes l, reported)
 
 -- ---- lists of lists
 
@@ -155,47 +153,47 @@ module _ {m : List ℤ} {claims before : List ℕ} {at from count : ℕ} {buffer
   same-size = ap length (h .written) ∙ omega (arith, length-append (flatMap (lineOf m) (h .done)) (drop from before), length-drop from before, h .lines, h .room)
 
   -- the next claim, and the part of the buffer that its report was written into
-  module _ (p : meshCheck m ≡ Passed) (more : reportBytes ≤ length buffer - from) (left : at < length claims) {next : NextClaim} {w : Reported} (part : List ℕ) (n′ : NextOf m (take (length claims - at) (drop at claims)) next) (rep : Reports decimals (next .verdict) (midOf from (length buffer - from) buffer) part w) (same : length part ≡ length (midOf from (length buffer - from) buffer)) where
+  module _ (p : meshCheck m ≡ Passed) (more : reportBytes ≤ length buffer - from) (left : at < length claims) {next : NextClaim} {w : Reported} (part : List ℕ) (n′ : NextOf m (take (length claims - at) (drop at claims)) next) (rep : Reports (pos usualDecimals) (next .verdict) (midOf from (length buffer - from) buffer) part w) (same : length part ≡ length (midOf from (length buffer - from) buffer)) where
     n : NextOf m (drop at claims) next
     n = rw (up-to-end at claims) at n′
 
     mid-long : length (midOf from (length buffer - from) buffer) ≡ length buffer - from
     mid-long = ap length (up-to-end from buffer) ∙ length-drop from buffer
 
-    part-is : part ≡ reportLine decimals (next .verdict) ++ drop reportBytes (drop from buffer)
+    part-is : part ≡ reportLine usualDecimals (next .verdict) ++ drop reportBytes (drop from buffer)
     part-is =
         written-there (next .verdict) (midOf from (length buffer - from) buffer) (omega (arith, mid-long)) rep
-        ∙ ap (λ (l : List ℕ). reportLine decimals (next .verdict) ++ drop reportBytes l) (up-to-end from buffer)
+        ∙ ap (λ (l : List ℕ). reportLine usualDecimals (next .verdict) ++ drop reportBytes l) (up-to-end from buffer)
 
-    long : length (reportLine decimals (next .verdict)) ≡ reportBytes
-    long = omega (arith, ap length part-is, same, mid-long, length-append (reportLine decimals (next .verdict)) (drop reportBytes (drop from buffer)), length-drop reportBytes (drop from buffer), length-drop from buffer)
+    long : length (reportLine usualDecimals (next .verdict)) ≡ reportBytes
+    long = omega (arith, ap length part-is, same, mid-long, length-append (reportLine usualDecimals (next .verdict)) (drop reportBytes (drop from buffer)), length-drop reportBytes (drop from buffer), length-drop from buffer)
 
     -- the buffer with one report more
     abbrev pub oneMore : List ℕ
     oneMore = putMid from (length buffer - from) buffer part
 
-    put-is : oneMore ≡ take from buffer ++ (reportLine decimals (next .verdict) ++ drop reportBytes (drop from buffer))
+    put-is : oneMore ≡ take from buffer ++ (reportLine usualDecimals (next .verdict) ++ drop reportBytes (drop from buffer))
     put-is = ap (λ (l : List ℕ). take from buffer ++ l) (ap (λ (l : List ℕ). part ++ l) (none-after from buffer) ∙ append-nil part ∙ part-is)
 
     own : List ℕ
     own = ownBytes m (drop at claims)
 
-    line-is : lineOf m own ≡ reportLine decimals (next .verdict)
+    line-is : lineOf m own ≡ reportLine usualDecimals (next .verdict)
     unfolding own lineOf
-    line-is = ap (reportLine decimals) (sym (n .verdictIs))
+    line-is = ap (reportLine usualDecimals) (sym (n .verdictIs))
 
-    lines-more : flatMap (lineOf m) (h .done ++ (own ∷ [])) ≡ flatMap (lineOf m) (h .done) ++ reportLine decimals (next .verdict)
+    lines-more : flatMap (lineOf m) (h .done ++ (own ∷ [])) ≡ flatMap (lineOf m) (h .done) ++ reportLine usualDecimals (next .verdict)
     lines-more = flat-last (lineOf m) (h .done) own ∙ ap (λ (l : List ℕ). flatMap (lineOf m) (h .done) ++ l) line-is
 
     lines-long : length (flatMap (lineOf m) (h .done ++ (own ∷ []))) ≡ from + reportBytes
-    lines-long = ap length lines-more ∙ omega (arith, length-append (flatMap (lineOf m) (h .done)) (reportLine decimals (next .verdict)), h .lines, long)
+    lines-long = ap length lines-more ∙ omega (arith, length-append (flatMap (lineOf m) (h .done)) (reportLine usualDecimals (next .verdict)), h .lines, long)
 
     written-more : oneMore ≡ flatMap (lineOf m) (h .done ++ (own ∷ [])) ++ drop (from + reportBytes) before
     written-more =
         let front = ap (take from) (h .written) ∙ take-at (flatMap (lineOf m) (h .done)) (drop from before) from (h .lines) in
         let back = ap (drop from) (h .written) ∙ drop-at (flatMap (lineOf m) (h .done)) (drop from before) from (h .lines) in
         put-is
-        ∙ ap₂ (λ (x y : List ℕ). x ++ (reportLine decimals (next .verdict) ++ drop reportBytes y)) front back
+        ∙ ap₂ (λ (x y : List ℕ). x ++ (reportLine usualDecimals (next .verdict) ++ drop reportBytes y)) front back
         ∙ rw (drop-drop reportBytes from before, lines-more, append-assoc)
 
     room-less : (length before - from) / reportBytes ≡ suc ((length before - (from + reportBytes)) / reportBytes)
@@ -260,22 +258,8 @@ module _ {m : List ℤ} {claims before : List ℕ} {at from count : ℕ} {buffer
 
 -- ---- a refused mesh
 
-room-there : (buffer : List ℕ) → Written ≡ reported buffer → reportBytes ≤ length buffer
-unfolding reported
-room-there buffer e =
-    cases (ltb (length buffer) reportBytes)
-    (λ t. let f : Written ≡ TooShort = rw (t, reported) at e in absurd (let z : _≡_ {A = ℕ} 0 1 = cc in omega arith))
-    (λ t. omega (arith, ltb-false (length buffer) reportBytes t))
-
-room-lacks : (buffer : List ℕ) → TooShort ≡ reported buffer → length buffer < reportBytes
-unfolding reported
-room-lacks buffer e =
-    cases (ltb (length buffer) reportBytes)
-    (λ t. omega (arith, ltb-true (length buffer) reportBytes t))
-    (λ t. let f : TooShort ≡ Written = rw (t, reported) at e in absurd (let z : _≡_ {A = ℕ} 0 1 = cc in omega arith))
-
 -- the verdict on every claim is the mesh's refusal
-refused-line : (m : List ℤ) (k : ℕ) (p : Place) → meshCheck m ≡ Fails k p → lineOf m [] ≡ reportLine decimals (Refused k p)
+refused-line : (m : List ℤ) (k : ℕ) (p : Place) → meshCheck m ≡ Fails k p → lineOf m [] ≡ reportLine usualDecimals (Refused k p)
 unfolding lineOf verdictOn verdict answer
 refused-line m k p e = rw e
 
@@ -290,21 +274,18 @@ none-taken m = by (endsRun (verdictOn m []))
 
 module _ (m : List ℤ) (claims before : List ℕ) (k : ℕ) (p : Place) (e : meshCheck m ≡ Fails k p) where
   -- "A refused mesh writes its report once, even with no claim byte, and takes no claim"
-  pub mesh-reported : {r : RunAnswer} {after : List ℕ} → Reports decimals (Refused k p) before after Written → length after ≡ length before → (r .reports ≡ 1) × (r .bytes ≡ 0) → RunAnswers m claims before r after
+  pub mesh-reported : {r : RunAnswer} {after : List ℕ} {w : Reported} → reportBytes ≤ length before → Reports (pos usualDecimals) (Refused k p) before after w → length after ≡ length before → (r .reports ≡ 1) × (r .bytes ≡ 0) → RunAnswers m claims before r after
   unfolding flatMap
-  mesh-reported {after = after} w same a =
-      let room = room-there before (w .answer) in
+  mesh-reported {after = after} room w same a =
       let is = written-there (Refused k p) before room w in
-      let long : length (reportLine decimals (Refused k p)) ≡ reportBytes = omega (arith, ap length is, same, length-append (reportLine decimals (Refused k p)) (drop reportBytes before), length-drop reportBytes before) in
-      let line : flatMap (lineOf m) ([] ∷ []) ≡ reportLine decimals (Refused k p) = append-nil (lineOf m []) ∙ refused-line m k p e in
+      let long : length (reportLine usualDecimals (Refused k p)) ≡ reportBytes = omega (arith, ap length is, same, length-append (reportLine usualDecimals (Refused k p)) (drop reportBytes before), length-drop reportBytes before) in
+      let line : flatMap (lineOf m) ([] ∷ []) ≡ reportLine usualDecimals (Refused k p) = append-nil (lineOf m []) ∙ refused-line m k p e in
       ran-over ([] ∷ [])
       (ap (λ (n : ℕ). claimsJudged n m claims) (one-room (length before) room) ∙ judged-refused m claims ((length before - reportBytes) / reportBytes) k p e)
       (a .0)
       (a .1 ∙ sym (none-taken m))
-      (is ∙ sym (ap (λ (l : List ℕ). l ++ drop (length l) before) line ∙ ap (λ (n : ℕ). reportLine decimals (Refused k p) ++ drop n before) long))
+      (is ∙ sym (ap (λ (l : List ℕ). l ++ drop (length l) before) line ∙ ap (λ (n : ℕ). reportLine usualDecimals (Refused k p) ++ drop n before) long))
 
-  pub no-report : {r : RunAnswer} {after : List ℕ} → Reports decimals (Refused k p) before after TooShort → (r .reports ≡ 0) × (r .bytes ≡ 0) → RunAnswers m claims before r after
-  unfolding claimsJudged flatMap afterReport
-  no-report w a =
-      let short = room-lacks before (w .answer) in
-      ran-over [] (ap (λ (n : ℕ). claimsJudged n m claims) (no-room (length before) short)) (a .0) (a .1) (w .buffer ∙ rw (lt-ltb (length before) reportBytes short, afterReport))
+  pub no-report : {r : RunAnswer} → length before < reportBytes → (r .reports ≡ 0) × (r .bytes ≡ 0) → RunAnswers m claims before r before
+  unfolding claimsJudged flatMap
+  no-report short a = ran-over [] (ap (λ (n : ℕ). claimsJudged n m claims) (no-room (length before) short)) (a .0) (a .1) refl

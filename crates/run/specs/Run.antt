@@ -13,7 +13,7 @@ use Rattle.scope.specs.declared.Verdict.{Verdict}
 use Rattle.scope.specs.declared.Verdict.the-variants.{Accepted, Refused}
 use Rattle.scope.specs.Verdict.{meshCheck, verdict}
 use Rattle.reader.specs.File.{fileWidth}
-use Rattle.report.specs.Report.{reportBytes, reportLine, decimals}
+use Rattle.report.specs.Report.{reportBytes, reportLine, usualDecimals}
 use Rattle.judge.specs.Judge.{claimNumbers}
 use Rattle.judge.specs.ClaimBytes.{claimBytes}
 use Rattle.run.specs.declared.RunAnswer.{RunAnswer}
@@ -38,8 +38,9 @@ endsRun (Refused k place) = eqb k 11 || eqb k 12 || eqb k 13
 unfoldable pub takenOf : List ℤ → List ℕ → List ℕ
 takenOf m claim = cond (endsRun (verdictOn m claim)) [] claim
 
+-- "The desk program and N3's runs go on with six" decimals (document 02, N5)
 unfoldable pub lineOf : List ℤ → List ℕ → List ℕ
-lineOf m claim = reportLine decimals (verdictOn m claim)
+lineOf m claim = reportLine usualDecimals (verdictOn m claim)
 
 -- ---- all claims
 

@@ -13,7 +13,7 @@ use reader::MESH_ROOM;
 use reader::most_numbers;
 use reader::read_claim;
 use report::LINE;
-use report::Reported;
+use report::USUAL_DECIMALS;
 use report::write_report;
 use scope::Outcome;
 use scope::Place;
@@ -128,7 +128,7 @@ fn run_claims(m: &[i64], s: Sizes, pairs: &[u8], claims: &[u8], reports: &mut [u
         }
         let next = next_claim(m, s, pairs, &claims[at..]);
         let v = next.verdict;
-        write_report(v, &mut reports[from..]);
+        write_report(v, &mut reports[from..], USUAL_DECIMALS);
         from += LINE;
         count += 1;
         if ends_run(v) {
@@ -144,11 +144,11 @@ fn run_refused(number: u32, place: Place, reports: &mut [u8]) -> RunAnswer
     ensures { λ r. ⌜ ((m : List ℤ) (claims : List ℕ) → meshCheck m ≡ Fails number place
         → RunAnswers m claims (now (reports .entry)) r (now (reports .exit))) ⌝ }
 {
-    let reported = write_report(Verdict::Refused { number, place }, reports);
-    match reported {
-        Reported::Written => answer_of(1, 0),
-        Reported::TooShort => answer_of(0, 0),
+    if reports.len() < LINE {
+        return answer_of(0, 0);
     }
+    write_report(Verdict::Refused { number, place }, reports, USUAL_DECIMALS);
+    answer_of(1, 0)
 }
 
 // The run on a mesh file, with room for the mesh's numbers.

@@ -4,6 +4,7 @@ use Prim.Native.Nat.{_-_}
 use native.Mathlib.Omega.{arith}
 use lib.ListN.{length}
 use borrow.Author.Needs.{needs}
+use Rattle.report.specs.Report.{usualDecimals}
 use Rattle.run.proofs.RunLaws.{SoFar, none-done, same-size, taken-within, ends-for-room, ends-for-claims, ends-for-claim, goes-on}
 use Rattle.run.proofs.run_claims.Statement.{statement}
 use Rattle.run.proofs.run_claims.Tie as tie
@@ -77,6 +78,7 @@ same-length-2 c =
     back .reports .given .1 ∙ same-size (back .before .before .before .before .before .before .before .loop .inv)
 
 returns-2 : tie.Need-returns-2 Inv-loop μ-loop
+unfolding usualDecimals
 returns-2 c =
     let ends = c .before .before in
     let back = ends .before .before in
@@ -88,6 +90,7 @@ returns-2 c =
     ends-for-claim (top .loop .inv) (top .before .before .before .before .pre .passes) (inside .loop-test .taken) (omega (arith, top .loop .inv .within, other .if1 .left)) _ (next .next-claim .ensures) (report .write-report .ensures) (back .reports .given .0) (sym (ends .ends-run .ensures) ∙ c .before .if2 .taken) (c .answer-of2 .ensures)
 
 add-at : tie.Need-add-at Inv-loop μ-loop
+unfolding usualDecimals
 add-at c =
     let ends = c .before .before in
     let back = ends .before .before in
@@ -105,6 +108,7 @@ loop-less c =
     omega (arith, inside .loop-test .taken, same-size (inside .before .loop .inv), inside .before .loop .inv .room)
 
 loop-again : tie.Need-loop-again Inv-loop μ-loop
+unfolding usualDecimals
 loop-again c =
     let ends = c .before .before in
     let back = ends .before .before in
