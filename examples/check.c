@@ -12,6 +12,9 @@
 /* No mesh and no claim has as many bytes. */
 #define MOST 65536
 
+/* 0 to 7. */
+#define DECIMALS 6
+
 static size_t read_file(const char *name, uint8_t *bytes) {
   FILE *file = fopen(name, "rb");
   if (file == NULL) {
@@ -36,7 +39,7 @@ int main(int count, char **words) {
     return 2;
   }
   struct pechuvo_answer answer =
-      pechuvo_check(mesh, mesh_length, claim, claim_length, report, sizeof report);
+      pechuvo_check(mesh, mesh_length, claim, claim_length, DECIMALS, report, sizeof report);
   fwrite(report, 1, sizeof report, stdout);
   return answer.number != 0;
 }

@@ -35,9 +35,10 @@
      32      column    column sum not 0
      33      column 0  m is 0 or less
      41      0         report buffer under 113 bytes; pechuvo_check only
+     43      0         number of decimals other than 0 to 7; pechuvo_check only
 
-   The first that applies is returned, in this order: 41; the mesh's lines front to back, in each
-   line 1, 2, 3, 4; then 5, 6, 7, 8 and 42, each over the whole mesh; the claim's lines front to
+   The first that applies is returned, in this order: 43; 41; the mesh's lines front to back, in
+   each line 1, 2, 3, 4; then 5, 6, 7, 8 and 42, each over the whole mesh; the claim's lines front to
    back, in each line 11, 12, and 13 straight after line 1; then 21, 22, 31, 32 and 33. Of one
    number the lowest place comes first. Lines, elements, nodes, rows and columns are counted from 1.
 
@@ -64,11 +65,13 @@ struct pechuvo_answer {
 
 /* Checks a mesh file and a claim file. The first 113 bytes of the report buffer become the report:
    four columns of 28 bytes, right-justified in spaces, and byte 10; no other byte of it is written.
-   Accepted: 0, the open rows, the load l/n rounded down, the limit W/m rounded up, each with six
-   decimals, `none` for what the claim lacks. Refused: number, place, none, none. A buffer under
-   113 bytes is left untouched. */
+   Accepted: 0, the open rows, the load l/n rounded down, the limit W/m rounded up, each with as
+   many decimals as are asked for, 0 to 7, and no point at 0; each is off by less than one in its
+   last place; `none` for what the claim lacks. Refused: number, place, none, none. With another
+   number of decimals, or under 113 bytes, the buffer is left untouched. */
 struct pechuvo_answer pechuvo_check(const uint8_t *mesh, size_t mesh_length,
                                     const uint8_t *claim, size_t claim_length,
+                                    int64_t decimals,
                                     uint8_t *report, size_t report_length);
 
 struct pechuvo_run {
