@@ -80,9 +80,10 @@ struct pechuvo_run {
 };
 
 /* Checks claims for one mesh, written one after another with nothing between, and writes their
-   reports in turn, each as pechuvo_check writes it: report i stands at byte 113 * i of the buffer,
-   and no byte after the last is written. The mesh is read and judged once. A claim has as many
-   bytes as its header and the mesh say; where fewer are left it is judged on those.
+   reports in turn, each as pechuvo_check writes it with six decimals: report i stands at byte
+   113 * i of the buffer, and no byte after the last is written. The mesh is read and judged once. A
+   claim has as many bytes as its header and the mesh say; where fewer are left it is judged on
+   those.
    At each step, in this order:
    - The buffer lacks 113 bytes for the next report: the run ends. There is no 41.
    - The mesh is refused: its report is written once, no claim is taken, and the run ends.

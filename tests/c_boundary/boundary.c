@@ -9,7 +9,7 @@
 #include "memory.h"
 #include "pechuvo.h"
 
-enum { LINE = 113, ROOM = 160, RUN = 3 * LINE - 1, LARGEST = 70000 };
+enum { LINE = 113, ROOM = 160, RUN = 3 * LINE - 1, LARGEST = 70000, DECIMALS = 6 };
 
 static unsigned long calls;
 
@@ -47,7 +47,7 @@ static void call(struct block mesh, struct block claim, size_t room, enum lendin
   close_for_writing(m);
   close_for_writing(c);
   struct pechuvo_answer got =
-      pechuvo_check(m.bytes, m.length, c.bytes, c.length, report.bytes, report.length);
+      pechuvo_check(m.bytes, m.length, c.bytes, c.length, DECIMALS, report.bytes, report.length);
   if (room < LINE) {
     expect(got.number == 41 && got.place == 0, "a short buffer gets 41, place 0");
     expect(memcmp(report.bytes, before, room) == 0, "a short buffer stays untouched");
@@ -67,7 +67,7 @@ static void call(struct block mesh, struct block claim, size_t room, enum lendin
 static void call_each_way(struct block mesh, struct block claim, size_t room, int heap) {
   unsigned char line[LINE];
   struct pechuvo_answer answer =
-      pechuvo_check(mesh.bytes, mesh.length, claim.bytes, claim.length, line, LINE);
+      pechuvo_check(mesh.bytes, mesh.length, claim.bytes, claim.length, DECIMALS, line, LINE);
   if (heap) {
     call(mesh, claim, room, ON_HEAP, answer, line);
     return;
@@ -76,13 +76,29 @@ static void call_each_way(struct block mesh, struct block claim, size_t room, in
   call(mesh, claim, room, AT_START, answer, line);
 }
 
+/* Any other number of decimals than 0 to 7 gets 43, before 41, and no byte is written. */
+static void other_decimals(struct block mesh, struct block claim, size_t room, enum lending how) {
+  const int64_t others[] = {-1, 8, 256, INT64_MIN, INT64_MAX};
+  unsigned char before[ROOM];
+  memset(before, 0xA5, sizeof before);
+  struct block report = lend(before, room, how);
+  close_for_writing(report);
+  for (size_t k = 0; k < sizeof others / sizeof others[0]; k++) {
+    struct pechuvo_answer got = pechuvo_check(mesh.bytes, mesh.length, claim.bytes, claim.length,
+                                              others[k], report.bytes, report.length);
+    expect(got.number == 43 && got.place == 0, "other decimals get 43, place 0");
+    expect(memcmp(report.bytes, before, room) == 0, "other decimals leave the buffer untouched");
+  }
+  give_back(report);
+}
+
 /* The claim twice in one call, from memory lent in one way: the line of a single call for each, and no
    other byte of a buffer that has room for two. Claims that end a run are left out. */
 static void call_run(struct block mesh, struct block claim, enum lending how) {
   unsigned char before[RUN], line[LINE];
   memset(before, 0xA5, sizeof before);
   struct pechuvo_answer one =
-      pechuvo_check(mesh.bytes, mesh.length, claim.bytes, claim.length, line, LINE);
+      pechuvo_check(mesh.bytes, mesh.length, claim.bytes, claim.length, DECIMALS, line, LINE);
   if (one.number != 0 && (one.number < 21 || one.number > 33)) {
     return;
   }
@@ -125,11 +141,11 @@ static void empty_slices(struct block mesh, struct block claim) {
   for (size_t k = 0; k < sizeof pointers / sizeof pointers[0]; k++) {
     unsigned char *any = pointers[k];
     unsigned char line[LINE];
-    struct pechuvo_answer got = pechuvo_check(any, 0, claim.bytes, claim.length, line, LINE);
+    struct pechuvo_answer got = pechuvo_check(any, 0, claim.bytes, claim.length, DECIMALS, line, LINE);
     expect(got.number == 1 && got.place == 1, "an empty mesh gets 1, line 1");
-    got = pechuvo_check(mesh.bytes, mesh.length, any, 0, line, LINE);
+    got = pechuvo_check(mesh.bytes, mesh.length, any, 0, DECIMALS, line, LINE);
     expect(got.number == 11 && got.place == 1, "an empty claim gets 11, line 1");
-    got = pechuvo_check(mesh.bytes, mesh.length, claim.bytes, claim.length, any, 0);
+    got = pechuvo_check(mesh.bytes, mesh.length, claim.bytes, claim.length, DECIMALS, any, 0);
     expect(got.number == 41 && got.place == 0, "an empty buffer gets 41, place 0");
     struct pechuvo_run run = pechuvo_check_run(any, 0, claim.bytes, claim.length, line, LINE);
     expect(run.reports == 1 && run.bytes == 0, "a run on an empty mesh has one report");
@@ -201,6 +217,8 @@ static void sheet(const char *name, int heap) {
     call_each_way(mesh, claim, room, heap);
   }
   call_each_way(mesh, claim, LINE, heap);
+  other_decimals(mesh, claim, LINE, heap ? ON_HEAP : AT_END);
+  other_decimals(mesh, claim, LINE - 1, heap ? ON_HEAP : AT_START);
   call_run(mesh, claim, heap ? ON_HEAP : AT_END);
   call_run(mesh, claim, heap ? ON_HEAP : AT_START);
   cut_files(mesh, claim, step, heap);
