@@ -14,6 +14,7 @@ use Rattle.mesh.specs.declared.sizes.Sizes.{Sizes}
 use Rattle.scope.specs.Columns.{at}
 use Rattle.scope.specs.Layout.{groups, numbersBefore, count, entry}
 use Rattle.scope.specs.Mesh.{meshHeaderColumns, soilColumns, nodeColumns, elementColumns, edgeColumns, meshHeader, soilLines, nodeLines, elementLines, edgeLines, meshLayout, meshGroups, nodes, elements, soils, edges, sides, p, q, h, cohesion, soilEntry, x, y, corner, elementSoil, edgeEntry, fromNode, toNode}
+use Rattle.scope.specs.Filled.{soilPlace}
 use Rattle.scope.specs.NumberRanges.{Between, MeshFacts, SoilFacts, EdgeFacts}
 use Rattle.scope.proofs.NumberRanges.{some-sides}
 use Rattle.scope.proofs.PolygonRule.{listed-polygon}
@@ -181,6 +182,11 @@ module _ {m : List ℤ} {s : Sizes} (k : Sized m s) where
   pub to-read : {r from : ℕ} (g : ℕ) → from ≡ edgesFrom s → r ≡ count (at m (from + g * edgeColumns + 1)) - 1 → r ≡ toNode m g
   unfolding toNode edgeEntry
   to-read g b d = rw (edge-at b g 1) d
+
+-- where an element's soil stands
+pub soil-place-is : {s : Sizes} {r from : ℕ} (e : ℕ) → from ≡ elementsFrom s → r ≡ from + e * elementColumns + 4 → (m : List ℤ) → SizesAre m s → r ≡ soilPlace m e
+unfolding soilPlace numbersBefore meshGroups groups meshLayout meshHeader soilLines nodeLines elementLines edgeLines
+soil-place-is e b d m k = omega (arith, b, d, k .soilsAre, k .nodesAre)
 
 -- ---- differences of coordinates
 
