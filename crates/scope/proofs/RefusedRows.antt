@@ -9,7 +9,7 @@ use lib.IntN.{ℤ}
 use Rattle.scope.specs.declared.Place.{Place}
 use Rattle.scope.specs.declared.Place.the-variants.{Row, Node}
 use Rattle.scope.specs.Answer.{placeNumber}
-use Rattle.scope.specs.Columns.{Rule, rightAngle, naming, parts, n, l}
+use Rattle.scope.specs.Columns.{Rule, rightAngle, naming, parts, atMost, n, l}
 use Rattle.scope.specs.Mesh.{meshLayout, elements, sides, fromNode, toNode}
 use Rattle.scope.specs.Polygon.{polygonOf}
 use Rattle.scope.specs.Claim.{claimLayout, stress}
@@ -100,6 +100,7 @@ unfolding ruleNumber
 no-rule rightAngle e = omega arith
 no-rule (naming cs) e = omega arith
 no-rule parts e = omega arith
+no-rule (atMost c k d z) e = omega arith
 
 module _ (m c : List ℤ) where
   of-mesh-row : {k : ℕ} {p : Place} → MeshRow m k p → k ≡ 42 → PairsFail m (placeNumber p)
@@ -109,7 +110,7 @@ module _ (m c : List ℤ) where
   of-mesh-row (six k l a h) e = absurd (omega arith)
   of-mesh-row (seven v l a b h) e = absurd (omega arith)
   of-mesh-row (eight g l a b d h) e = absurd (omega arith)
-  of-mesh-row (forty-two v l a b d g h) e = let (many, at) = pairs m .brings-101st v .0 h in record { many = many; node = ap suc (sym at) }
+  of-mesh-row (forty-two v l a b d g h) e = let (many, at) = pairs m .brings-one-more v .0 h in record { many = many; node = ap suc (sym at) }
 
   of-table-row : {k : ℕ} {p : Place} → TableRow m c k p → k ≡ 42 → PairsFail m (placeNumber p)
   unfolding claimLayout

@@ -8,7 +8,7 @@ use lib.Signed.{ltZ}
 use lib.Dec.{eqb, leb}
 use lib.ListN.{length, getD}
 use Rattle.scope.specs.Checks.{someBelow, allBelow}
-use Rattle.scope.specs.Mesh.{mostPairs, elements, x, y, cornerCount, around, fromNode, toNode}
+use Rattle.scope.specs.Mesh.{pairsWith, elements, sides, x, y, cornerCount, around, fromNode, toNode}
 use Rattle.scope.specs.Rows as R
 use Rattle.scope.specs.Rows.{hasCorner, pairsBelow}
 
@@ -50,9 +50,9 @@ outerEdge m g =
     && not (someBelow (hasSide m (toNode m g) (fromNode m g)) (elements m))
     && not (someBelow (hasEnds m (fromNode m g) (toNode m g)) g)
 
--- refusal 42 (document 02, N2): "Pairs are at most 100", counted to node v
+-- refusal 42 (document 02, N2): "Pairs are at most 100", and 40 with 108 sides (N9), counted to node v
 unfoldable pub pairsFit : List ℤ → ℕ → Bool
-pairsFit m v = leb (length (pairsBelow m (suc v))) mostPairs
+pairsFit m v = leb (length (pairsBelow m (suc v))) (pairsWith (sides m))
 
 -- row k of a list of rows
 unfoldable pub rowAt : List R.Row → ℕ → R.Row
