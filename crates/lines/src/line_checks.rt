@@ -9,6 +9,7 @@ use crate::layout::Group;
 use crate::layout::Kind;
 use crate::layout::MESH_LEAST;
 use crate::layout::MESH_MOST;
+use crate::layout::NODES_MOST;
 use crate::layout::Rule;
 use crate::layout::SIDES_MOST;
 use crate::layout::claim_groups;
@@ -24,15 +25,18 @@ use mesh::sizes::header_sizes;
 use scope::Outcome;
 use scope::Place;
 ghost use mathlib.Core.Path.{_≡_};
+ghost use mathlib.Core.Bool.{true, cond};
 ghost use mathlib.Core.List.{List, [], _∷_, map};
 ghost use Prim.Native.Nat.{min, _/_, _<_, _≤_};
 ghost use lib.ListN.{length, take, drop};
 ghost use lib.IntN.{ℤ, pos};
+ghost use lib.Signed.{leZ};
+ghost use Rattle.integer.specs.Tests.{eqZ};
 ghost use Rattle.scope.specs.Checks.{allBelow};
 ghost use Rattle.scope.specs.Columns.{at, between, within, isOneOf, parts, ruleTest};
 ghost use Rattle.scope.specs.Layout.{width};
 ghost use Rattle.scope.specs.Verdict.{lineCheck, lineAt, linesCheck};
-ghost use Rattle.scope.specs.Mesh.{mostSides, meshLayout};
+ghost use Rattle.scope.specs.Mesh.{mostSides, listedSides, nodesFor108, meshLayout};
 ghost use Rattle.scope.specs.Claim.{claimHeaderColumns, claimHeader, claimLayout};
 ghost use Rattle.mesh.specs.MeshContracts.{FewThings, Counted};
 ghost use Rattle.lines.specs.Table.{evenLines, ruledLines, meant, Good, Table};
@@ -149,7 +153,7 @@ fn rest(s: &[i64], from: usize) -> &[i64]
 
 // The number of sides is one of those that a polygon has.
 fn is_sides(z: i64) -> bool
-    ensures { λ r. ⌜ r ≡ isOneOf (pos 12 ∷ pos 20 ∷ pos mostSides ∷ []) z ⌝ }
+    ensures { λ r. ⌜ r ≡ isOneOf listedSides z ⌝ }
 {
     if z == 12 {
         return true;
@@ -157,7 +161,20 @@ fn is_sides(z: i64) -> bool
     if z == 20 {
         return true;
     }
+    if z == 36 {
+        return true;
+    }
     z == SIDES_MOST
+}
+
+// With the most sides the nodes are few.
+fn nodes_fit(nodes: i64, sides: i64) -> bool
+    ensures { λ r. ⌜ r ≡ cond (eqZ sides (pos mostSides)) (leZ nodes (pos nodesFor108)) true ⌝ }
+{
+    if sides == SIDES_MOST {
+        return nodes <= NODES_MOST;
+    }
+    true
 }
 
 // The header of a mesh.
@@ -171,6 +188,9 @@ pub fn mesh_header(m: &[i64]) -> Outcome
         return refused(2, 1);
     }
     if !is_sides(m[COUNTS]) {
+        return refused(2, 1);
+    }
+    if !nodes_fit(m[0], m[COUNTS]) {
         return refused(2, 1);
     }
     Outcome::Passed
