@@ -1,5 +1,6 @@
 -- The theorems about the whole check.
 pub mod Sheets
+pub mod Sheets108
 pub mod Check
 pub mod Answers
 pub mod VerdictFits
@@ -7,3 +8,4 @@ pub mod Words
 pub mod OpenColumn
 pub mod Promises
 pub mod PromisesApplied
+pub mod PromisesApplied108

@@ -21,7 +21,7 @@ use Rattle.scope.specs.Parts.{carried, allowed, SameRows, NumberOf}
 use Rattle.scope.specs.Tests.{rowAt}
 use Rattle.numbers.specs.declared.numbers_answer.NumbersAnswer.{NumbersAnswer}
 use Rattle.numbers.specs.Promises as Handed-over
-use Rattle.numbers.specs.Promises.{Returned, ReturnsZero, RefusesExactly, NumbersListed, TellsField, RowsRefused, FieldExactly, MultipliersExactly, CriterionForEachPair, PairsAsked, FractionsBracket}
+use Rattle.numbers.specs.Promises.{Returned, ReturnsZero, RefusesExactly, NumbersListed, TellsField, RowsRefused, FieldExactly, MultipliersExactly, CriterionForEachPair, PairsAsked, SidesAsked, FractionsBracket}
 use Rattle.numbers.specs.NumbersAnswer.{answerOf}
 use Rattle.reader.specs.File.{fileOf, fileWidth}
 use Rattle.reader.specs.WellFormed.{Fit, FormFails}
@@ -66,7 +66,7 @@ pub record LongFiles (mesh claim before : List ℕ) (number place : ℕ) (after 
 -- ==== Demand 2: what is accepted, what is refused, what is printed; where the buffer has 113 bytes
 
 -- 0 exactly when, each refusal with its place exactly when, no number but those of the table, each part accepted
--- exactly when, and the pairs with the criterion for each
+-- exactly when, the pairs with the criterion for each, and what goes by the number of sides
 pub record OnFiles (mesh claim : List ℕ) (number place : ℕ) : Type 0 where
   pub returns-zero : ReturnsZero (meshIn mesh) (claimIn mesh claim) number place
   pub refuses : RefusesExactly (meshIn mesh) (claimIn mesh claim) number place
@@ -75,6 +75,7 @@ pub record OnFiles (mesh claim : List ℕ) (number place : ℕ) : Type 0 where
   pub field : FieldExactly (meshIn mesh) (claimIn mesh claim) number
   pub multipliers : MultipliersExactly (meshIn mesh) (claimIn mesh claim) number
   pub pairs : PairsAsked (meshIn mesh) number place
+  pub sides : SidesAsked (meshIn mesh) number place
   pub criterion : TellsField (claimIn mesh claim) number → CriterionForEachPair (meshIn mesh) (claimIn mesh claim)
 
 -- "mesh form: length, character, spelling, bytes missing or left over", and "claim form", said of the bytes
