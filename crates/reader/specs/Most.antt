@@ -9,8 +9,8 @@ use Rattle.reader.specs.File.{fileWidth}
 abbrev pub mostNumbers : ℕ → ℕ
 mostNumbers bytes = bytes / fileWidth + 1
 
--- a mesh file, and a claim file: their headers, as many lines as there can be, and one for bytes left over; a claim has
--- the most numbers with 108 sides (`PolygonFits`)
+-- a mesh file, and a claim file: their headers, as many lines as there can be, and one for bytes left over; a claim
+-- has the most numbers with 108 sides (`PolygonFits`)
 abbrev pub meshRoom : ℕ
 meshRoom = meshHeaderColumns + mostSoils * soilColumns + mostNodes * nodeColumns + mostElements * elementColumns + mostEdges * edgeColumns + 1
 

@@ -128,7 +128,11 @@ unfoldable pub polygonOf : ℕ → Polygon
 polygonOf k =
     elim (eqb k 12) [
       | true ↦ twelve
-      | false ↦ elim (eqb k 20) [ true ↦ twenty | false ↦ elim (eqb k 36) [ true ↦ thirtySix | false ↦ oneHundredEight ] ]
+      | false ↦
+          elim (eqb k 20) [
+            | true ↦ twenty
+            | false ↦ elim (eqb k 36) [ true ↦ thirtySix | false ↦ oneHundredEight ]
+          ]
     ]
 
 -- a listed number of sides

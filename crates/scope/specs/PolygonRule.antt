@@ -61,7 +61,8 @@ pub record PolygonFits (g : Polygon) (sides radius step product : ℕ) : Type 0 
   pub stepWeighted : strengthMultiplier sides * step ≤ weightedStep
   pub productWeighted : strengthMultiplier sides * product ≤ weightedCross
   pub rowsFit : pairsWith sides * sides ≤ mostStrengthRows
-  pub numbersFit : nodesWith sides * stressColumns + pairsWith sides * sides ≤ nodesFor108 * stressColumns + mostStrengthRows
+  pub numbersFit : nodesWith sides * stressColumns + pairsWith sides * sides
+      ≤ nodesFor108 * stressColumns + mostStrengthRows
 
 -- the polygon of a mesh with a listed number of sides
 pub record ListedPolygon (sides : ℕ) : Type 0 where

@@ -1,6 +1,6 @@
 -- The limits that go by a mesh's number of sides (document 02, N9), said number by number: "Such a mesh has at most 40
--- nodes and 40 node-and-soil pairs, and its strength multipliers are at most 300; over these, 2, 42 and 12 are given as
--- for other limits."
+-- nodes and 40 node-and-soil pairs, and its strength multipliers are at most 300; over these, 2, 42 and 12 are given
+-- as for other limits."
 use mathlib.Core.Path.{_≡_}
 use mathlib.Core.Logic.{_↔_}
 use mathlib.Core.List.{List}
