@@ -2,7 +2,7 @@
 -- expression over them, by kind of row.
 -- The largest radius, step and cross product are those of 108 sides (document 02, N9).
 use Prim.Native.Nat.{ℕ, _+_, _*_, _^_}
-use Rattle.scope.specs.Mesh.{mostPairs, mostElements, mostEdges, mostSides, mostStrength, pairsFor108, strengthFor108, elementRows, edgeRows, mostEqualityRows}
+use Rattle.scope.specs.Mesh.{mostPairs, mostElements, mostEdges, mostSides, mostStrength, pairsFor108, strengthFor108, elementRows, edgeRows, mostEqualityRows, mostJumps, rowsPerJump}
 
 -- ---- limits (document 01, 'The two files')
 
@@ -83,7 +83,15 @@ sideRight = mostSquare * mostTraction
 abbrev pub mostSideRows : ℕ
 mostSideRows = mostEdges * edgeRows
 
--- ---- equality rows: of either kind
+-- ---- jump rows: products of two steps, no load, and the right side 0
+
+abbrev pub jumpRight : ℕ
+jumpRight = 0
+
+abbrev pub mostJumpRows : ℕ
+mostJumpRows = mostJumps * rowsPerJump
+
+-- ---- equality rows: of any kind
 
 -- entries of a row, a coefficient, and the coefficient of l or the right side
 abbrev pub mostEntries : ℕ
