@@ -11,7 +11,7 @@ use lib.Ieee.Scale.{finite}
 use Rattle.integer.specs.Fraction.{_over_, _≤ᶠ_, _≈ᶠ_}
 use Rattle.strength.specs.declared.Trial.{Trial}
 use Rattle.strength.specs.declared.NextAnswer.{NextAnswer}
-use Rattle.strength.specs.Next.{zero, term, hyperbola, usable, accepted, nextStrength, nextAnswer}
+use Rattle.strength.specs.Next.{zero, trial, term, hyperbola, usable, accepted, nextStrength, nextAnswer}
 use Rattle.strength.specs.Rounded.{zeroᶠ, valueOf, Rounded}
 use Rattle.strength.specs.Exact.{exactStrength, in64ths, Whole64ths, Trial64ths}
 use Rattle.strength.specs.Hyperbola.{InFractions, OneHyperbola}
@@ -21,7 +21,7 @@ use Rattle.strength.proofs.Hyperbola.{through-two-trials}
 use Rattle.strength.proofs.OnlyRounding.{divisor-nonzero}
 use Rattle.strength.proofs.Promises.{gives-or-refuses, exact-on-64ths}
 
-abbrev refusal : NextAnswer
+abbrev pub refusal : NextAnswer
 refusal = record { number = 49; place = 0; strength = zero }
 
 whole : {x : Float} {n : ℕ} → 0 < n → n ≤ 16 * 64 → T (finite x) → valueOf x .num *ℤ pos 64 ≡ pos n *ℤ valueOf x .den
@@ -30,26 +30,26 @@ whole a u f e = record { above = a; upTo = u; is = record { isFinite = f; isValu
 
 -- ---- K 1.5 at L 2 and K 1 at L 0.5: the exact quotient is 4/3, which binary64 does not hold
 
-abbrev high : Trial
-high = record { k = fin false 3 (negsuc 0); l = fin false 1 (pos 1) }
+abbrev pub high : Trial
+high = trial (fin false 3 (negsuc 0)) (fin false 1 (pos 1))
 
-abbrev low : Trial
-low = record { k = fin false 1 (pos 0); l = fin false 1 (negsuc 0) }
+abbrev pub low : Trial
+low = trial (fin false 1 (pos 0)) (fin false 1 (negsuc 0))
 
 -- 4/3, rounded: 0x15555555555555 · 2 ^ -52
-abbrev fourThirds : Float
+abbrev pub fourThirds : Float
 fourThirds = fin false 0x15555555555555 (negsuc 51)
 
-abbrev strength : NextAnswer
+abbrev pub strength : NextAnswer
 strength = record { number = 0; place = 0; strength = fourThirds }
 
-high-64ths : Trial64ths high 96 128
+pub high-64ths : Trial64ths high 96 128
 high-64ths = record { k-is = whole (lit< tt) (lit≤ tt) tt refl; l-is = whole (lit< tt) (lit≤ tt) tt refl }
 
-low-64ths : Trial64ths low 64 32
+pub low-64ths : Trial64ths low 64 32
 low-64ths = record { k-is = whole (lit< tt) (lit≤ tt) tt refl; l-is = whole (lit< tt) (lit≤ tt) tt refl }
 
-strength-answered : Answers high low strength
+pub strength-answered : Answers high low strength
 unfolding nextAnswer nextStrength accepted usable hyperbola term eq sub mul div
 strength-answered = refl
 
@@ -77,19 +77,19 @@ strength-on-the-hyperbola = through-two-trials (in64ths 96 128) (in64ths 64 32) 
 
 -- ---- K 4 at L 3 and K 1 at L 2: the exact quotient is -8
 
-abbrev steep : Trial
-steep = record { k = fin false 1 (pos 2); l = fin false 3 (pos 0) }
+abbrev pub steep : Trial
+steep = trial (fin false 1 (pos 2)) (fin false 3 (pos 0))
 
-abbrev flat : Trial
-flat = record { k = fin false 1 (pos 0); l = fin false 1 (pos 1) }
+abbrev pub flat : Trial
+flat = trial (fin false 1 (pos 0)) (fin false 1 (pos 1))
 
-steep-64ths : Trial64ths steep 256 192
+pub steep-64ths : Trial64ths steep 256 192
 steep-64ths = record { k-is = whole (lit< tt) (lit≤ tt) tt refl; l-is = whole (lit< tt) (lit≤ tt) tt refl }
 
-flat-64ths : Trial64ths flat 64 128
+pub flat-64ths : Trial64ths flat 64 128
 flat-64ths = record { k-is = whole (lit< tt) (lit≤ tt) tt refl; l-is = whole (lit< tt) (lit≤ tt) tt refl }
 
-refusal-answered : Answers steep flat refusal
+pub refusal-answered : Answers steep flat refusal
 unfolding nextAnswer nextStrength accepted usable hyperbola term eq sub mul div
 refusal-answered = refl
 
@@ -102,15 +102,15 @@ refused-by-exact-values =
 
 -- ---- refused: L1 = L2, an infinity, -0
 
-same-load : Answers high (record { k = low .k; l = high .l }) refusal
+same-load : Answers high (trial (low .k) (high .l)) refusal
 unfolding nextAnswer nextStrength accepted usable hyperbola term eq sub mul div
 same-load = refl
 
-infinite : Answers (record { k = inf false; l = high .l }) low refusal
+infinite : Answers (trial (inf false) (high .l)) low refusal
 unfolding nextAnswer nextStrength accepted usable hyperbola term eq sub mul div
 infinite = refl
 
-minus-zero : Answers high (record { k = low .k; l = fin true 0 (pos 0) }) refusal
+minus-zero : Answers high (trial (low .k) (fin true 0 (pos 0))) refusal
 unfolding nextAnswer nextStrength accepted usable hyperbola term eq sub mul div
 minus-zero = refl
 
@@ -120,8 +120,8 @@ rounded-each :
     toBits binary64
     (nextAnswer
     (nextStrength
-    (record { k = ofBits binary64 0x3ff199999999999a; l = ofBits binary64 0x3ff4cccccccccccd })
-    (record { k = ofBits binary64 0x3feccccccccccccd; l = ofBits binary64 0x3fe6666666666666 }))
+    (trial (ofBits binary64 0x3ff199999999999a) (ofBits binary64 0x3ff4cccccccccccd))
+    (trial (ofBits binary64 0x3feccccccccccccd) (ofBits binary64 0x3fe6666666666666)))
     .strength)
     ≡ 0x3ff07ae147ae147b
 unfolding nextAnswer nextStrength accepted usable hyperbola term eq sub mul div toBits ofBits

@@ -27,6 +27,10 @@ x ⊗ y = mul binary64 x y
 abbrev pub _⊘_ : Float → Float → Float
 x ⊘ y = div binary64 x y
 
+-- the trial of two numbers
+abbrev pub trial : Float → Float → Trial
+trial k l = record { k = k; l = l }
+
 -- "from left to right (1-L2)·L1·K1", of the trials 1 and 2; and "then (1-L1)·L2·K2", of 2 and 1
 unfoldable pub term : Trial → Trial → Float
 term a b = (one ⊖ b .l) ⊗ a .l ⊗ a .k
