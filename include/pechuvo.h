@@ -1,10 +1,10 @@
 /* The check of load factor certificates on quadrilateral soil meshes, for C.
 
-   One archive has both calls: target/staticlib/libpechuvo.a, which rt staticlib pechuvo builds.
+   One archive has every call: target/staticlib/libpechuvo.a, which rt staticlib pechuvo builds.
 
-   Both calls take every input, whatever its bytes or numbers, and answer in bounded time. They
-   read only what is lent, keep nothing from call to call, allocate nothing and write nothing but
-   the report, so calls in several threads do not disturb each other.
+   Every call takes every input, whatever its bytes or numbers, and answers in bounded time. It
+   reads only what is lent, keeps nothing from call to call, allocates nothing and writes nothing
+   but the report, so calls in several threads do not disturb each other.
 
    What the caller sees to:
    - Each pointer goes with the length of what it points to, in elements. A length of 0 goes with
@@ -35,6 +35,7 @@
      32      column    column sum not 0
      33      column 0  m is 0 or less
      41      0         report buffer under 113 bytes; pechuvo_check only
+     49      0         no next strength; pechuvo_next_strength only
 
    The first that applies is returned, in this order: 41; the mesh's lines front to back, in each
    line 1, 2, 3, 4; then 5, 6, 7, 8 and 42, each over the whole mesh; the claim's lines front to
@@ -89,6 +90,21 @@ struct pechuvo_numbers {
    at the line where that shows. */
 struct pechuvo_numbers pechuvo_check_numbers(const int64_t *mesh, size_t mesh_count,
                                              const int64_t *claim, size_t claim_count);
+
+struct pechuvo_next {
+  uint32_t number;
+  uint32_t place; /* 0 */
+  double strength; /* 0 unless number is 0 */
+};
+
+/* The next strength to try, by the hyperbola through two trials: strength k1 with the load factor
+   l1, and k2 with l2. From left to right (1-l2)*l1*k1, then (1-l1)*l2*k2, their difference, then
+   divided by (l1-l2), each operation rounded once, to nearest and at a tie to even, in binary64.
+   Where all four are whole 64ths above 0 and up to 16, the division is the only rounding. Refused:
+   49, place 0, when an input is not finite and above 0, when l1 = l2, or when the result is not
+   finite and above 0. It reads no mesh and no claim, and no check reads it. The processor rounds
+   to nearest and flushes no subnormal to zero, as C programs have it unless they change it. */
+struct pechuvo_next pechuvo_next_strength(double k1, double l1, double k2, double l2);
 
 #ifdef __cplusplus
 }

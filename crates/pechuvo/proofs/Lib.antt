@@ -1,4 +1,4 @@
--- The theorems about the whole check.
+-- The theorems about the whole check, and about the next strength.
 pub mod Sheets
 pub mod Check
 pub mod Answers
@@ -7,3 +7,4 @@ pub mod Words
 pub mod OpenColumn
 pub mod Promises
 pub mod PromisesApplied
+pub mod NextStrength

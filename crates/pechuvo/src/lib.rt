@@ -1,5 +1,5 @@
 // Every call that C makes: the check of a mesh file and a claim file, two byte strings into a report line and the
-// verdict's numbers; and the check of the numbers themselves.
+// verdict's numbers; the check of the numbers themselves; and the next strength to try, which reads no mesh.
 
 use judge::judge_files;
 use numbers::numbers_answer::NumbersAnswer;
@@ -7,11 +7,15 @@ use report::Reported;
 use report::write_report;
 use scope::Verdict;
 use scope::place_number;
+use strength::NextAnswer;
+use strength::Trial;
+use strength::next_answer;
 ghost use mathlib.Core.Path.{_≡_};
 ghost use Rattle.scope.specs.Verdict.{verdict};
 ghost use Rattle.numbers.specs.NumbersAnswer.{answerOf};
 ghost use Rattle.report.specs.Buffer.{reportedNumber, reportedPlace};
 ghost use Rattle.pechuvo.specs.Answers.{Answers};
+ghost use Rattle.pechuvo.specs.NextStrength.{NextAnswers};
 
 // What is returned: 0 and 0 for an accepted claim, else a refusal's number and its place.
 #[repr(C)]
@@ -59,4 +63,14 @@ pub extern "C" fn pechuvo_check_numbers(m: &[i64], c: &[i64]) -> NumbersAnswer
     ensures { λ r. ⌜ r ≡ answerOf (verdict (now (m .entry)) (now (c .entry))) ⌝ }
 {
     numbers::check(m, c)
+}
+
+// The next strength to try (document 02, N13), after the trials K1 with L1 and K2 with L2.
+#[no_mangle]
+pub extern "C" fn pechuvo_next_strength(k1: f64, l1: f64, k2: f64, l2: f64) -> NextAnswer
+    ensures { λ r. ⌜ NextAnswers k1 l1 k2 l2 r ⌝ }
+{
+    let first = Trial { k: k1, l: l1 };
+    let second = Trial { k: k2, l: l2 };
+    next_answer(first, second)
 }
