@@ -1,4 +1,4 @@
--- Document 01's table of refusals row by row ('Verdict and report'), with document 02's 42: a number, a place, and
+-- Document 01's table of refusals row by row ('Verdict and report'), with document 02's 47 and 42: a number, a place, and
 -- what is so where they are returned, all before it in the order among it. Elements, nodes, edges, rows and columns
 -- are counted from 0 here. The rows of lines are said one by one at the end
 -- of `Refusals`.
@@ -17,7 +17,7 @@ use Rattle.scope.specs.Rows.{equalityRows, strengthRows, rowsOf}
 use Rattle.scope.specs.Sums.{columnSum, liveSum}
 use Rattle.scope.specs.Tests.{rowAt}
 use Rattle.scope.specs.Meets.{RowMet}
-use Rattle.scope.specs.Statements.{LinesSound, LeftTurns, OwnSides, InElement, OuterEdge, PairsFit, MeshSound, NoneOnUnfixed, HasField, HasMultipliers, RowsMet}
+use Rattle.scope.specs.Statements.{LinesSound, LeftTurns, OwnSides, InElement, NoneShared, OuterEdge, PairsFit, MeshSound, NoneOnUnfixed, HasField, HasMultipliers, RowsMet}
 use Rattle.scope.specs.Refusals.{LineRefusal}
 
 -- "lowest place first": P fails at place k of count, and at no lower one
@@ -38,10 +38,13 @@ pub data MeshRow (m : List ℤ) : ℕ → Place → Type 0 where
       → MeshRow m 6 (Element (suc e))
   seven : (v : ℕ) → LinesSound meshLayout m → AtAll (elements m) (LeftTurns m) → AtAll (elements m) (OwnSides m)
       → LowestFails (nodes m) (InElement m) v → MeshRow m 7 (Node (suc v))
+  forty-seven : (e : ℕ) → LinesSound meshLayout m → AtAll (elements m) (LeftTurns m) → AtAll (elements m) (OwnSides m)
+      → AtAll (nodes m) (InElement m) → LowestFails (elements m) (NoneShared m) e → MeshRow m 47 (Element (suc e))
   eight : (g : ℕ) → LinesSound meshLayout m → AtAll (elements m) (LeftTurns m) → AtAll (elements m) (OwnSides m)
-      → AtAll (nodes m) (InElement m) → LowestFails (edges m) (OuterEdge m) g → MeshRow m 8 (Line (suc (edgeLine m g)))
+      → AtAll (nodes m) (InElement m) → AtAll (elements m) (NoneShared m)
+      → LowestFails (edges m) (OuterEdge m) g → MeshRow m 8 (Line (suc (edgeLine m g)))
   forty-two : (v : ℕ) → LinesSound meshLayout m → AtAll (elements m) (LeftTurns m) → AtAll (elements m) (OwnSides m)
-      → AtAll (nodes m) (InElement m) → AtAll (edges m) (OuterEdge m)
+      → AtAll (nodes m) (InElement m) → AtAll (elements m) (NoneShared m) → AtAll (edges m) (OuterEdge m)
       → LowestFails (nodes m) (PairsFit m) v → MeshRow m 42 (Node (suc v))
 
 -- all before 21: the mesh passes, and the claim's lines
