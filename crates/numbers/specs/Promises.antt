@@ -52,8 +52,8 @@ pub record Returned (m c : List ℤ) (number place : ℕ) : Type 0 where
 
 -- ==== Demand 2: what is accepted, and what is refused
 
--- "Accepted returns 0, place 0": 0 exactly when the mesh passes 1 to 8 and 42, the claim passes 11 to 13, a field that
--- is there meets every row, and multipliers that are there are zero on every unfixed row, make all 3·nodes columns 0
+-- "Accepted returns 0, place 0": 0 exactly when the mesh passes 1 to 8, 47 and 42, the claim passes 11 to 13, a field
+-- that is there meets every row, and multipliers that are there are zero on every unfixed row, make all 3·nodes columns 0
 -- and have m above 0
 pub record ReturnsZero (m c : List ℤ) (number place : ℕ) : Type 0 where
   pub exactly : (number ≡ 0) ↔ ClaimAccepted m c

@@ -109,9 +109,9 @@ two-cases {mesh} {claim} {before} h =
 not-41 : (m c : List ℤ) → numberOf (verdict m c) ≢ 41
 not-41 m c = by (verdict-cases m c)
   where
-    of-mesh : {k : ℕ} → (k ≤ 13) ⊎ (k ≡ 42) → k ≢ 41
+    of-mesh : {k : ℕ} → (k ≤ 13) ⊎ ((42 ≤ k) × (k ≤ 47)) → k ≢ 41
     of-mesh (inl h) e = omega arith
-    of-mesh (inr h) e = omega arith
+    of-mesh (inr h) e = omega (arith, h .0)
 
     each : EachIn (λ k p. k ≢ 41) (meshPhases m ++ claimPhases m c)
     each =

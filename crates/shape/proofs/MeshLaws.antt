@@ -17,7 +17,7 @@ use Rattle.scope.specs.declared.Outcome.{Outcome}
 use Rattle.scope.specs.declared.Outcome.the-variants.{Passed, Refused}
 use Rattle.scope.specs.Checks.{_then_}
 use Rattle.scope.specs.Phases.{Phase, checkPhase, checkPhases}
-use Rattle.scope.specs.Refusals.{turnsPhase, ownSidesPhase, nodesPhase, edgesPhase, pairsPhase, shapePhases}
+use Rattle.scope.specs.Refusals.{turnsPhase, ownSidesPhase, nodesPhase, apartPhase, edgesPhase, pairsPhase, shapePhases}
 use Rattle.scope.proofs.Phases.{check-join}
 use Rattle.scope.proofs.Triangles.{some-corners, around-below, around-is}
 use Rattle.lines.proofs.Loops.{then-refuses, then-goes-on}
@@ -75,7 +75,7 @@ module _ (m : List ℤ) where
 
 module _ (m : List ℤ) where
   abbrev sidesNodesEdges : List Phase
-  sidesNodesEdges = ownSidesPhase m ∷ nodesPhase m ∷ edgesPhase m ∷ []
+  sidesNodesEdges = ownSidesPhase m ∷ nodesPhase m ∷ apartPhase m ∷ edgesPhase m ∷ []
 
   shape-checked : checkPhases (shapePhases m) ≡ checkPhase (turnsPhase m) then (checkPhases sidesNodesEdges then checkPhase (pairsPhase m))
   unfolding checkPhases

@@ -1,10 +1,12 @@
-// The shape of a mesh (document 01, refusals 5 to 8; document 02, 42), and its pairs of a node and a soil.
+// The shape of a mesh (document 01, refusals 5 to 8; document 02, 47 and 42), and its pairs of a node and a soil.
 
+mod boxes;
 mod corners;
 mod edges;
 mod marks;
 pub mod mesh_checks;
 mod nodes;
+mod overlaps;
 pub mod pairs;
 mod sides;
 mod tables;

@@ -1,5 +1,5 @@
-// The shape of a mesh whose lines have passed: refusals 5 to 8 and 42 in their order, and the pairs of a mesh that
-// passes.
+// The shape of a mesh whose lines have passed: refusals 5 to 7, 47, 8 and 42 in their order, and the pairs of a mesh
+// that passes.
 use mesh::sizes::MOST_NODES;
 use mesh::sizes::Sizes;
 use scope::Outcome;
@@ -7,14 +7,16 @@ ghost use mathlib.Core.Path.{_≡_};
 ghost use mathlib.Core.List.{[], _∷_};
 ghost use Rattle.scope.specs.Mesh.{elements};
 ghost use Rattle.scope.specs.Phases.{checkPhases};
-ghost use Rattle.scope.specs.Refusals.{ownSidesPhase, nodesPhase, edgesPhase, shapePhases};
+ghost use Rattle.scope.specs.Refusals.{ownSidesPhase, nodesPhase, apartPhase, edgesPhase, shapePhases};
 ghost use Rattle.mesh.specs.MeshContracts.{Sized};
 ghost use Rattle.shape.specs.ShapeContracts.{MarkTable, SideTable, PairedAs};
+ghost use Rattle.shape.specs.BoxContracts.{Turned};
 use crate::edges::edges_check;
 use crate::edges::take_sides;
 use crate::marks::MARKS;
 use crate::marks::mark_table;
 use crate::nodes::nodes_check;
+use crate::overlaps::overlaps_check;
 use crate::pairs::Paired;
 use crate::pairs::no_pairs;
 use crate::pairs::pairs_check;
@@ -30,12 +32,29 @@ const SMALL_TABLE: usize = SMALL_NODES * MOST_NODES;
 
 const TABLE: usize = MOST_NODES * MOST_NODES;
 
-// Refusals 6 to 8, by a table in which no byte is given yet.
+// 47 and 8, by the table of sides.
+fn overlaps_edges(m: &[i64], s: Sizes, t: &mut [u8]) -> Outcome
+    requires { ⌜ Sized (now m) s × Turned (now m) × SideTable (now m) (elements (now m)) (now t) ⌝ }
+    ensures { λ r. ⌜ r ≡ checkPhases (apartPhase (now (m .entry)) ∷ edgesPhase (now (m .entry)) ∷ []) ⌝ }
+{
+    let overlaps = overlaps_check(m, s);
+    match overlaps {
+        Outcome::Refused { number, place } => Outcome::Refused { number, place },
+        Outcome::Passed => {
+            take_sides(m, s, t);
+            edges_check(m, s, t)
+        }
+    }
+}
+
+// 6, 7, 47 and 8, by a table in which no byte is given yet.
 fn checks_by_table(m: &[i64], s: Sizes, marks: &[u8; MARKS], t: &mut [u8]) -> Outcome
-    requires { ⌜ Sized (now m) s × MarkTable (now m) (elements (now m)) (now marks) × SideTable (now m) 0 (now t) ⌝ }
+    requires { ⌜ Sized (now m) s × MarkTable (now m) (elements (now m)) (now marks) × SideTable (now m) 0 (now t)
+        × Turned (now m) ⌝ }
     ensures { λ r. ⌜ r
         ≡ checkPhases
-        (ownSidesPhase (now (m .entry)) ∷ nodesPhase (now (m .entry)) ∷ edgesPhase (now (m .entry)) ∷ []) ⌝ }
+        (ownSidesPhase (now (m .entry)) ∷ nodesPhase (now (m .entry)) ∷ apartPhase (now (m .entry))
+        ∷ edgesPhase (now (m .entry)) ∷ []) ⌝ }
 {
     side_table(m, s, t);
     let sides = sides_check(m, s, t);
@@ -45,22 +64,20 @@ fn checks_by_table(m: &[i64], s: Sizes, marks: &[u8; MARKS], t: &mut [u8]) -> Ou
             let nodes = nodes_check(m, s, marks);
             match nodes {
                 Outcome::Refused { number, place } => Outcome::Refused { number, place },
-                Outcome::Passed => {
-                    take_sides(m, s, t);
-                    edges_check(m, s, t)
-                }
+                Outcome::Passed => overlaps_edges(m, s, t),
             }
         }
     }
 }
 
-// Refusals 6 to 8. For speed a small mesh has a small table: the bytes that need no filling were 6 % of the time of
-// the worked sheet.
+// 6, 7, 47 and 8. For speed a small mesh has a small table: the bytes that need no filling were 6 % of the time of the
+// worked sheet.
 fn sides_nodes_edges(m: &[i64], s: Sizes, marks: &[u8; MARKS]) -> Outcome
-    requires { ⌜ Sized (now m) s × MarkTable (now m) (elements (now m)) (now marks) ⌝ }
+    requires { ⌜ Sized (now m) s × MarkTable (now m) (elements (now m)) (now marks) × Turned (now m) ⌝ }
     ensures { λ r. ⌜ r
         ≡ checkPhases
-        (ownSidesPhase (now (m .entry)) ∷ nodesPhase (now (m .entry)) ∷ edgesPhase (now (m .entry)) ∷ []) ⌝ }
+        (ownSidesPhase (now (m .entry)) ∷ nodesPhase (now (m .entry)) ∷ apartPhase (now (m .entry))
+        ∷ edgesPhase (now (m .entry)) ∷ []) ⌝ }
 {
     if s.nodes <= SMALL_NODES {
         let mut small = [NONE; SMALL_TABLE];
@@ -70,7 +87,7 @@ fn sides_nodes_edges(m: &[i64], s: Sizes, marks: &[u8; MARKS]) -> Outcome
     checks_by_table(m, s, marks, &mut table)
 }
 
-// Refusals 5 to 8 and 42, in their order, and the pairs.
+// Refusals 5 to 7, 47, 8 and 42, in their order, and the pairs.
 pub fn mesh_shape(m: &[i64], s: Sizes) -> Paired
     requires { ⌜ Sized (now m) s ⌝ }
     ensures { λ r. ⌜ PairedAs (checkPhases (shapePhases (now (m .entry)))) (now (m .entry)) r ⌝ }

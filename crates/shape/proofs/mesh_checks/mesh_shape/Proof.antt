@@ -3,6 +3,7 @@ use mathlib.Core.Path.{sym, _∙_}
 use borrow.Author.Needs.{needs}
 use Rattle.shape.proofs.MeshLaws.{turns-refuse, rest-refuses, pairs-last}
 use Rattle.shape.proofs.PairTables.{paired-as}
+use Rattle.shape.proofs.ApartLaws.{turned}
 use Rattle.shape.proofs.mesh_checks.mesh_shape.Statement.{statement}
 use Rattle.shape.proofs.mesh_checks.mesh_shape.Tie as tie
 
@@ -27,7 +28,9 @@ mark-table-requires : tie.Need-mark-table-requires
 mark-table-requires c κs = search needs
 
 sides-nodes-edges-requires : tie.Need-sides-nodes-edges-requires
-sides-nodes-edges-requires c κs = search needs
+sides-nodes-edges-requires c κs =
+    let told = c .before .before .before in
+    (told .before .before .before .pre, c .mark-table .ensures, turned _ (sym (told .before .before .turns-check .ensures) ∙ told .enum-told .given .1))
 
 enum-known-sides : tie.Need-enum-known-sides
 enum-known-sides c = search needs
