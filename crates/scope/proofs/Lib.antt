@@ -31,6 +31,7 @@ pub mod RowCounts
 pub mod RowNumbers
 pub mod PrintedColumns
 pub mod RefusedRows
+pub mod OverlapRefused
 pub mod OpenPlaces
 pub mod SameRows
 pub mod Parts
