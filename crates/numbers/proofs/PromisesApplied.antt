@@ -26,10 +26,11 @@ use Rattle.scope.specs.AcceptedField.{MeetsCriterion}
 use Rattle.scope.specs.Bracket.{Open, NoneOpen}
 use Rattle.scope.specs.Fractions.{Fraction, FractionField, fieldOver}
 use Rattle.scope.specs.AcceptedFractions.{MeetsMesh}
-use Rattle.scope.specs.Parts.{SameRows, NumberOf, PartsBracket}
+use Rattle.scope.specs.Parts.{carried, allowed, SameRows, NumberOf, PartsBracket}
+use Rattle.scope.specs.Blends.{Carries, BlendedClaims}
 use Rattle.scope.specs.Worked.{zeros, workedMesh, workedStresses, workedMultipliers, workedClaim, multipliersAlone, sheet, sheet19, sheet29, freeShear, twoTriangles, fieldAlone, fillOverClay, overClay}
 use Rattle.scope.proofs.Printed.{field-printed}
-use Rattle.scope.proofs.Applied.{free-field, free-rows}
+use Rattle.scope.proofs.Applied.{free-field, free-rows, sheet-multipliers}
 use Rattle.scope.specs.Tests.{rowAt}
 use Rattle.scope.specs.Mesh.{elements, sides, corner, elementSoil}
 use Rattle.scope.specs.Statements.{MeshSound}
@@ -39,7 +40,7 @@ use Rattle.verdict.specs.declared.MeshAnswer.{MeshAnswer}
 use Rattle.verdict.specs.JudgeContracts.{MeshAnswered}
 use Rattle.numbers.specs.declared.numbers_answer.NumbersAnswer.{NumbersAnswer}
 use Rattle.numbers.specs.Promises.{Answers, returnedNumbers, TellsField, FieldInFractions}
-use Rattle.numbers.proofs.Promises.{mesh-answered-exactly, returned, returns-zero-exactly, refuses-exactly, numbers-listed, field-exactly, multipliers-exactly, criterion-for-each-pair, pairs-asked, rows-refused, field-reported, multipliers-reported, open-rows-reported, field-in-fractions, calls-bracket, call-bracket, accepted-parts, fractions-bracket, triangles-asked}
+use Rattle.numbers.proofs.Promises.{mesh-answered-exactly, returned, returns-zero-exactly, refuses-exactly, numbers-listed, field-exactly, multipliers-exactly, criterion-for-each-pair, pairs-asked, rows-refused, field-reported, multipliers-reported, open-rows-reported, field-in-fractions, calls-bracket, call-bracket, accepted-parts, fractions-bracket, triangles-asked, blended-answers}
 
 -- ---- what is answered
 
@@ -192,6 +193,40 @@ pub free-fractions : pos 19 over pos 1 ≤ᶠ pos 600 over pos 30
 free-fractions =
     let field = field-in-fractions (freeShear (pos 0)) sheet19 answer19 free-nineteen refl in
     fractions-bracket free-sheet refl (freeShear (pos 0)) (free-field .mesh) free-rows .at-most (fieldOver (pos 1) (field .above-0) (stress (freeShear (pos 0)) sheet19) (pos 19)) (field .meets)
+
+-- ---- blends
+
+sheet-tells : TellsField sheet 0
+unfolding computed zeros workedStresses workedMultipliers workedClaim sheet
+sheet-tells = (refl, inl refl)
+
+nineteen-tells : TellsField sheet19 0
+unfolding computed zeros workedStresses workedMultipliers workedClaim sheet19
+nineteen-tells = (refl, inl refl)
+
+-- the sheet and l 19, as often the one as the other: 39/2 is carried, and is at most the sheet's limit
+half-way : BlendedClaims 1 1 workedMesh sheet workedMesh sheet19
+half-way = blended-answers sheet-answered nineteen-answered refl sheet-tells nineteen-tells 1 1 (omega arith)
+
+pub half-way-carried : (f : FractionField) × Carries workedMesh f × (f .load .value ≈ᶠ pos 39 over pos 2)
+unfolding computed zeros workedStresses workedMultipliers workedClaim sheet sheet19 carried
+half-way-carried = let (f, blend) = half-way .can-be-blended in let e = half-way .each f blend in (f, e .0, e .1)
+
+pub half-way-at-most : half-way-carried .0 .load .value ≤ᶠ allowed workedMesh sheet
+half-way-at-most = half-way-carried .1 .at-most workedMesh sheet refl sheet-multipliers
+
+-- weights 1 and 0 give the sheet's own load
+pub sheet-alone : (f : FractionField) × Carries workedMesh f × (f .load .value ≈ᶠ pos 20 over pos 1)
+unfolding computed zeros workedStresses workedMultipliers workedClaim sheet sheet19 carried
+sheet-alone =
+    let b : BlendedClaims 1 0 workedMesh sheet workedMesh sheet19 = blended-answers sheet-answered nineteen-answered refl sheet-tells nineteen-tells 1 0 (omega arith) in
+    let (f, blend) = b .can-be-blended in
+    let e = b .each f blend in
+    (f, e .0, e .1)
+
+-- a claim that is refused for its multipliers, blended with the sheet
+pub refused-blended : BlendedClaims 2 3 workedMesh sheet29 workedMesh sheet
+refused-blended = blended-answers refused-answered sheet-answered refl tells-field sheet-tells 2 3 (omega arith)
 
 -- ---- a mesh alone
 

@@ -6,4 +6,5 @@ pub mod VerdictFits
 pub mod Words
 pub mod OpenColumn
 pub mod Promises
+pub mod Books
 pub mod PromisesApplied

@@ -37,6 +37,7 @@ use Rattle.scope.specs.Statements.{HasField, HasMultipliers}
 use Rattle.scope.specs.Refusals.{meshPhases, claimPhases}
 use Rattle.scope.specs.Accepted.{FieldAccepted, MultipliersAccepted, ClaimAccepted}
 use Rattle.scope.specs.Parts.{carried, allowed}
+use Rattle.scope.proofs.Blends.{blended-claims}
 use Rattle.scope.proofs.Exactly.{accepted-exactly, refused-exactly, verdict-cases, returns-zero, claim-by-parts, each-number}
 use Rattle.scope.proofs.Phases.{EachIn, each-refusal, own-number}
 use Rattle.scope.proofs.Parts.{field-n, open-rows-count}
@@ -61,7 +62,7 @@ use Rattle.judge.proofs.Handed.{handed-bracket}
 use Rattle.pechuvo.specs.Check.{check}
 use Rattle.pechuvo.specs.Sheets.{Sheet, printed, starred}
 use Rattle.pechuvo.specs.Answers.{Answers}
-use Rattle.pechuvo.specs.Promises.{meshIn, claimIn, AnyCall, LongFiles, OnFiles, FormExactly, LowerPrinted, UpperPrinted, Prints, OpenRowsPrinted, Call, on-files, on-numbers, AcceptedFiles, TwoCalls, CallAndMultipliers, FractionsAndCall, AsAFile, Written}
+use Rattle.pechuvo.specs.Promises.{meshIn, claimIn, AnyCall, LongFiles, OnFiles, FormExactly, LowerPrinted, UpperPrinted, Prints, OpenRowsPrinted, Call, on-files, on-numbers, AcceptedFiles, TwoCalls, CallAndMultipliers, FractionsAndCall, AsAFile, Written, BlendedCalls}
 use Rattle.pechuvo.proofs.Check.{check-cut, longer-refused}
 use Rattle.pechuvo.proofs.VerdictFits.{held}
 use Rattle.pechuvo.proofs.Words.{lower-word, upper-word, rows-word}
@@ -352,6 +353,10 @@ accepted-parts {a} p b same t w = handed-bracket a b same (call-field p t) w
 -- a field in fractions against the multipliers of a call
 pub fractions-bracket : {b : Handed} {j : ℕ} → FractionsAndCall b j
 fractions-bracket {b} q w z m sound same = fractions-allowed m (meshOf b) (claimOf b) sound same (call-multipliers q w z)
+
+-- the fields of two calls, blended
+pub blended-calls : {a b : Handed} {i j : ℕ} → BlendedCalls a b i j
+blended-calls {a} {b} p q same t u x y w = blended-claims x y (meshOf a) (claimOf a) (meshOf b) (claimOf b) w same (call-field p t) (call-field q u)
 
 -- numbers handed over as a file of them
 pub as-a-file : {m c : List ℤ} {r : NumbersAnswer} → Handed-over.Answers m c r → AsAFile m c r

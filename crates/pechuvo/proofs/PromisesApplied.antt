@@ -7,6 +7,7 @@ use Prim.Native.Nat.{ℕ, _+_, _*_, _<_, _≤_}
 use native.Mathlib.Omega.{arith}
 use lib.IntN.{ℤ, pos}
 use lib.ListN.{length, take, drop, replicate, getD, length-replicate}
+use lib.Signed.{≤ℤ-refl}
 use Rattle.integer.specs.Fraction.{_over_, _≈ᶠ_, _≤ᶠ_}
 use Rattle.scope.specs.declared.Place.the-variants.{Column}
 use Rattle.scope.proofs.Computed.{computed}
@@ -25,6 +26,8 @@ use Rattle.scope.specs.Accepted.{FieldAccepted, MultipliersAccepted, ClaimAccep
 use Rattle.scope.specs.Printed.{NormalAt, StrengthAt}
 use Rattle.scope.specs.AcceptedField.{MeetsCriterion}
 use Rattle.scope.specs.Parts.{carried, allowed, SameRows}
+use Rattle.scope.specs.Fractions.{FractionField}
+use Rattle.scope.specs.Blends.{Carries, BlendedClaims}
 use Rattle.scope.proofs.Refusals.{mesh-passed, lines-passed, multipliers-passed}
 use Rattle.scope.specs.Worked as Numbers
 use Rattle.numbers.specs.Promises.{Returned, TellsField}
@@ -39,9 +42,14 @@ use Rattle.judge.specs.Handed.{files, numbers, meshOf, claimOf, HasAcceptedMult
 use Rattle.pechuvo.specs.Check.{mostFileBytes, check}
 use Rattle.pechuvo.specs.Sheets.{Sheet, sheet, starred, seamMesh, seamFault}
 use Rattle.pechuvo.specs.Answers.{Answers}
-use Rattle.pechuvo.specs.Promises.{meshIn, claimIn, LowerPrinted, UpperPrinted, OpenRowsPrinted, Call, on-files, on-numbers, AsAFile}
+use Rattle.pechuvo.specs.Promises.{meshIn, claimIn, LowerPrinted, UpperPrinted, OpenRowsPrinted, Call, on-files, on-numbers, AsAFile, AskAnswers, CommitAnswers}
+use Rattle.book.specs.Book.{proper, takesAsk, takesCommit, better, moved, followed, unjudged, judgedAs, asked, committed}
+use Rattle.pechuvo.specs.declared.books.BookForC.{BookForC}
+use Rattle.pechuvo.specs.declared.books.BookAnswer.{BookAnswer}
+use Rattle.pechuvo.specs.Books.{boundOf, bookOf}
+use Rattle.pechuvo.proofs.Books.{book-asked, book-committed, ask-then-commit}
 use Rattle.pechuvo.proofs.Sheets.{computedLine}
-use Rattle.pechuvo.proofs.Promises.{any-call, long-files, on-numbers-read, form-exactly, accepted-files, prints-columns, prints-open-rows, calls-bracket, accepted-parts, fractions-bracket, as-a-file, starred-written}
+use Rattle.pechuvo.proofs.Promises.{any-call, long-files, on-numbers-read, form-exactly, accepted-files, prints-columns, prints-open-rows, calls-bracket, accepted-parts, fractions-bracket, as-a-file, starred-written, blended-calls}
 
 -- for proofs by computation: besides the definitions that make a line, those that read its columns and those that say what was handed over
 unfoldable opened : Unit {0}
@@ -365,6 +373,25 @@ pub sheet-and-refused : HandedBracket (files (at 0 .mesh) (at 0 .claim)) (files 
 unfolding claimOf
 sheet-and-refused = accepted-parts sheet-call (files (at 2 .mesh) (at 2 .claim)) (same-mesh (sheet-mesh ∙ sym beyond-mesh)) (sheet-parts .0, inl refl) beyond-strength
 
+-- the files of the sheet and of l 19, which have one mesh, as often the one as the other: 39/2 is carried, and is at most the limit of the multipliers that are refused for their field
+nineteen-call : Call (files (at 1 .mesh) (at 1 .claim)) 0
+nineteen-call = on-files (at 1 .mesh) (at 1 .claim) room 0 0 (at 1 .line) nineteen-file
+
+nineteen-mesh : meshOf (files (at 1 .mesh) (at 1 .claim)) ≡ Numbers.workedMesh
+unfolding opened Numbers.zeros Numbers.workedMesh
+nineteen-mesh = refl
+
+half-way : BlendedClaims 1 1 (meshOf (files (at 0 .mesh) (at 0 .claim))) (claimOf (files (at 0 .mesh) (at 0 .claim))) (meshOf (files (at 1 .mesh) (at 1 .claim))) (claimOf (files (at 1 .mesh) (at 1 .claim)))
+unfolding claimOf
+half-way = blended-calls sheet-call nineteen-call (same-mesh (sheet-mesh ∙ sym nineteen-mesh)) (sheet-parts .0, inl refl) (nineteen-parts .0, inl refl) 1 1 (omega arith)
+
+pub half-way-files : (f : FractionField) × Carries (meshOf (files (at 0 .mesh) (at 0 .claim))) f × (f .load .value ≈ᶠ pos 39 over pos 2)
+unfolding opened carried
+half-way-files = let (f, blend) = half-way .can-be-blended in let e = half-way .each f blend in (f, e .0, e .1)
+
+pub half-way-at-most : half-way-files .0 .load .value ≤ᶠ allowed (meshOf (files (at 2 .mesh) (at 2 .claim))) (claimOf (files (at 2 .mesh) (at 2 .claim)))
+half-way-at-most = half-way-files .1 .at-most (meshOf (files (at 2 .mesh) (at 2 .claim))) (claimOf (files (at 2 .mesh) (at 2 .claim))) (same-mesh (sheet-mesh ∙ sym beyond-mesh)) beyond-strength
+
 -- a field in fractions over twelve denominators, and the multipliers of a file
 pub fractions-and-file : pos 38 over pos 2 ≤ᶠ allowed (meshOf (files (at 0 .mesh) (at 0 .claim))) (claimOf (files (at 0 .mesh) (at 0 .claim)))
 unfolding fraction fractions
@@ -383,3 +410,48 @@ sheet-written number place after h = starred-written (at 0) first room after num
   where
     first : at 0 ∈ starred
     first = List·Memᴰ·head refl
+
+-- ---- a book
+
+-- from an empty book the sheet's bounds are told, and the ask counts
+abbrev emptyForC : BookForC
+emptyForC = record { «lower_there» = 0; «upper_there» = 0; «lower_numerator» = pos 0; «lower_denominator» = pos 0; «upper_numerator» = pos 0; «upper_denominator» = pos 0; count = 0 }
+
+abbrev sheetBook : ℕ → BookForC
+sheetBook count = record { «lower_there» = 1; «upper_there» = 1; «lower_numerator» = pos 20; «lower_denominator» = pos 1; «upper_numerator» = pos 600; «upper_denominator» = pos 30; count = count }
+
+-- for proofs by computation: the definitions of a book too
+unfoldable withBook : Unit {0}
+unfolding opened proper takesAsk takesCommit better moved followed unjudged judgedAs asked committed boundOf
+withBook = tt
+
+pub sheet-asked : AskAnswers emptyForC (at 0 .mesh) (at 0 .claim) (record { number = 0; place = 0; book = sheetBook 1 })
+unfolding withBook
+sheet-asked = refl
+
+-- its commit leaves the book that the ask told
+pub sheet-committed : {r : BookAnswer} → CommitAnswers emptyForC 0 (at 0 .mesh) (at 0 .claim) r → _≡_ {A = BookAnswer} (record { number = 0; place = 0; book = sheetBook 1 }) r
+sheet-committed h = ask-then-commit emptyForC (at 0 .mesh) (at 0 .claim) sheet-asked h
+
+-- then l 19, with the same limit, moves neither bound and counts; the -30 as -29 is refused and leaves the book
+pub nineteen-committed : CommitAnswers (sheetBook 1) 1 (at 1 .mesh) (at 1 .claim) (record { number = 0; place = 0; book = sheetBook 2 })
+unfolding withBook
+nineteen-committed = refl
+
+pub nineteen-followed : bookOf (sheetBook 2) ≡ followed (bookOf (sheetBook 1)) (filesVerdict fileWidth (at 1 .mesh) (at 1 .claim))
+nineteen-followed = book-committed (sheetBook 1) (at 1 .mesh) (at 1 .claim) 1 nineteen-committed .follows refl
+
+pub refused-committed : CommitAnswers (sheetBook 1) 1 (at 4 .mesh) (at 4 .claim) (record { number = 32; place = 7; book = sheetBook 1 })
+unfolding withBook
+refused-committed = refl
+
+-- a commit that names the count before: 48, since the named count differs; a book with a denominator 0: 48 of an ask
+pub stale : {r : BookAnswer} → CommitAnswers (sheetBook 1) 0 (at 1 .mesh) (at 1 .claim) r → r .number ≡ 48
+stale h = book-committed (sheetBook 1) (at 1 .mesh) (at 1 .claim) 0 h .exactly .1 (inl (λ e. omega arith))
+
+abbrev overZero : BookForC
+overZero = record { «lower_there» = 1; «upper_there» = 0; «lower_numerator» = pos 20; «lower_denominator» = pos 0; «upper_numerator» = pos 0; «upper_denominator» = pos 0; count = 1 }
+
+pub no-denominator : {r : BookAnswer} → AskAnswers overZero (at 0 .mesh) (at 0 .claim) r → r .number ≡ 48
+unfolding boundOf
+no-denominator h = book-asked overZero (at 0 .mesh) (at 0 .claim) h .exactly .1 (inr (inl (≤ℤ-refl (pos 0))))

@@ -1,9 +1,10 @@
--- The whole check, from two byte strings to the answer and the buffer, what a call of it answers, the worked sheets,
--- and what a caller may rely on.
--- A reader must believe Check, Answers, Promises and the tables of Sheets; Bytes and Shipped say how a table and a
+-- The whole check, from two byte strings to the answer and the buffer, what a call of it answers, a book as C has it,
+-- the worked sheets, and what a caller may rely on.
+-- A reader must believe Check, Answers, Books, Promises and the tables of Sheets; Bytes and Shipped say how a table and a
 -- file of sheets/ are read. No file is a contract between functions.
 pub mod Check
 pub mod Answers
+pub mod Books
 pub mod Bytes
 pub mod Sheets
 pub mod Shipped

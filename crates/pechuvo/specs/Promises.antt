@@ -1,5 +1,5 @@
 -- What a caller of `pechuvo_check` may rely on: demands 1, 2 and 3 of document 01, each promise a plain statement
--- about the number and the place that are returned and about the bytes of the buffer.
+-- about the number and the place that are returned and about the bytes of the buffer; and the two calls of a book.
 -- Each is proved of every call (`proofs/Promises.antt`) and applied to document 01's sheet
 -- (`proofs/PromisesApplied.antt`). What number and place say of the two files' numbers is said as for numbers handed
 -- over (`numbers/specs/Promises.antt`).
@@ -7,7 +7,7 @@ use mathlib.Core.Path.{_≡_}
 use mathlib.Core.Logic.{_↔_, _⊎_, _≢_}
 use mathlib.Core.List.{List}
 use mathlib.Core.Option.{some}
-use Prim.Native.Nat.{ℕ, suc, _≤_, _<_}
+use Prim.Native.Nat.{ℕ, suc, _+_, _≤_, _<_}
 use lib.IntN.{ℤ, pos, _+ℤ_, _-ℤ_}
 use lib.ListN.{length, take, drop}
 use Rattle.integer.specs.Fraction.{_over_, _≈ᶠ_, _≤ᶠ_, _<ᶠ_}
@@ -18,6 +18,7 @@ use Rattle.scope.specs.Claim.{claimLayout, stress, multiplier}
 use Rattle.scope.specs.Statements.{MeshSound, HasField, HasMultipliers}
 use Rattle.scope.specs.Bracket.{Open}
 use Rattle.scope.specs.Parts.{carried, allowed, SameRows, NumberOf}
+use Rattle.scope.specs.Blends.{BlendedClaims}
 use Rattle.scope.specs.Tests.{rowAt}
 use Rattle.numbers.specs.declared.numbers_answer.NumbersAnswer.{NumbersAnswer}
 use Rattle.numbers.specs.Promises as Handed-over
@@ -31,7 +32,13 @@ use Rattle.report.specs.Says.{columnOf, LineSays}
 use Rattle.judge.specs.Judge.{meshNumbers, claimNumbers, filesVerdict}
 use Rattle.judge.specs.Handed.{Handed, files, numbers, meshOf, claimOf, HasAcceptedMultipliers, OnTheSameMesh, HandedBracket}
 use Rattle.pechuvo.specs.Check.{mostFileBytes}
+use Rattle.book.specs.declared.Book.{Book}
+use Rattle.book.specs.Book.{followed, asked, committed}
+use Rattle.book.specs.History.{Shut}
+use Rattle.pechuvo.specs.declared.books.BookForC.{BookForC}
+use Rattle.pechuvo.specs.declared.books.BookAnswer.{BookAnswer}
 use Rattle.pechuvo.specs.Answers.{Answers}
+use Rattle.pechuvo.specs.Books.{bookOf, forC, bookAnswer}
 use Rattle.pechuvo.specs.Sheets.{Sheet}
 
 -- the numbers of the mesh file, and those of the claim file
@@ -148,11 +155,56 @@ abbrev pub FractionsAndCall : (b : Handed) (j : ℕ) → Type 0
 FractionsAndCall b j = Call b j → HasMultipliers (claimOf b) → j ≡ 0 → (m : List ℤ) → MeshSound m
     → SameRows m (meshOf b) → FractionsBracket m (meshOf b) (claimOf b) (allowed (meshOf b) (claimOf b))
 
+-- "two accepted fields, weighted with whole numbers not below zero and not both zero, give a field in exact fractions
+-- that meets every row and carries the weighted load .. no such blend passes any accepted limit" (document 02, N11):
+-- the fields of two calls, or of one twice, each on files or on numbers
+abbrev pub BlendedCalls : (a b : Handed) (i j : ℕ) → Type 0
+BlendedCalls a b i j = Call a i → Call b j → OnTheSameMesh a b → TellsField (claimOf a) i → TellsField (claimOf b) j
+    → (u v : ℕ) → 0 < u + v → BlendedClaims u v (meshOf a) (claimOf a) (meshOf b) (claimOf b)
+
 -- "Numbers handed to it get the refusals that a file of them, with columns as wide as needed, would get"
 pub record AsAFile (m c : List ℤ) (r : NumbersAnswer) : Type 0 where
   pub some-width : (w : ℕ) × Fit w m × Fit w c
   pub every-width : (w : ℕ) → Fit w m → Fit w c
       → r ≡ answerOf (filesVerdict w (fileOf w meshLayout m) (fileOf w (claimLayout m) c))
+
+-- ==== A book (document 02, N12)
+
+-- the contracts of `pechuvo_book_ask` and `pechuvo_book_commit`
+abbrev pub AskAnswers : BookForC → List ℕ → List ℕ → BookAnswer → Type 0
+AskAnswers c mesh claim r = r ≡ bookAnswer (asked (bookOf c) (filesVerdict fileWidth mesh claim))
+
+abbrev pub CommitAnswers : BookForC → ℕ → List ℕ → List ℕ → BookAnswer → Type 0
+CommitAnswers c count mesh claim r = r ≡ bookAnswer (committed (bookOf c) count (filesVerdict fileWidth mesh claim))
+
+-- what either call answers, where Before is when it is refused before all else
+pub record BookCall (c : BookForC) (mesh claim : List ℕ) (Before : Type 0) (r : BookAnswer) : Type 0 where
+  -- "48, place 0", exactly then
+  pub exactly : (r .number ≡ 48) ↔ Before
+  pub place-0 : r .number ≡ 48 → r .place ≡ 0
+  -- else the number and the place that the check of the two files returns
+  pub returns : r .number ≢ 48 → Returned (meshIn mesh) (claimIn mesh claim) (r .number) (r .place)
+  -- an accepted claim is followed; "a refused claim leaves the book", and so does 48
+  pub follows : r .number ≡ 0 → bookOf (r .book) ≡ followed (bookOf c) (filesVerdict fileWidth mesh claim)
+  pub leaves : r .number ≢ 0 → bookOf (r .book) ≡ bookOf c
+
+-- "for a commit or ask when the count is already 1,000,000 or more or a bound in the book has a denominator not above
+-- 0"; of a commit also "if the named count differs"
+abbrev pub BookAsked : BookForC → List ℕ → List ℕ → BookAnswer → Type 0
+BookAsked c mesh claim r = AskAnswers c mesh claim r → BookCall c mesh claim (Shut (bookOf c)) r
+
+abbrev pub BookCommitted : BookForC → ℕ → List ℕ → List ℕ → BookAnswer → Type 0
+BookCommitted c count mesh claim r = CommitAnswers c count mesh claim r
+    → BookCall c mesh claim ((count ≢ c .count) ⊎ Shut (bookOf c)) r
+
+-- "An ask and its commit agree if no commit came between": where the book is the one that the ask was given
+abbrev pub AskThenCommit : BookForC → List ℕ → List ℕ → (r s : BookAnswer) → Type 0
+AskThenCommit c mesh claim r s = AskAnswers c mesh claim r → CommitAnswers c (c .count) mesh claim s → r ≡ s
+
+-- a book that C was handed is the one that it hands over: so what holds of a week of calls (`book/specs/History.antt`)
+-- holds of calls from C
+abbrev pub HandedBack : Book → Type 0
+HandedBack b = bookOf (forC b) ≡ b
 
 -- ==== The sheets
 
