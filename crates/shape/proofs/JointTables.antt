@@ -6,13 +6,13 @@ use Prim.Native.Nat.{ℕ, suc, _+_, _*_, _/_, _%_, _<_}
 use native.Mathlib.Numerals.{add-one}
 use native.Mathlib.Omega.{arith}
 use lib.IntN.{ℤ, pos, _-ℤ_}
-use lib.Dec.{T, eqb, ltb}
+use lib.Dec.{eqb, ltb}
 use lib.Ieee.Bits.{is-true, is-false}
 use lib.ListN.{length}
 use borrow.Author.Tests.{ltb-true, le-ltb, ne-eqb}
 use Rattle.integer.specs.Tests.{eqZ}
 use Rattle.integer.proofs.Ring.{ring, ring-from, terms}
-use Rattle.integer.proofs.TestLaws.{eqZ-yes, yes-eqZ, no-eqZ}
+use Rattle.integer.proofs.TestLaws.{same-test, eqZ-yes, yes-eqZ, no-eqZ}
 use Rattle.mesh.specs.declared.sizes.Sizes.{Sizes}
 use Rattle.scope.specs.Checks.{someBelow}
 use Rattle.scope.specs.Mesh.{mostNodes, mostElements, nodes, elements, edges, jumps, x, y, jumpFrom, jumpTo, facingFrom, facingTo}
@@ -25,12 +25,6 @@ use Rattle.shape.proofs.SideTables.{bytes-to, byte-of, edge-untaken, ed
 
 -- ---- coordinates
 
-same-test : (p q : Bool) → (T p → T q) → (T q → T p) → p ≡ q
-same-test true true f g = refl
-same-test true false f g = absurd (f tt)
-same-test false true f g = absurd (g tt)
-same-test false false f g = refl
-
 no-difference : {a b : ℤ} → a -ℤ b ≡ pos 0 → a ≡ b
 no-difference {a} {b} e = ring-from (pos 1) e (ring (a ∷ b ∷ []) (search terms depth 100) refl)
 
@@ -39,7 +33,7 @@ some-difference {a} {b} e = ring-from (pos 1) e (ring (a ∷ b ∷ []) (search t
 
 difference-is-0 : (a b : ℤ) → eqZ (a -ℤ b) (pos 0) ≡ eqZ a b
 difference-is-0 a b =
-    same-test (eqZ (a -ℤ b) (pos 0)) (eqZ a b)
+    same-test {x = eqZ (a -ℤ b) (pos 0)} {y = eqZ a b}
     (λ t. yes-eqZ {a = a} {b = b} (no-difference (eqZ-yes {a = a -ℤ b} {b = pos 0} t)))
     (λ t. yes-eqZ {a = a -ℤ b} {b = pos 0} (some-difference (eqZ-yes {a = a} {b = b} t)))
 
