@@ -71,7 +71,7 @@ refused-answered = refl
 -- the multipliers alone, on a mesh that has one soil more, which no element has: the same rows
 unfoldable pub secondSoil : List ℤ
 secondSoil =
-    (pos 4 ∷ pos 1 ∷ pos 2 ∷ pos 3 ∷ pos 12 ∷ [])
+    (pos 4 ∷ pos 1 ∷ pos 2 ∷ pos 3 ∷ pos 12 ∷ pos 0 ∷ [])
     ++ (pos 0 ∷ pos 1 ∷ pos 1 ∷ pos 10 ∷ zeros 4)
     ++ (pos 3 ∷ pos 4 ∷ pos 5 ∷ pos 7 ∷ zeros 4)
     ++ (pos 0 ∷ pos 0 ∷ pos 1 ∷ pos 0 ∷ pos 1 ∷ pos 1 ∷ pos 0 ∷ pos 1 ∷ [])
@@ -202,7 +202,7 @@ sheet-mesh-passes h = mesh-answered-exactly h .passes .1 (sheet-accepted .mesh)
 
 -- a header that asks for 101 nodes: 2, line 1
 unfoldable pub manyNodes : List ℤ
-manyNodes = pos 101 ∷ pos 1 ∷ pos 1 ∷ pos 0 ∷ pos 12 ∷ []
+manyNodes = pos 101 ∷ pos 1 ∷ pos 1 ∷ pos 0 ∷ pos 12 ∷ pos 0 ∷ []
 
 many-nodes-number : {r : MeshAnswer} → MeshAnswered manyNodes r
     → (meshNumberOf (r .outcome) ≡ 2) × (meshPlaceOf (r .outcome) ≡ 1)
