@@ -25,11 +25,13 @@
       6      element   a directed side that a lower element has
       7      node      in no element
       8      line      edge is no element's side, or its reverse is one, or an earlier edge has it
+     44      line      jump: its two sides are not outer sides that face each other, or one is used
+                       by an edge or an earlier jump
      42      node      brings the 101st pair of a node and a soil of the elements around it
      11      line      claim form
      12      line      claim number outside its limits
      13      line 1    both parts absent; field with n = 0; no field and n or l not 0
-     21      row       equality fails (balance and side rows, counted together from 1)
+     21      row       equality fails (balance, side and jump rows, counted together from 1)
      22      row       strength fails (strength rows, counted from 1, by pairs)
      31      row       nonzero multiplier on an unfixed row
      32      column    column sum not 0
@@ -38,13 +40,18 @@
      43      0         number of decimals other than 0 to 7; pechuvo_check only
 
    The first that applies is returned, in this order: 43; 41; the mesh's lines front to back, in
-   each line 1, 2, 3, 4; then 5, 6, 7, 8 and 42, each over the whole mesh; the claim's lines front to
+   each line 1, 2, 3, 4; then 5, 6, 7, 8, 44 and 42, each over the whole mesh; the claim's lines front to
    back, in each line 11, 12, and 13 straight after line 1; then 21, 22, 31, 32 and 33. Of one
    number the lowest place comes first. Lines, elements, nodes, rows and columns are counted from 1.
 
    A node makes a pair with each soil of the elements around it. Pairs are numbered from 1, nodes
    ascending and at a node soils ascending; a mesh has at most 100. A claim's strength multipliers
-   are a line for each pair, and the strength row of side k of pair a is (a - 1) * sides + k. */
+   are a line for each pair, and the strength row of side k of pair a is (a - 1) * sides + k.
+
+   The mesh's header has six columns, the sixth its number of jumps, 0 to 60; a line for each
+   follows the edges: from and to on one side of a joint, then the two facing nodes in the same
+   order. Its four rows follow those of the edges, in an edge's order, and so does its line of four
+   multipliers. */
 #ifndef PECHUVO_H
 #define PECHUVO_H
 

@@ -22,11 +22,12 @@ QUADRANTS = {
 NODE, SOIL = "node", "soil"
 FORCE, TRACTION = range(-1_000, 1_001), range(-10_000, 10_001)
 COORDINATE = range(1_001)
-HEADER = [range(4, 101), range(1, 101), range(1, 17), range(61), QUADRANTS.keys()]
+HEADER = [range(4, 101), range(1, 101), range(1, 17), range(61), QUADRANTS.keys(), range(61)]
 SOIL_LINE = [range(1_001), range(1, 1_001), range(1, 1_001), range(10_001), *[FORCE] * 4]
 NODE_LINE = [COORDINATE] * 2
 ELEMENT_LINE = [*[NODE] * 4, SOIL]
 EDGE_LINE = [NODE, NODE, range(1, 4), *[TRACTION] * 4]
+JUMP_LINE = [NODE] * 4
 
 CLAIM_HEADER = [range(2), range(2), range(100_001), range(-100_000_000, 100_000_001)]
 STRESS = range(-1_000_000_000, 1_000_000_001)
@@ -37,11 +38,12 @@ MOST_PAIRS = 100
 Soil = namedtuple("Soil", "p q h cohesion dead live")
 Element = namedtuple("Element", "nodes soil")
 Edge = namedtuple("Edge", "start end fixed dead live")  # loads are (normal, shear)
-Mesh = namedtuple("Mesh", "sides soils nodes elements edges")
+Jump = namedtuple("Jump", "start end facing_start facing_end")
+Mesh = namedtuple("Mesh", "sides soils nodes elements edges jumps")
 # stresses: sx, sy, t of node after node, or None; multipliers: in the order of the rows, or None.
 Claim = namedtuple("Claim", "n l stresses multipliers")
 
-# kind: balance, side or strength; of: what the row belongs to; number: within equalities, or within strength
+# kind: balance, side, jump or strength; of: what the row belongs to; number: within equalities, or within strength
 # rows, from 1; fixed: whether it asks anything; entries: column -> coefficient; live: coefficient of l, moved
 # to the left; right: right side at n = 1; limits: what its multiplier may be.
 Row = namedtuple("Row", "kind of number fixed entries live right limits")
@@ -117,7 +119,7 @@ def soil_of(lines):
 
 def mesh_of(lines):
     """The mesh that lines hold, in document 01's order: 1 to 4 line by line."""
-    nodes, elements, soils, edges, sides = take_line(lines, HEADER, 2)
+    nodes, elements, soils, edges, sides, jumps = take_line(lines, HEADER, 2)
     counts = {NODE: nodes, SOIL: soils}
     all_soils = [soil_of(lines) for _ in range(soils)]
     all_nodes = [tuple(take_line(lines, NODE_LINE, 2)) for _ in range(nodes)]
@@ -129,12 +131,13 @@ def mesh_of(lines):
     for _ in range(edges):
         start, end, fixed, *loads = take_line(lines, EDGE_LINE, 2, counts)
         all_edges.append(Edge(start - 1, end - 1, fixed, tuple(loads[:2]), tuple(loads[2:])))
+    all_jumps = [Jump(*(node - 1 for node in take_line(lines, JUMP_LINE, 2, counts))) for _ in range(jumps)]
     lines.end()
-    return Mesh(sides, all_soils, all_nodes, all_elements, all_edges)
+    return Mesh(sides, all_soils, all_nodes, all_elements, all_edges, all_jumps)
 
 
 def edge_line(mesh, edge):
-    """The line of an edge, edges counted from 0."""
+    """The line of an edge, edges counted from 0; jumps follow the edges."""
     return 2 + len(mesh.soils) + len(mesh.nodes) + len(mesh.elements) + edge
 
 
@@ -143,6 +146,7 @@ def multiplier_groups(mesh):
     return [
         (len(mesh.elements), 2, EQUALITY_MULTIPLIER),
         (len(mesh.edges), 4, EQUALITY_MULTIPLIER),
+        (len(mesh.jumps), 4, EQUALITY_MULTIPLIER),
         (len(strength_pairs(mesh)), mesh.sides, STRENGTH_MULTIPLIER),
     ]
 
@@ -255,6 +259,18 @@ def judge_edges(mesh):
         free.remove((edge.start, edge.end))
 
 
+def judge_jumps(mesh):
+    """44, unless both sides are outer ones as directed, in one place, and used by no edge or earlier jump."""
+    free = outer_sides(mesh) - {(edge.start, edge.end) for edge in mesh.edges}
+    for number, jump in enumerate(mesh.jumps):
+        sides = {(jump.start, jump.end), (jump.facing_end, jump.facing_start)}
+        here = mesh.nodes[jump.start], mesh.nodes[jump.end]
+        there = mesh.nodes[jump.facing_start], mesh.nodes[jump.facing_end]
+        if not sides <= free or here != there:
+            raise Refused(44, edge_line(mesh, len(mesh.edges) + number), "line")
+        free -= sides
+
+
 def judge_pairs(mesh):
     """42, with the node that brings one pair too many."""
     pairs = strength_pairs(mesh)
@@ -263,8 +279,8 @@ def judge_pairs(mesh):
 
 
 def judge_mesh(mesh):
-    """5, 6, 7, 8, 42, each over the whole mesh."""
-    for judge in (judge_turns, judge_sides, judge_nodes, judge_edges, judge_pairs):
+    """5, 6, 7, 8, 44, 42, each over the whole mesh."""
+    for judge in (judge_turns, judge_sides, judge_nodes, judge_edges, judge_jumps, judge_pairs):
         judge(mesh)
 
 
@@ -337,6 +353,19 @@ def side_rows(mesh):
                 yield "side", of, fixed, entries, -size * edge.live[part], size * edge.dead[part]
 
 
+def jump_rows(mesh):
+    """Four for each jump, in an edge's order: the first node's normal or shear minus the facing one's is 0. At the
+    tip of a joint the two nodes are one, and the rows say nothing."""
+    for number, jump in enumerate(mesh.jumps):
+        step = step_of(mesh, jump.start, jump.end)
+        for end, (node, facing) in enumerate(((jump.start, jump.facing_start), (jump.end, jump.facing_end))):
+            for part, (near, far) in enumerate(zip(traction(step, node), traction(step, facing))):
+                entries = dict(near)
+                for column, coefficient in far.items():
+                    plus(entries, column, -coefficient)
+                yield "jump", (number, end, part), True, entries, 0, 0
+
+
 def polygon_rows(mesh, node, soil):
     """(entries, right side) of a node's strength rows, side by side of the polygon."""
     r, corner = radius(mesh.sides), corners(mesh.sides)
@@ -359,7 +388,7 @@ def strength_rows(mesh):
 
 def rows_of(mesh):
     """All rows, in the order of their multipliers in a claim: equalities, then strength."""
-    equalities = [*balance_rows(mesh), *side_rows(mesh)]
+    equalities = [*balance_rows(mesh), *side_rows(mesh), *jump_rows(mesh)]
     groups = (equalities, EQUALITY_MULTIPLIER), (strength_rows(mesh), STRENGTH_MULTIPLIER)
     return [Row(*row[:2], k + 1, *row[2:], limits) for group, limits in groups for k, row in enumerate(group)]
 

@@ -28,8 +28,9 @@ def outline(i, j, size=1):
 
 def polygon_mesh(polygons, at, edge_of, soils, sides):
     """A mesh of polygons, each its points counterclockwise and a soil; three points make a triangle, which
-    repeats its third node. `at` places a point, and `edge_of` gives an outer side from point a to point b its
-    fixing and loads, or None."""
+    repeats its third node. `at` places a point by its first two numbers; points that differ in a third lie on
+    each other, and where two outer sides do, stress may jump. `edge_of` gives an outer side from point a to point
+    b its fixing and loads, or None."""
     points = sorted({point for corner, _ in polygons for point in corner}, key=lambda p: (p[1], p[0], *p[2:]))
     number = {point: k + 1 for k, point in enumerate(points)}
     elements, directed = [], []
@@ -39,8 +40,11 @@ def polygon_mesh(polygons, at, edge_of, soils, sides):
     outer = [(a, b) for a, b in directed if (b, a) not in set(directed)]
     loads = [(a, b, edge_of(a, b)) for a, b in outer]
     edges = [[number[a], number[b], *load] for a, b, load in loads if load]
-    header = [len(points), len(elements), len(soils), len(edges), sides]
-    return [header, *soils, *([*at(*point)] for point in points), *elements, *edges]
+    by_place = {(a[:2], b[:2]): (a, b) for a, b in outer}
+    joints = [(side, by_place[b[:2], a[:2]]) for (a, b), side in by_place.items() if (b[:2], a[:2]) in by_place]
+    jumps = [[number[a], number[b], number[d], number[c]] for (a, b), (c, d) in joints if (a, b) < (d, c)]
+    header = [len(points), len(elements), len(soils), len(edges), sides, len(jumps)]
+    return [header, *soils, *([*at(*point[:2])] for point in points), *elements, *edges, *jumps]
 
 
 def mesh_lines(cells, at, soil_of, edge_of, soils, sides):
@@ -211,14 +215,19 @@ def triangle_block(size, soils, sides, confining=0):
     return polygon_mesh([([a, b, c], 1), ([d, a, c], 1)], scaled(1), plate_edge(size, size, confining), soils, sides)
 
 
-def fan_footing(size, right, deep, soils, sides):
-    """Half of a smooth strip footing, two cells wide, with a fan of eight triangles at its edge: the fan fills
-    four cells by two, and `right` columns beside it and `deep` rows below it are cells. As in `footing`, the
-    side right of the footing's edge has no edge line."""
+def fan_footing_polygons(right, deep):
+    """A fan of eight triangles around (2, deep + 2) that fills four cells by two; `right` columns beside it and
+    `deep` rows below it are cells."""
     top, apex = deep + 2, (2, deep + 2)
     ring = [(0, top), (0, top - 1), (0, deep), (1, deep), (2, deep), (3, deep), (4, deep), (4, top - 1), (4, top)]
-    fan = [([a, b, apex], 1) for a, b in zip(ring, ring[1:])]
     cells = [(i, j) for i, j in block_cells(4 + right, top) if i >= 4 or j < deep]
+    return [([a, b, apex], 1) for a, b in zip(ring, ring[1:])] + [(outline(*cell), 1) for cell in cells]
+
+
+def fan_footing(size, right, deep, soils, sides):
+    """Half of a smooth strip footing, two cells wide, with a fan of triangles at its edge. As in `footing`, the
+    side right of the footing's edge has no edge line."""
+    top = deep + 2
 
     def edge(a, b):
         if a[1] == b[1] == top:
@@ -227,7 +236,7 @@ def fan_footing(size, right, deep, soils, sides):
             return None if min(a[0], b[0]) <= 2 else FREE
         return SMOOTH if a[0] == b[0] == 0 else None
 
-    return polygon_mesh(fan + [(outline(*cell), 1) for cell in cells], scaled(size), edge, soils, sides)
+    return polygon_mesh(fan_footing_polygons(right, deep), scaled(size), edge, soils, sides)
 
 
 def seam(size, fill, soft, sides):
@@ -243,6 +252,92 @@ def wheel(size, soils, sides, order):
     spokes = zip(ring, ring[1:] + ring[:1], order)
     polygons = [([a, b, (2, 2)], soil) for a, b, soil in spokes]
     return polygon_mesh(polygons, scaled(size), plate_edge(4, 4), soils, sides)
+
+
+def joint_blocks(size, soils, sides, tag):
+    """Two blocks side by side between smooth walls on a smooth floor: the left one is loaded, the right one's top
+    is free. Points of the right block at the joint have `tag`: with it the blocks meet in a joint, and with none
+    they share nodes."""
+    left, right = [(0, 0), (1, 0), (1, 1), (0, 1)], [(1, 0, *tag), (2, 0), (2, 1), (1, 1, *tag)]
+
+    def edge(a, b):
+        if a[1] == b[1] == 1:
+            return (3, 0, 0, -1, 0) if max(a[0], b[0]) == 1 else FREE
+        return None if a[0] == b[0] == 1 else SMOOTH
+
+    return polygon_mesh([(left, 1), (right, 1)], scaled(size), edge, soils, sides)
+
+
+def leaning_joint(size, soils, sides, confining=0):
+    """A block between smooth plates, cut by a joint that leans."""
+    left, right = [(0, 0), (1, 0), (3, 2), (0, 2)], [(1, 0, 1), (4, 0), (4, 2), (3, 2, 1)]
+
+    def edge(a, b):
+        return None if {a[:2], b[:2]} == {(1, 0), (3, 2)} else plate_edge(4, 2, confining)(a, b)
+
+    return polygon_mesh([(left, 1), (right, 1)], scaled(size), edge, soils, sides)
+
+
+def joint_grid(size, soils, sides):
+    """A block between smooth plates of 25 cells, each with nodes of its own: stress may jump between any two."""
+    polygons = [([(*point, k) for point in outline(*cell)], 1) for k, cell in enumerate(block_cells(5, 5))]
+    outside = plate_edge(5, 5)
+
+    def edge(a, b):
+        on_rim = {a[0], b[0]} in ({0}, {5}) or {a[1], b[1]} in ({0}, {5})
+        return outside(a, b) if on_rim else None
+
+    return polygon_mesh(polygons, scaled(size), edge, soils, sides)
+
+
+def jointed(cells, column, top, depth):
+    """Cells with an upright joint at `column`, from height `top` down `depth` cells: the nodes of the joint are
+    doubled but the lowest, its tip."""
+
+    def point_of(point, i):
+        doubled = point[0] == column == i and top - depth < point[1] <= top
+        return (*point, 1) if doubled else point
+
+    return [([point_of(point, cell[0]) for point in outline(*cell)], 1) for cell in cells]
+
+
+def tip_footing(columns, rows, size, width, soils, sides, depth):
+    """Half of a smooth strip footing with a joint down from its edge, in which loaded and free surface meet."""
+    polygons = jointed(block_cells(columns, rows), width, rows, depth)
+
+    def edge(a, b):
+        if a[1] == b[1] == rows:
+            return (3, 0, 0, -1, 0) if max(a[0], b[0]) <= width else FREE
+        return SMOOTH if a[0] == b[0] == 0 else None
+
+    return polygon_mesh(polygons, scaled(size), edge, soils, sides)
+
+
+def tip_cut(columns, rows, size, column, row, soils, sides, depth):
+    """The vertical cut of `cut` with a joint down from its toe, so that wall and floor share no node."""
+    cells = [(i, j) for i, j in block_cells(columns, rows) if i < column or j < row]
+
+    def edge(a, b):
+        top = a[1] == b[1] == rows
+        wall = a[0] == b[0] == column and min(a[1], b[1]) >= row
+        floor = a[1] == b[1] == row and min(a[0], b[0]) >= column
+        return FREE if top or wall or floor else None
+
+    return polygon_mesh(jointed(cells, column, row, depth), scaled(size), edge, soils, sides)
+
+
+def jointed_fan(size, right, deep, soils, sides):
+    """The fan of `fan_footing` with joints between its triangles: each has its own stress at the footing's edge."""
+    top = deep + 2
+    mesh = fan_footing_polygons(right, deep)
+    fan = [([a, b, (*apex, k)], 1) for k, ((a, b, apex), _) in enumerate(mesh[:8])]
+
+    def edge(a, b):
+        if a[1] == b[1] == top:
+            return (3, 0, 0, -1, 0) if max(a[0], b[0]) <= 2 else FREE
+        return SMOOTH if a[0] == b[0] == 0 else None
+
+    return polygon_mesh(fan + mesh[8:], scaled(size), edge, soils, sides)
 
 
 def by_soil(mesh):
@@ -269,7 +364,7 @@ def printed(text):
 
 
 WORKED_MESH = (
-    "4 1 1 3 12 / 0 1 1 10 0 0 0 0 / 0 0 / 1 0 / 1 1 / 0 1 / 1 2 3 4 1 / "
+    "4 1 1 3 12 0 / 0 1 1 10 0 0 0 0 / 0 0 / 1 0 / 1 1 / 0 1 / 1 2 3 4 1 / "
     "3 4 3 {dead} 0 {live} 0 / 2 3 3 0 0 0 0 / 4 1 3 0 0 0 0"
 )
 ZEROS = " / " + " ".join(["0"] * 12)
@@ -290,7 +385,7 @@ def paper_sheets():
     refused = lambda number, place: [str(number), str(place), "none", "none"]
     sheet = lambda name, mesh, claim, *line: Sheet(name, mesh, claim=claim, line=list(line))
     corner_mesh = printed(
-        "4 1 1 2 12 / 0 1 1 10000 0 0 0 0 / 0 0 / 169 0 / 288 120 / 0 120 / 1 2 3 4 1 / "
+        "4 1 1 2 12 0 / 0 1 1 10000 0 0 0 0 / 0 0 / 169 0 / 288 120 / 0 120 / 1 2 3 4 1 / "
         "1 2 3 -1 1 6000 6600 / 2 3 3 0 0 -6000 6500"
     )
     corner_claim = printed("0 1 0 0 / 0 0 / 0 0 -119 -120 / 119 -120 0 0" + 4 * ZEROS)
@@ -391,11 +486,11 @@ def corner_sheets():
 
     Level and upright edges both fix t at a corner they share, so equal multipliers on their
     shear rows leave every column 0 and add up what the two edges ask."""
-    small = "4 1 1 3 12 / 0 1 1 10000 0 0 0 0 / 900 900 / 1000 900 / 1000 1000 / 900 1000 / 1 2 3 4 1 / "
+    small = "4 1 1 3 12 0 / 0 1 1 10000 0 0 0 0 / 900 900 / 1000 900 / 1000 1000 / 900 1000 / 1 2 3 4 1 / "
     small += "3 4 3 0 0 -10 0 / 2 3 3 0 0 0 0 / 4 1 3 0 0 0 0"
     field = "1 1 50000 100000000" + " / 0 -1000000000 0" * 4 + " / 0 0 / 30 0 0 0 / 0 0 -30 0 / 0 0 0 0"
     full = " / 10000 0 0 0 0 0 0 0 0 0 0 10000"
-    two = "8 2 1 6 36 / 0 1000 1000 10000 0 0 0 0 / 0 0 / 1000 0 / 1000 1000 / 0 1000 / "
+    two = "8 2 1 6 36 0 / 0 1000 1000 10000 0 0 0 0 / 0 0 / 1000 0 / 1000 1000 / 0 1000 / "
     two += "0 0 / 1 0 / 1 1 / 0 1 / 1 2 3 4 1 / 5 6 7 8 1 / "
     two += "1 2 3 0 {d} 0 0 / 2 3 3 0 {d} 0 0 / 3 4 3 0 {d} 0 0 / 4 1 3 0 {d} 0 0 / 5 6 3 0 0 0 0 / 6 7 3 0 0 0 -1"
     pair = "0 1 0 0 / 0 0 / 0 0" + " / 0 {y} 0 {y}" * 4 + " / 0 0 0 1 / 0 1 0 0"
@@ -432,8 +527,27 @@ def pair_sheets():
     ]
 
 
+def jump_sheets():
+    """Stress jumps across a joint (document 02, N6). In joint_blocks_uneven the level push of the blocks on each
+    other differs."""
+    joint, soil = joint_blocks(10, [clay(10)], 12, (1,)), [clay(10)]
+    level = " / -20 -40 0 / -20 -40 0 / -19 0 0 / -19 0 0"
+    uneven = printed("1 0 1 40" + 2 * level)
+    return [
+        Sheet("joint_blocks", joint),
+        Sheet("joint_blocks_shared", joint_blocks(10, soil, 12, ())),
+        Sheet("joint_blocks_uneven", joint, claim=uneven, line=["21", "29", "none", "none"]),
+        Sheet("joint_leaning", leaning_joint(10, [sand(3, 4, 5, 10)], 12, 10)),
+        Sheet("joint_tip_footing", tip_footing(4, 3, 10, 1, soil, 12, 1)),
+        Sheet("joint_tip_cut", tip_cut(4, 4, 10, 2, 2, [clay(100, live=(0, -1))], 12, 1)),
+        Sheet("joint_fan_12", jointed_fan(10, 1, 1, soil, 12)),
+        Sheet("joint_fan_20", jointed_fan(10, 1, 1, soil, 20)),
+        Sheet("joint_grid", joint_grid(65, soil, 36)),
+    ]
+
+
 SHEETS = paper_sheets() + known_sheets() + other_sheets() + load_sheets() + corner_sheets() + triangle_sheets()
-SHEETS += pair_sheets()
+SHEETS += pair_sheets() + jump_sheets()
 
 
 def runs():

@@ -8,9 +8,9 @@ use lib.ListN.{length, take, length-replicate}
 use lib.Seq.{getD-take}
 use Rattle.scope.specs.declared.Outcome.the-variants.{Passed}
 use Rattle.scope.specs.Columns.{at, hasField, hasMultipliers}
-use Rattle.scope.specs.Mesh.{meshLayout, nodes, elements, edges, sides, elementRows, edgeRows}
+use Rattle.scope.specs.Mesh.{meshLayout, nodes, elements, edges, sides, jumps, elementRows, edgeRows, rowsPerJump}
 use Rattle.scope.specs.Rows.{pairCount}
-use Rattle.scope.specs.Claim.{claimHeaderColumns, stressColumns, claimLayout, claimHeader, ifThere, stressLines, elementMultipliers, edgeMultipliers, strengthMultipliers}
+use Rattle.scope.specs.Claim.{claimHeaderColumns, stressColumns, claimLayout, claimHeader, ifThere, stressLines, elementMultipliers, edgeMultipliers, jumpMultipliers, strengthMultipliers}
 use Rattle.scope.specs.Verdict.{meshCheck, linesCheck}
 use Rattle.scope.proofs.Refusals.{lines-passed, mesh-passed}
 use Rattle.mesh.specs.declared.sizes.Sizes.{Sizes}
@@ -30,8 +30,8 @@ use Rattle.judge.specs.ClaimBytes.{claimBytes}
 use Rattle.judge.proofs.Numbers.{some-side}
 
 -- the bytes, counted
-pub claim-bytes : (m c : List ℤ) → claimBytes m c ≡ (claimHeaderColumns * fileWidth + 1) + ifThere (hasField c) (nodes m) * (stressColumns * fileWidth + 1) + ifThere (hasMultipliers c) (elements m) * (elementRows * fileWidth + 1) + ifThere (hasMultipliers c) (edges m) * (edgeRows * fileWidth + 1) + ifThere (hasMultipliers c) (pairCount m) * (sides m * fileWidth + 1)
-unfolding claimBytes claimLayout claimHeader stressLines elementMultipliers edgeMultipliers strengthMultipliers lineBytes
+pub claim-bytes : (m c : List ℤ) → claimBytes m c ≡ (claimHeaderColumns * fileWidth + 1) + ifThere (hasField c) (nodes m) * (stressColumns * fileWidth + 1) + ifThere (hasMultipliers c) (elements m) * (elementRows * fileWidth + 1) + ifThere (hasMultipliers c) (edges m) * (edgeRows * fileWidth + 1) + ifThere (hasMultipliers c) (jumps m) * (rowsPerJump * fileWidth + 1) + ifThere (hasMultipliers c) (pairCount m) * (sides m * fileWidth + 1)
+unfolding claimBytes claimLayout claimHeader stressLines elementMultipliers edgeMultipliers jumpMultipliers strengthMultipliers lineBytes
 claim-bytes m c = simp (group-bytes, no-bytes, length-replicate) (omega arith)
 
 -- they follow from the header's four numbers

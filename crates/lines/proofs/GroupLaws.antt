@@ -19,12 +19,12 @@ use Rattle.scope.specs.declared.Outcome.{Outcome}
 use Rattle.scope.specs.declared.Outcome.the-variants.{Passed, Refused}
 use Rattle.mesh.specs.declared.sizes.Sizes.{Sizes}
 use Rattle.lines.specs.declared.layout.Rule.{Rule}
-use Rattle.lines.specs.declared.layout.Rule.the-variants.{Soil, Element, Edge}
+use Rattle.lines.specs.declared.layout.Rule.the-variants.{Soil, Element, Edge, Jump}
 use Rattle.scope.specs.Checks.{demand, _then_, lowest}
 use Rattle.scope.specs.Columns.{hasField, hasMultipliers}
 use Rattle.scope.specs.Layout.{Group, Layout, Placed, width, groups, lineCount, numberCount, lineOf, lineNumbers}
 use Rattle.scope.specs.Verdict.{lineCheck, lineAt, linesCheck}
-use Rattle.scope.specs.Mesh.{meshHeaderColumns, meshHeader, meshLayout, soilLines, elementLines, edgeLines}
+use Rattle.scope.specs.Mesh.{meshHeaderColumns, meshHeader, meshLayout, soilLines, elementLines, edgeLines, jumpLines}
 use Rattle.scope.specs.Claim.{claimHeaderColumns, claimHeader, claimLayout, ifThere}
 use Rattle.mesh.specs.MeshContracts.{SizesAre, Counted, HeaderThere}
 use Rattle.lines.specs.Table.{ruledLines, meshBody, claimBody}
@@ -53,23 +53,25 @@ module _ (f : Layout) (g : Group) (s : List ℤ) (k : ℕ) (p : Place) {w from :
 
 -- the lines with rules of their own: how many there are matters neither to their columns nor to the check of one
 pub ruled-width : (rule : Rule) (z : Sizes) (n : ℕ) → width (ruledLines rule z n) ≡ width (ruledLines rule z 0)
-unfolding ruledLines soilLines elementLines edgeLines
+unfolding ruledLines soilLines elementLines edgeLines jumpLines
 ruled-width Soil z n = refl
 ruled-width Element z n = refl
 ruled-width Edge z n = refl
+ruled-width Jump z n = refl
 
 module _ (rule : Rule) (z : Sizes) (f : Layout) (s : List ℤ) (line : ℕ) where
   abbrev ruledStep : ℕ → Outcome
   ruledStep k = lineStep f (ruledLines rule z 0) s line k
 
   ruled-group : (n : ℕ) → lowest ruledStep n ≡ groupCheck f (ruledLines rule z n) s line
-  unfolding ruledLines groupCheck lineCheck soilLines elementLines edgeLines
+  unfolding ruledLines groupCheck lineCheck soilLines elementLines edgeLines jumpLines
   ruled-group n = of rule
     where
       of : (rule : Rule) → lowest (lineStep f (ruledLines rule z 0) s line) n ≡ groupCheck f (ruledLines rule z n) s line
       of Soil = refl
       of Element = refl
       of Edge = refl
+      of Jump = refl
 
   -- the lines before line k have passed
   module _ (k : ℕ) (h : lowest ruledStep k ≡ Passed) {o : Outcome} (e : o ≡ ruledStep k) where
@@ -199,11 +201,11 @@ numbered-from form = record { formIs = refl; limitIs = refl }
 -- the groups that the definitions tell, by the sizes that the code is handed
 pub mesh-body : {m : List ℤ} {s : Sizes} → SizesAre m s → meshBody s ≡ meshLayout .body m
 unfolding meshLayout meshBody
-mesh-body k = rw (k .nodesAre, k .elementsAre, k .soilsAre, k .edgesAre)
+mesh-body k = rw (k .nodesAre, k .elementsAre, k .soilsAre, k .edgesAre, k .jumpsAre)
 
 pub claim-body : {m : List ℤ} {s : Sizes} → Counted m s → (c : List ℤ) → claimBody s (hasField c) (hasMultipliers c) ≡ claimLayout m .body c
 unfolding claimLayout claimBody
-claim-body k c = rw (k .sizes .nodesAre, k .sizes .elementsAre, k .sizes .edgesAre, k .sizes .sidesAre, k .pairsAre)
+claim-body k c = rw (k .sizes .nodesAre, k .sizes .elementsAre, k .sizes .edgesAre, k .sizes .jumpsAre, k .sizes .sidesAre, k .pairsAre)
 
 -- only the numbers of its refusals matter of a file
 pub mesh-starts : (m : List ℤ) → Reached (linesCheck meshLayout m) (numbered 1) (meshHeader ∷ meshLayout .body m) m 1

@@ -28,7 +28,7 @@ use Rattle.scope.specs.Columns.{Limit, between, free, within, isOneOf, allWithi
 use Rattle.scope.specs.Claim.{claimHeaderColumns}
 use Rattle.scope.specs.Layout.{Group, Layout, width, groups, lineOf, lineNumbers}
 use Rattle.scope.specs.Verdict.{lineCheck, lineAt, rulesHold}
-use Rattle.scope.specs.Mesh.{mostNodes, mostElements, mostSoils, mostEdges, mostSides, meshHeaderColumns, soilColumns, elementColumns, edgeColumns, meshLayout, meshHeader, soilLines, edgeLines}
+use Rattle.scope.specs.Mesh.{mostNodes, mostElements, mostSoils, mostEdges, mostSides, mostJumps, meshHeaderColumns, soilColumns, elementColumns, edgeColumns, jumpColumns, meshLayout, meshHeader, soilLines, edgeLines}
 use Rattle.lines.specs.LineContracts.{ranges, AsMany}
 use Rattle.scope.proofs.Statements.{all-within}
 use Rattle.scope.proofs.Refusals.{line-check-passed}
@@ -162,7 +162,7 @@ angle-read (p ∷ []) l a = absurd (omega arith)
 angle-read (p ∷ q ∷ []) l a = absurd (omega arith)
 angle-read (p ∷ q ∷ h ∷ s) l a = rw (toZ-ofZ (Within-SFits (a .p) (omega arith)), toZ-ofZ (Within-SFits (a .q) (omega arith)), toZ-ofZ (Within-SFits (a .h) (omega arith)))
 
--- ---- an element and an edge
+-- ---- an element, an edge and a jump
 
 pub all-free : (k : ℕ) (s : List ℤ) → allWithin (replicate k free) s ≡ true
 unfolding allWithin within
@@ -183,6 +183,14 @@ element-names ns ss f g (a ∷ b ∷ []) l = absurd (omega arith)
 element-names ns ss f g (a ∷ b ∷ d ∷ []) l = absurd (omega arith)
 element-names ns ss f g (a ∷ b ∷ d ∷ e ∷ []) l = absurd (omega arith)
 element-names ns ss f g (a ∷ b ∷ d ∷ e ∷ z ∷ s) l = rw (cast-count ns f, cast-count ss (omega arith))
+
+pub jump-names : (ns : ℕ) → ns ≤ mostNodes → (s : List ℤ) → jumpColumns ≤ length s → ruleTest (naming ((0, ns) ∷ (1, ns) ∷ (2, ns) ∷ (3, ns) ∷ [])) (take jumpColumns s) ≡ allWithin (ranges (replicate jumpColumns (pos 1)) (replicate jumpColumns (toZ w64 ns))) (take jumpColumns s)
+unfolding ruleTest allNamed names at allWithin within ranges
+jump-names ns f [] l = absurd (omega arith)
+jump-names ns f (a ∷ []) l = absurd (omega arith)
+jump-names ns f (a ∷ b ∷ []) l = absurd (omega arith)
+jump-names ns f (a ∷ b ∷ d ∷ []) l = absurd (omega arith)
+jump-names ns f (a ∷ b ∷ d ∷ e ∷ s) l = rw (cast-count ns f)
 
 pub edge-names : (ns : ℕ) → ns ≤ mostNodes → (s : List ℤ) → edgeColumns ≤ length s → ruleTest (naming ((0, ns) ∷ (1, ns) ∷ [])) (take edgeColumns s) ≡ allWithin (ranges (replicate 2 (pos 1)) (replicate 2 (toZ w64 ns))) (take 2 s)
 unfolding ruleTest allNamed names at allWithin within ranges
@@ -211,35 +219,44 @@ last-sides {z} f g = rw (is-false (eqZ z (pos 12)) (no-eqZ f), is-false (eqZ z (
     alone true = refl
     alone false = refl
 
-pub sides-read : {z : ℤ} → SFits w64 z → isOneOf (pos 12 ∷ pos 20 ∷ pos mostSides ∷ []) z ≡ isOneOf (pos 12 ∷ pos 20 ∷ pos mostSides ∷ []) (read z)
-sides-read f = ap (isOneOf (pos 12 ∷ pos 20 ∷ pos mostSides ∷ [])) (sym (toZ-ofZ f))
+-- the number of sides z is listed, and the number of jumps j is within its limits
+abbrev pub lastOfHeader : ℤ → ℤ → Bool
+lastOfHeader z j = isOneOf (pos 12 ∷ pos 20 ∷ pos mostSides ∷ []) z && within (between (pos 0) (pos mostJumps)) j
 
-four-and-one : (a b d e z : Bool) → a && (b && (d && (e && (z && true)))) ≡ (a && (b && (d && (e && true)))) && z
-four-and-one false b d e z = refl
-four-and-one true false d e z = refl
-four-and-one true true false e z = refl
-four-and-one true true true false z = refl
-four-and-one true true true true true = refl
-four-and-one true true true true false = refl
+pub last-read : {z j : ℤ} → SFits w64 z → SFits w64 j → lastOfHeader z j ≡ lastOfHeader (read z) (read j)
+last-read f g = ap₂ lastOfHeader (sym (toZ-ofZ f)) (sym (toZ-ofZ g))
 
--- the limits of the counts, and then the number of sides
-pub mesh-header-limits : (m : List ℤ) → meshHeaderColumns ≤ length m → allWithin (meshHeader .limits) (take meshHeaderColumns m) ≡ allWithin (take 4 (meshHeader .limits)) (take 4 m) && isOneOf (pos 12 ∷ pos 20 ∷ pos mostSides ∷ []) (getD m 4 (pos 0))
+four-and-two : (a b d e z j : Bool) → a && (b && (d && (e && (z && (j && true))))) ≡ (a && (b && (d && (e && true)))) && (z && j)
+four-and-two false b d e z j = refl
+four-and-two true false d e z j = refl
+four-and-two true true false e z j = refl
+four-and-two true true true false z j = refl
+four-and-two true true true true false j = refl
+four-and-two true true true true true true = refl
+four-and-two true true true true true false = refl
+
+-- the limits of the counts, and then the numbers of sides and of jumps
+pub mesh-header-limits : (m : List ℤ) → meshHeaderColumns ≤ length m → allWithin (meshHeader .limits) (take meshHeaderColumns m) ≡ allWithin (take 4 (meshHeader .limits)) (take 4 m) && lastOfHeader (getD m 4 (pos 0)) (getD m 5 (pos 0))
 unfolding meshHeader allWithin within
 mesh-header-limits [] l = absurd (omega arith)
 mesh-header-limits (a ∷ []) l = absurd (omega arith)
 mesh-header-limits (a ∷ b ∷ []) l = absurd (omega arith)
 mesh-header-limits (a ∷ b ∷ d ∷ []) l = absurd (omega arith)
 mesh-header-limits (a ∷ b ∷ d ∷ e ∷ []) l = absurd (omega arith)
-mesh-header-limits (a ∷ b ∷ d ∷ e ∷ z ∷ m) l =
-    four-and-one (within (between (pos 4) (pos mostNodes)) a) (within (between (pos 1) (pos mostElements)) b)
+mesh-header-limits (a ∷ b ∷ d ∷ e ∷ z ∷ []) l = absurd (omega arith)
+mesh-header-limits (a ∷ b ∷ d ∷ e ∷ z ∷ j ∷ m) l =
+    four-and-two (within (between (pos 4) (pos mostNodes)) a) (within (between (pos 1) (pos mostElements)) b)
     (within (between (pos 1) (pos mostSoils)) d) (within (between (pos 0) (pos mostEdges)) e)
-    (isOneOf (pos 12 ∷ pos 20 ∷ pos mostSides ∷ []) z)
+    (isOneOf (pos 12 ∷ pos 20 ∷ pos mostSides ∷ []) z) (within (between (pos 0) (pos mostJumps)) j)
 
 pub both-hold : {a b d : Bool} → d ≡ a && b → a ≡ true → b ≡ true → d ≡ true
 both-hold e f g = e ∙ rw (f, g)
 
 pub first-fails : {a d : Bool} (b : Bool) → d ≡ a && b → a ≡ false → d ≡ false
 first-fails b e f = e ∙ rw f
+
+pub second-decides : {a b d : Bool} → d ≡ a && b → a ≡ true → d ≡ b
+second-decides e f = e ∙ rw f
 
 pub second-fails : {a b d : Bool} → d ≡ a && b → a ≡ true → b ≡ false → d ≡ false
 second-fails e f g = e ∙ rw (f, g)

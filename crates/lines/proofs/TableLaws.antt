@@ -8,12 +8,12 @@ use native.Mathlib.Omega.{arith}
 use lib.ListN.{length, getD, drop}
 use lib.Seq.{drop-cons}
 use Rattle.mesh.specs.declared.sizes.Sizes.{Sizes}
-use Rattle.lines.specs.declared.layout.Rule.the-variants.{Soil, Element, Edge}
+use Rattle.lines.specs.declared.layout.Rule.the-variants.{Soil, Element, Edge, Jump}
 use Rattle.lines.specs.declared.layout.Kind.{Kind}
 use Rattle.lines.specs.declared.layout.Kind.the-variants.{Ruled, Even}
 use Rattle.lines.specs.declared.layout.Group as Code
 use Rattle.scope.specs.Layout.{Group}
-use Rattle.scope.specs.Mesh.{soilLines, elementLines, edgeLines}
+use Rattle.scope.specs.Mesh.{soilLines, elementLines, edgeLines, jumpLines}
 use Rattle.lines.specs.Table.{mostLines, mostColumns, kindLines, ruledLines, evenLines, meant, Good, AllGood}
 
 -- the group at place i
@@ -32,11 +32,12 @@ few-in h = mul-le-mul {n₂ = mostLines} {m₂ = mostColumns} (h .fewLines) (h .
 
 -- its lines as the definitions have them
 pub lines-meant : (s : Sizes) (g : Code.Group) → meant s g .lines ≡ g .lines
-unfolding kindLines ruledLines evenLines soilLines elementLines edgeLines
+unfolding kindLines ruledLines evenLines soilLines elementLines edgeLines jumpLines
 lines-meant s g = of (g .kind)
   where
     of : (k : Kind) → kindLines k s (g .lines) (g .columns) .lines ≡ g .lines
     of (Ruled Soil) = refl
     of (Ruled Element) = refl
     of (Ruled Edge) = refl
+    of (Ruled Jump) = refl
     of (Even lo hi) = refl

@@ -6,19 +6,19 @@ use Prim.Native.Nat.{ℕ, _≤_, _<_}
 use lib.ListN.{length, replicate}
 use Rattle.mesh.specs.declared.sizes.Sizes.{Sizes}
 use Rattle.lines.specs.declared.layout.Rule.{Rule}
-use Rattle.lines.specs.declared.layout.Rule.the-variants.{Soil, Element, Edge}
+use Rattle.lines.specs.declared.layout.Rule.the-variants.{Soil, Element, Edge, Jump}
 use Rattle.lines.specs.declared.layout.Kind.{Kind}
 use Rattle.lines.specs.declared.layout.Kind.the-variants.{Ruled, Even}
 use Rattle.lines.specs.declared.layout.Group as Code
 use Rattle.scope.specs.Columns.{Limit, between}
 use Rattle.scope.specs.Layout.{Group, width}
-use Rattle.scope.specs.Mesh.{mostNodes, mostSides, soilLines, elementLines, edgeLines, meshLines}
+use Rattle.scope.specs.Mesh.{mostNodes, mostSides, soilLines, elementLines, edgeLines, jumpLines, meshLines}
 use Rattle.scope.specs.Claim.{claimLines}
 
 -- how many groups a file has after its header; the most lines of a group, which are a node's, an element's or a
 -- pair's, and the most columns of a line, which are a polygon's sides
 abbrev pub groupCount : ℕ
-groupCount = 4
+groupCount = 5
 
 abbrev pub mostLines : ℕ
 mostLines = mostNodes
@@ -30,11 +30,12 @@ mostColumns = mostSides
 unfoldable pub evenLines : ℕ → ℕ → Limit → Group
 evenLines count columns a = record { lines = count; limits = replicate columns a; rules = [] }
 
--- lines that have rules of their own: an element names nodes and soils, an edge nodes
+-- lines that have rules of their own: an element names nodes and soils, an edge and a jump nodes
 unfoldable pub ruledLines : Rule → Sizes → ℕ → Group
 ruledLines Soil s count = soilLines count
 ruledLines Element s count = elementLines count (s .nodes) (s .soils)
 ruledLines Edge s count = edgeLines count (s .nodes)
+ruledLines Jump s count = jumpLines count (s .nodes)
 
 unfoldable pub kindLines : Kind → Sizes → ℕ → ℕ → Group
 kindLines (Ruled r) s count columns = ruledLines r s count
@@ -73,10 +74,10 @@ pub record Tabled (s : Sizes) (gs : List Code.Group) (body : List Group) : Type 
 -- ---- the groups after the header, on a mesh with these sizes
 
 unfoldable pub meshBody : Sizes → List Group
-meshBody s = meshLines (s .nodes) (s .elements) (s .soils) (s .edges)
+meshBody s = meshLines (s .nodes) (s .elements) (s .soils) (s .edges) (s .jumps)
 
 unfoldable pub claimBody : Sizes → Bool → Bool → List Group
-claimBody s = claimLines (s .nodes) (s .elements) (s .edges) (s .pairs) (s .sides)
+claimBody s = claimLines (s .nodes) (s .elements) (s .edges) (s .jumps) (s .pairs) (s .sides)
 
 -- ---- what is counted over some groups of the code
 

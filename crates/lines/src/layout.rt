@@ -5,9 +5,12 @@ use mesh::sizes::EDGE_COLUMNS;
 use mesh::sizes::EDGE_ROWS;
 use mesh::sizes::ELEMENT_COLUMNS;
 use mesh::sizes::ELEMENT_ROWS;
+use mesh::sizes::JUMP_COLUMNS;
+use mesh::sizes::JUMP_ROWS;
 use mesh::sizes::MESH_HEADER;
 use mesh::sizes::MOST_EDGES;
 use mesh::sizes::MOST_ELEMENTS;
+use mesh::sizes::MOST_JUMPS;
 use mesh::sizes::MOST_NODES;
 use mesh::sizes::MOST_SIDES;
 use mesh::sizes::MOST_SOILS;
@@ -22,17 +25,19 @@ ghost use Rattle.scope.specs.Claim.{ifThere};
 ghost use Rattle.mesh.specs.MeshContracts.{FewThings};
 ghost use Rattle.lines.specs.Table.{Tabled, meshBody, claimBody};
 
-// The groups of lines after a header: in a mesh soils, nodes, elements, edges; in a claim stresses, and multipliers of
-// elements, of edges and of node-and-soil pairs.
-pub const GROUPS: usize = 4;
+// The groups of lines after a header: in a mesh soils, nodes, elements, edges, jumps; in a claim stresses, and
+// multipliers of elements, of edges, of jumps and of node-and-soil pairs.
+pub const GROUPS: usize = 5;
 
 // The columns of a claim's header, and of a node's stresses.
 pub const CLAIM_HEADER: usize = 4;
 
 pub const STRESS_COLUMNS: usize = 3;
 
-// The limits of the counts of a mesh's header, which stand before its sides.
-pub const COUNTS: usize = MESH_HEADER - 1;
+// The limits of the counts of a mesh's header, which stand before its sides and its jumps.
+pub const COUNTS: usize = MESH_HEADER - 2;
+
+pub const JUMPS_AT: usize = MESH_HEADER - 1;
 
 pub const MESH_LEAST: [i64; COUNTS] = [4, 1, 1, 0];
 
@@ -45,6 +50,9 @@ pub const MESH_MOST: [i64; COUNTS] = [
 
 // The most sides, as a number of the header.
 pub const SIDES_MOST: i64 = MOST_SIDES as i64;
+
+// The most jumps, as a number of the header.
+pub const JUMPS_MOST: i64 = MOST_JUMPS as i64;
 
 // The limits of a claim's header.
 pub const CLAIM_LEAST: [i64; CLAIM_HEADER] = [0, 0, 0, -100000000];
@@ -66,11 +74,12 @@ pub const EDGE_LEAST: [i64; EDGE_LIMITS] = [1, -10000, -10000, -10000, -10000];
 pub const EDGE_MOST: [i64; EDGE_LIMITS] = [3, 10000, 10000, 10000, 10000];
 
 // The lines that have rules of their own: a soil its limits and a right angle, an element the names of its nodes and
-// its soil, an edge its limits and the names of its nodes.
+// its soil, an edge its limits and the names of its nodes, a jump the names of its nodes.
 pub enum Rule {
     Soil,
     Element,
     Edge,
+    Jump,
 }
 
 // What is asked of a line: rules of its own, or that each of its numbers is from lo to hi.
@@ -111,6 +120,11 @@ pub fn mesh_groups(s: Sizes) -> [Group; GROUPS]
             kind: Kind::Ruled(Rule::Edge),
             lines: s.edges,
             columns: EDGE_COLUMNS,
+        },
+        Group {
+            kind: Kind::Ruled(Rule::Jump),
+            lines: s.jumps,
+            columns: JUMP_COLUMNS,
         },
     ]
 }
@@ -167,6 +181,14 @@ pub fn claim_groups(s: Sizes, field: bool, multipliers: bool) -> [Group; GROUPS]
             },
             lines: if_there(multipliers, s.edges),
             columns: EDGE_ROWS,
+        },
+        Group {
+            kind: Kind::Even {
+                lo: -100000,
+                hi: 100000,
+            },
+            lines: if_there(multipliers, s.jumps),
+            columns: JUMP_ROWS,
         },
         Group {
             kind: Kind::Even { lo: 0, hi: 10000 },

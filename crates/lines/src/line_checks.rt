@@ -6,6 +6,8 @@ use crate::layout::CLAIM_MOST;
 use crate::layout::COUNTS;
 use crate::layout::GROUPS;
 use crate::layout::Group;
+use crate::layout::JUMPS_AT;
+use crate::layout::JUMPS_MOST;
 use crate::layout::Kind;
 use crate::layout::MESH_LEAST;
 use crate::layout::MESH_MOST;
@@ -24,6 +26,7 @@ use mesh::sizes::header_sizes;
 use scope::Outcome;
 use scope::Place;
 ghost use mathlib.Core.Path.{_≡_};
+ghost use mathlib.Core.Bool.{_&&_};
 ghost use mathlib.Core.List.{List, [], _∷_, map};
 ghost use Prim.Native.Nat.{min, _/_, _<_, _≤_};
 ghost use lib.ListN.{length, take, drop};
@@ -32,7 +35,7 @@ ghost use Rattle.scope.specs.Checks.{allBelow};
 ghost use Rattle.scope.specs.Columns.{at, between, within, isOneOf, parts, ruleTest};
 ghost use Rattle.scope.specs.Layout.{width};
 ghost use Rattle.scope.specs.Verdict.{lineCheck, lineAt, linesCheck};
-ghost use Rattle.scope.specs.Mesh.{mostSides, meshLayout};
+ghost use Rattle.scope.specs.Mesh.{mostSides, mostJumps, meshLayout};
 ghost use Rattle.scope.specs.Claim.{claimHeaderColumns, claimHeader, claimLayout};
 ghost use Rattle.mesh.specs.MeshContracts.{FewThings, Counted};
 ghost use Rattle.lines.specs.Table.{evenLines, ruledLines, meant, Good, Table};
@@ -160,6 +163,17 @@ fn is_sides(z: i64) -> bool
     z == SIDES_MOST
 }
 
+// What stands after the counts in the header of a mesh: the number of sides, and then the number of jumps.
+fn sides_and_jumps(sides: i64, jumps: i64) -> bool
+    ensures { λ r. ⌜ r
+        ≡ isOneOf (pos 12 ∷ pos 20 ∷ pos mostSides ∷ []) sides && within (between (pos 0) (pos mostJumps)) jumps ⌝ }
+{
+    if !is_sides(sides) {
+        return false;
+    }
+    is_within(jumps, 0, JUMPS_MOST)
+}
+
 // The header of a mesh.
 pub fn mesh_header(m: &[i64]) -> Outcome
     ensures { λ r. ⌜ r ≡ lineAt meshLayout (now (m .entry)) 0 ⌝ }
@@ -170,7 +184,7 @@ pub fn mesh_header(m: &[i64]) -> Outcome
     if !limits_hold(&m[0..COUNTS], &MESH_LEAST, &MESH_MOST) {
         return refused(2, 1);
     }
-    if !is_sides(m[COUNTS]) {
+    if !sides_and_jumps(m[COUNTS], m[JUMPS_AT]) {
         return refused(2, 1);
     }
     Outcome::Passed

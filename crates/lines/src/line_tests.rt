@@ -7,6 +7,7 @@ use crate::layout::SOIL_LEAST;
 use crate::layout::SOIL_MOST;
 use mesh::sizes::EDGE_COLUMNS;
 use mesh::sizes::ELEMENT_COLUMNS;
+use mesh::sizes::JUMP_COLUMNS;
 use mesh::sizes::SOIL_COLUMNS;
 use mesh::sizes::Sizes;
 use scope::Outcome;
@@ -20,7 +21,16 @@ ghost use Rattle.integer.specs.Tests.{eqZ};
 ghost use Rattle.scope.specs.Columns.{between, within, allWithin};
 ghost use Rattle.scope.specs.Layout.{width};
 ghost use Rattle.scope.specs.Verdict.{lineCheck};
-ghost use Rattle.scope.specs.Mesh.{soilColumns, elementColumns, edgeColumns, soilLines, elementLines, edgeLines};
+ghost use Rattle.scope.specs.Mesh.{
+  soilColumns,
+  elementColumns,
+  edgeColumns,
+  jumpColumns,
+  soilLines,
+  elementLines,
+  edgeLines,
+  jumpLines,
+};
 ghost use Rattle.mesh.specs.MeshContracts.{FewThings};
 ghost use Rattle.lines.specs.Table.{ruledLines};
 ghost use Rattle.lines.specs.LineContracts.{ranges, AsMany, numbered, lineStep, mostForm, FewLines};
@@ -126,6 +136,23 @@ fn check_edge(s: &[i64], sizes: Sizes, form: u32, line: usize) -> Outcome
     Outcome::Passed
 }
 
+// The jump that stands at the front of a list.
+fn check_jump(s: &[i64], sizes: Sizes, form: u32, line: usize) -> Outcome
+    requires { ⌜ FewThings sizes ⌝ ∗ ⌜ line < 2 ^ 32 ⌝ }
+    ensures { λ r. ⌜ r
+        ≡ lineCheck (numbered form) (jumpLines 0 (sizes .nodes)) (take jumpColumns (now (s .entry)))
+        (Place.Line line) ⌝ }
+{
+    if s.len() < JUMP_COLUMNS {
+        return refused(form, line);
+    }
+    let n = sizes.nodes as i64;
+    if !limits_hold(&s[0..JUMP_COLUMNS], &[1; JUMP_COLUMNS], &[n; JUMP_COLUMNS]) {
+        return refused(4, line);
+    }
+    Outcome::Passed
+}
+
 // The line that stands at the front of a list.
 fn line_check(rule: Rule, s: &[i64], sizes: Sizes, form: u32, line: usize) -> Outcome
     requires { ⌜ FewThings sizes ⌝ ∗ ⌜ line < 2 ^ 32 ⌝ ∗ ⌜ form ≤ mostForm ⌝ }
@@ -137,6 +164,7 @@ fn line_check(rule: Rule, s: &[i64], sizes: Sizes, form: u32, line: usize) -> Ou
         Rule::Soil => check_soil(s, form, line),
         Rule::Element => check_element(s, sizes, form, line),
         Rule::Edge => check_edge(s, sizes, form, line),
+        Rule::Jump => check_jump(s, sizes, form, line),
     }
 }
 

@@ -13,12 +13,12 @@ use Rattle.integer.proofs.Order.{≤ℤ-pos}
 use Rattle.mesh.specs.declared.sizes.Sizes.{Sizes}
 use Rattle.scope.specs.Columns.{at}
 use Rattle.scope.specs.Layout.{groups, numbersBefore, count, entry}
-use Rattle.scope.specs.Mesh.{meshHeaderColumns, soilColumns, nodeColumns, elementColumns, edgeColumns, meshHeader, soilLines, nodeLines, elementLines, edgeLines, meshLayout, meshGroups, nodes, elements, soils, edges, sides, p, q, h, cohesion, soilEntry, x, y, corner, elementSoil, edgeEntry, fromNode, toNode}
-use Rattle.scope.specs.NumberRanges.{Between, MeshFacts, SoilFacts, EdgeFacts}
+use Rattle.scope.specs.Mesh.{meshHeaderColumns, soilColumns, nodeColumns, elementColumns, edgeColumns, jumpColumns, meshHeader, soilLines, nodeLines, elementLines, edgeLines, jumpLines, meshLayout, meshGroups, nodes, elements, soils, edges, sides, jumps, p, q, h, cohesion, soilEntry, x, y, corner, elementSoil, edgeEntry, fromNode, toNode, jumpEntry, jumpFrom, jumpTo, facingFrom, facingTo}
+use Rattle.scope.specs.NumberRanges.{Between, MeshFacts, SoilFacts, EdgeFacts, JumpFacts}
 use Rattle.scope.proofs.NumberRanges.{some-sides}
 use Rattle.scope.proofs.PolygonRule.{listed-polygon}
 use Rattle.scope.proofs.SumBounds.{apart}
-use Rattle.mesh.specs.MeshContracts.{Sized, SizesAre, HeaderThere, FewThings, NodeAt, nodesFrom, elementsFrom, edgesFrom}
+use Rattle.mesh.specs.MeshContracts.{Sized, SizesAre, HeaderThere, FewThings, NodeAt, nodesFrom, elementsFrom, edgesFrom, jumpsFrom, jumpNode}
 
 -- ---- counts
 
@@ -62,20 +62,23 @@ module _ {m : List ℤ} (f : HeaderThere m) where
   unfolding sides
   sides-there = (omega (arith, f .there), counted (at m 4) (some-sides (f .counts)))
 
+  pub jumps-there : There 0 m 5
+  jumps-there = (omega (arith, f .there), f .counts .jumpsLeast)
+
   -- the sizes that are made of the counts
-  pub sizes-are : {a b c d e : ℕ} → a ≡ count (at m 0) → b ≡ count (at m 1) → c ≡ count (at m 2) → d ≡ count (at m 3) → e ≡ count (at m 4) → SizesAre m (record { nodes = a; elements = b; soils = c; edges = d; sides = e; pairs = 0 })
-  unfolding nodes elements soils edges sides
-  sizes-are ea eb ec ed ee = record { counts = f .counts; nodesAre = ea; elementsAre = eb; soilsAre = ec; edgesAre = ed; sidesAre = ee; pairsFew = omega arith }
+  pub sizes-are : {a b c d e g : ℕ} → a ≡ count (at m 0) → b ≡ count (at m 1) → c ≡ count (at m 2) → d ≡ count (at m 3) → e ≡ count (at m 4) → g ≡ count (at m 5) → SizesAre m (record { nodes = a; elements = b; soils = c; edges = d; sides = e; jumps = g; pairs = 0 })
+  unfolding nodes elements soils edges sides jumps
+  sizes-are ea eb ec ed ee eg = record { counts = f .counts; nodesAre = ea; elementsAre = eb; soilsAre = ec; edgesAre = ed; sidesAre = ee; jumpsAre = eg; pairsFew = omega arith }
 
 -- the lines of a mesh that are sound begin with a header
 pub header-there : {m : List ℤ} → MeshFacts m → HeaderThere m
 header-there f = record { there = omega (arith, f .size); counts = f .counts }
 
 pub sized : {m : List ℤ} {s : Sizes} → MeshFacts m → SizesAre m s → Sized m s
-sized f k = record { facts = f; nodesAre = k .nodesAre; elementsAre = k .elementsAre; soilsAre = k .soilsAre; edgesAre = k .edgesAre; sidesAre = k .sidesAre; pairsFew = k .pairsFew }
+sized f k = record { facts = f; nodesAre = k .nodesAre; elementsAre = k .elementsAre; soilsAre = k .soilsAre; edgesAre = k .edgesAre; sidesAre = k .sidesAre; jumpsAre = k .jumpsAre; pairsFew = k .pairsFew }
 
 pub as-sizes : {m : List ℤ} {s : Sizes} → Sized m s → SizesAre m s
-as-sizes k = record { counts = k .facts .counts; nodesAre = k .nodesAre; elementsAre = k .elementsAre; soilsAre = k .soilsAre; edgesAre = k .edgesAre; sidesAre = k .sidesAre; pairsFew = k .pairsFew }
+as-sizes k = record { counts = k .facts .counts; nodesAre = k .nodesAre; elementsAre = k .elementsAre; soilsAre = k .soilsAre; edgesAre = k .edgesAre; sidesAre = k .sidesAre; jumpsAre = k .jumpsAre; pairsFew = k .pairsFew }
 
 pub few-sizes : {m : List ℤ} {s : Sizes} → SizesAre m s → FewThings s
 few-sizes {m} k =
@@ -87,6 +90,7 @@ few-sizes {m} k =
       fewEdges = omega (arith, k .edgesAre, k .counts .edgesMost);
       someSide = omega (arith, k .sidesAre, polygon .someSides);
       fewSides = omega (arith, k .sidesAre, polygon .fewSides);
+      fewJumps = omega (arith, k .jumpsAre, k .counts .jumpsMost);
       fewPairs = k .pairsFew;
     }
 
@@ -120,6 +124,15 @@ edge-bound {m} {g} f (suc (suc (suc c))) k l =
     let e : 3 + c ≡ suc (suc (suc c)) = omega arith in
     subst (λ (i : ℕ). Within 10000 (edgeEntry m g i)) e (bounded 10000 (record { le = tt }) (record { le = tt }) (f .loadRange c (omega arith)))
 
+-- each of a jump's four nodes is there
+pub jump-node : {m : List ℤ} {j : ℕ} → JumpFacts m j → (c : ℕ) → c < jumpColumns → jumpNode m j c < nodes m
+unfolding jumpFrom jumpTo facingFrom facingTo
+jump-node f zero l = f .fromThere
+jump-node f (suc zero) l = f .toThere
+jump-node f (suc (suc zero)) l = f .facingFromThere
+jump-node f (suc (suc (suc zero))) l = f .facingToThere
+jump-node f (suc (suc (suc (suc c)))) l = absurd (omega arith)
+
 -- ---- where a group's numbers stand
 
 module _ {m : List ℤ} {s : Sizes} (k : Sized m s) where
@@ -138,6 +151,10 @@ module _ {m : List ℤ} {s : Sizes} (k : Sized m s) where
   edge-at : {from : ℕ} → from ≡ edgesFrom s → (i c : ℕ) → entry (meshGroups m) m 4 i c ≡ at m (from + i * edgeColumns + c)
   unfolding entry numbersBefore meshGroups groups meshLayout meshHeader soilLines nodeLines elementLines edgeLines
   edge-at b i c = ap (at m) (omega (arith, k .soilsAre, k .nodesAre, k .elementsAre))
+
+  jump-at : {from : ℕ} → from ≡ jumpsFrom s → (i c : ℕ) → entry (meshGroups m) m 5 i c ≡ at m (from + i * jumpColumns + c)
+  unfolding entry numbersBefore meshGroups groups meshLayout meshHeader soilLines nodeLines elementLines edgeLines jumpLines
+  jump-at b i c = ap (at m) (omega (arith, k .soilsAre, k .nodesAre, k .elementsAre, k .edgesAre))
 
   -- ---- what is read there
 
@@ -181,6 +198,16 @@ module _ {m : List ℤ} {s : Sizes} (k : Sized m s) where
   pub to-read : {r from : ℕ} (g : ℕ) → from ≡ edgesFrom s → r ≡ count (at m (from + g * edgeColumns + 1)) - 1 → r ≡ toNode m g
   unfolding toNode edgeEntry
   to-read g b d = rw (edge-at b g 1) d
+
+  pub jump-there : {j c from : ℕ} → j < jumps m → c < jumpColumns → from ≡ jumpsFrom s → There 1 m (from + j * jumpColumns + c)
+  unfolding jumpEntry
+  jump-there {j} {c} l i b = (omega (arith, k), subst (λ (z : ℤ). pos 1 ≤ℤ z) (jump-at b j c) (k .facts .jump j l .fromOne c i))
+
+  pub jump-read : {r from : ℕ} {j c : ℕ} → j < jumps m → c < jumpColumns → from ≡ jumpsFrom s → r ≡ count (at m (from + j * jumpColumns + c)) - 1 → NodeAt r m (jumpNode m j c)
+  unfolding jumpEntry
+  jump-read {r} {j = j} {c = c} l i b d =
+      let same : r ≡ jumpNode m j c = rw (jump-at b j c) d in
+      record { same = same; there = omega (arith, same, jump-node (k .facts .jump j l) c i); few = k .facts .counts .nodesMost }
 
 -- ---- differences of coordinates
 

@@ -2,11 +2,12 @@
 -- begin, a node that is there, its node-and-soil pairs.
 use mathlib.Core.Path.{_≡_}
 use mathlib.Core.List.{List}
-use Prim.Native.Nat.{ℕ, _+_, _*_, _≤_, _<_}
+use Prim.Native.Nat.{ℕ, _+_, _*_, _-_, _≤_, _<_}
 use lib.IntN.{ℤ}
 use lib.ListN.{length, getD}
 use Rattle.mesh.specs.declared.sizes.Sizes.{Sizes}
-use Rattle.scope.specs.Mesh.{mostNodes, mostElements, mostSoils, mostEdges, mostSides, mostPairs, meshHeaderColumns, soilColumns, nodeColumns, elementColumns, nodes, elements, soils, edges, sides}
+use Rattle.scope.specs.Layout.{count}
+use Rattle.scope.specs.Mesh.{mostNodes, mostElements, mostSoils, mostEdges, mostSides, mostJumps, mostPairs, meshHeaderColumns, soilColumns, nodeColumns, elementColumns, edgeColumns, nodes, elements, soils, edges, sides, jumps, jumpEntry}
 use Rattle.scope.specs.Rows.{pairCount, pairAt}
 use Rattle.scope.specs.NumberRanges.{MeshFacts, Counts}
 
@@ -19,6 +20,7 @@ pub record Sized (m : List ℤ) (s : Sizes) : Type 0 where
   pub soilsAre : s .soils ≡ soils m
   pub edgesAre : s .edges ≡ edges m
   pub sidesAre : s .sides ≡ sides m
+  pub jumpsAre : s .jumps ≡ jumps m
   pub pairsFew : s .pairs ≤ mostPairs
 
 -- the header of a mesh is there, and its counts are within their limits
@@ -34,6 +36,7 @@ pub record SizesAre (m : List ℤ) (s : Sizes) : Type 0 where
   pub soilsAre : s .soils ≡ soils m
   pub edgesAre : s .edges ≡ edges m
   pub sidesAre : s .sides ≡ sides m
+  pub jumpsAre : s .jumps ≡ jumps m
   pub pairsFew : s .pairs ≤ mostPairs
 
 -- counts so small that no place of a number leaves 64 bits
@@ -44,9 +47,10 @@ pub record FewThings (s : Sizes) : Type 0 where
   pub fewEdges : s .edges ≤ mostEdges
   pub someSide : 0 < s .sides
   pub fewSides : s .sides ≤ mostSides
+  pub fewJumps : s .jumps ≤ mostJumps
   pub fewPairs : s .pairs ≤ mostPairs
 
--- the place of the first number of the nodes, of the elements and of the edges
+-- the place of the first number of the nodes, of the elements, of the edges and of the jumps
 abbrev pub nodesFrom : Sizes → ℕ
 nodesFrom s = meshHeaderColumns + s .soils * soilColumns
 
@@ -55,6 +59,13 @@ elementsFrom s = nodesFrom s + s .nodes * nodeColumns
 
 abbrev pub edgesFrom : Sizes → ℕ
 edgesFrom s = elementsFrom s + s .elements * elementColumns
+
+abbrev pub jumpsFrom : Sizes → ℕ
+jumpsFrom s = edgesFrom s + s .edges * edgeColumns
+
+-- node c of jump j: from, to, facing from, facing to
+abbrev pub jumpNode : List ℤ → ℕ → ℕ → ℕ
+jumpNode m j c = count (jumpEntry m j c) - 1
 
 -- r is the node v of the mesh m, which is there
 pub record NodeAt (r : ℕ) (m : List ℤ) (v : ℕ) : Type 0 where
@@ -71,6 +82,7 @@ paired s k = record {
   soils = s .soils;
   edges = s .edges;
   sides = s .sides;
+  jumps = s .jumps;
   pairs = k;
 }
 

@@ -14,11 +14,13 @@ ghost use Rattle.scope.specs.Mesh.{
   mostPairs,
   soilColumns,
   edgeColumns,
+  jumpColumns,
   mostEqualityRows,
   nodes,
   elements,
   soils,
   edges,
+  jumps,
   x,
   y,
   corner,
@@ -40,6 +42,8 @@ ghost use Rattle.mesh.specs.MeshContracts.{
   nodesFrom,
   elementsFrom,
   edgesFrom,
+  jumpsFrom,
+  jumpNode,
 };
 
 // The most that a header may count.
@@ -53,11 +57,14 @@ pub const MOST_EDGES: usize = 60;
 
 pub const MOST_SIDES: usize = 36;
 
+// "jumps 0 to 60" (document 02, N6).
+pub const MOST_JUMPS: usize = 60;
+
 // "Pairs are at most 100" (document 02, N2).
 pub const MOST_PAIRS: usize = 100;
 
-// The columns of each line: of the header, of a soil, of a node, of an element, of an edge.
-pub const MESH_HEADER: usize = 5;
+// The columns of each line: of the header, of a soil, of a node, of an element, of an edge, of a jump.
+pub const MESH_HEADER: usize = 6;
 
 pub const SOIL_COLUMNS: usize = 8;
 
@@ -67,10 +74,14 @@ pub const ELEMENT_COLUMNS: usize = 5;
 
 pub const EDGE_COLUMNS: usize = 7;
 
-// The equality rows of an element, and of an edge.
+pub const JUMP_COLUMNS: usize = 4;
+
+// The equality rows of an element, of an edge, and of a jump.
 pub const ELEMENT_ROWS: usize = 2;
 
 pub const EDGE_ROWS: usize = 4;
+
+pub const JUMP_ROWS: usize = 4;
 
 // The counts of the header, and how many node-and-soil pairs the mesh has: 0 as long as they are not counted.
 pub struct Sizes {
@@ -79,6 +90,7 @@ pub struct Sizes {
     pub soils: usize,
     pub edges: usize,
     pub sides: usize,
+    pub jumps: usize,
     pub pairs: usize,
 }
 
@@ -108,12 +120,14 @@ pub fn header_sizes(m: &[i64]) -> Sizes
     let soils = count_at(m, 2);
     let edges = count_at(m, 3);
     let sides = count_at(m, 4);
+    let jumps = count_at(m, 5);
     Sizes {
         nodes,
         elements,
         soils,
         edges,
         sides,
+        jumps,
         pairs: 0,
     }
 }
@@ -129,6 +143,7 @@ pub fn with_pairs(s: Sizes, pairs: usize) -> Sizes
         soils: s.soils,
         edges: s.edges,
         sides: s.sides,
+        jumps: s.jumps,
         pairs,
     }
 }
@@ -141,16 +156,16 @@ pub fn sizes_of(m: &[i64]) -> Sizes
     header_sizes(m)
 }
 
-// How many equality rows a mesh has: two for each element, then four for each edge.
+// How many equality rows a mesh has: two for each element, then four for each edge, then four for each jump.
 pub fn equality_count(s: Sizes) -> usize
     requires { ⌜ FewThings s ⌝ }
     ensures { λ r. ⌜ ((m : List ℤ) → Sized m s → r ≡ equalityCount m) × (r ≤ mostEqualityRows) ⌝ }
 {
-    s.elements * ELEMENT_ROWS + s.edges * EDGE_ROWS
+    s.elements * ELEMENT_ROWS + s.edges * EDGE_ROWS + s.jumps * JUMP_ROWS
 }
 
-// The place of the first number of the nodes, of the elements and of the edges. For speed it is worked out where it is
-// asked, so that fewer numbers are handed around.
+// The place of the first number of the nodes, of the elements, of the edges and of the jumps. For speed it is worked
+// out where it is asked, so that fewer numbers are handed around.
 fn nodes_from(s: Sizes) -> usize
     requires { ⌜ FewThings s ⌝ }
     ensures { λ r. ⌜ r ≡ nodesFrom s ⌝ }
@@ -170,6 +185,13 @@ fn edges_from(s: Sizes) -> usize
     ensures { λ r. ⌜ r ≡ edgesFrom s ⌝ }
 {
     elements_from(s) + s.elements * ELEMENT_COLUMNS
+}
+
+fn jumps_from(s: Sizes) -> usize
+    requires { ⌜ FewThings s ⌝ }
+    ensures { λ r. ⌜ r ≡ jumpsFrom s ⌝ }
+{
+    edges_from(s) + s.edges * EDGE_COLUMNS
 }
 
 // Column c of line i of a group with this width, whose first number has the place `from`.
@@ -262,4 +284,12 @@ pub fn edge_to(m: &[i64], s: Sizes, g: usize) -> usize
     ensures { λ r. ⌜ r ≡ toNode (now (m .entry)) g ⌝ }
 {
     thing_in(m, edges_from(s), g, EDGE_COLUMNS, 1)
+}
+
+// Node c of jump j, which is there: from, to, the node that faces from, the node that faces to.
+pub fn jump_node(m: &[i64], s: Sizes, j: usize, c: usize) -> usize
+    requires { ⌜ Sized (now m) s × (j < jumps (now m)) × (c < jumpColumns) ⌝ }
+    ensures { λ r. ⌜ NodeAt r (now (m .entry)) (jumpNode (now (m .entry)) j c) ⌝ }
+{
+    thing_in(m, jumps_from(s), j, JUMP_COLUMNS, c)
 }

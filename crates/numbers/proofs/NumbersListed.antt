@@ -14,8 +14,8 @@ use Rattle.scope.specs.Members.{_∈_}
 use Rattle.scope.specs.Answer.{placeNumber}
 use Rattle.scope.specs.Columns.{Rule, rightAngle, naming, hasField, hasMultipliers}
 use Rattle.scope.specs.Layout.{Group, Layout, Placed, width, groups, lineCount, lineOf, numbersAt, groupAt}
-use Rattle.scope.specs.Mesh.{edgeLine, meshHeader, meshLayout, soilLines, nodeLines, elementLines, edgeLines}
-use Rattle.scope.specs.Claim.{claimHeader, claimLayout, stressLines, elementMultipliers, edgeMultipliers, strengthMultipliers}
+use Rattle.scope.specs.Mesh.{edgeLine, jumpLine, meshHeader, meshLayout, soilLines, nodeLines, elementLines, edgeLines, jumpLines}
+use Rattle.scope.specs.Claim.{claimHeader, claimLayout, stressLines, elementMultipliers, edgeMultipliers, jumpMultipliers, strengthMultipliers}
 use Rattle.scope.specs.Phases.{FirstFails}
 use Rattle.scope.specs.Refusals.{ruleNumber, ruleSteps, lineSteps, linePhases, shapePhases, meshPhases, fieldPart, multiplierPart, partPhases, claimPhases, Refusal}
 use Rattle.scope.proofs.Phases.{EachIn, each-refusal, each-join, each-part, own-number}
@@ -82,21 +82,21 @@ each-line P (g ∷ gs) none all from k = by (ltb k (g .lines)) (each-line P gs n
     by false rest = rest
 
 mesh-rules : (m : List ℤ) (k : ℕ) → RulesInPlace (groupAt meshLayout m k .rules) (Line (suc k))
-unfolding groups meshLayout meshHeader soilLines nodeLines elementLines edgeLines ruleNumber
+unfolding groups meshLayout meshHeader soilLines nodeLines elementLines edgeLines jumpLines ruleNumber
 mesh-rules m k =
     let three : RulesInPlace (rightAngle ∷ []) (Line (suc k)) = (plain 3 (Line (suc k)) (λ e. omega arith) (λ e. omega arith), tt) in
     let four : (cs : List (ℕ × ℕ)) → RulesInPlace (naming cs ∷ []) (Line (suc k)) = λ cs. (plain 4 (Line (suc k)) (λ e. omega arith) (λ e. omega arith), tt) in
-    each-line (λ rs. RulesInPlace rs (Line (suc k))) (groups meshLayout m) tt (tt, (three, (tt, (four [], (four [], tt))))) 0 k
+    each-line (λ rs. RulesInPlace rs (Line (suc k))) (groups meshLayout m) tt (tt, (three, (tt, (four [], (four [], (four [], tt)))))) 0 k
 
 claim-rules : (m c : List ℤ) (k : ℕ) → RulesInPlace (groupAt (claimLayout m) c k .rules) (Line (suc k))
-unfolding groups lineOf claimLayout claimHeader stressLines elementMultipliers edgeMultipliers strengthMultipliers ruleNumber
+unfolding groups lineOf claimLayout claimHeader stressLines elementMultipliers edgeMultipliers jumpMultipliers strengthMultipliers ruleNumber
 claim-rules m c zero = ((λ e. refl, λ e. absurd (omega arith)), tt)
 claim-rules m c (suc k) = by (ltb (suc k) 1) refl
   where
     by : (b : Bool) → ltb (suc k) 1 ≡ b
         → RulesInPlace (chosen b (placed claimHeader (0 + suc k * width claimHeader)) (lineOf (0 + 1 * width claimHeader) (claimLayout m .body c) (suc k - 1)) .group .rules) (Line (suc (suc k)))
     by true e = absurd (omega (arith, ltb-true (suc k) 1 e))
-    by false e = each-line (λ rs. RulesInPlace rs (Line (suc (suc k)))) (claimLayout m .body c) tt (tt, (tt, (tt, (tt, tt)))) (0 + 1 * width claimHeader) (suc k - 1)
+    by false e = each-line (λ rs. RulesInPlace rs (Line (suc (suc k)))) (claimLayout m .body c) tt (tt, (tt, (tt, (tt, (tt, tt))))) (0 + 1 * width claimHeader) (suc k - 1)
 
 -- ---- all phases
 
@@ -113,7 +113,10 @@ mesh-placed m =
           λ k c h l r. own (Node (suc k)) (plain 7 (Node (suc k)) (λ e. omega arith) (λ e. omega arith)) r,
           λ e. (
             λ k c h l r. own (Line (suc (edgeLine m k))) (plain 8 (Line (suc (edgeLine m k))) (λ e. omega arith) (λ e. omega arith)) r,
-            λ e. (λ k c h l r. own (Node (suc k)) (plain 42 (Node (suc k)) (λ e. omega arith) (λ e. omega arith)) r, λ i. tt),
+            λ e. (
+              λ k c h l r. own (Line (suc (jumpLine m k))) (plain 44 (Line (suc (jumpLine m k))) (λ e. omega arith) (λ e. omega arith)) r,
+              λ e. (λ k c h l r. own (Node (suc k)) (plain 42 (Node (suc k)) (λ e. omega arith) (λ e. omega arith)) r, λ i. tt),
+            ),
           ),
         ),
       ),

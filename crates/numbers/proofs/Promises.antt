@@ -35,7 +35,8 @@ use Rattle.scope.proofs.PlaceKinds.{place-kind, place-number, mesh-exactly}
 use Rattle.scope.proofs.RefusedRows.{equality-fails, strength-fails, pairs-fail}
 use Rattle.scope.proofs.Exactly.{accepted-exactly, refused-exactly, verdict-cases, returns-zero, claim-by-parts, field-before-multipliers, refused-after-field}
 use Rattle.scope.proofs.Printed.{field-printed}
-use Rattle.scope.proofs.AcceptedField.{accepted-criterion, criterion-around}
+use Rattle.scope.proofs.AcceptedField.{accepted-criterion, criterion-around, tractions-agree}
+use Rattle.scope.proofs.Jumps.{sound-jumps, tip-asks-nothing, no-jumps}
 use Rattle.scope.proofs.Pairs.{pairs, sound-pairs}
 use Rattle.scope.proofs.Columns.{mesh-columns}
 use Rattle.scope.proofs.Bracket.{bracket}
@@ -49,7 +50,7 @@ use Rattle.verdict.specs.declared.MeshAnswer.{MeshAnswer}
 use Rattle.numbers.proofs.NumbersListed.{refusal-listed}
 use Rattle.numbers.specs.declared.numbers_answer.NumbersAnswer.{NumbersAnswer}
 use Rattle.numbers.specs.NumbersAnswer.{there, numerator, denominator, counted, answerOf}
-use Rattle.numbers.specs.Promises.{Answers, Returned, ReturnsZero, RefusesExactly, NumbersListed, RowsRefused, TellsField, FieldExactly, MultipliersExactly, FieldReported, MultipliersReported, CriterionForEachPair, PairsAsked, CallsBracket, TwoAnswers, AnswerAndMultipliers, OpenRowsReported, FractionsBracket, FractionsAndAnswer, FieldInFractions, MeshAnsweredExactly, TrianglesAsked}
+use Rattle.numbers.specs.Promises.{Answers, Returned, ReturnsZero, RefusesExactly, NumbersListed, RowsRefused, TellsField, FieldExactly, MultipliersExactly, FieldReported, MultipliersReported, CriterionForEachPair, PairsAsked, JumpsAsked, TractionsOnJoints, CallsBracket, TwoAnswers, AnswerAndMultipliers, OpenRowsReported, FractionsBracket, FractionsAndAnswer, FieldInFractions, MeshAnsweredExactly, TrianglesAsked}
 
 -- every answer returns the verdict's number and place
 pub returned : {m c : List ℤ} {r : NumbersAnswer} → Answers m c r → Returned m c (r .number) (r .place)
@@ -163,6 +164,9 @@ module _ (m c : List ℤ) (number place : ℕ) (h : Returned m c number place) w
   pub criterion-for-each-pair : TellsField c number → CriterionForEachPair m c
   criterion-for-each-pair t = record { pairs = accepted-criterion m c (field-told t); around = criterion-around m c (field-told t) }
 
+  pub tractions-on-joints : TractionsOnJoints m c number
+  tractions-on-joints t = tractions-agree m c (field-told t)
+
   pub pairs-asked : PairsAsked m number place
   unfolding placeFor
   pairs-asked = record {
@@ -170,6 +174,9 @@ module _ (m c : List ℤ) (number place : ℕ) (h : Returned m c number place) w
     sound = sound-pairs m;
     refused = λ e. pairs-fail m c place (refuses-exactly .exactly 42 place (λ z. omega arith) .0 (e, refl));
   }
+
+pub jumps-asked : (m : List ℤ) → JumpsAsked m
+jumps-asked m = record { sound = sound-jumps m; tip = tip-asks-nothing m; none = no-jumps m }
 
 -- ---- what is reported: a part with its two numbers, or none of them
 

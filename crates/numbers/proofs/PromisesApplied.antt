@@ -1,18 +1,18 @@
--- Each promise of the call on numbers applied to document 01's sheet or a neighbour, that of N1 to two triangles and those of N2 to fill over clay too: antt computes the answer, and the promise says the rest.
+-- Each promise of the call on numbers applied to document 01's sheet or a neighbour, that of N1 to two triangles, those of N2 to fill over clay and those of N6 to two blocks on a joint too: antt computes the answer, and the promise says the rest.
 use mathlib.Core.Path.{_≡_, refl, sym, _∙_, ap, subst₂}
 use mathlib.Core.Logic.{inl, inr}
 use mathlib.Core.List.{List, [], _∷_, _++_}
 use Prim.Native.Nat.{ℕ, suc, _<_}
 use native.Mathlib.Omega.{arith}
 use lib.Dec.{lt→ltb}
-use lib.IntN.{ℤ, pos, negsuc, _*ℤ_}
+use lib.IntN.{ℤ, pos, negsuc, negℤ, _*ℤ_}
 use lib.Signed.{ltZ-yes}
 use lib.ListN.{length}
 use Rattle.integer.proofs.Ring.{ring, terms}
 use Rattle.integer.specs.Fraction.{_over_, _≈ᶠ_, _≤ᶠ_}
 use Rattle.scope.specs.declared.Place.the-variants.{Line, Column}
 use Rattle.scope.specs.Members.{_∈_}
-use Rattle.scope.specs.Rows.{strengthPairs, strengthRows, rowsOf}
+use Rattle.scope.specs.Rows.{balanceRows, sideRows, equalityRows, strengthPairs, strengthRows, rowsOf}
 use Rattle.scope.specs.Sums.{liveSum, limitSum}
 use Rattle.scope.specs.Claim.{stress, multiplier}
 use Rattle.scope.specs.Answer.{placeFor, meshNumberOf, meshPlaceOf}
@@ -21,25 +21,26 @@ use Rattle.scope.specs.Refusals.{MeshRefusal, Refusal}
 use Rattle.scope.specs.Accepted.{FieldAccepted, MultipliersAccepted, ClaimAccepted}
 use Rattle.scope.specs.Polygon.{polygonOf}
 use Rattle.scope.specs.RowNumbers.{sideNumbered}
-use Rattle.scope.specs.Printed.{MeetsPrinted, StrengthAt}
+use Rattle.scope.specs.Printed.{MeetsPrinted, NormalAgreesAt, StrengthAt}
 use Rattle.scope.specs.AcceptedField.{MeetsCriterion}
 use Rattle.scope.specs.Bracket.{Open, NoneOpen}
 use Rattle.scope.specs.Fractions.{Fraction, FractionField, fieldOver}
 use Rattle.scope.specs.AcceptedFractions.{MeetsMesh}
 use Rattle.scope.specs.Parts.{SameRows, NumberOf, PartsBracket}
-use Rattle.scope.specs.Worked.{zeros, workedMesh, workedStresses, workedMultipliers, workedClaim, multipliersAlone, sheet, sheet19, sheet29, freeShear, twoTriangles, fieldAlone, fillOverClay, overClay}
+use Rattle.scope.specs.Worked.{zeros, workedMesh, workedStresses, workedMultipliers, workedClaim, multipliersAlone, sheet, sheet19, sheet29, freeShear, twoTriangles, fieldAlone, fillOverClay, overClay, blocks, blockEdges, joint, twoBlocks, onJoint}
 use Rattle.scope.proofs.Printed.{field-printed}
 use Rattle.scope.proofs.Applied.{free-field, free-rows}
 use Rattle.scope.specs.Tests.{rowAt}
-use Rattle.scope.specs.Mesh.{elements, sides, corner, elementSoil}
+use Rattle.scope.specs.Mesh.{elements, sides, jumps, corner, elementSoil, jumpFrom, facingFrom}
 use Rattle.scope.specs.Statements.{MeshSound}
 use Rattle.scope.specs.Triangles.{Triangle}
 use Rattle.scope.specs.Pairs.{SoilAround, rowsBefore}
+use Rattle.scope.specs.Jumps.{SameTraction}
 use Rattle.verdict.specs.declared.MeshAnswer.{MeshAnswer}
 use Rattle.verdict.specs.JudgeContracts.{MeshAnswered}
 use Rattle.numbers.specs.declared.numbers_answer.NumbersAnswer.{NumbersAnswer}
 use Rattle.numbers.specs.Promises.{Answers, returnedNumbers, TellsField, FieldInFractions}
-use Rattle.numbers.proofs.Promises.{mesh-answered-exactly, returned, returns-zero-exactly, refuses-exactly, numbers-listed, field-exactly, multipliers-exactly, criterion-for-each-pair, pairs-asked, rows-refused, field-reported, multipliers-reported, open-rows-reported, field-in-fractions, calls-bracket, call-bracket, accepted-parts, fractions-bracket, triangles-asked}
+use Rattle.numbers.proofs.Promises.{mesh-answered-exactly, returned, returns-zero-exactly, refuses-exactly, numbers-listed, field-exactly, multipliers-exactly, criterion-for-each-pair, pairs-asked, jumps-asked, tractions-on-joints, rows-refused, field-reported, multipliers-reported, open-rows-reported, field-in-fractions, calls-bracket, call-bracket, accepted-parts, fractions-bracket, triangles-asked}
 
 -- ---- what is answered
 
@@ -70,7 +71,7 @@ refused-answered = refl
 -- the multipliers alone, on a mesh that has one soil more, which no element has: the same rows
 unfoldable pub secondSoil : List ℤ
 secondSoil =
-    (pos 4 ∷ pos 1 ∷ pos 2 ∷ pos 3 ∷ pos 12 ∷ [])
+    (pos 4 ∷ pos 1 ∷ pos 2 ∷ pos 3 ∷ pos 12 ∷ pos 0 ∷ [])
     ++ (pos 0 ∷ pos 1 ∷ pos 1 ∷ pos 10 ∷ zeros 4)
     ++ (pos 3 ∷ pos 4 ∷ pos 5 ∷ pos 7 ∷ zeros 4)
     ++ (pos 0 ∷ pos 0 ∷ pos 1 ∷ pos 0 ∷ pos 1 ∷ pos 1 ∷ pos 0 ∷ pos 1 ∷ [])
@@ -201,7 +202,7 @@ sheet-mesh-passes h = mesh-answered-exactly h .passes .1 (sheet-accepted .mesh)
 
 -- a header that asks for 101 nodes: 2, line 1
 unfoldable pub manyNodes : List ℤ
-manyNodes = pos 101 ∷ pos 1 ∷ pos 1 ∷ pos 0 ∷ pos 12 ∷ []
+manyNodes = pos 101 ∷ pos 1 ∷ pos 1 ∷ pos 0 ∷ pos 12 ∷ pos 0 ∷ []
 
 many-nodes-number : {r : MeshAnswer} → MeshAnswered manyNodes r
     → (meshNumberOf (r .outcome) ≡ 2) × (meshPlaceOf (r .outcome) ≡ 1)
@@ -295,3 +296,48 @@ pub sheet-rows-stay : strengthRows workedMesh ≡ rowsBefore workedMesh
 sheet-rows-stay =
     pairs-asked workedMesh sheet 0 0 (returned sheet-answered) .sound (sheet-accepted .mesh) .as-before
     (λ v s k a b. only-soil a ∙ sym (only-soil b))
+
+-- ---- jumps: two blocks on a joint, the left one loaded
+
+-- 40 carried, 1200/30 allowed, no row open
+abbrev jointClaim : List ℤ
+jointClaim = onJoint (negℤ (pos 20)) (negℤ (pos 30))
+
+pub jointAnswer : NumbersAnswer
+jointAnswer = record { number = 0; place = 0; field = 1; multipliers = 1; l = pos 40; n = pos 1; w = pos 1200; m = pos 30; «open_rows» = 0 }
+
+pub joint-answered : Answers twoBlocks jointClaim jointAnswer
+unfolding computed zeros blocks blockEdges joint twoBlocks onJoint jointAnswer
+joint-answered = refl
+
+one-jump : 0 < jumps twoBlocks
+unfolding computed zeros blocks blockEdges joint twoBlocks
+one-jump = omega arith
+
+-- its two sides press on each other alike
+pub joint-tractions : SameTraction twoBlocks (stress twoBlocks jointClaim) 0
+unfolding computed onJoint jointAnswer
+joint-tractions = tractions-on-joints twoBlocks jointClaim 0 0 (returned joint-answered) (refl, inl refl) 0 one-jump
+
+-- -20 on the left and -19 on the right: 21 at the jump's first row, and the two normal stresses differ
+pub unevenAnswer : NumbersAnswer
+unevenAnswer = record { number = 21; place = 13; field = 0; multipliers = 0; l = pos 0; n = pos 0; w = pos 0; m = pos 0; «open_rows» = 0 }
+
+abbrev unevenClaim : List ℤ
+unevenClaim = onJoint (negℤ (pos 19)) (negℤ (pos 30))
+
+pub uneven-answered : Answers twoBlocks unevenClaim unevenAnswer
+unfolding computed zeros blocks blockEdges joint twoBlocks onJoint unevenAnswer
+uneven-answered = refl
+
+pub uneven-normal : ¬ NormalAgreesAt twoBlocks (stress twoBlocks unevenClaim) (pos 40) (pos 1) 0 (jumpFrom twoBlocks 0) (facingFrom twoBlocks 0)
+unfolding computed zeros blocks blockEdges joint twoBlocks onJoint unevenAnswer
+uneven-normal = rows-refused twoBlocks unevenClaim 21 13 (returned uneven-answered) .equality refl .jump-normal-from 0 (omega arith) refl
+
+-- document 01's sheet has no jump: its equality rows stay
+no-jump : jumps workedMesh ≡ 0
+unfolding computed zeros workedMesh
+no-jump = refl
+
+pub sheet-equalities-stay : equalityRows workedMesh ≡ balanceRows workedMesh ++ sideRows workedMesh
+sheet-equalities-stay = jumps-asked workedMesh .none no-jump

@@ -27,7 +27,8 @@ use Rattle.scope.specs.Accepted.{FieldAccepted, MultipliersAccepted, ClaimAccep
 use Rattle.scope.specs.Printed.{MeetsPrinted}
 use Rattle.scope.specs.RefusedRows.{EqualityFails, StrengthFails, PairsFail}
 use Rattle.scope.specs.PrintedColumns.{MultipliersPrinted, printedLive, printedLimit}
-use Rattle.scope.specs.AcceptedField.{CriterionEverywhere, CriterionAround}
+use Rattle.scope.specs.AcceptedField.{CriterionEverywhere, CriterionAround, TractionsAgree}
+use Rattle.scope.specs.Jumps.{SoundJumps, TipAsksNothing, NoJumps}
 use Rattle.scope.specs.Bracket.{Open, NoneOpen}
 use Rattle.scope.specs.Fractions.{FractionField, WrittenOver, FractionLaws, fieldOver}
 use Rattle.scope.specs.AcceptedFractions.{MeetsMesh}
@@ -52,7 +53,7 @@ pub record Returned (m c : List ℤ) (number place : ℕ) : Type 0 where
 
 -- ==== Demand 2: what is accepted, and what is refused
 
--- "Accepted returns 0, place 0": 0 exactly when the mesh passes 1 to 8 and 42, the claim passes 11 to 13, a field that
+-- "Accepted returns 0, place 0": 0 exactly when the mesh passes 1 to 8, 44 and 42, the claim passes 11 to 13, a field that
 -- is there meets every row, and multipliers that are there are zero on every unfixed row, make all 3·nodes columns 0
 -- and have m above 0
 pub record ReturnsZero (m c : List ℤ) (number place : ℕ) : Type 0 where
@@ -128,6 +129,18 @@ pub record PairsAsked (m : List ℤ) (number place : ℕ) : Type 0 where
   pub listed : Pairs m
   pub sound : MeshSound m → SoundPairs m
   pub refused : number ≡ 42 → PairsFail m place
+
+-- "Source 001, 2.3, lets stress jump across a side while normal and shear agree" (document 02, N6): both sides of a joint
+-- are outer sides, used by no edge and by no other jump, and face each other; an end that isn't doubled asks nothing;
+-- without jumps the rows are document 01's. A jump that is none of these gets 44 (`RefusesExactly`).
+pub record JumpsAsked (m : List ℤ) : Type 0 where
+  pub sound : MeshSound m → SoundJumps m
+  pub tip : TipAsksNothing m
+  pub none : NoJumps m
+
+-- and on each joint an accepted field has the same traction from both sides
+abbrev pub TractionsOnJoints : List ℤ → List ℤ → ℕ → Type 0
+TractionsOnJoints m c number = TellsField c number → TractionsAgree m c
 
 -- "An element whose third and fourth nodes are the same is to be read as a triangle: its balance rows are the same
 -- sums, .. and three left turns are asked. The repeat makes no side .. Every other repeat still gets 5. A file that

@@ -16,7 +16,7 @@ use Rattle.scope.specs.declared.Outcome.the-variants.{Passed, Refused as Fails}
 use Rattle.scope.specs.Columns.{free, at, hasField, hasMultipliers}
 use Rattle.integer.proofs.Order.{≤ℤ-pos}
 use Rattle.scope.specs.Layout.{width, count}
-use Rattle.scope.specs.Mesh.{mostPairs, meshLayout, meshHeader, soilLines, nodeLines, elementLines, edgeLines, nodes, elements, soils, edges, sides}
+use Rattle.scope.specs.Mesh.{mostPairs, meshLayout, meshHeader, soilLines, nodeLines, elementLines, edgeLines, jumpLines, nodes, elements, soils, edges, sides, jumps}
 use Rattle.scope.specs.Rows.{pairCount}
 use Rattle.scope.specs.Claim.{claimLayout, ifThere}
 use Rattle.scope.specs.Statements.{Within, MeshSound}
@@ -42,14 +42,14 @@ use Rattle.pechuvo.specs.Check.{mostFileBytes, check}
 -- ---- how long a mesh and a claim can be
 
 -- the bytes of the lines after a mesh's header
-mesh-bytes : (h : List ℤ) → bytesOf 12 (widths (meshLayout .body h)) ≡ soils h * 97 + (nodes h * 25 + (elements h * 61 + edges h * 85))
-unfolding meshLayout soilLines nodeLines elementLines edgeLines lineBytes
+mesh-bytes : (h : List ℤ) → bytesOf 12 (widths (meshLayout .body h)) ≡ soils h * 97 + (nodes h * 25 + (elements h * 61 + (edges h * 85 + jumps h * 49)))
+unfolding meshLayout soilLines nodeLines elementLines edgeLines jumpLines lineBytes
 mesh-bytes h = simp (group-bytes, no-bytes) (omega arith)
 
-mesh-short : (h : List ℤ) → soils h ≤ 16 → nodes h ≤ 100 → elements h ≤ 100 → edges h ≤ 60
+mesh-short : (h : List ℤ) → soils h ≤ 16 → nodes h ≤ 100 → elements h ≤ 100 → edges h ≤ 60 → jumps h ≤ 60
     → lineBytes 12 (width (meshLayout .header)) + bytesOf 12 (widths (meshLayout .body h)) < mostFileBytes
 unfolding meshLayout meshHeader lineBytes
-mesh-short h s n e g = rw (mesh-bytes h) (omega arith)
+mesh-short h s n e g j = rw (mesh-bytes h) (omega arith)
 
 count-most : (z : ℤ) {k : ℕ} → z ≤ℤ pos k → count z ≤ k
 unfolding count
@@ -59,15 +59,16 @@ count-most (negsuc n) h = omega arith
 -- a mesh whose header passes
 mesh-header-short : (h : List ℤ) → lineCheck meshLayout (meshLayout .header) h (Line 1) ≡ Passed
     → lineBytes 12 (width (meshLayout .header)) + bytesOf 12 (widths (meshLayout .body h)) < mostFileBytes
-unfolding meshLayout meshHeader soils nodes elements edges
+unfolding meshLayout meshHeader soils nodes elements edges jumps
 mesh-header-short h e =
     let p = line-check-passed meshLayout meshHeader h (Line 1) .says e in
-    let w : (c : ℕ) → c < 5 → Within (getD (meshHeader .limits) c free) (at h c) = λ c l. within-at (meshHeader .limits) h c (p .0) l (p .1) in
+    let w : (c : ℕ) → c < 6 → Within (getD (meshHeader .limits) c free) (at h c) = λ c l. within-at (meshHeader .limits) h c (p .0) l (p .1) in
     mesh-short h
     (count-most (at h 2) (w 2 (omega arith) .1))
     (count-most (at h 0) (w 0 (omega arith) .1))
     (count-most (at h 1) (w 1 (omega arith) .1))
     (count-most (at h 3) (w 3 (omega arith) .1))
+    (count-most (at h 5) (w 5 (omega arith) .1))
 
 mesh-header-line : lineBytes 12 (width (meshLayout .header)) ≤ mostFileBytes
 unfolding meshLayout meshHeader lineBytes
@@ -82,10 +83,12 @@ claim-short m c sound =
     let ps = few-pairs m sound in
     let es = k .elementsMost in
     let gs = k .edgesMost in
+    let js = k .jumpsMost in
     let ss = sides-most (k .sidesListed) in
     let a = there-most (hasField c) (nodes m) in
     let b = there-most (hasMultipliers c) (elements m) in
     let d = there-most (hasMultipliers c) (edges m) in
+    let g = there-most (hasMultipliers c) (jumps m) in
     let e = there-most (hasMultipliers c) (pairCount m) in
     let p : ifThere (hasMultipliers c) (pairCount m) * (sides m * 12 + 1) ≤ mostPairs * 433 = mul-le-mul {n₂ = mostPairs} {m₂ = 433} (omega arith) (omega arith) in
     omega (arith, claim-bytes m c)
@@ -141,7 +144,7 @@ accepted-short mesh claim e =
     let k = counts m (a .mesh .lines) in
     let q = lines-passed (claimLayout m) c .passed (a .lines) in
     let s = some-side m p in (
-      rw (passed-length 12 meshLayout mesh-regular mesh p) (mesh-short m (k .soilsMost) (k .nodesMost) (k .elementsMost) (k .edgesMost)),
+      rw (passed-length 12 meshLayout mesh-regular mesh p) (mesh-short m (k .soilsMost) (k .nodesMost) (k .elementsMost) (k .edgesMost) (k .jumpsMost)),
       rw (passed-length 12 (claimLayout m) (claim-regular m s) claim q) (claim-short m c (a .mesh)),
     )
 

@@ -45,7 +45,7 @@ use Rattle.numbers.specs.declared.numbers_answer.NumbersAnswer.{NumbersAnswer}
 use Rattle.numbers.specs.NumbersAnswer.{answerOf}
 use Rattle.numbers.specs.Promises as Handed-over
 use Rattle.numbers.specs.Promises.{Returned, TellsField}
-use Rattle.numbers.proofs.Promises.{returned, returns-zero-exactly, refuses-exactly, numbers-listed, rows-refused, field-exactly, multipliers-exactly, pairs-asked, criterion-for-each-pair, fractions-allowed}
+use Rattle.numbers.proofs.Promises.{returned, returns-zero-exactly, refuses-exactly, numbers-listed, rows-refused, field-exactly, multipliers-exactly, pairs-asked, criterion-for-each-pair, jumps-asked, tractions-on-joints, fractions-allowed}
 use Rattle.report.specs.Text.{Said, number as shows, said}
 use Rattle.report.specs.Report.{reportBytes, reportLine, mostDecimals, Decimals, isDecimals, usualDecimals}
 use Rattle.report.specs.Says.{columnOf, LoadSays, no-load, rounded, Says, says-accepted, says-refused, LineSays}
@@ -115,13 +115,14 @@ module _ (mesh claim : List ℕ) (z : ℤ) (before : List ℕ) (number place : �
         writes = h .bufferIs ∙ ap (λ x. x .buffer) e;
       }
 
--- no verdict has a number above 33 but 42, so none has 41 or 43
-not-of-a-verdict : (x : ℕ) → 33 < x → x ≢ 42 → (m c : List ℤ) → numberOf (verdict m c) ≢ x
-not-of-a-verdict x above not-42 m c = by (verdict-cases m c)
+-- no verdict has a number above 33 but 42 and 44, so none has 41 or 43
+not-of-a-verdict : (x : ℕ) → 33 < x → x ≢ 42 → x ≢ 44 → (m c : List ℤ) → numberOf (verdict m c) ≢ x
+not-of-a-verdict x above not-42 not-44 m c = by (verdict-cases m c)
   where
-    of-mesh : {k : ℕ} → (k ≤ 13) ⊎ (k ≡ 42) → k ≢ x
+    of-mesh : {k : ℕ} → (k ≤ 13) ⊎ ((k ≡ 42) ⊎ (k ≡ 44)) → k ≢ x
     of-mesh (inl h) e = omega (arith, above)
-    of-mesh (inr h) e = not-42 (sym e ∙ h)
+    of-mesh (inr (inl h)) e = not-42 (sym e ∙ h)
+    of-mesh (inr (inr h)) e = not-44 (sym e ∙ h)
 
     each : EachIn (λ k p. k ≢ x) (meshPhases m ++ claimPhases m c)
     each =
@@ -270,8 +271,8 @@ module _ (mesh claim : List ℕ) (z : ℤ) (before : List ℕ) (number place : �
     size = as-long came;
   }
     where
-      of-the-call : (x : ℕ) → 33 < x → x ≢ 42 → number ≡ x → LineWritten mesh claim z before number place after → ⊥
-      of-the-call x a o e w = not-of-a-verdict x a o (meshIn mesh) (claimIn mesh claim) (sym (w .returns .numberIs) ∙ e)
+      of-the-call : (x : ℕ) → 33 < x → x ≢ 42 → x ≢ 44 → number ≡ x → LineWritten mesh claim z before number place after → ⊥
+      of-the-call x a o q e w = not-of-a-verdict x a o q (meshIn mesh) (claimIn mesh claim) (sym (w .returns .numberIs) ∙ e)
 
       forty-three : ¬ Decimals z → Cases mesh claim z before number place after → (number ≡ 43) × (place ≡ 0) × (after ≡ before)
       forty-three n (other o u) = (u .number-is, u .place-0, u .untouched)
@@ -281,7 +282,7 @@ module _ (mesh claim : List ℕ) (z : ℤ) (before : List ℕ) (number place : �
       then-others : number ≡ 43 → Cases mesh claim z before number place after → ¬ Decimals z
       then-others e (other o u) = o
       then-others e (short d l u) = absurd (omega (arith, u .number-is))
-      then-others e (line r w) = absurd (of-the-call 43 (omega arith) (λ x. omega arith) e w)
+      then-others e (line r w) = absurd (of-the-call 43 (omega arith) (λ x. omega arith) (λ x. omega arith) e w)
 
       forty-one : Decimals z → length before < reportBytes → Cases mesh claim z before number place after → (number ≡ 41) × (place ≡ 0) × (after ≡ before)
       forty-one d l (other o u) = absurd (o d)
@@ -291,7 +292,7 @@ module _ (mesh claim : List ℕ) (z : ℤ) (before : List ℕ) (number place : �
       then-short : number ≡ 41 → Cases mesh claim z before number place after → Decimals z × (length before < reportBytes)
       then-short e (other o u) = absurd (omega (arith, u .number-is))
       then-short e (short d l u) = (d, l)
-      then-short e (line r w) = absurd (of-the-call 41 (omega arith) (λ x. omega arith) e w)
+      then-short e (line r w) = absurd (of-the-call 41 (omega arith) (λ x. omega arith) (λ x. omega arith) e w)
 
       beyond : Cases mesh claim z before number place after → drop reportBytes after ≡ drop reportBytes before
       beyond (other o u) = ap (drop reportBytes) (u .untouched)
@@ -327,6 +328,8 @@ module _ (mesh claim : List ℕ) (z : ℤ) (before : List ℕ) (number place : �
         multipliers = multipliers-exactly (meshIn mesh) (claimIn mesh claim) number place r;
         pairs = pairs-asked (meshIn mesh) (claimIn mesh claim) number place r;
         criterion = criterion-for-each-pair (meshIn mesh) (claimIn mesh claim) number place r;
+        jumps = jumps-asked (meshIn mesh);
+        tractions = tractions-on-joints (meshIn mesh) (claimIn mesh claim) number place r;
       }
 
   pub form-exactly : Room z before → FormExactly mesh claim number place

@@ -1,4 +1,4 @@
--- Each promise of the check of two files applied to document 01's sheets as bytes, with six decimals; those of document 02 to a seam of clay (N2) and to other decimals (N5) too. antt computes what is returned and written, and the promise says the rest.
+-- Each promise of the check of two files applied to document 01's sheets as bytes, with six decimals; those of document 02 to a seam of clay (N2), to other decimals (N5) and to two blocks on a joint (N6) too. antt computes what is returned and written, and the promise says the rest.
 use mathlib.Core.Path.{_≡_, refl, sym, _∙_, ap, subst}
 use mathlib.Core.Logic.{inl, inr, _≢_}
 use mathlib.Core.List.{List, [], _∷_, _++_, map, List·Memᴰ·head}
@@ -13,7 +13,7 @@ use Rattle.scope.specs.declared.Place.the-variants.{Column}
 use Rattle.scope.proofs.Computed.{computed}
 use Rattle.scope.specs.Members.{_∈_}
 use Rattle.scope.specs.Columns.{n, l}
-use Rattle.scope.specs.Mesh.{meshLayout, nodes, elements, edges, sides, corner, elementSoil, fromNode}
+use Rattle.scope.specs.Mesh.{meshLayout, nodes, elements, edges, sides, corner, elementSoil, fromNode, jumps}
 use Rattle.scope.specs.Polygon.{polygonOf}
 use Rattle.scope.specs.Rows.{Pair, pairCount, pairAt, equalityRows, rowsOf, judged}
 use Rattle.scope.specs.RowNumbers.{sideNumbered}
@@ -25,6 +25,7 @@ use Rattle.scope.specs.Refusals.{Refusal}
 use Rattle.scope.specs.Accepted.{FieldAccepted, MultipliersAccepted, ClaimAccepted}
 use Rattle.scope.specs.Printed.{NormalAt, StrengthAt}
 use Rattle.scope.specs.AcceptedField.{MeetsCriterion}
+use Rattle.scope.specs.Jumps.{SameTraction}
 use Rattle.scope.specs.Parts.{carried, allowed, SameRows}
 use Rattle.scope.proofs.Refusals.{mesh-passed, lines-passed, multipliers-passed}
 use Rattle.scope.specs.Worked as Numbers
@@ -39,7 +40,7 @@ use Rattle.report.proofs.BufferLaws.{these-decimals}
 use Rattle.judge.specs.Judge.{filesVerdict}
 use Rattle.judge.specs.Handed.{files, numbers, meshOf, claimOf, HasAcceptedMultipliers, HandedBracket}
 use Rattle.pechuvo.specs.Check.{mostFileBytes, check}
-use Rattle.pechuvo.specs.Sheets.{Sheet, sheet, starred, seamMesh, seamFault, twoThirdsMesh, twoThirdsClaim, withDecimals}
+use Rattle.pechuvo.specs.Sheets.{Sheet, sheet, starred, seamMesh, seamFault, jointMesh, jointBlocks, twoThirdsMesh, twoThirdsClaim, withDecimals}
 use Rattle.pechuvo.specs.Answers.{Answers}
 use Rattle.pechuvo.specs.Promises.{meshIn, claimIn, Room, LowerPrinted, UpperPrinted, Millionths, TextsFit, OpenRowsPrinted, Call, on-files, on-numbers, AsAFile}
 use Rattle.pechuvo.proofs.Sheets.{computedLine}
@@ -245,6 +246,26 @@ pub clay-row-fails : ¬ StrengthAt meshOfSeam (stress meshOfSeam claimOfSeam) (l
 clay-row-fails =
     subst (λ (a : Pair). ¬ StrengthAt meshOfSeam (stress meshOfSeam claimOfSeam) (l claimOfSeam) (n claimOfSeam) (polygonOf (sides meshOfSeam) .radius) a (sideNumbered (polygonOf (sides meshOfSeam)) 1)) (fourth-pair .3)
     (on-numbers-read (seamFault .mesh) (seamFault .claim) (pos 6) room 22 37 (seamFault .line) fault-answered fits .rows .strength refl .strength 3 0 (fourth-pair .0) (fourth-pair .1) (fourth-pair .2))
+
+-- the two blocks press on their joint alike
+abbrev meshOfJoint : List ℤ
+meshOfJoint = meshIn (jointBlocks .mesh)
+
+abbrev claimOfJoint : List ℤ
+claimOfJoint = claimIn (jointBlocks .mesh) (jointBlocks .claim)
+
+joint-answered : Answers (jointBlocks .mesh) (jointBlocks .claim) (pos 6) room 0 0 (jointBlocks .line)
+unfolding opened jointMesh jointBlocks
+joint-answered = record { numberIs = refl; placeIs = refl; bufferIs = refl }
+
+joint-there : (0 < jumps meshOfJoint) × HasField claimOfJoint
+unfolding opened jointMesh jointBlocks
+joint-there = (omega arith, refl)
+
+pub joint-tractions : SameTraction meshOfJoint (stress meshOfJoint claimOfJoint) 0
+joint-tractions =
+    on-numbers-read (jointBlocks .mesh) (jointBlocks .claim) (pos 6) room 0 0 (jointBlocks .line) joint-answered fits .tractions (joint-there .1, inl refl) 0
+    (joint-there .0)
 
 pub seam-ascends : Before (pairAt meshOfSeam 2) (pairAt meshOfSeam 3)
 seam-ascends =

@@ -10,7 +10,7 @@ use Rattle.report.specs.Report.{loadText, lowerText, upperText, openText, fourC
 use Rattle.judge.specs.Judge.{meshNumbers, claimNumbers, filesVerdict}
 use Rattle.pechuvo.specs.Check.{check}
 use Rattle.pechuvo.specs.Bytes.{bytes, withWord, numbersAfter, numbers}
-use Rattle.pechuvo.specs.Sheets.{sheet, printedWith, printed, workedMesh, pullMesh, pullClaim, starred, unitSquare, seamMesh, seamFault, noticing, twoThirdsMesh, twoThirdsClaim, withDecimals}
+use Rattle.pechuvo.specs.Sheets.{sheet, printedWith, printed, workedMesh, pullMesh, pullClaim, starred, unitSquare, seamMesh, seamFault, jointMesh, jointBlocks, noticing, twoThirdsMesh, twoThirdsClaim, withDecimals}
 use Rattle.pechuvo.specs.Shipped.{asFiles, shipped}
 
 -- for proofs by computation: every definition between the bytes of two files and the bytes of the line is open
@@ -23,7 +23,7 @@ unfolding computedLine
 starred-sheets = refl
 
 pub noticing-sheets : map printed noticing ≡ map (λ s. s .line) noticing
-unfolding computedLine unitSquare seamMesh seamFault noticing
+unfolding computedLine unitSquare seamMesh seamFault jointMesh jointBlocks noticing
 noticing-sheets = refl
 
 pub decimals-sheets : map (λ s. printedWith (s .0) (s .1)) withDecimals ≡ map (λ s. s .1 .line) withDecimals
@@ -32,5 +32,5 @@ decimals-sheets = refl
 
 -- the files that ship are the ones that the definition writes
 pub shipped-written : map (λ s. (s .mesh, s .claim)) asFiles ≡ shipped
-unfolding computedLine seamMesh seamFault asFiles shipped
+unfolding computedLine seamMesh seamFault jointMesh jointBlocks asFiles shipped
 shipped-written = refl

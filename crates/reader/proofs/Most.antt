@@ -15,8 +15,8 @@ use Rattle.scope.specs.declared.Outcome.the-variants.{Passed}
 use Rattle.scope.specs.Columns.{hasField, hasMultipliers}
 use Rattle.scope.specs.Layout.{Group, Layout, width, numberCount}
 use Rattle.scope.specs.Verdict.{lineCheck}
-use Rattle.scope.specs.Mesh.{mostSides, mostPairs, meshHeaderColumns, meshLayout, meshHeader, soilLines, nodeLines, elementLines, edgeLines, nodes, elements, soils, edges, sides, elementRows, edgeRows}
-use Rattle.scope.specs.Claim.{claimHeaderColumns, stressColumns, claimLayout, claimHeader, ifThere, stressLines, elementMultipliers, edgeMultipliers, strengthMultipliers}
+use Rattle.scope.specs.Mesh.{mostSides, mostPairs, meshHeaderColumns, meshLayout, meshHeader, soilLines, nodeLines, elementLines, edgeLines, jumpLines, nodes, elements, soils, edges, sides, jumps, elementRows, edgeRows, rowsPerJump}
+use Rattle.scope.specs.Claim.{claimHeaderColumns, stressColumns, claimLayout, claimHeader, ifThere, stressLines, elementMultipliers, edgeMultipliers, jumpMultipliers, strengthMultipliers}
 use Rattle.scope.proofs.Exactly.{there-most}
 use Rattle.mesh.specs.declared.sizes.Sizes.{Sizes}
 use Rattle.scope.specs.Rows.{pairCount}
@@ -118,23 +118,23 @@ numbers-most w f most header told bs = by (readLine w (width (f .header)) bs) re
         let count = line-means w (width (f .header)) bs h .0 e .count in
         rw (e, numbersOf) (simp length-append (omega (arith, count, after h count)))
 
-mesh-count : (m : List ℤ) → numberCount (meshLayout .body m) ≡ soils m * width (soilLines 0) + nodes m * width (nodeLines 0) + elements m * width (elementLines 0 0 0) + edges m * width (edgeLines 0 0)
-unfolding numberCount meshLayout soilLines nodeLines elementLines edgeLines
+mesh-count : (m : List ℤ) → numberCount (meshLayout .body m) ≡ soils m * width (soilLines 0) + nodes m * width (nodeLines 0) + elements m * width (elementLines 0 0 0) + edges m * width (edgeLines 0 0) + jumps m * width (jumpLines 0 0)
+unfolding numberCount meshLayout soilLines nodeLines elementLines edgeLines jumpLines
 mesh-count m = omega arith
 
 -- a mesh file
 pub mesh-most : (bs : List ℕ) → length (numbersOf fileWidth meshLayout bs) ≤ meshRoom
-unfolding meshLayout meshHeader numberCount soilLines nodeLines elementLines edgeLines
+unfolding meshLayout meshHeader numberCount soilLines nodeLines elementLines edgeLines jumpLines
 mesh-most = numbers-most fileWidth meshLayout meshRoom (omega arith) told
   where
     told : (h : List ℤ) → length h ≡ meshHeaderColumns → lineCheck meshLayout meshHeader h (Line 1) ≡ Passed → meshHeaderColumns + numberCount (meshLayout .body h) + 1 ≤ meshRoom
     told h n e =
         let whole : take meshHeaderColumns h ≡ h = take-all meshHeaderColumns h (omega arith) in
         let counts = header-counts h (sym (mesh-header-line h) ∙ ap (λ (line : List ℤ). lineCheck meshLayout meshHeader line (Line 1)) whole ∙ e) .counts in
-        omega (arith, mesh-count h, counts .soilsMost, counts .nodesMost, counts .elementsMost, counts .edgesMost)
+        omega (arith, mesh-count h, counts .soilsMost, counts .nodesMost, counts .elementsMost, counts .edgesMost, counts .jumpsMost)
 
-claim-count : (m c : List ℤ) → numberCount (claimLayout m .body c) ≡ ifThere (hasField c) (nodes m) * stressColumns + ifThere (hasMultipliers c) (elements m) * elementRows + ifThere (hasMultipliers c) (edges m) * edgeRows + ifThere (hasMultipliers c) (pairCount m) * sides m
-unfolding numberCount claimLayout stressLines elementMultipliers edgeMultipliers strengthMultipliers
+claim-count : (m c : List ℤ) → numberCount (claimLayout m .body c) ≡ ifThere (hasField c) (nodes m) * stressColumns + ifThere (hasMultipliers c) (elements m) * elementRows + ifThere (hasMultipliers c) (edges m) * edgeRows + ifThere (hasMultipliers c) (jumps m) * rowsPerJump + ifThere (hasMultipliers c) (pairCount m) * sides m
+unfolding numberCount claimLayout stressLines elementMultipliers edgeMultipliers jumpMultipliers strengthMultipliers
 claim-count m c = simp length-replicate (omega arith)
 
 -- a claim file on a mesh whose counts and pairs are within their limits
@@ -153,8 +153,9 @@ claim-most {m} k = numbers-most fileWidth (claimLayout m) claimRoom (omega arith
         let a = there-most (hasField c) (nodes m) in
         let b = there-most (hasMultipliers c) (elements m) in
         let d = there-most (hasMultipliers c) (edges m) in
+        let g = there-most (hasMultipliers c) (jumps m) in
         let e = there-most (hasMultipliers c) (pairCount m) in
         let rows : ifThere (hasMultipliers c) (pairCount m) * sides m ≤ mostPairs * mostSides =
         mul-le-mul {n₂ = mostPairs} {m₂ = mostSides} (omega (arith, e, few-pairs)) few-sides in
         let counts = k .sizes .counts in
-        omega (arith, claim-count m c, counts .nodesMost, counts .elementsMost, counts .edgesMost)
+        omega (arith, claim-count m c, counts .nodesMost, counts .elementsMost, counts .edgesMost, counts .jumpsMost)

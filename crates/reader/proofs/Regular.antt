@@ -8,8 +8,8 @@ use lib.IntN.{ℤ, pos}
 use lib.ListN.{length, length-replicate, List·getD-append}
 use Rattle.scope.specs.Columns.{Rule, rightAngle, naming, parts, at, hasField, hasMultipliers}
 use Rattle.scope.specs.Layout.{groups}
-use Rattle.scope.specs.Mesh.{meshLayout, meshHeader, soilLines, nodeLines, elementLines, edgeLines, nodes, elements, soils, edges, sides}
-use Rattle.scope.specs.Claim.{claimLayout, claimHeader, stressLines, elementMultipliers, edgeMultipliers, strengthMultipliers}
+use Rattle.scope.specs.Mesh.{meshLayout, meshHeader, soilLines, nodeLines, elementLines, edgeLines, jumpLines, nodes, elements, soils, edges, sides, jumps}
+use Rattle.scope.specs.Claim.{claimLayout, claimHeader, stressLines, elementMultipliers, edgeMultipliers, jumpMultipliers, strengthMultipliers}
 use Rattle.reader.specs.WellFormed.{Regular}
 use Rattle.scope.specs.Refusals.{ruleNumber}
 
@@ -30,18 +30,18 @@ claim-number (naming cs) = omega arith
 claim-number parts = omega arith
 
 pub mesh-regular : Regular meshLayout
-unfolding meshLayout meshHeader groups soilLines nodeLines elementLines edgeLines nodes elements soils edges
+unfolding meshLayout meshHeader groups soilLines nodeLines elementLines edgeLines jumpLines nodes elements soils edges jumps
 mesh-regular = record {
   oneHeader = refl;
   byHeader = λ h rest e.
-      rw (front h rest 0 (omega arith), front h rest 1 (omega arith), front h rest 2 (omega arith), front h rest 3 (omega arith));
+      rw (front h rest 0 (omega arith), front h rest 1 (omega arith), front h rest 2 (omega arith), front h rest 3 (omega arith), front h rest 5 (omega arith));
   someColumns = λ h. omega arith;
   notLimit = omega arith;
   notRule = mesh-number;
 }
 
 pub claim-regular : (m : List ℤ) → 0 < sides m → Regular (claimLayout m)
-unfolding claimLayout claimHeader groups stressLines elementMultipliers edgeMultipliers strengthMultipliers hasField hasMultipliers
+unfolding claimLayout claimHeader groups stressLines elementMultipliers edgeMultipliers jumpMultipliers strengthMultipliers hasField hasMultipliers
 claim-regular m s = record {
   oneHeader = refl;
   byHeader = λ h rest e. rw (front h rest 0 (omega arith), front h rest 1 (omega arith));

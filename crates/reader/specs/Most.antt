@@ -1,6 +1,6 @@
 -- How many numbers a file has at most: by its bytes, and by the lines that a mesh and a claim can have.
 use Prim.Native.Nat.{ℕ, _+_, _*_, _/_}
-use Rattle.scope.specs.Mesh.{mostNodes, mostElements, mostSoils, mostEdges, mostSides, mostPairs, meshHeaderColumns, soilColumns, nodeColumns, elementColumns, edgeColumns, elementRows, edgeRows}
+use Rattle.scope.specs.Mesh.{mostNodes, mostElements, mostSoils, mostEdges, mostSides, mostJumps, mostPairs, meshHeaderColumns, soilColumns, nodeColumns, elementColumns, edgeColumns, jumpColumns, elementRows, edgeRows, rowsPerJump}
 use Rattle.scope.specs.Claim.{claimHeaderColumns, stressColumns}
 use Rattle.reader.specs.File.{fileWidth}
 
@@ -10,7 +10,14 @@ mostNumbers bytes = bytes / fileWidth + 1
 
 -- a mesh file, and a claim file: their headers, as many lines as there can be, and one for bytes left over
 abbrev pub meshRoom : ℕ
-meshRoom = meshHeaderColumns + mostSoils * soilColumns + mostNodes * nodeColumns + mostElements * elementColumns + mostEdges * edgeColumns + 1
+meshRoom =
+    meshHeaderColumns
+    + mostSoils * soilColumns
+    + mostNodes * nodeColumns
+    + mostElements * elementColumns
+    + mostEdges * edgeColumns
+    + mostJumps * jumpColumns
+    + 1
 
 abbrev pub claimRoom : ℕ
 claimRoom =
@@ -18,5 +25,6 @@ claimRoom =
     + mostNodes * stressColumns
     + mostElements * elementRows
     + mostEdges * edgeRows
+    + mostJumps * rowsPerJump
     + mostPairs * mostSides
     + 1

@@ -21,9 +21,12 @@ use mesh::sizes::EDGE_COLUMNS;
 use mesh::sizes::EDGE_ROWS;
 use mesh::sizes::ELEMENT_COLUMNS;
 use mesh::sizes::ELEMENT_ROWS;
+use mesh::sizes::JUMP_COLUMNS;
+use mesh::sizes::JUMP_ROWS;
 use mesh::sizes::MESH_HEADER;
 use mesh::sizes::MOST_EDGES;
 use mesh::sizes::MOST_ELEMENTS;
+use mesh::sizes::MOST_JUMPS;
 use mesh::sizes::MOST_NODES;
 use mesh::sizes::MOST_PAIRS;
 use mesh::sizes::MOST_SIDES;
@@ -54,12 +57,14 @@ pub const MESH_ROOM: usize = MESH_HEADER
     + MOST_NODES * NODE_COLUMNS
     + MOST_ELEMENTS * ELEMENT_COLUMNS
     + MOST_EDGES * EDGE_COLUMNS
+    + MOST_JUMPS * JUMP_COLUMNS
     + 1;
 
 pub const CLAIM_ROOM: usize = CLAIM_HEADER
     + MOST_NODES * STRESS_COLUMNS
     + MOST_ELEMENTS * ELEMENT_ROWS
     + MOST_EDGES * EDGE_ROWS
+    + MOST_JUMPS * JUMP_ROWS
     + MOST_PAIRS * MOST_SIDES
     + 1;
 

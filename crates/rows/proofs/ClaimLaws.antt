@@ -15,7 +15,7 @@ use Rattle.integer.specs.Tests.{eqZ}
 use Rattle.scope.specs.Bounds.{mostScale, mostLoad, mostStress, mostMultiplier, strengthMultiplier}
 use Rattle.scope.specs.Columns.{at, hasField, hasMultipliers, n, l}
 use Rattle.scope.specs.Layout.{groups, numbersBefore}
-use Rattle.scope.specs.Mesh.{nodes, elements, edges, sides, equalityCount}
+use Rattle.scope.specs.Mesh.{nodes, elements, edges, sides, jumps, equalityCount}
 use Rattle.scope.specs.Rows.{pairCount}
 use Rattle.scope.specs.Claim.{claimHeader, claimLayout, ifThere, stressLines, stress, multiplier}
 use Rattle.scope.specs.NumberRanges.{ClaimFacts}
@@ -85,11 +85,11 @@ module _ {m c : List ℤ} (f : ClaimFacts m c) where
   -- where the multipliers begin and where the claim ends
   pub with-multipliers : at c 1 ≡ pos 1 → length c ≡ multipliersFrom m c + equalityCount m + pairCount m * sides m
   unfolding multipliersFrom
-  with-multipliers e = f .size ∙ rw (multipliers-there e (elements m), multipliers-there e (edges m), multipliers-there e (pairCount m)) (omega arith)
+  with-multipliers e = f .size ∙ rw (multipliers-there e (elements m), multipliers-there e (edges m), multipliers-there e (jumps m), multipliers-there e (pairCount m)) (omega arith)
 
   without-multipliers : at c 1 ≡ pos 0 → length c ≡ multipliersFrom m c
   unfolding multipliersFrom
-  without-multipliers e = f .size ∙ rw (multipliers-not e (elements m), multipliers-not e (edges m), multipliers-not e (pairCount m)) (omega (arith, zero-mul (sides m)))
+  without-multipliers e = f .size ∙ rw (multipliers-not e (elements m), multipliers-not e (edges m), multipliers-not e (jumps m), multipliers-not e (pairCount m)) (omega (arith, zero-mul (sides m)))
 
   stress-part : (i : ℕ) → 4 ≤ i → i < multipliersFrom m c → Within mostStress (at c i)
   unfolding multipliersFrom

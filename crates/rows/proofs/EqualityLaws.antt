@@ -1,9 +1,9 @@
--- The equality rows as numbers: each number of a balance row or of a side row is that of the definition, and within its bound.
-use mathlib.Core.Path.{_≡_, refl, sym, _∙_, subst}
+-- The equality rows as numbers: each number of a balance row, of a side row or of a jump row is that of the definition, and within its bound.
+use mathlib.Core.Path.{_≡_, refl, sym, _∙_, ap₂, subst}
 use mathlib.Core.Bool.{Bool, true, false, not, _||_}
 use mathlib.Core.List.{List, [], _∷_}
-use Prim.Native.Nat.{ℕ, zero, suc, _+_, _*_, _<_, zero-le}
-use native.Mathlib.Nat.{add-zero, le-refl}
+use Prim.Native.Nat.{ℕ, zero, suc, _+_, _*_, _-_, _/_, _%_, _≤_, _<_, zero-le}
+use native.Mathlib.Nat.{add-zero, le-refl, div-add-mod'}
 use native.Mathlib.Omega.{arith}
 use lib.IntN.{ℤ, pos, _+ℤ_, _-ℤ_, _*ℤ_, negℤ}
 use lib.Dec.{T}
@@ -18,14 +18,16 @@ use Rattle.integer.proofs.RingLaws.{*ℤ-assoc}
 use Rattle.rows.specs.declared.equality_rows.EqualityRow.{EqualityRow}
 use Rattle.rows.specs.declared.equality_rows.Squares.{Squares}
 use Rattle.integer.proofs.Ring.{ring, terms}
-use Rattle.scope.specs.Mesh.{nodes, elements, x, y, corner, elementSoil, soilEntry, liveX, liveY, deadX, deadY, edges, edgeEntry, fromNode, toNode}
-use Rattle.scope.specs.Rows.{Row, equalityRows, joined, countFrom, node, sx, sy, t, riseAcross, runAcross, twiceArea, balanceX, balanceY, stepX, stepY, stepSquare, fixedIf, normalRow, shearRow}
+use Rattle.scope.specs.Mesh.{nodes, elements, x, y, corner, elementSoil, soilEntry, liveX, liveY, deadX, deadY, edges, jumps, edgeEntry, fromNode, toNode, jumpFrom, jumpTo, facingFrom, facingTo}
+use Rattle.scope.specs.Rows.{Row, equalityRows, joined, countFrom, node, sx, sy, t, riseAcross, runAcross, twiceArea, balanceX, balanceY, stepX, stepY, stepSquare, fixedIf, normalRow, shearRow, jumpStepX, jumpStepY, agreeRow, jumpNormal, jumpShear}
 use Rattle.scope.specs.NumberRanges.{MeshFacts}
-use Rattle.rows.specs.RowContracts.{withColumns, rowOf, RowFits, Filled, cornerColumns, balancedOf, SquaresAre, SquaresFit, normalOf, shearOf}
+use Rattle.mesh.specs.MeshContracts.{jumpNode}
+use Rattle.rows.specs.RowContracts.{withColumns, rowOf, RowFits, Filled, cornerColumns, balancedOf, SquaresAre, SquaresFit, normalOf, shearOf, agreeOf}
 use Rattle.scope.specs.Bounds.{mostCoordinate, mostTraction, mostSquare, mostCoefficient, equalityRight}
 use Rattle.scope.proofs.SumBounds.{area-is}
 use Rattle.scope.specs.Tests.{rowAt}
-use Rattle.rows.proofs.RowLaws.{balance-at, side-at}
+use Rattle.rows.proofs.RowLaws.{balance-at, side-at, jump-at}
+use Rattle.scope.proofs.RowNumbers.{rowsOfJump}
 
 -- ---- a balance row
 
@@ -238,6 +240,72 @@ module _ (m : List ℤ) (g v : ℕ) (l : v < nodes m) {r : EqualityRow} {uu uw w
   shear-filled e ef hd hl =
       rw (e, hd .same, hl .same, ef, hf) (record { is = shear-is m g v h; fits = shear-fits l (squares-fit h) (hd .inside) (hl .inside) _ })
 
+-- ---- a jump row
+
+pub as-agree : {k₀ k₁ k₂ k₃ k₄ k₅ v w a b c : ℤ} (second column facing : ℕ) → k₀ ≡ a → k₁ ≡ b → k₂ ≡ c → k₃ ≡ negℤ a → k₄ ≡ negℤ b → k₅ ≡ negℤ c → v ≡ pos 0 → w ≡ pos 0
+    → _≡_ {A = EqualityRow}
+    (record { coefficients = k₀ ∷ k₁ ∷ k₂ ∷ k₃ ∷ k₄ ∷ k₅ ∷ replicate 2 (pos 0); columns = column ∷ (column + second) ∷ (column + (3 - second)) ∷ facing ∷ (facing + second) ∷ (facing + (3 - second)) ∷ replicate 2 0; count = 6; live = v; right = w; asked = true })
+    (agreeOf a b c second column facing)
+unfolding agreeOf
+as-agree second column facing e₀ e₁ e₂ e₃ e₄ e₅ f g = rw (e₀, e₁, e₂, e₃, e₄, e₅, f, g)
+
+six : (a b c d e f i : ℕ) {n : ℕ} → i < 6 → a < n → b < n → c < n → d < n → e < n → f < n → getD (a ∷ b ∷ c ∷ d ∷ e ∷ f ∷ replicate 2 0) i 0 < n
+six a b c d e f zero h ha hb hc hd he hf = ha
+six a b c d e f (suc zero) h ha hb hc hd he hf = hb
+six a b c d e f (suc (suc zero)) h ha hb hc hd he hf = hc
+six a b c d e f (suc (suc (suc zero))) h ha hb hc hd he hf = hd
+six a b c d e f (suc (suc (suc (suc zero)))) h ha hb hc hd he hf = he
+six a b c d e f (suc (suc (suc (suc (suc zero))))) h ha hb hc hd he hf = hf
+six a b c d e f (suc (suc (suc (suc (suc (suc i)))))) h ha hb hc hd he hf = absurd (omega arith)
+
+agree-fits : {n v f : ℕ} {a b c : ℤ} (second : ℕ) → second < 3 → 0 < second → v < n → f < n → Within mostCoefficient a → Within mostCoefficient b → Within mostCoefficient c → RowFits (agreeOf a b c second (3 * v) (3 * f)) (3 * n)
+unfolding agreeOf
+agree-fits {n} {v} {f} second two one lv lf ha hb hc = record {
+  entries = record {
+    long = refl;
+    wide = refl;
+    few = omega arith;
+    coefficientsFit =
+        let z = within-literal tt in
+        within-cons ha (within-cons hb (within-cons hc (within-cons (Within-negℤ ha) (within-cons (Within-negℤ hb) (within-cons (Within-negℤ hc) (within-cons z (within-cons z within-nil)))))));
+    columnsFit = λ i h. six (3 * v) (3 * v + second) (3 * v + (3 - second)) (3 * f) (3 * f + second) (3 * f + (3 - second)) i h (omega arith) (omega arith) (omega arith) (omega arith) (omega arith) (omega arith);
+  };
+  liveFits = within-literal tt;
+  rightFits = within-literal tt;
+}
+
+module _ (m : List ℤ) (j v f : ℕ) where
+  abbrev u : ℤ
+  u = jumpStepX m j
+
+  abbrev w : ℤ
+  w = jumpStepY m j
+
+  jump-normal-is : rowOf (agreeOf (w *ℤ w) (negℤ (pos 2 *ℤ (u *ℤ w))) (u *ℤ u) 2 (3 * v) (3 * f)) ≡ jumpNormal m j v f
+  unfolding rowOf agreeOf withColumns jumpNormal agreeRow sx sy t
+  jump-normal-is = rw (← *ℤ-assoc (pos 2) (jumpStepX m j) (jumpStepY m j))
+
+  jump-shear-is : rowOf (agreeOf (u *ℤ w) (negℤ (u *ℤ w)) (w *ℤ w -ℤ u *ℤ u) 1 (3 * v) (3 * f)) ≡ jumpShear m j v f
+  unfolding rowOf agreeOf withColumns jumpShear agreeRow sx sy t
+  jump-shear-is = refl
+
+  module _ (lv : v < nodes m) (lf : f < nodes m) {r : EqualityRow} {a b c : ℤ} {q : Squares} (h : SquaresAre q (jumpStepX m j) (jumpStepY m j)) where
+    pub jump-normal-filled : r ≡ agreeOf a b c 2 (3 * v) (3 * f) → a ≡ w *ℤ w → b ≡ negℤ (pos 2 *ℤ (u *ℤ w)) → c ≡ u *ℤ u → Filled r (jumpNormal m j v f) (3 * nodes m)
+    jump-normal-filled e ea eb ec =
+        rw (e, ea, eb, ec)
+        (record {
+          is = jump-normal-is;
+          fits = agree-fits 2 (omega arith) (omega arith) lv lf (Within-le (h .ww .inside) (omega arith)) (Within-negℤ (Within-*ℤ (Within-pos 2) (h .uw .inside))) (Within-le (h .uu .inside) (omega arith));
+        })
+
+    pub jump-shear-filled : r ≡ agreeOf a b c 1 (3 * v) (3 * f) → a ≡ u *ℤ w → b ≡ negℤ (u *ℤ w) → c ≡ w *ℤ w -ℤ u *ℤ u → Filled r (jumpShear m j v f) (3 * nodes m)
+    jump-shear-filled e ea eb ec =
+        rw (e, ea, eb, ec)
+        (record {
+          is = jump-shear-is;
+          fits = agree-fits 1 (omega arith) (omega arith) lv lf (Within-le (h .uw .inside) (omega arith)) (Within-negℤ (Within-le (h .uw .inside) (omega arith))) (Within-le (Within--ℤ (h .ww .inside) (h .uu .inside)) (omega arith));
+        })
+
 -- ---- rows by their place
 
 pub filled-as : {r : EqualityRow} {a b : Row} {n : ℕ} → Filled r a n → a ≡ b → Filled r b n
@@ -247,6 +315,30 @@ module _ (m : List ℤ) where
   pub side-row-is : (g i j : ℕ) → g < edges m → j < 4 → i ≡ j
       → rowAt (normalRow m g (fromNode m g) ∷ shearRow m g (fromNode m g) ∷ normalRow m g (toNode m g) ∷ shearRow m g (toNode m g) ∷ []) j ≡ rowAt (equalityRows m) (elements m * 2 + (g * 4 + i))
   side-row-is g i j l h e = sym (rw e (side-at m g j l h))
+
+  pub jump-row-is : (j i k : ℕ) → j < jumps m → k < 4 → i ≡ k → rowAt (rowsOfJump m j) k ≡ rowAt (equalityRows m) (elements m * 2 + edges m * 4 + (j * 4 + i))
+  jump-row-is j i k l h e = sym (rw e (jump-at m j k l h))
+
+  -- row k after the rows of elements and edges
+  pub jump-place : {a b : ℕ} → a ≡ elements m → b ≡ edges m → (k : ℕ) → a * 2 + b * 4 ≤ k → elements m * 2 + edges m * 4 + ((k - (a * 2 + b * 4)) / 4 * 4 + (k - (a * 2 + b * 4)) % 4) ≡ k
+  jump-place {a} {b} d e k l = omega (arith, div-add-mod' (k - (a * 2 + b * 4)) 4)
+
+  -- at the end i / 2 of the jump, from or to
+  pub jump-normal-place : (j i : ℕ) {v f : ℕ} → j < jumps m → i < 4 → i % 2 ≡ 0 → v ≡ jumpNode m j (i / 2) → f ≡ jumpNode m j (i / 2 + 2) → jumpNormal m j v f ≡ rowAt (equalityRows m) (elements m * 2 + edges m * 4 + (j * 4 + i))
+  unfolding jumpFrom jumpTo facingFrom facingTo rowAt
+  jump-normal-place j zero l h e a b = ap₂ (jumpNormal m j) a b ∙ jump-row-is j 0 0 l h refl
+  jump-normal-place j (suc zero) l h e a b = absurd (omega arith)
+  jump-normal-place j (suc (suc zero)) l h e a b = ap₂ (jumpNormal m j) a b ∙ jump-row-is j 2 2 l h refl
+  jump-normal-place j (suc (suc (suc zero))) l h e a b = absurd (omega arith)
+  jump-normal-place j (suc (suc (suc (suc i)))) l h e a b = absurd (omega arith)
+
+  pub jump-shear-place : (j i : ℕ) {v f : ℕ} → j < jumps m → i < 4 → ¬ (i % 2 ≡ 0) → v ≡ jumpNode m j (i / 2) → f ≡ jumpNode m j (i / 2 + 2) → jumpShear m j v f ≡ rowAt (equalityRows m) (elements m * 2 + edges m * 4 + (j * 4 + i))
+  unfolding jumpFrom jumpTo facingFrom facingTo rowAt
+  jump-shear-place j zero l h e a b = absurd (e refl)
+  jump-shear-place j (suc zero) l h e a b = ap₂ (jumpShear m j) a b ∙ jump-row-is j 1 1 l h refl
+  jump-shear-place j (suc (suc zero)) l h e a b = absurd (e refl)
+  jump-shear-place j (suc (suc (suc zero))) l h e a b = ap₂ (jumpShear m j) a b ∙ jump-row-is j 3 3 l h refl
+  jump-shear-place j (suc (suc (suc (suc i)))) l h e a b = absurd (omega arith)
 
   pub balance-row-is : (e k i : ℕ) → e < elements m → i < 2 → k ≡ e * 2 + i → rowAt (balanceX m e ∷ balanceY m e ∷ []) i ≡ rowAt (equalityRows m) k
   balance-row-is e k i l h s = sym (rw s (balance-at m e i l h))

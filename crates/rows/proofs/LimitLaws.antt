@@ -3,6 +3,7 @@ use mathlib.Core.Path.{_≡_, refl, sym, _∙_, ap, ap₂, subst, fun-ext}
 use mathlib.Core.Bool.{Bool, true, false, cond, _||_}
 use mathlib.Core.List.{List, [], _∷_}
 use Prim.Native.Nat.{ℕ, zero, suc, _+_, _*_, _-_, _/_, _%_, _≤_, _<_}
+use native.Mathlib.Nat.{div-add-mod', mod-lt}
 use native.Mathlib.Numerals.{add-one}
 use native.Mathlib.Decide.{decLt}
 use native.Mathlib.Omega.{arith}
@@ -26,8 +27,8 @@ use Rattle.scope.specs.Bounds.{mostMultiplier, strengthMultiplier}
 use Rattle.scope.specs.Columns.{between, within, at, hasField, hasMultipliers}
 use Rattle.scope.specs.Claim.{ifThere, multiplier}
 use Rattle.scope.specs.NumberRanges.{ClaimFacts}
-use Rattle.scope.specs.Mesh.{nodes, elements, edges, sides, edgeEntry, fromNode, toNode, equalityCount}
-use Rattle.scope.specs.Rows.{Kind, asked, unfixed, strength, Row, pairCount, fixedIf, balanceX, balanceY, normalRow, shearRow, equalityRows, rowsOf}
+use Rattle.scope.specs.Mesh.{nodes, elements, edges, sides, jumps, edgeEntry, fromNode, toNode, equalityCount}
+use Rattle.scope.specs.Rows.{Kind, asked, unfixed, strength, Row, pairCount, fixedIf, balanceX, balanceY, normalRow, shearRow, agreeRow, jumpNormal, jumpShear, equalityRows, rowsOf}
 use Rattle.scope.specs.Sums.{coefficient, columnSum, liveSum, limitSum, zeroIfUnfixed}
 use Rattle.scope.specs.Verdict.{multipliersCheck, upperLoad}
 use Rattle.scope.specs.Phases.{checkPhase, checkPhases}
@@ -43,7 +44,8 @@ use Rattle.rows.specs.LimitContracts.{isAsked, limitOf, sumsLimit, multi
 use Rattle.scope.specs.Tests.{rowAt}
 use Rattle.lines.specs.SearchContracts.{firstFailing}
 use Rattle.rows.proofs.ClaimLaws.{multiplier-is, rest-is, equality-within, strength-within, with-multipliers}
-use Rattle.rows.proofs.EqualityLaws.{balance-row-is, side-row-is}
+use Rattle.rows.proofs.EqualityLaws.{balance-row-is, side-row-is, jump-row-is}
+use Rattle.scope.proofs.RowNumbers.{rowsOfJump}
 use Rattle.lines.proofs.LineLaws.{both-true}
 use Rattle.lines.proofs.Loops.{Phase, phase-fails, phase-done}
 use Rattle.rows.proofs.RowLaws.{row-count}
@@ -85,6 +87,22 @@ module _ (m : List ℤ) where
   shear-asks g (suc (suc (suc (suc i)))) h e = absurd (omega arith)
 
   -- row k after the balance rows, of the edge g
+  jump-asks : (j i : ℕ) → i < 4 → isAsked (rowAt (rowsOfJump m j) i) ≡ true
+  unfolding isAsked rowAt jumpNormal jumpShear agreeRow
+  jump-asks j zero h = refl
+  jump-asks j (suc zero) h = refl
+  jump-asks j (suc (suc zero)) h = refl
+  jump-asks j (suc (suc (suc zero))) h = refl
+  jump-asks j (suc (suc (suc (suc i)))) h = absurd (omega arith)
+
+  pub jump-asked : (k : ℕ) → elements m * 2 + edges m * 4 ≤ k → k < equalityCount m → true ≡ isAsked (rowAt (equalityRows m) k)
+  jump-asked k l h =
+      let i : ℕ = k - (elements m * 2 + edges m * 4) in
+      let d = div-add-mod' (k - (elements m * 2 + edges m * 4)) 4 in
+      let r = mod-lt (k - (elements m * 2 + edges m * 4)) {m = 4} (omega arith) in
+      let place : k ≡ elements m * 2 + edges m * 4 + (i / 4 * 4 + i % 4) = omega arith in
+      sym (ap (λ (n : ℕ). isAsked (rowAt (equalityRows m) n)) place ∙ ap isAsked (sym (jump-row-is m (i / 4) (i % 4) (i % 4) (omega arith) r refl)) ∙ jump-asks (i / 4) (i % 4) r)
+
   side-place : (k g i : ℕ) → g < edges m → i < 4 → k ≡ elements m * 2 + (g * 4 + i)
       → rowAt (equalityRows m) k ≡ rowAt (normalRow m g (fromNode m g) ∷ shearRow m g (fromNode m g) ∷ normalRow m g (toNode m g) ∷ shearRow m g (toNode m g) ∷ []) i
   side-place k g i l h e = ap (rowAt (equalityRows m)) e ∙ sym (side-row-is m g i i l h refl)

@@ -107,7 +107,7 @@ module _ (m c y : List ℤ) where
   pub count-small : Counts m → pairCount m ≤ mostPairs → (a : ℕ) {count : ℕ} → a ≤ pairCount m → count ≡ countBelow openTest (pairFirst m a) → count ≤ mostEqualityRows + mostStrengthRows
   unfolding pairFirst
   count-small counts few a h e =
-      omega (arith, e, countBelow-most openTest (pairFirst m a), few-rows counts few a h, counts .elementsMost, counts .edgesMost)
+      omega (arith, e, countBelow-most openTest (pairFirst m a), few-rows counts few a h, counts .elementsMost, counts .edgesMost, counts .jumpsMost)
 
   pub all-pairs-open : Listed (sides m) → (a : ℕ) {count : ℕ} → a ≡ pairCount m → count ≡ countBelow openTest (pairFirst m a) → count ≡ openRows (stress m c) (l c) (n c) (at y) (rowsOf m)
   unfolding openRows pairFirst

@@ -338,7 +338,7 @@ module _ (m y : List ℤ) (counts : Counts m) (few : pairCount m ≤ mostPairs) 
   pub no-pairs-summed : {columns : List ℤ} {sums : Sums} → Summed m y (equalityCount m) columns sums → PairsSummed m y 0 columns sums
   unfolding pairFirst
   no-pairs-summed {columns} {sums} h =
-      let equalities : equalityCount m ≤ mostEqualityRows = omega (arith, counts .elementsMost, counts .edgesMost) in
+      let equalities : equalityCount m ≤ mostEqualityRows = omega (arith, counts .elementsMost, counts .edgesMost, counts .jumpsMost) in
       let all : equalityCount m ≡ equalityCount m + 0 * sides m = omega (arith, zero-mul (sides m)) in
       subst (λ k. SummedTo m y k (equalityColumns + 0 * (3 * pairColumn)) (equalitySums + 0 * sides m * strengthSum) columns sums) all
       (record {

@@ -5,13 +5,14 @@ use Prim.Native.Nat.{ℕ, _+_, _*_, _≤_, _<_}
 use native.Mathlib.Nat.{le-trans}
 use lib.IntN.{ℤ}
 use lib.ListN.{length}
-use Rattle.scope.specs.Mesh.{elements, edges, sides, fromNode, toNode, equalityCount}
+use Rattle.scope.specs.Mesh.{elements, edges, sides, jumps, fromNode, toNode, equalityCount}
 use Rattle.scope.specs.Polygon.{Side, polygonOf}
 use Rattle.scope.specs.Rows.{Row, pairCount, pairAt, balanceX, balanceY, normalRow, shearRow, strengthRows, equalityRows, rowsOf}
 use Rattle.scope.specs.Tests.{rowAt}
 use Rattle.scope.specs.RowNumbers.{sideAt, pairRow}
 use Rattle.rows.specs.RowContracts.{Listed, EntriesFit}
 use Rattle.scope.proofs.RowNumbers as N
+use Rattle.scope.proofs.RowNumbers.{rowsOfJump}
 
 -- the strength row of pair a and a side
 unfoldable pub rowOfPair : List ℤ → ℕ → Side → Row
@@ -23,6 +24,9 @@ module _ (m : List ℤ) where
 
   pub side-at : (g i : ℕ) → g < edges m → i < 4 → rowAt (equalityRows m) (elements m * 2 + (g * 4 + i)) ≡ rowAt (normalRow m g (fromNode m g) ∷ shearRow m g (fromNode m g) ∷ normalRow m g (toNode m g) ∷ shearRow m g (toNode m g) ∷ []) i
   side-at = N.side-at m
+
+  pub jump-at : (j i : ℕ) → j < jumps m → i < 4 → rowAt (equalityRows m) (elements m * 2 + edges m * 4 + (j * 4 + i)) ≡ rowAt (rowsOfJump m j) i
+  jump-at = N.jump-at m
 
   pub equality-among : (k : ℕ) → k < equalityCount m → rowAt (rowsOf m) k ≡ rowAt (equalityRows m) k
   equality-among = N.equality-among m

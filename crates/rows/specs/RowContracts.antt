@@ -4,7 +4,7 @@ use mathlib.Core.Path.{_≡_}
 use mathlib.Core.Logic.{_⊎_}
 use mathlib.Core.Bool.{Bool, true, cond}
 use mathlib.Core.List.{List, [], _∷_}
-use Prim.Native.Nat.{ℕ, zero, suc, _+_, _*_, _≤_, _<_}
+use Prim.Native.Nat.{ℕ, zero, suc, _+_, _*_, _-_, _≤_, _<_}
 use lib.Dec.{ltb}
 use lib.IntN.{ℤ, pos, _+ℤ_, _-ℤ_, _*ℤ_, negℤ}
 use lib.ListN.{length, getD, take, replicate}
@@ -163,7 +163,7 @@ pub record Filled (r : EqualityRow) (row : Row) (columns : ℕ) : Type 0 where
 pub record SumsAre (B : ℕ) (s : List ℤ) (f : ℕ → ℤ) : Type 0 where
   pub each : (j : ℕ) → Is (at s j) (f j) B
 
--- ---- the numbers of an element's and an edge's rows
+-- ---- the numbers of an element's, an edge's and a jump's rows
 
 -- the nodes of element e, in order
 pub record CornersAre (r : Corners) (m : List ℤ) (e : ℕ) : Type 0 where
@@ -233,6 +233,25 @@ shearOf uu uw ww square column dead live fixed = record {
   live = negℤ (square *ℤ live);
   right = square *ℤ dead;
   asked = fixed;
+}
+
+-- a row of six entries: an expression of three at the node whose sx has this column, minus the same at the one that
+-- faces it; the second coefficient stands `second` columns after the first, and the third at the other place
+unfoldable pub agreeOf : ℤ → ℤ → ℤ → ℕ → ℕ → ℕ → EqualityRow
+agreeOf a b c second column facing = record {
+  coefficients = a ∷ b ∷ c ∷ negℤ a ∷ negℤ b ∷ negℤ c ∷ replicate 2 (pos 0);
+  columns =
+      column
+      ∷ (column + second)
+      ∷ (column + (3 - second))
+      ∷ facing
+      ∷ (facing + second)
+      ∷ (facing + (3 - second))
+      ∷ replicate 2 0;
+  count = 6;
+  live = pos 0;
+  right = pos 0;
+  asked = true;
 }
 
 -- ---- a field

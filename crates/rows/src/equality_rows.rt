@@ -12,6 +12,7 @@ ghost use Rattle.scope.specs.Mesh.{
   nodes,
   elements,
   edges,
+  jumps,
   corner,
   x,
   y,
@@ -26,13 +27,26 @@ ghost use Rattle.scope.specs.Bounds.{
   mostLoad,
   mostMultiplier,
   mostArea,
+  mostCoefficient,
   equalityRight,
   equalityLeft,
   equalityColumn,
   mostColumn,
   mostAddend,
 };
-ghost use Rattle.scope.specs.Rows.{stepX, stepY, balanceX, balanceY, normalRow, shearRow, equalityRows};
+ghost use Rattle.scope.specs.Rows.{
+  stepX,
+  stepY,
+  balanceX,
+  balanceY,
+  normalRow,
+  shearRow,
+  jumpStepX,
+  jumpStepY,
+  jumpNormal,
+  jumpShear,
+  equalityRows,
+};
 ghost use Rattle.scope.specs.Sums.{weightedSum, unit};
 ghost use Rattle.scope.specs.Tests.{rowAt};
 ghost use Rattle.mesh.specs.MeshContracts.{Sized};
@@ -41,6 +55,7 @@ ghost use Rattle.rows.specs.RowContracts.{
   SquaresFit,
   normalOf,
   shearOf,
+  agreeOf,
   entriesOf,
   EntriesFit,
   Filled,
@@ -56,6 +71,7 @@ use mesh::sizes::edge_entry;
 use mesh::sizes::edge_from;
 use mesh::sizes::edge_to;
 use mesh::sizes::element_soil;
+use mesh::sizes::jump_node;
 use mesh::sizes::rise_between;
 use mesh::sizes::run_between;
 use mesh::sizes::soil_entry;
@@ -405,7 +421,81 @@ fn side_row(m: &[i64], s: Sizes, g: usize, i: usize) -> EqualityRow
     shear_row(m, s, g, to)
 }
 
-// Equality row k: two for each element, then four for each edge.
+// The products of jump j's step, from its from-node to its to-node.
+fn jump_squares(m: &[i64], s: Sizes, j: usize) -> Squares
+    requires { ⌜ Sized (now m) s × (j < jumps (now m)) ⌝ }
+    ensures { λ r. ⌜ SquaresAre r (jumpStepX (now (m .entry)) j) (jumpStepY (now (m .entry)) j) ⌝ }
+{
+    let from = jump_node(m, s, j, 0);
+    let to = jump_node(m, s, j, 1);
+    let u = run_between(m, s, to, from);
+    let w = rise_between(m, s, to, from);
+    squares_from(u, w)
+}
+
+// An expression of three coefficients at the node whose sx has this column, minus the same at the one that faces it.
+// The second coefficient stands `second` columns after the first, 1 or 2, and the third at the other place.
+fn agree(a: i64, b: i64, c: i64, second: usize, column: usize, facing: usize) -> EqualityRow
+    requires { ⌜ Within mostCoefficient a ⌝ ∗ ⌜ Within mostCoefficient b ⌝ ∗ ⌜ Within mostCoefficient c ⌝
+        ∗ ⌜ (second < 3) × (column < 3 * mostNodes) × (facing < 3 * mostNodes) ⌝ }
+    ensures { λ r. ⌜ r ≡ agreeOf a b c second column facing ⌝ }
+{
+    let third = 3 - second;
+    let coefficients = [a, b, c, -a, -b, -c, 0, 0];
+    let columns = [
+        column,
+        column + second,
+        column + third,
+        facing,
+        facing + second,
+        facing + third,
+        0,
+        0,
+    ];
+    EqualityRow {
+        coefficients,
+        columns,
+        count: 6,
+        live: 0,
+        right: 0,
+        asked: true,
+    }
+}
+
+// The normal row and the shear row of jump j at node v, which f faces.
+fn jump_normal(m: &[i64], s: Sizes, j: usize, v: usize, f: usize) -> EqualityRow
+    requires { ⌜ Sized (now m) s × (j < jumps (now m)) × (v < nodes (now m)) × (f < nodes (now m)) ⌝ }
+    ensures { λ r. ⌜ Filled r (jumpNormal (now (m .entry)) j v f) (3 * nodes (now (m .entry))) ⌝ }
+{
+    let q = jump_squares(m, s, j);
+    agree(q.ww, -(2 * q.uw), q.uu, 2, 3 * v, 3 * f)
+}
+
+fn jump_shear(m: &[i64], s: Sizes, j: usize, v: usize, f: usize) -> EqualityRow
+    requires { ⌜ Sized (now m) s × (j < jumps (now m)) × (v < nodes (now m)) × (f < nodes (now m)) ⌝ }
+    ensures { λ r. ⌜ Filled r (jumpShear (now (m .entry)) j v f) (3 * nodes (now (m .entry))) ⌝ }
+{
+    let q = jump_squares(m, s, j);
+    agree(q.uw, -q.uw, q.ww - q.uu, 1, 3 * v, 3 * f)
+}
+
+// Row i of the four of jump j: normal and shear at from, then at to.
+fn jump_row(m: &[i64], s: Sizes, j: usize, i: usize) -> EqualityRow
+    requires { ⌜ Sized (now m) s × (j < jumps (now m)) × (i < 4) ⌝ }
+    ensures { λ r. ⌜ Filled r
+        (rowAt (equalityRows (now (m .entry)))
+        (elements (now (m .entry)) * 2 + edges (now (m .entry)) * 4 + (j * 4 + i))) (3 * nodes (now (m .entry))) ⌝ }
+{
+    let end = i / 2;
+    let v = jump_node(m, s, j, end);
+    let f = jump_node(m, s, j, end + 2);
+    if i % 2 == 0 {
+        return jump_normal(m, s, j, v, f);
+    }
+    jump_shear(m, s, j, v, f)
+}
+
+// Equality row k: two for each element, then four for each edge, then four for each jump.
 pub fn equality_row(m: &[i64], s: Sizes, k: usize) -> EqualityRow
     requires { ⌜ Sized (now m) s × (k < equalityCount (now m)) ⌝ }
     ensures { λ r. ⌜ Filled r (rowAt (equalityRows (now (m .entry))) k) (3 * nodes (now (m .entry))) ⌝ }
@@ -417,5 +507,9 @@ pub fn equality_row(m: &[i64], s: Sizes, k: usize) -> EqualityRow
         }
         return balance_y(m, s, k / 2);
     }
-    side_row(m, s, (k - first) / 4, (k - first) % 4)
+    let after = first + s.edges * 4;
+    if k < after {
+        return side_row(m, s, (k - first) / 4, (k - first) % 4);
+    }
+    jump_row(m, s, (k - after) / 4, (k - after) % 4)
 }

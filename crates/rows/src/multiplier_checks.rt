@@ -50,6 +50,9 @@ fn row_asked(m: &[i64], s: Sizes, k: usize) -> bool
     if k < first {
         return true;
     }
+    if first + s.edges * 4 <= k {
+        return true;
+    }
     let fixed = edge_entry(m, s, (k - first) / 4, 2);
     if k % 2 == 0 {
         return fixes(1, fixed);

@@ -1,4 +1,4 @@
--- An accepted field meets the criterion: its rows are the printed ones, and the soil of a pair is a soil of the mesh.
+-- An accepted field meets the criterion, and tractions agree on joints: its rows are the printed ones, and the soil of a pair is a soil of the mesh.
 use mathlib.Core.Path.{refl, sym}
 use mathlib.Core.Logic.{⊎-elim}
 use mathlib.Core.List.{List}
@@ -8,11 +8,12 @@ use Rattle.scope.specs.Accepted.{FieldAccepted}
 use Rattle.scope.specs.Columns.{n, l}
 use Rattle.scope.specs.Mesh.{elementSoil}
 use Rattle.scope.specs.Claim.{stress}
-use Rattle.scope.specs.AcceptedField.{CriterionEverywhere, CriterionAround}
+use Rattle.scope.specs.AcceptedField.{CriterionEverywhere, CriterionAround, TractionsAgree}
 use Rattle.scope.proofs.NumberRanges.{mesh-facts}
 use Rattle.scope.proofs.ClaimNumberRanges.{claim-facts}
 use Rattle.scope.proofs.Printed.{field-printed}
 use Rattle.scope.proofs.Criterion.{field-criterion}
+use Rattle.scope.proofs.Jumps.{same-traction}
 use Rattle.scope.proofs.Pairs.{pairs, sound-pairs}
 
 pub accepted-criterion : (m c : List ℤ) → FieldAccepted m c → CriterionEverywhere m c
@@ -33,3 +34,7 @@ pub criterion-around : (m c : List ℤ) → FieldAccepted m c → CriterionAroun
 criterion-around m c field v e h corner =
     accepted-criterion m c field (record { at = v; soil = elementSoil m e })
     (sound-pairs m (field .mesh) .exactly (record { at = v; soil = elementSoil m e }) .1 (record { element = e; there = h; has-corner = corner; same = refl }))
+
+pub tractions-agree : (m c : List ℤ) → FieldAccepted m c → TractionsAgree m c
+tractions-agree m c field j h =
+    same-traction m (field .mesh) (stress m c) (l c) (n c) (field-printed m (stress m c) (l c) (n c) .0 (field .meets)) j h

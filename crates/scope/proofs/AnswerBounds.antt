@@ -12,8 +12,8 @@ use Rattle.scope.specs.declared.Place.{Place}
 use Rattle.scope.specs.Answer.{placeNumber}
 use Rattle.scope.specs.Columns.{hasField, hasMultipliers, n, l}
 use Rattle.scope.specs.Layout.{Layout, groupAt, numbersAt, groups, lineCount, linesBefore}
-use Rattle.scope.specs.Mesh.{mostPairs, mostSides, meshHeader, soilLines, nodeLines, elementLines, edgeLines, meshLayout, meshGroups, nodes, elements, soils, edges, sides, edgeLine}
-use Rattle.scope.specs.Claim.{claimHeader, stressLines, elementMultipliers, edgeMultipliers, strengthMultipliers, claimLayout, stress, multiplier}
+use Rattle.scope.specs.Mesh.{mostPairs, mostSides, meshHeader, soilLines, nodeLines, elementLines, edgeLines, jumpLines, meshLayout, meshGroups, nodes, elements, soils, edges, sides, jumps, edgeLine, jumpLine}
+use Rattle.scope.specs.Claim.{claimHeader, stressLines, elementMultipliers, edgeMultipliers, jumpMultipliers, strengthMultipliers, claimLayout, stress, multiplier}
 use Rattle.scope.specs.Rows.{pairCount, equalityRows, strengthRows, rowsOf}
 use Rattle.scope.specs.Statements.{LineSound, MeshSound}
 use Rattle.scope.specs.Phases.{Below, AllHold}
@@ -28,12 +28,12 @@ use Rattle.scope.proofs.PolygonRule.{listed-polygon}
 use Rattle.scope.proofs.RowCounts.{equality-count, strength-count}
 
 -- the lines of a mesh whose header has passed
-mesh-lines : (m : List ℤ) → Counts m → lineCount (groups meshLayout m) ≤ 277
-unfolding meshLayout groups meshHeader soilLines nodeLines elementLines edgeLines lineCount
+mesh-lines : (m : List ℤ) → Counts m → lineCount (groups meshLayout m) ≤ 337
+unfolding meshLayout groups meshHeader soilLines nodeLines elementLines edgeLines jumpLines lineCount
 mesh-lines m c = omega (arith, c)
 
-claim-lines : (m c : List ℤ) → MeshSound m → lineCount (groups (claimLayout m) c) ≤ 361
-unfolding claimLayout groups claimHeader stressLines elementMultipliers edgeMultipliers strengthMultipliers lineCount
+claim-lines : (m c : List ℤ) → MeshSound m → lineCount (groups (claimLayout m) c) ≤ 421
+unfolding claimLayout groups claimHeader stressLines elementMultipliers edgeMultipliers jumpMultipliers strengthMultipliers lineCount
 claim-lines m c s =
     omega (
       arith,
@@ -43,6 +43,7 @@ claim-lines m c s =
       there-most (hasMultipliers c) (pairCount m),
       there-most (hasMultipliers c) (elements m),
       there-most (hasMultipliers c) (edges m),
+      there-most (hasMultipliers c) (jumps m),
     )
 
 -- a place among lines whose number is bounded once the first line is sound
@@ -64,6 +65,10 @@ edge-line : (m : List ℤ) (g : ℕ) → edgeLine m g ≡ 1 + soils m + nodes m 
 unfolding edgeLine meshGroups meshLayout groups meshHeader soilLines nodeLines elementLines edgeLines linesBefore
 edge-line m g = omega arith
 
+jump-line : (m : List ℤ) (j : ℕ) → jumpLine m j ≡ 1 + soils m + nodes m + elements m + edges m + j
+unfolding jumpLine meshGroups meshLayout groups meshHeader soilLines nodeLines elementLines edgeLines jumpLines linesBefore
+jump-line m j = omega arith
+
 pub few-strengths : (m : List ℤ) → MeshSound m → length (strengthRows m) ≤ mostPairs * mostSides
 few-strengths m s =
     let listed = mesh-facts m (s .lines) .counts .sidesListed in
@@ -72,16 +77,17 @@ few-strengths m s =
 
 -- ---- numbers
 
-mesh-most : {k : ℕ} → OfMesh k → k ≤ 42
+mesh-most : {k : ℕ} → OfMesh k → k ≤ 44
 mesh-most {k} e = by (e .1)
   where
-    by : (k ≤ 13) ⊎ (k ≡ 42) → k ≤ 42
+    by : (k ≤ 13) ⊎ ((k ≡ 42) ⊎ (k ≡ 44)) → k ≤ 44
     by (inl l) = omega arith
-    by (inr l) = omega arith
+    by (inr (inl l)) = omega arith
+    by (inr (inr l)) = omega arith
 
-numbers-most : (m c : List ℤ) → EachIn (λ k p. k ≤ 42) (meshPhases m ++ claimPhases m c)
+numbers-most : (m c : List ℤ) → EachIn (λ k p. k ≤ 44) (meshPhases m ++ claimPhases m c)
 numbers-most m c =
-    each-number (λ k p. k ≤ 42) m c (λ k p e. mesh-most e)
+    each-number (λ k p. k ≤ 44) m c (λ k p e. mesh-most e)
     (λ k n h l r. omega (arith, own-number {k = 21} refl r), λ e. (λ k n h l r. omega (arith, own-number {k = 22} refl r), λ i. tt))
     (λ a b d. (
       λ k n h l r. omega (arith, own-number {k = 31} refl r),
@@ -94,14 +100,14 @@ places-most : (m c : List ℤ) → EachIn (λ k p. placeNumber p ≤ 3601) (mesh
 places-most m c =
     each-join Q (meshPhases m) (claimPhases m c)
     (each-join Q (linePhases meshLayout m) (shapePhases m)
-    (line-places {B = 277} (omega arith) (omega arith) (λ s. mesh-lines m (header-counts m s)))
+    (line-places {B = 337} (omega arith) (omega arith) (λ s. mesh-lines m (header-counts m s)))
     (λ a. let counts = mesh-facts m (lines-sound meshLayout m a) .counts in (
       λ k n h b r. omega (arith, counts),
       λ e. (
         λ k n h b r. omega (arith, counts),
         λ e. (
           λ k n h b r. omega (arith, counts),
-          λ e. (λ g n h b r. omega (arith, counts, edge-line m g), λ e. (λ k n h b r. omega (arith, counts), λ i. tt)),
+          λ e. (λ g n h b r. omega (arith, counts, edge-line m g), λ e. (λ j n h b r. omega (arith, counts, jump-line m j), λ e. (λ k n h b r. omega (arith, counts), λ i. tt))),
         ),
       ),
     )))
@@ -109,7 +115,7 @@ places-most m c =
     let sound = mesh-sound m a in
     let counts = mesh-facts m (sound .lines) .counts in
     each-join Q (linePhases (claimLayout m) c) (partPhases m c)
-    (line-places {B = 361} (omega arith) (omega arith) (λ z. claim-lines m c sound))
+    (line-places {B = 421} (omega arith) (omega arith) (λ z. claim-lines m c sound))
     (λ b.
     each-join Q (fieldPart m c) (multiplierPart m c)
     (each-part Q (hasField c) (fieldPhases (equalityRows m) (strengthRows m) (stress m c) (l c) (n c)) (
@@ -124,6 +130,6 @@ places-most m c =
     Q : ℕ → Place → Type 0
     Q k p = placeNumber p ≤ 3601
 
--- the number of a refusal is at most 42, its place at most 3,601
-pub refusal-bounds : {m c : List ℤ} {k : ℕ} {p : Place} → Refusal m c k p → (k ≤ 42) × (placeNumber p ≤ 3601)
-refusal-bounds {m} {c} r = (each-refusal (λ k p. k ≤ 42) (meshPhases m ++ claimPhases m c) (numbers-most m c) (r .by), each-refusal (λ k p. placeNumber p ≤ 3601) (meshPhases m ++ claimPhases m c) (places-most m c) (r .by))
+-- the number of a refusal is at most 44, its place at most 3,601
+pub refusal-bounds : {m c : List ℤ} {k : ℕ} {p : Place} → Refusal m c k p → (k ≤ 44) × (placeNumber p ≤ 3601)
+refusal-bounds {m} {c} r = (each-refusal (λ k p. k ≤ 44) (meshPhases m ++ claimPhases m c) (numbers-most m c) (r .by), each-refusal (λ k p. placeNumber p ≤ 3601) (meshPhases m ++ claimPhases m c) (places-most m c) (r .by))

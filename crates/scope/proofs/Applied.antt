@@ -1,15 +1,15 @@
--- The theorems applied to document 01's sheet and to fill over clay: antt computes what passes, and the theorems say the rest.
+-- The theorems applied to document 01's sheet, to fill over clay and to two blocks on a joint: antt computes what passes, and the theorems say the rest.
 use mathlib.Core.Path.{_≡_, refl, sym, _∙_, ap}
 use mathlib.Core.List.{List, [], _∷_}
 use Prim.Native.Nat.{ℕ, suc, _*_}
 use native.Mathlib.Omega.{arith}
 use mathlib.Core.Bool.{Bool}
 use lib.Dec.{lt→ltb}
-use lib.IntN.{ℤ, pos, _*ℤ_, _-ℤ_}
+use lib.IntN.{ℤ, pos, negℤ, _*ℤ_, _-ℤ_}
 use lib.Signed.{ltZ-yes}
 use Rattle.integer.specs.Fraction.{_over_, _≈ᶠ_, _≤ᶠ_, Positive}
-use Rattle.scope.specs.declared.Place.the-variants.{Column, Row as PlaceRow}
-use Rattle.scope.specs.declared.Outcome.the-variants.{Passed}
+use Rattle.scope.specs.declared.Place.the-variants.{Line, Column, Row as PlaceRow}
+use Rattle.scope.specs.declared.Outcome.the-variants.{Passed, Refused as Fails}
 use Rattle.scope.specs.declared.Verdict.the-variants.{Refused}
 use Rattle.scope.specs.Columns.{n, l}
 use Rattle.scope.specs.Mesh.{nodes}
@@ -21,9 +21,11 @@ use Rattle.scope.proofs.Computed.{computed}
 use Rattle.scope.specs.Accepted.{FieldAccepted, MultipliersAccepted}
 use Rattle.scope.specs.PrintedColumns.{printedColumn, printedLive, printedLimit}
 use Rattle.scope.specs.Pairs.{soilBefore, rowsBefore}
+use Rattle.scope.specs.AcceptedField.{TractionsAgree}
+use Rattle.scope.proofs.AcceptedField.{tractions-agree}
 use Rattle.scope.specs.Bracket.{toSpare}
 use Rattle.scope.specs.Parts.{carried, allowed, SameRows, PartsBracket}
-use Rattle.scope.specs.Worked.{zeros, workedMesh, workedStresses, workedMultipliers, workedClaim, multipliersAlone, sheet, sheet19, sheet29, nineteenFractions, nineteenSixths, oneEdge, freeShear, fillOverClay, overClay}
+use Rattle.scope.specs.Worked.{zeros, workedMesh, workedStresses, workedMultipliers, workedClaim, multipliersAlone, sheet, sheet19, sheet29, nineteenFractions, nineteenSixths, oneEdge, freeShear, fillOverClay, overClay, blocks, blockEdges, joint, twoBlocks, onJoint, sharedBlocks, onShared, cutWithTip, onCut, againstItsSide, facingTurned, sideWithEdge, facingWithEdge, jumpTwice, sidesApart, facingUsed}
 use Rattle.scope.specs.Fractions.{FractionField, WrittenOver}
 use Rattle.scope.specs.AcceptedFractions.{MeetsMesh}
 use Rattle.integer.specs.Tests.{eqZ}
@@ -213,3 +215,55 @@ clay-refused = refl
 pub clay-accepted : FieldAccepted fillOverClay (overClay 10)
 unfolding computed zeros fillOverClay overClay
 clay-accepted = field-accepted fillOverClay (overClay 10) refl refl refl refl
+
+-- ---- two blocks on a joint: 40 carried, 1200/30 allowed, and sy jumps from -40 to 0
+
+abbrev jointClaim : List ℤ
+jointClaim = onJoint (negℤ (pos 20)) (negℤ (pos 30))
+
+pub joint-field : FieldAccepted twoBlocks jointClaim
+unfolding computed zeros blocks blockEdges joint twoBlocks onJoint
+joint-field = field-accepted twoBlocks jointClaim refl refl refl refl
+
+pub joint-multipliers : MultipliersAccepted twoBlocks jointClaim
+unfolding computed zeros blocks blockEdges joint twoBlocks onJoint
+joint-multipliers = multipliers-accepted twoBlocks jointClaim refl refl refl refl
+
+pub joint-closed : carried jointClaim ≈ᶠ allowed twoBlocks jointClaim
+unfolding computed zeros blocks blockEdges joint twoBlocks onJoint
+joint-closed = open-rows-count twoBlocks jointClaim joint-field joint-multipliers .none .0 refl
+
+pub joint-tractions : TractionsAgree twoBlocks jointClaim
+joint-tractions = tractions-agree twoBlocks jointClaim joint-field
+
+-- pressed unevenly: the first of the jump's rows fails, after 4 balance rows and 8 side rows
+pub joint-uneven : verdict twoBlocks (onJoint (negℤ (pos 19)) (negℤ (pos 30))) ≡ Refused 21 (PlaceRow 13)
+unfolding computed zeros blocks blockEdges joint twoBlocks onJoint
+joint-uneven = refl
+
+-- the jump's multiplier left out: the sx column of node 3
+pub joint-column : verdict twoBlocks (onJoint (negℤ (pos 20)) (pos 0)) ≡ Refused 32 (Column 7)
+unfolding computed zeros blocks blockEdges joint twoBlocks onJoint
+joint-column = refl
+
+-- the same blocks with common nodes carry nothing: 0/1 is the limit, so the jump raises what is carried to 40
+pub shared-multipliers : MultipliersAccepted sharedBlocks onShared
+unfolding computed zeros sharedBlocks onShared
+shared-multipliers = multipliers-accepted sharedBlocks onShared refl refl refl refl
+
+pub jump-raises : (allowed sharedBlocks onShared ≡ pos 0 over pos 1) × (carried jointClaim ≡ pos 40 over pos 1)
+unfolding computed zeros blocks blockEdges joint twoBlocks onJoint sharedBlocks onShared carried allowed
+jump-raises = (refl, refl)
+
+-- a cut whose tip isn't doubled carries 20
+pub cut-field : FieldAccepted cutWithTip onCut
+unfolding computed zeros cutWithTip onCut
+cut-field = field-accepted cutWithTip onCut refl refl refl refl
+
+-- ---- 44 for each reason, with the line of the jump
+
+pub refused-44 : (meshCheck againstItsSide ≡ Fails 44 (Line 15)) × (meshCheck facingTurned ≡ Fails 44 (Line 15))
+    × (meshCheck sideWithEdge ≡ Fails 44 (Line 14)) × (meshCheck facingWithEdge ≡ Fails 44 (Line 14))
+    × (meshCheck sidesApart ≡ Fails 44 (Line 13)) × (meshCheck jumpTwice ≡ Fails 44 (Line 14)) × (meshCheck facingUsed ≡ Fails 44 (Line 19))
+unfolding computed zeros blocks blockEdges joint againstItsSide facingTurned sideWithEdge facingWithEdge jumpTwice sidesApart facingUsed
+refused-44 = (refl, refl, refl, refl, refl, refl, refl)

@@ -15,9 +15,9 @@ use Rattle.integer.specs.Tests.{eqZ}
 use Rattle.integer.proofs.TestLaws.{yes-eqZ, no-eqZ}
 use Rattle.scope.specs.Columns.{Limit, between, free, upTo, at, hasField, hasMultipliers, n, l}
 use Rattle.scope.specs.Layout.{Group, Layout, width, groups, numberCount, numbersBefore, entry}
-use Rattle.scope.specs.Mesh.{nodes, elements, edges, sides, equalityCount}
+use Rattle.scope.specs.Mesh.{nodes, elements, edges, sides, jumps, equalityCount}
 use Rattle.scope.specs.Rows.{pairCount}
-use Rattle.scope.specs.Claim.{claimHeader, ifThere, stressLines, elementMultipliers, edgeMultipliers, strengthMultipliers, claimLayout, stress, multiplier}
+use Rattle.scope.specs.Claim.{claimHeader, ifThere, stressLines, elementMultipliers, edgeMultipliers, jumpMultipliers, strengthMultipliers, claimLayout, stress, multiplier}
 use Rattle.scope.specs.Statements.{Within, PartsFit, LinesSound}
 use Rattle.scope.specs.NumberRanges.{Between, MeshFacts, ClaimFacts}
 use Rattle.scope.proofs.NumberRanges.{some-sides}
@@ -77,11 +77,18 @@ module _ (m c : List ℤ) (s : LinesSound (claimLayout m) c) where
       let e : numbersBefore (groups (claimLayout m) c) 3 + k ≡ numbersBefore (groups (claimLayout m) c) 2 + (ifThere (hasMultipliers c) (elements m) * 2 + k) = omega arith in
       subst (λ (i : ℕ). Between (negℤ (pos 100000)) (pos 100000) (at c i)) e (record { least = w .0; most = w .1 })
 
-  strengthPart : 0 < sides m → (k : ℕ) → k < ifThere (hasMultipliers c) (pairCount m) * sides m → Between (pos 0) (pos 10000) (multiplier m c (ifThere (hasMultipliers c) (elements m) * 2 + ifThere (hasMultipliers c) (edges m) * 4 + k))
-  unfolding claimLayout groups elementMultipliers edgeMultipliers strengthMultipliers upTo multiplier numbersBefore
-  strengthPart p k h =
-      let w = flat-within (claimLayout m) c s 4 (sides m) k (between (pos 0) (pos 10000)) refl p h in
+  jumpPart : (k : ℕ) → k < ifThere (hasMultipliers c) (jumps m) * 4 → Between (negℤ (pos 100000)) (pos 100000) (multiplier m c (ifThere (hasMultipliers c) (elements m) * 2 + ifThere (hasMultipliers c) (edges m) * 4 + k))
+  unfolding claimLayout groups elementMultipliers edgeMultipliers jumpMultipliers upTo multiplier numbersBefore
+  jumpPart k h =
+      let w = flat-within (claimLayout m) c s 4 4 k (upTo 100000) refl (omega arith) h in
       let e : numbersBefore (groups (claimLayout m) c) 4 + k ≡ numbersBefore (groups (claimLayout m) c) 2 + (ifThere (hasMultipliers c) (elements m) * 2 + ifThere (hasMultipliers c) (edges m) * 4 + k) = omega arith in
+      subst (λ (i : ℕ). Between (negℤ (pos 100000)) (pos 100000) (at c i)) e (record { least = w .0; most = w .1 })
+
+  strengthPart : 0 < sides m → (k : ℕ) → k < ifThere (hasMultipliers c) (pairCount m) * sides m → Between (pos 0) (pos 10000) (multiplier m c (ifThere (hasMultipliers c) (elements m) * 2 + ifThere (hasMultipliers c) (edges m) * 4 + ifThere (hasMultipliers c) (jumps m) * 4 + k))
+  unfolding claimLayout groups elementMultipliers edgeMultipliers jumpMultipliers strengthMultipliers upTo multiplier numbersBefore
+  strengthPart p k h =
+      let w = flat-within (claimLayout m) c s 5 (sides m) k (between (pos 0) (pos 10000)) refl p h in
+      let e : numbersBefore (groups (claimLayout m) c) 5 + k ≡ numbersBefore (groups (claimLayout m) c) 2 + (ifThere (hasMultipliers c) (elements m) * 2 + ifThere (hasMultipliers c) (edges m) * 4 + ifThere (hasMultipliers c) (jumps m) * 4 + k) = omega arith in
       subst (λ (i : ℕ). Between (pos 0) (pos 10000) (at c i)) e (record { least = w .0; most = w .1 })
 
   field-is : at c 0 ≡ pos 1 → ifThere (hasField c) (nodes m) ≡ nodes m
@@ -110,17 +117,17 @@ module _ (m c : List ℤ) (s : LinesSound (claimLayout m) c) where
 
   -- all numbers are there: the last group with a line is the multipliers', or else the field's
   abbrev Size : Type 0
-  Size = length c ≡ 4 + ifThere (hasField c) (nodes m) * 3 + ifThere (hasMultipliers c) (elements m) * 2 + ifThere (hasMultipliers c) (edges m) * 4 + ifThere (hasMultipliers c) (pairCount m) * sides m
+  Size = length c ≡ 4 + ifThere (hasField c) (nodes m) * 3 + ifThere (hasMultipliers c) (elements m) * 2 + ifThere (hasMultipliers c) (edges m) * 4 + ifThere (hasMultipliers c) (jumps m) * 4 + ifThere (hasMultipliers c) (pairCount m) * sides m
 
   size-with : MeshFacts m → at c 1 ≡ pos 1 → Size
-  unfolding claimLayout groups claimHeader stressLines elementMultipliers edgeMultipliers strengthMultipliers numbersBefore numberCount
+  unfolding claimLayout groups claimHeader stressLines elementMultipliers edgeMultipliers jumpMultipliers strengthMultipliers numbersBefore numberCount
   size-with f e =
-      let k : numbersBefore (groups (claimLayout m) c) 4 + ifThere (hasMultipliers c) (pairCount m) * width (group (groups (claimLayout m) c) 4) ≤ length c =
-      group-there (claimLayout m) c s 4 (omega (arith, part-is e (pairCount m), some-pairs m f)) (omega (arith, length-replicate (sides m) (between (pos 0) (pos 10000)), some-sides (f .counts))) in
+      let k : numbersBefore (groups (claimLayout m) c) 5 + ifThere (hasMultipliers c) (pairCount m) * width (group (groups (claimLayout m) c) 5) ≤ length c =
+      group-there (claimLayout m) c s 5 (omega (arith, part-is e (pairCount m), some-pairs m f)) (omega (arith, length-replicate (sides m) (between (pos 0) (pos 10000)), some-sides (f .counts))) in
       omega (arith, simp length-replicate at k, simp length-replicate at (s .noneLeft))
 
   size-without : MeshFacts m → ¬ (at c 1 ≡ pos 1) → Size
-  unfolding claimLayout groups claimHeader stressLines elementMultipliers edgeMultipliers strengthMultipliers numbersBefore numberCount
+  unfolding claimLayout groups claimHeader stressLines elementMultipliers edgeMultipliers jumpMultipliers strengthMultipliers numbersBefore numberCount
   size-without f e =
       let k : numbersBefore (groups (claimLayout m) c) 1 + ifThere (hasField c) (nodes m) * 3 ≤ length c =
       group-there (claimLayout m) c s 1 (omega (arith, field-is (only parts-fit), f .counts .nodesLeast)) (omega arith) in
@@ -130,6 +137,7 @@ module _ (m c : List ℤ) (s : LinesSound (claimLayout m) c) where
         simp length-replicate at (s .noneLeft),
         part-is-not e (elements m),
         part-is-not e (edges m),
+        part-is-not e (jumps m),
         ap (λ (i : ℕ). i * sides m) (part-is-not e (pairCount m)),
       )
     where
@@ -152,7 +160,7 @@ module _ (m c : List ℤ) (s : LinesSound (claimLayout m) c) where
         partsFit = parts-fit;
         size = by-flag (flag (at c 1) (w 1 (omega arith) .0) (w 1 (omega arith) .1));
         stressRange = λ e j h. stresses j (omega (arith, field-is e));
-        equalityRange = λ e k h. equality e k h (decLt k (elements m * 2));
+        equalityRange = λ e k h. equality e k h (decLt k (elements m * 2)) (decLt k (elements m * 2 + edges m * 4));
         strengthRange = λ e k h. strength e k h;
       }
     where
@@ -160,13 +168,16 @@ module _ (m c : List ℤ) (s : LinesSound (claimLayout m) c) where
       by-flag (inl e) = size-without f (λ d. let z : _≡_ {A = ℕ} 0 1 = cc in omega arith)
       by-flag (inr e) = size-with f e
 
-      equality : at c 1 ≡ pos 1 → (k : ℕ) → k < equalityCount m → Dec (k < elements m * 2) → Between (negℤ (pos 100000)) (pos 100000) (multiplier m c k)
-      equality e k h (yes d) = elementPart k (omega (arith, part-is e (elements m)))
-      equality e k h (no d) =
+      equality : at c 1 ≡ pos 1 → (k : ℕ) → k < equalityCount m → Dec (k < elements m * 2) → Dec (k < elements m * 2 + edges m * 4) → Between (negℤ (pos 100000)) (pos 100000) (multiplier m c k)
+      equality e k h (yes d) b = elementPart k (omega (arith, part-is e (elements m)))
+      equality e k h (no d) (yes b) =
           subst (λ (i : ℕ). Between (negℤ (pos 100000)) (pos 100000) (multiplier m c i)) (omega (arith, part-is e (elements m)))
           (edgePart (k - elements m * 2) (omega (arith, part-is e (edges m))))
+      equality e k h (no d) (no b) =
+          subst (λ (i : ℕ). Between (negℤ (pos 100000)) (pos 100000) (multiplier m c i)) (omega (arith, part-is e (elements m), part-is e (edges m)))
+          (jumpPart (k - (elements m * 2 + edges m * 4)) (omega (arith, part-is e (jumps m))))
 
       strength : at c 1 ≡ pos 1 → (k : ℕ) → k < pairCount m * sides m → Between (pos 0) (pos 10000) (multiplier m c (equalityCount m + k))
       strength e k h =
-          subst (λ (i : ℕ). Between (pos 0) (pos 10000) (multiplier m c i)) (omega (arith, part-is e (elements m), part-is e (edges m)))
+          subst (λ (i : ℕ). Between (pos 0) (pos 10000) (multiplier m c i)) (omega (arith, part-is e (elements m), part-is e (edges m), part-is e (jumps m)))
           (strengthPart (some-sides (f .counts)) k (subst (λ (i : ℕ). k < i * sides m) (sym (part-is e (pairCount m))) h))

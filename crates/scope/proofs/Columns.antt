@@ -8,9 +8,9 @@ use lib.IntN.{ℤ}
 use Rattle.scope.proofs.Lists.{of-count, each-nil, each-cons, each-++, each-map, each-joined}
 use Rattle.scope.proofs.Pairs.{pairs}
 use Rattle.scope.specs.Members.{_∈_}
-use Rattle.scope.specs.Mesh.{nodes, elements, edges, sides, corner, fromNode, toNode}
+use Rattle.scope.specs.Mesh.{nodes, elements, edges, sides, jumps, corner, fromNode, toNode, jumpFrom, jumpTo, facingFrom, facingTo}
 use Rattle.scope.specs.Polygon.{Side, polygonSides, polygonOf}
-use Rattle.scope.specs.Rows.{Row, sx, sy, t, countFrom, node, balanceX, balanceY, balanceRows, normalRow, shearRow, sideRows, strengthPairs, strengthRow, pairRows, strengthRows, equalityRows, rowsOf}
+use Rattle.scope.specs.Rows.{Row, sx, sy, t, countFrom, node, balanceX, balanceY, balanceRows, normalRow, shearRow, sideRows, agreeRow, jumpNormal, jumpShear, jumpRows, strengthPairs, strengthRow, pairRows, strengthRows, equalityRows, rowsOf}
 use Rattle.scope.specs.Bracket.{MeshColumns}
 
 module _ (m : List ℤ) where
@@ -45,22 +45,38 @@ module _ (m : List ℤ) where
         each-cons In (c .at-sx) (each-cons In (c .at-sy) (each-cons In (c .at-t) (each-nil In))),
       )
 
+  -- at a node and the one that faces it
+  jump-in : (j v f : ℕ) → v < nodes m → f < nodes m → RowIn (jumpNormal m j v f) × RowIn (jumpShear m j v f)
+  unfolding In RowIn jumpNormal jumpShear agreeRow
+  jump-in j v f h k =
+      let c = columns-of v h in
+      let d = columns-of f k in (
+        each-cons In (c .at-sx) (each-cons In (c .at-t) (each-cons In (c .at-sy) (each-cons In (d .at-sx) (each-cons In (d .at-t) (each-cons In (d .at-sy) (each-nil In)))))),
+        each-cons In (c .at-sx) (each-cons In (c .at-sy) (each-cons In (c .at-t) (each-cons In (d .at-sx) (each-cons In (d .at-sy) (each-cons In (d .at-t) (each-nil In)))))),
+      )
+
   strength-in : (r p q h C : ℤ) (v : ℕ) (d : Side) → v < nodes m → RowIn (strengthRow r p q h C v d)
   unfolding In RowIn strengthRow
   strength-in r p q h C v d k = let c = columns-of v k in each-cons In (c .at-sx) (each-cons In (c .at-sy) (each-cons In (c .at-t) (each-nil In)))
 
   pub mesh-columns : MeshColumns m
-  unfolding RowIn In rowsOf equalityRows balanceRows sideRows strengthRows pairRows
+  unfolding RowIn In rowsOf equalityRows balanceRows sideRows jumpRows strengthRows pairRows
   mesh-columns named =
       each-++ RowIn
       (each-++ RowIn
       (each-joined RowIn _ (countFrom 0 (elements m)) (λ e j.
       let rows = balance-in e (λ i k. named .corners e i (omega (arith, of-count 0 (elements m) j)) k) in
       each-cons RowIn (rows .0) (each-cons RowIn (rows .1) (each-nil RowIn))))
+      (each-++ RowIn
       (each-joined RowIn _ (countFrom 0 (edges m)) (λ g j.
       let k : g < edges m = omega (arith, of-count 0 (edges m) j) in
       let from = edge-in g (fromNode m g) (named .froms g k) in
       let to = edge-in g (toNode m g) (named .tos g k) in
-      each-cons RowIn (from .0) (each-cons RowIn (from .1) (each-cons RowIn (to .0) (each-cons RowIn (to .1) (each-nil RowIn)))))))
+      each-cons RowIn (from .0) (each-cons RowIn (from .1) (each-cons RowIn (to .0) (each-cons RowIn (to .1) (each-nil RowIn))))))
+      (each-joined RowIn _ (countFrom 0 (jumps m)) (λ g j.
+      let k : g < jumps m = omega (arith, of-count 0 (jumps m) j) in
+      let from = jump-in g (jumpFrom m g) (facingFrom m g) (named .jumpFroms g k .0) (named .jumpFroms g k .1) in
+      let to = jump-in g (jumpTo m g) (facingTo m g) (named .jumpTos g k .0) (named .jumpTos g k .1) in
+      each-cons RowIn (from .0) (each-cons RowIn (from .1) (each-cons RowIn (to .0) (each-cons RowIn (to .1) (each-nil RowIn))))))))
       (each-joined RowIn _ (strengthPairs m) (λ a j.
       each-map RowIn _ (polygonSides (polygonOf (sides m) .corners)) (λ d k. strength-in _ _ _ _ _ (a .at) d (pairs m .exactly a .0 j .0))))

@@ -20,6 +20,7 @@ pub mod Printed
 pub mod Meets
 pub mod Triangles
 pub mod Meaning
+pub mod Jumps
 pub mod Criterion
 pub mod AcceptedField
 pub mod Weighted

@@ -11,9 +11,9 @@ use lib.ListN.{length, getD}
 use Rattle.integer.proofs.Order.{≤ℤ-pos}
 use Rattle.scope.specs.Columns.{oneOf, free, upTo, rightAngle, at}
 use Rattle.scope.specs.Layout.{width, groups, lineCount, numberCount, linesBefore, numbersBefore, count, entry}
-use Rattle.scope.specs.Mesh.{meshHeader, soilLines, nodeLines, elementLines, edgeLines, meshLayout, meshGroups, nodes, elements, soils, edges, sides, p, q, h, cohesion, soilEntry, x, y, corner, elementSoil, edgeEntry, fromNode, toNode}
+use Rattle.scope.specs.Mesh.{meshHeader, soilLines, nodeLines, elementLines, edgeLines, jumpLines, meshLayout, meshGroups, nodes, elements, soils, edges, sides, jumps, p, q, h, cohesion, soilEntry, x, y, corner, elementSoil, edgeEntry, fromNode, toNode, jumpEntry, jumpFrom, jumpTo, facingFrom, facingTo}
 use Rattle.scope.specs.Statements.{Within, LineSound, LinesSound}
-use Rattle.scope.specs.NumberRanges.{Between, Counts, SoilFacts, NodeFacts, ElementFacts, EdgeFacts, MeshFacts}
+use Rattle.scope.specs.NumberRanges.{Between, Counts, SoilFacts, NodeFacts, ElementFacts, EdgeFacts, JumpFacts, MeshFacts}
 use Rattle.scope.proofs.PolygonRule.{listed-polygon}
 use Rattle.scope.proofs.Lines.{group, lineIn, LineFacts, line-facts-of, line-facts, at-lineIn}
 
@@ -30,13 +30,14 @@ named z k l h = let r : (1 ≤ count z) × (count z ≤ k) = count-range z l h i
 
 -- a sound header is enough for the counts
 pub header-counts : (m : List ℤ) → LineSound meshLayout m 0 → Counts m
-unfolding meshLayout groups meshHeader entry linesBefore numbersBefore nodes elements soils edges sides count
+unfolding meshLayout groups meshHeader entry linesBefore numbersBefore nodes elements soils edges sides jumps count
 header-counts m s =
     let w = line-facts-of meshLayout m 0 0 s (omega arith) (omega arith) .within in
     let ns : (4 ≤ nodes m) × (nodes m ≤ 100) = count-range (at m 0) (w 0 (omega arith) .0) (w 0 (omega arith) .1) in
     let es : (1 ≤ elements m) × (elements m ≤ 100) = count-range (at m 1) (w 1 (omega arith) .0) (w 1 (omega arith) .1) in
     let ss : (1 ≤ soils m) × (soils m ≤ 16) = count-range (at m 2) (w 2 (omega arith) .0) (w 2 (omega arith) .1) in
     let gs : (0 ≤ edges m) × (edges m ≤ 60) = count-range (at m 3) (w 3 (omega arith) .0) (w 3 (omega arith) .1) in
+    let js : (0 ≤ jumps m) × (jumps m ≤ 60) = count-range (at m 5) (w 5 (omega arith) .0) (w 5 (omega arith) .1) in
     record {
       nodesLeast = ns .0;
       nodesMost = ns .1;
@@ -47,6 +48,8 @@ header-counts m s =
       edgesLeast = w 3 (omega arith) .0;
       edgesMost = gs .1;
       sidesListed = listed (at m 4) (w 4 (omega arith));
+      jumpsLeast = w 5 (omega arith) .0;
+      jumpsMost = js .1;
     }
   where
     listed : (z : ℤ) → Within (oneOf (pos 12 ∷ pos 20 ∷ pos 36 ∷ [])) z → (count z ≡ 12) ⊎ ((count z ≡ 20) ⊎ (count z ≡ 36))
@@ -165,24 +168,48 @@ module _ (m : List ℤ) (s : LinesSound meshLayout m) where
       load (suc (suc (suc zero))) h w = record { least = w .0; most = w .1 }
       load (suc (suc (suc (suc c)))) h w = absurd (omega arith)
 
-  -- the last line is there, whether it is an element's or an edge's
-  last-element : 5 + soils m * 8 + nodes m * 2 + elements m * 5 ≤ length m
+  jump-facts : (j : ℕ) → j < jumps m → JumpFacts m j
+  unfolding meshLayout groups meshGroups meshHeader soilLines nodeLines elementLines edgeLines jumpLines jumpEntry jumpFrom jumpTo facingFrom facingTo
+  jump-facts j l =
+      let r = line-facts meshLayout m s 5 j l (omega arith) .rules .0 in
+      record {
+        fromOne = λ c h. four c h (from-one 5 j 0 (omega arith) (r .0 .0)) (from-one 5 j 1 (omega arith) (r .1 .0 .0)) (from-one 5 j 2 (omega arith) (r .1 .1 .0 .0)) (from-one 5 j 3 (omega arith) (r .1 .1 .1 .0 .0));
+        fromThere = names 5 j 0 (nodes m) (omega arith) (r .0);
+        toThere = names 5 j 1 (nodes m) (omega arith) (r .1 .0);
+        facingFromThere = names 5 j 2 (nodes m) (omega arith) (r .1 .1 .0);
+        facingToThere = names 5 j 3 (nodes m) (omega arith) (r .1 .1 .1 .0);
+      }
+    where
+      four : (c : ℕ) → c < 4 → FromOne 5 j 0 → FromOne 5 j 1 → FromOne 5 j 2 → FromOne 5 j 3 → FromOne 5 j c
+      four zero h a b c d = a
+      four (suc zero) h a b c d = b
+      four (suc (suc zero)) h a b c d = c
+      four (suc (suc (suc zero))) h a b c d = d
+      four (suc (suc (suc (suc k)))) h a b c d = absurd (omega arith)
+
+  -- the last line is there, whether it is an element's, an edge's or a jump's
+  last-element : 6 + soils m * 8 + nodes m * 2 + elements m * 5 ≤ length m
   unfolding meshLayout groups meshHeader soilLines nodeLines elementLines numbersBefore
   last-element =
       let c : Counts m = counts in
       omega (arith, c .elementsLeast, line-facts meshLayout m s 3 (elements m - 1) (omega (arith, c .elementsLeast)) (omega arith) .there)
 
-  last-edge : 0 < edges m → 5 + soils m * 8 + nodes m * 2 + elements m * 5 + edges m * 7 ≤ length m
+  last-edge : 0 < edges m → 6 + soils m * 8 + nodes m * 2 + elements m * 5 + edges m * 7 ≤ length m
   unfolding meshLayout groups meshHeader soilLines nodeLines elementLines edgeLines numbersBefore
   last-edge h = omega (arith, line-facts meshLayout m s 4 (edges m - 1) (omega arith) (omega arith) .there)
 
-  size : length m ≡ 5 + soils m * 8 + nodes m * 2 + elements m * 5 + edges m * 7
-  unfolding meshLayout groups meshHeader soilLines nodeLines elementLines edgeLines numberCount
-  size = by (decLt 0 (edges m))
+  last-jump : 0 < jumps m → 6 + soils m * 8 + nodes m * 2 + elements m * 5 + edges m * 7 + jumps m * 4 ≤ length m
+  unfolding meshLayout groups meshHeader soilLines nodeLines elementLines edgeLines jumpLines numbersBefore
+  last-jump h = omega (arith, line-facts meshLayout m s 5 (jumps m - 1) (omega arith) (omega arith) .there)
+
+  size : length m ≡ 6 + soils m * 8 + nodes m * 2 + elements m * 5 + edges m * 7 + jumps m * 4
+  unfolding meshLayout groups meshHeader soilLines nodeLines elementLines edgeLines jumpLines numberCount
+  size = by (decLt 0 (edges m)) (decLt 0 (jumps m))
     where
-      by : Dec (0 < edges m) → length m ≡ 5 + soils m * 8 + nodes m * 2 + elements m * 5 + edges m * 7
-      by (yes h) = omega (arith, s .noneLeft, last-edge h)
-      by (no h) = omega (arith, s .noneLeft, last-element)
+      by : Dec (0 < edges m) → Dec (0 < jumps m) → length m ≡ 6 + soils m * 8 + nodes m * 2 + elements m * 5 + edges m * 7 + jumps m * 4
+      by h (yes j) = omega (arith, s .noneLeft, last-jump j)
+      by (yes h) (no j) = omega (arith, s .noneLeft, last-edge h)
+      by (no h) (no j) = omega (arith, s .noneLeft, last-element)
 
   pub mesh-facts : MeshFacts m
-  mesh-facts = record { counts = counts; size = size; soil = soil-facts; node = node-facts; element = element-facts; edge = edge-facts }
+  mesh-facts = record { counts = counts; size = size; soil = soil-facts; node = node-facts; element = element-facts; edge = edge-facts; jump = jump-facts }

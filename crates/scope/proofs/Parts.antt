@@ -121,6 +121,8 @@ nodes-named m s =
       corners = λ e i h k. f .element e h .cornerThere i k;
       froms = λ g h. f .edge g h .fromThere;
       tos = λ g h. f .edge g h .toThere;
+      jumpFroms = λ j h. (f .jump j h .fromThere, f .jump j h .facingFromThere);
+      jumpTos = λ j h. (f .jump j h .toThere, f .jump j h .facingToThere);
     }
 
 above-0 : {z : ℤ} → pos 0 ≤ℤ z → ¬ (z ≡ pos 0) → pos 0 <ℤ z

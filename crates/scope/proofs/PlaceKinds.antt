@@ -62,7 +62,7 @@ unfolding placeFor meshLayout
 mesh-kinds m =
     each-join Kind (linePhases meshLayout m) (shapePhases m) (line-kinds meshLayout m (λ j. refl) (λ j. refl)) (λ a. (
       λ k c h l r. one-kind refl r,
-      λ e. (λ k c h l r. one-kind refl r, λ e. (λ k c h l r. one-kind refl r, λ e. (λ k c h l r. one-kind refl r, λ e. (λ k c h l r. one-kind refl r, λ i. tt)))),
+      λ e. (λ k c h l r. one-kind refl r, λ e. (λ k c h l r. one-kind refl r, λ e. (λ k c h l r. one-kind refl r, λ e. (λ k c h l r. one-kind refl r, λ e. (λ k c h l r. one-kind refl r, λ i. tt))))),
     ))
 
 pub all-kinds : (m c : List ℤ) → EachIn Kind (meshPhases m ++ claimPhases m c)

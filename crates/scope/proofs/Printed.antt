@@ -2,7 +2,7 @@
 use mathlib.Core.Path.{_≡_, refl, sym, _∙_}
 use mathlib.Core.Bool.{Bool, true, false, cond, _||_}
 use mathlib.Core.Logic.{_↔_, _⊎_}
-use mathlib.Core.List.{List, [], _∷_, List·Memᴰ·head, List·Memᴰ·tail, Memᴰ·append-left, Memᴰ·append-right, Memᴰ·map}
+use mathlib.Core.List.{List, [], _∷_, _++_, List·Memᴰ·head, List·Memᴰ·tail, Memᴰ·append-left, Memᴰ·append-right, Memᴰ·map}
 use Prim.Native.Nat.{ℕ, _<_, zero-le}
 use native.Mathlib.Omega.{arith}
 use lib.IntN.{ℤ, pos, _+ℤ_, _-ℤ_, _*ℤ_, negℤ, +ℤ-assoc, +ℤ-idr}
@@ -12,14 +12,14 @@ use Rattle.integer.specs.Tests.{eqZ}
 use Rattle.integer.proofs.Order.{by-nn, nn-diff}
 use Rattle.scope.proofs.Lists.{in-joined, in-count, of-count, each-nil, each-cons, each-++, each-map, each-joined}
 use Rattle.scope.proofs.Decides.{Decides, either, equalℤ}
-use Rattle.scope.specs.Mesh.{elements, edges, sides, p, q, h, cohesion, deadX, deadY, liveX, liveY, x, y, corner, elementSoil, edgeEntry, fromNode, toNode}
+use Rattle.scope.specs.Mesh.{elements, edges, sides, jumps, p, q, h, cohesion, deadX, deadY, liveX, liveY, x, y, corner, elementSoil, edgeEntry, fromNode, toNode, jumpFrom, jumpTo, facingFrom, facingTo}
 use Rattle.scope.specs.Polygon.{Polygon, Side, polygonSides, polygonOf}
-use Rattle.scope.specs.Rows.{rowsOf, equalityRows, balanceRows, sideRows, strengthPairs, strengthRows, pairRows, asked, unfixed, Row, Pair, sx, sy, t, countFrom, joined, node, riseAcross, runAcross, twiceArea, balanceX, balanceY, stepX, stepY, stepSquare, normalRow, shearRow, fixedIf, cross, strengthRow}
+use Rattle.scope.specs.Rows.{rowsOf, equalityRows, balanceRows, sideRows, jumpRows, strengthPairs, strengthRows, pairRows, asked, unfixed, Row, Pair, sx, sy, t, countFrom, joined, node, riseAcross, runAcross, twiceArea, balanceX, balanceY, stepX, stepY, stepSquare, normalRow, shearRow, fixedIf, jumpStepX, jumpStepY, agreeRow, jumpNormal, jumpShear, cross, strengthRow}
 use Rattle.scope.specs.Sums.{weightedSum, leftSide, rightSide}
 use Rattle.scope.specs.Members.{_∈_}
 use Rattle.scope.specs.Meets.{Asks, RowMet, FieldMeets}
-use Rattle.scope.specs.PrintedColumns.{lessX, lessY, lessNormal, lessShear, RowsPrinted}
-use Rattle.scope.specs.Printed.{forceX, forceY, deviator, resistance, BalanceXAt, BalanceYAt, NormalAt, ShearAt, StrengthAt, MeetsPrinted, FieldPrinted}
+use Rattle.scope.specs.PrintedColumns.{lessX, lessY, lessNormal, lessShear, lessJumpNormal, lessJumpShear, RowsPrinted}
+use Rattle.scope.specs.Printed.{forceX, forceY, deviator, resistance, BalanceXAt, BalanceYAt, NormalAt, ShearAt, NormalAgreesAt, ShearAgreesAt, StrengthAt, MeetsPrinted, FieldPrinted}
 
 same-equation : {a b c d : ℤ} → a -ℤ b ≡ c -ℤ d → (a ≡ b) ↔ (c ≡ d)
 same-equation {a} {b} {c} {d} e = (
@@ -53,7 +53,7 @@ strength-less s l n r p q h C v d =
     (r ∷ p ∷ q ∷ h ∷ C ∷ n ∷ l ∷ s (sx v) ∷ s (sy v) ∷ s (t v) ∷ d .from .px ∷ d .from .py ∷ d .to .px ∷ d .to .py ∷ [])
     (both-sides (search terms depth 200 fits 100000) (search terms depth 200 fits 100000)) refl
 
--- the rows of an element, of an edge and of a pair among the rows of the mesh
+-- the rows of an element, of an edge, of a jump and of a pair among the rows of the mesh
 module _ (m : List ℤ) where
   elementRows : ℕ → List Row
   elementRows e = balanceX m e ∷ balanceY m e ∷ []
@@ -61,15 +61,23 @@ module _ (m : List ℤ) where
   edgeRows : ℕ → List Row
   edgeRows g = normalRow m g (fromNode m g) ∷ shearRow m g (fromNode m g) ∷ normalRow m g (toNode m g) ∷ shearRow m g (toNode m g) ∷ []
 
+  rowsOfJump : ℕ → List Row
+  rowsOfJump j = jumpNormal m j (jumpFrom m j) (facingFrom m j) ∷ jumpShear m j (jumpFrom m j) (facingFrom m j) ∷ jumpNormal m j (jumpTo m j) (facingTo m j) ∷ jumpShear m j (jumpTo m j) (facingTo m j) ∷ []
+
   of-element : (e : ℕ) {r : Row} → e < elements m → r ∈ elementRows e → r ∈ rowsOf m
   unfolding rowsOf equalityRows balanceRows elementRows
   of-element e k j =
-      Memᴰ·append-left (strengthRows m) (Memᴰ·append-left (sideRows m) (in-joined elementRows (countFrom 0 (elements m)) (in-count 0 (elements m) zero-le (omega arith)) j))
+      Memᴰ·append-left (strengthRows m) (Memᴰ·append-left (sideRows m ++ jumpRows m) (in-joined elementRows (countFrom 0 (elements m)) (in-count 0 (elements m) zero-le (omega arith)) j))
 
   of-edge : (g : ℕ) {r : Row} → g < edges m → r ∈ edgeRows g → r ∈ rowsOf m
   unfolding rowsOf equalityRows sideRows edgeRows
   of-edge g k j =
-      Memᴰ·append-left (strengthRows m) (Memᴰ·append-right (balanceRows m) (in-joined edgeRows (countFrom 0 (edges m)) (in-count 0 (edges m) zero-le (omega arith)) j))
+      Memᴰ·append-left (strengthRows m) (Memᴰ·append-right (balanceRows m) (Memᴰ·append-left (jumpRows m) (in-joined edgeRows (countFrom 0 (edges m)) (in-count 0 (edges m) zero-le (omega arith)) j)))
+
+  of-jump : (i : ℕ) {r : Row} → i < jumps m → r ∈ rowsOfJump i → r ∈ rowsOf m
+  unfolding rowsOf equalityRows jumpRows rowsOfJump
+  of-jump i k j =
+      Memᴰ·append-left (strengthRows m) (Memᴰ·append-right (balanceRows m) (Memᴰ·append-right (sideRows m) (in-joined rowsOfJump (countFrom 0 (jumps m)) (in-count 0 (jumps m) zero-le (omega arith)) j)))
 
   of-pair : (a : Pair) {r : Row} → a ∈ strengthPairs m → r ∈ pairRows (polygonOf (sides m)) m a → r ∈ rowsOf m
   unfolding rowsOf strengthRows
@@ -98,13 +106,21 @@ module _ (m : List ℤ) (s : ℕ → ℤ) (l n : ℤ) where
   unfolding shearRow leftSide rightSide weightedSum stepSquare
   row-shear g v = ring (stepX m g ∷ stepY m g ∷ s (sx v) ∷ s (sy v) ∷ s (t v) ∷ edgeEntry m g 4 ∷ edgeEntry m g 6 ∷ n ∷ l ∷ []) (search terms depth 100) refl
 
+  row-jump-normal : (j v f : ℕ) → leftSide s l (jumpNormal m j v f) -ℤ rightSide n (jumpNormal m j v f) ≡ lessJumpNormal m s l n j v f
+  unfolding jumpNormal agreeRow leftSide rightSide weightedSum
+  row-jump-normal j v f = ring (jumpStepX m j ∷ jumpStepY m j ∷ s (sx v) ∷ s (sy v) ∷ s (t v) ∷ s (sx f) ∷ s (sy f) ∷ s (t f) ∷ n ∷ l ∷ []) (both-sides (search terms depth 200 fits 100000) (search terms depth 200 fits 100000)) refl
+
+  row-jump-shear : (j v f : ℕ) → leftSide s l (jumpShear m j v f) -ℤ rightSide n (jumpShear m j v f) ≡ lessJumpShear m s l n j v f
+  unfolding jumpShear agreeRow leftSide rightSide weightedSum
+  row-jump-shear j v f = ring (jumpStepX m j ∷ jumpStepY m j ∷ s (sx v) ∷ s (sy v) ∷ s (t v) ∷ s (sx f) ∷ s (sy f) ∷ s (t f) ∷ n ∷ l ∷ []) (both-sides (search terms depth 200 fits 100000) (search terms depth 200 fits 100000)) refl
+
   row-strength : (r : ℤ) (a : Pair) (d : Side)
       → leftSide s l (strengthRow r (p m (a .soil)) (q m (a .soil)) (h m (a .soil)) (cohesion m (a .soil)) (a .at) d) -ℤ rightSide n (strengthRow r (p m (a .soil)) (q m (a .soil)) (h m (a .soil)) (cohesion m (a .soil)) (a .at) d)
       ≡ deviator r d (h m (a .soil)) (s (sx (a .at))) (s (sy (a .at))) (s (t (a .at))) -ℤ resistance d (p m (a .soil)) (q m (a .soil)) (cohesion m (a .soil)) n (s (sx (a .at))) (s (sy (a .at)))
   row-strength r a d = strength-less s l n r (p m (a .soil)) (q m (a .soil)) (h m (a .soil)) (cohesion m (a .soil)) (a .at) d
 
   pub rows-printed : RowsPrinted m s l n
-  rows-printed = record { balance-x = row-x; balance-y = row-y; normal = row-normal; shear = row-shear; strength = row-strength (polygonOf (sides m) .radius) }
+  rows-printed = record { balance-x = row-x; balance-y = row-y; normal = row-normal; shear = row-shear; jump-normal = row-jump-normal; jump-shear = row-jump-shear; strength = row-strength (polygonOf (sides m) .radius) }
 
   -- ---- what is asked
 
@@ -124,6 +140,14 @@ module _ (m : List ℤ) (s : ℕ → ℤ) (l n : ℤ) where
   unfolding shearRow
   shear g v = if-fixed (pos 2) (edgeEntry m g 2) (same-equation (row-shear g v))
 
+  pub jump-normal : (j v f : ℕ) → RowMet s l n (jumpNormal m j v f) ↔ NormalAgreesAt m s l n j v f
+  unfolding jumpNormal agreeRow
+  jump-normal j v f = same-equation (row-jump-normal j v f)
+
+  pub jump-shear : (j v f : ℕ) → RowMet s l n (jumpShear m j v f) ↔ ShearAgreesAt m s l n j v f
+  unfolding jumpShear agreeRow
+  jump-shear j v f = same-equation (row-jump-shear j v f)
+
   pub strength : (r : ℤ) (a : Pair) (d : Side) → RowMet s l n (strengthRow r (p m (a .soil)) (q m (a .soil)) (h m (a .soil)) (cohesion m (a .soil)) (a .at) d) ↔ StrengthAt m s l n r a d
   unfolding strengthRow
   strength r a d = same-inequality (row-strength r a d)
@@ -141,7 +165,7 @@ module _ (m : List ℤ) (s : ℕ → ℤ) (l n : ℤ) where
   -- ---- the rows of a mesh
 
   meets-printed : FieldMeets s l n (rowsOf m) → MeetsPrinted m s l n
-  unfolding elementRows edgeRows
+  unfolding elementRows edgeRows rowsOfJump
   meets-printed f = record {
     balance-x = λ e k. balance-x e .0 (f (balanceX m e) (of-element m e k (List·Memᴰ·head refl)));
     balance-y = λ e k. balance-y e .0 (f (balanceY m e) (of-element m e k (List·Memᴰ·tail (List·Memᴰ·head refl))));
@@ -149,21 +173,32 @@ module _ (m : List ℤ) (s : ℕ → ℤ) (l n : ℤ) where
     shear-from = λ g k. shear g (fromNode m g) .0 (f (shearRow m g (fromNode m g)) (of-edge m g k (List·Memᴰ·tail (List·Memᴰ·head refl))));
     normal-to = λ g k. normal g (toNode m g) .0 (f (normalRow m g (toNode m g)) (of-edge m g k (List·Memᴰ·tail (List·Memᴰ·tail (List·Memᴰ·head refl)))));
     shear-to = λ g k. shear g (toNode m g) .0 (f (shearRow m g (toNode m g)) (of-edge m g k (List·Memᴰ·tail (List·Memᴰ·tail (List·Memᴰ·tail (List·Memᴰ·head refl))))));
+    jump-normal-from = λ j k. jump-normal j (jumpFrom m j) (facingFrom m j) .0 (f (jumpNormal m j (jumpFrom m j) (facingFrom m j)) (of-jump m j k (List·Memᴰ·head refl)));
+    jump-shear-from = λ j k. jump-shear j (jumpFrom m j) (facingFrom m j) .0 (f (jumpShear m j (jumpFrom m j) (facingFrom m j)) (of-jump m j k (List·Memᴰ·tail (List·Memᴰ·head refl))));
+    jump-normal-to = λ j k. jump-normal j (jumpTo m j) (facingTo m j) .0 (f (jumpNormal m j (jumpTo m j) (facingTo m j)) (of-jump m j k (List·Memᴰ·tail (List·Memᴰ·tail (List·Memᴰ·head refl)))));
+    jump-shear-to = λ j k. jump-shear j (jumpTo m j) (facingTo m j) .0 (f (jumpShear m j (jumpTo m j) (facingTo m j)) (of-jump m j k (List·Memᴰ·tail (List·Memᴰ·tail (List·Memᴰ·tail (List·Memᴰ·head refl))))));
     strength = λ a k. pair-rows (polygonOf (sides m)) a .0 (λ r j. f r (of-pair m a k j));
   }
 
   printed-meets : MeetsPrinted m s l n → FieldMeets s l n (rowsOf m)
-  unfolding rowsOf equalityRows balanceRows sideRows strengthRows
+  unfolding rowsOf equalityRows balanceRows sideRows jumpRows strengthRows
   printed-meets f =
       each-++ M
       (each-++ M
       (each-joined M _ (countFrom 0 (elements m)) (λ e j. let k = of-count 0 (elements m) j in each-cons M (balance-x e .1 (f .balance-x e (omega arith))) (each-cons M (balance-y e .1 (f .balance-y e (omega arith))) (each-nil M))))
+      (each-++ M
       (each-joined M _ (countFrom 0 (edges m)) (λ g j.
       let k : g < edges m = omega (arith, of-count 0 (edges m) j) in
       each-cons M (normal g (fromNode m g) .1 (f .normal-from g k))
       (each-cons M (shear g (fromNode m g) .1 (f .shear-from g k))
       (each-cons M (normal g (toNode m g) .1 (f .normal-to g k))
-      (each-cons M (shear g (toNode m g) .1 (f .shear-to g k)) (each-nil M)))))))
+      (each-cons M (shear g (toNode m g) .1 (f .shear-to g k)) (each-nil M))))))
+      (each-joined M _ (countFrom 0 (jumps m)) (λ j i.
+      let k : j < jumps m = omega (arith, of-count 0 (jumps m) i) in
+      each-cons M (jump-normal j (jumpFrom m j) (facingFrom m j) .1 (f .jump-normal-from j k))
+      (each-cons M (jump-shear j (jumpFrom m j) (facingFrom m j) .1 (f .jump-shear-from j k))
+      (each-cons M (jump-normal j (jumpTo m j) (facingTo m j) .1 (f .jump-normal-to j k))
+      (each-cons M (jump-shear j (jumpTo m j) (facingTo m j) .1 (f .jump-shear-to j k)) (each-nil M))))))))
       (each-joined M _ (strengthPairs m) (λ a j. pair-rows (polygonOf (sides m)) a .1 (f .strength a j)))
     where
       M : Row → Type 0

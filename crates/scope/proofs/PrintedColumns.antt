@@ -11,19 +11,19 @@ use lib.IntN.{ℤ, pos, negsuc, _+ℤ_, _-ℤ_, _*ℤ_, negℤ, +ℤ-assoc, +ℤ
 use lib.ListN.{length}
 use Rattle.integer.proofs.Ring.{ring, terms}
 use Rattle.integer.specs.Tests.{eqZ}
-use Rattle.scope.specs.Mesh.{nodes, elements, edges, sides, edgeEntry, fromNode, toNode}
+use Rattle.scope.specs.Mesh.{nodes, elements, edges, sides, jumps, edgeEntry, fromNode, toNode, jumpFrom, jumpTo, facingFrom, facingTo}
 use Rattle.scope.specs.Polygon.{polygonOf}
-use Rattle.scope.specs.Rows.{asked, unfixed, strength, Row, sx, sy, t, pairCount, pairAt, balanceX, balanceY, normalRow, shearRow, fixedIf, equalityRows, rowsOf}
+use Rattle.scope.specs.Rows.{asked, unfixed, strength, Row, sx, sy, t, pairCount, pairAt, balanceX, balanceY, normalRow, shearRow, fixedIf, agreeRow, jumpNormal, jumpShear, equalityRows, rowsOf}
 use Rattle.scope.specs.Sums.{weightedSum, leftSide, rightSide, weighed, unit, coefficient, columnSum, liveSum, limitSum}
 use Rattle.scope.specs.Statements.{NoneOnUnfixed}
 use Rattle.scope.specs.RowNumbers.{sideAt}
 use Rattle.scope.specs.Printed.{FixesNormal, FixesShear}
-use Rattle.scope.specs.PrintedColumns.{lessX, lessY, lessNormal, lessShear, lessStrength, sumBelow, ofElement, ofEdge, ofPair, weighedRows, ColumnsPrinted, MultipliersAsPrinted, MultipliersPrinted}
+use Rattle.scope.specs.PrintedColumns.{lessX, lessY, lessNormal, lessShear, lessJumpNormal, lessJumpShear, lessStrength, sumBelow, ofElement, ofEdge, ofJump, ofPair, weighedRows, ColumnsPrinted, MultipliersAsPrinted, MultipliersPrinted}
 use Rattle.scope.proofs.Decides.{Decides, either, equalℤ}
 use Rattle.scope.proofs.Weighted.{weighted-same, weighted-zero, weighted-multiple}
 use Rattle.scope.proofs.Printed.{rows-printed}
 use Rattle.scope.proofs.RowCounts.{equality-count}
-use Rattle.scope.proofs.RowNumbers.{elementRows, edgeRows, balance-at, side-at, equality-among, strength-among, strength-at, row-count}
+use Rattle.scope.proofs.RowNumbers.{elementRows, edgeRows, rowsOfJump, balance-at, side-at, jump-at, equality-among, strength-among, strength-at, row-count}
 use Rattle.scope.specs.Tests.{rowAt}
 
 -- ---- sums below a number
@@ -56,6 +56,11 @@ sum-pieces f b (suc n) =
     ∙ sum-add f (n * b) b
     ∙ ap (λ z. z +ℤ sumBelow (λ j. f (n * b + j)) b) (sum-pieces f b n)
 
+-- a sum of four terms
+sum-four : {a b c d p q r s : ℤ} → a ≡ p → b ≡ q → c ≡ r → d ≡ s → pos 0 +ℤ a +ℤ b +ℤ c +ℤ d ≡ p +ℤ q +ℤ r +ℤ s
+sum-four {p = p} {q} {r} {s} e f g h =
+    ap₂ (λ x y. x +ℤ y) (ap₂ (λ x y. x +ℤ y) (ap₂ (λ x y. pos 0 +ℤ x +ℤ y) e f) g) h ∙ ap (λ z. z +ℤ q +ℤ r +ℤ s) (+ℤ-idl p)
+
 -- rows with their multipliers, by number
 by-number : (f : Row → ℤ) (w : ℕ → ℤ) (rs : List Row) → weightedSum f (weighed w rs) ≡ sumBelow (λ k. w k *ℤ f (rowAt rs k)) (length rs)
 unfolding weightedSum weighed sumBelow rowAt
@@ -82,24 +87,32 @@ module _ (m : List ℤ) (listed : (sides m ≡ 12) ⊎ ((sides m ≡ 20) ⊎ (si
   edge-term g i h k =
       ap (λ (r : Row). w (elements m * 2 + (g * 4 + i)) *ℤ less r) (equality-among m (elements m * 2 + (g * 4 + i)) (omega arith) ∙ side-at m g i h k)
 
-  pair-term : (a k : ℕ) → a < pairCount m → k < sides m → term (elements m * 2 + edges m * 4 + (a * sides m + k)) ≡ ofPair m w a k *ℤ lessStrength m s l n (pairAt m a) (sideAt (polygonOf (sides m)) k)
+  jump-term : (j i : ℕ) → j < jumps m → i < 4 → term (elements m * 2 + edges m * 4 + (j * 4 + i)) ≡ ofJump m w j i *ℤ less (rowAt (rowsOfJump m j) i)
+  unfolding term
+  jump-term j i h k =
+      ap (λ (r : Row). w (elements m * 2 + edges m * 4 + (j * 4 + i)) *ℤ less r) (equality-among m (elements m * 2 + edges m * 4 + (j * 4 + i)) (omega arith) ∙ jump-at m j i h k)
+
+  pair-term : (a k : ℕ) → a < pairCount m → k < sides m → term (elements m * 2 + edges m * 4 + jumps m * 4 + (a * sides m + k)) ≡ ofPair m w a k *ℤ lessStrength m s l n (pairAt m a) (sideAt (polygonOf (sides m)) k)
   unfolding term less
   pair-term a k h j =
-      ap (λ (r : Row). w (elements m * 2 + edges m * 4 + (a * sides m + k)) *ℤ less r) (strength-among m (a * sides m + k) ∙ strength-at m listed a k h j)
-      ∙ ap (λ z. w (elements m * 2 + edges m * 4 + (a * sides m + k)) *ℤ z) (rows-printed m s l n .strength (pairAt m a) (sideAt (polygonOf (sides m)) k))
+      ap (λ (r : Row). w (elements m * 2 + edges m * 4 + jumps m * 4 + (a * sides m + k)) *ℤ less r) (strength-among m (a * sides m + k) ∙ strength-at m listed a k h j)
+      ∙ ap (λ z. w (elements m * 2 + edges m * 4 + jumps m * 4 + (a * sides m + k)) *ℤ z) (rows-printed m s l n .strength (pairAt m a) (sideAt (polygonOf (sides m)) k))
 
   pub weighed-rows : weightedSum (λ r. leftSide s l r -ℤ rightSide n r) (weighed w (rowsOf m)) ≡ weighedRows m w s l n
   unfolding weighedRows sumBelow term less rowAt
   weighed-rows =
       by-number less w (rowsOf m)
       ∙ ap (sumBelow term) (row-count m listed)
-      ∙ sum-add term (elements m * 2 + edges m * 4) (pairCount m * sides m)
+      ∙ sum-add term (elements m * 2 + edges m * 4 + jumps m * 4) (pairCount m * sides m)
+      ∙ ap₂ _+ℤ_
+      (sum-add term (elements m * 2 + edges m * 4) (jumps m * 4)
       ∙ ap₂ _+ℤ_
       (sum-add term (elements m * 2) (edges m * 4)
       ∙ ap₂ _+ℤ_
       (sum-pieces term 2 (elements m) ∙ sum-same _ _ (elements m) of-element)
       (sum-pieces (λ k. term (elements m * 2 + k)) 4 (edges m) ∙ sum-same _ _ (edges m) of-edge))
-      (sum-pieces (λ k. term (elements m * 2 + edges m * 4 + k)) (sides m) (pairCount m)
+      (sum-pieces (λ k. term (elements m * 2 + edges m * 4 + k)) 4 (jumps m) ∙ sum-same _ _ (jumps m) of-jump))
+      (sum-pieces (λ k. term (elements m * 2 + edges m * 4 + jumps m * 4 + k)) (sides m) (pairCount m)
       ∙ sum-same _ _ (pairCount m) (λ a h. sum-same _ _ (sides m) (λ k j. pair-term a k h j)))
     where
       of-element : (e : ℕ) → e < elements m → sumBelow (λ i. term (e * 2 + i)) 2 ≡ ofElement m w e 0 *ℤ lessX m s l n e +ℤ ofElement m w e 1 *ℤ lessY m s l n e
@@ -113,18 +126,20 @@ module _ (m : List ℤ) (listed : (sides m ≡ 12) ⊎ ((sides m ≡ 20) ⊎ (si
       of-edge : (g : ℕ) → g < edges m → sumBelow (λ i. term (elements m * 2 + (g * 4 + i))) 4
           ≡ ofEdge m w g 0 *ℤ lessNormal m s l n g (fromNode m g) +ℤ ofEdge m w g 1 *ℤ lessShear m s l n g (fromNode m g) +ℤ ofEdge m w g 2 *ℤ lessNormal m s l n g (toNode m g) +ℤ ofEdge m w g 3 *ℤ lessShear m s l n g (toNode m g)
       of-edge g h =
-          let a = ofEdge m w g 0 *ℤ lessNormal m s l n g (fromNode m g) in
-          let b = ofEdge m w g 1 *ℤ lessShear m s l n g (fromNode m g) in
-          let c = ofEdge m w g 2 *ℤ lessNormal m s l n g (toNode m g) in
-          let d = ofEdge m w g 3 *ℤ lessShear m s l n g (toNode m g) in
-          ap₂ (λ x y. x +ℤ y)
-          (ap₂ (λ x y. x +ℤ y)
-          (ap₂ (λ x y. pos 0 +ℤ x +ℤ y)
+          sum-four
           (edge-term g 0 h (omega arith) ∙ ap (λ z. ofEdge m w g 0 *ℤ z) (rows-printed m s l n .normal g (fromNode m g)))
-          (edge-term g 1 h (omega arith) ∙ ap (λ z. ofEdge m w g 1 *ℤ z) (rows-printed m s l n .shear g (fromNode m g))))
-          (edge-term g 2 h (omega arith) ∙ ap (λ z. ofEdge m w g 2 *ℤ z) (rows-printed m s l n .normal g (toNode m g))))
+          (edge-term g 1 h (omega arith) ∙ ap (λ z. ofEdge m w g 1 *ℤ z) (rows-printed m s l n .shear g (fromNode m g)))
+          (edge-term g 2 h (omega arith) ∙ ap (λ z. ofEdge m w g 2 *ℤ z) (rows-printed m s l n .normal g (toNode m g)))
           (edge-term g 3 h (omega arith) ∙ ap (λ z. ofEdge m w g 3 *ℤ z) (rows-printed m s l n .shear g (toNode m g)))
-          ∙ ap (λ z. z +ℤ b +ℤ c +ℤ d) (+ℤ-idl a)
+
+      of-jump : (j : ℕ) → j < jumps m → sumBelow (λ i. term (elements m * 2 + edges m * 4 + (j * 4 + i))) 4
+          ≡ ofJump m w j 0 *ℤ lessJumpNormal m s l n j (jumpFrom m j) (facingFrom m j) +ℤ ofJump m w j 1 *ℤ lessJumpShear m s l n j (jumpFrom m j) (facingFrom m j) +ℤ ofJump m w j 2 *ℤ lessJumpNormal m s l n j (jumpTo m j) (facingTo m j) +ℤ ofJump m w j 3 *ℤ lessJumpShear m s l n j (jumpTo m j) (facingTo m j)
+      of-jump j h =
+          sum-four
+          (jump-term j 0 h (omega arith) ∙ ap (λ z. ofJump m w j 0 *ℤ z) (rows-printed m s l n .jump-normal j (jumpFrom m j) (facingFrom m j)))
+          (jump-term j 1 h (omega arith) ∙ ap (λ z. ofJump m w j 1 *ℤ z) (rows-printed m s l n .jump-shear j (jumpFrom m j) (facingFrom m j)))
+          (jump-term j 2 h (omega arith) ∙ ap (λ z. ofJump m w j 2 *ℤ z) (rows-printed m s l n .jump-normal j (jumpTo m j) (facingTo m j)))
+          (jump-term j 3 h (omega arith) ∙ ap (λ z. ofJump m w j 3 *ℤ z) (rows-printed m s l n .jump-shear j (jumpTo m j) (facingTo m j)))
 
 -- ---- the three sums
 
@@ -166,13 +181,20 @@ shear-free : (m : List ℤ) (g v : ℕ) (c : ℤ) → NoneOnUnfixed c (shearRow 
 unfolding shearRow
 shear-free m g v c = none-if (pos 2) (edgeEntry m g 2) c
 
--- place k of the equality rows is one of an element, or one of an edge
+-- place k of the equality rows is one of an element, one of an edge, or one of a jump
 record InEdge (m : List ℤ) (k : ℕ) : Type 0 where
   edge : ℕ
   there : edge < edges m
   row : ℕ
   four : row < 4
   is : k ≡ elements m * 2 + (edge * 4 + row)
+
+record InJump (m : List ℤ) (k : ℕ) : Type 0 where
+  jump : ℕ
+  there : jump < jumps m
+  row : ℕ
+  four : row < 4
+  is : k ≡ elements m * 2 + edges m * 4 + (jump * 4 + row)
 
 record InElementRows (m : List ℤ) (k : ℕ) : Type 0 where
   element : ℕ
@@ -181,19 +203,22 @@ record InElementRows (m : List ℤ) (k : ℕ) : Type 0 where
   two : row < 2
   is : k ≡ element * 2 + row
 
-element-or-edge : (m : List ℤ) (k : ℕ) → k < elements m * 2 + edges m * 4 → InElementRows m k ⊎ InEdge m k
-element-or-edge m k h = by (decLt k (elements m * 2))
+which-row : (m : List ℤ) (k : ℕ) → k < elements m * 2 + edges m * 4 + jumps m * 4 → InElementRows m k ⊎ (InEdge m k ⊎ InJump m k)
+which-row m k h = by (decLt k (elements m * 2)) (decLt k (elements m * 2 + edges m * 4))
   where
-    by : Dec (k < elements m * 2) → InElementRows m k ⊎ InEdge m k
-    by (yes f) =
+    by : Dec (k < elements m * 2) → Dec (k < elements m * 2 + edges m * 4) → InElementRows m k ⊎ (InEdge m k ⊎ InJump m k)
+    by (yes f) g =
         let d = div-add-mod' k 2 in
         let r = mod-lt k {m = 2} (omega arith) in
         inl (record { element = k / 2; there = omega arith; row = k % 2; two = r; is = sym d })
-    by (no f) =
-        let j = k - elements m * 2 in
+    by (no f) (yes g) =
         let d = div-add-mod' (k - elements m * 2) 4 in
         let r = mod-lt (k - elements m * 2) {m = 4} (omega arith) in
-        inr (record { edge = (k - elements m * 2) / 4; there = omega arith; row = (k - elements m * 2) % 4; four = r; is = omega arith })
+        inr (inl (record { edge = (k - elements m * 2) / 4; there = omega arith; row = (k - elements m * 2) % 4; four = r; is = omega arith }))
+    by (no f) (no g) =
+        let d = div-add-mod' (k - (elements m * 2 + edges m * 4)) 4 in
+        let r = mod-lt (k - (elements m * 2 + edges m * 4)) {m = 4} (omega arith) in
+        inr (inr (record { jump = (k - (elements m * 2 + edges m * 4)) / 4; there = omega arith; row = (k - (elements m * 2 + edges m * 4)) % 4; four = r; is = omega arith }))
 
 module _ (m : List ℤ) (w : ℕ → ℤ) where
   -- at each number of an edge's rows
@@ -214,12 +239,21 @@ module _ (m : List ℤ) (w : ℕ → ℤ) where
   element-row e (suc zero) c k = tt
   element-row e (suc (suc i)) c k = absurd (omega arith)
 
+  jump-row : (j i : ℕ) (c : ℤ) → i < 4 → NoneOnUnfixed c (rowAt (rowsOfJump m j) i)
+  unfolding rowAt jumpNormal jumpShear agreeRow
+  jump-row j zero c k = tt
+  jump-row j (suc zero) c k = tt
+  jump-row j (suc (suc zero)) c k = tt
+  jump-row j (suc (suc (suc zero))) c k = tt
+  jump-row j (suc (suc (suc (suc i)))) c k = absurd (omega arith)
+
   every-row : MultipliersPrinted m w → (k : ℕ) → k < length (equalityRows m) → NoneOnUnfixed (w k) (rowAt (equalityRows m) k)
-  every-row f k h = by (element-or-edge m k (omega (arith, equality-count m)))
+  every-row f k h = by (which-row m k (omega (arith, equality-count m)))
     where
-      by : InElementRows m k ⊎ InEdge m k → NoneOnUnfixed (w k) (rowAt (equalityRows m) k)
+      by : InElementRows m k ⊎ (InEdge m k ⊎ InJump m k) → NoneOnUnfixed (w k) (rowAt (equalityRows m) k)
       by (inl a) = rw (a .is, balance-at m (a .element) (a .row) (a .there) (a .two)) (element-row (a .element) (a .row) (w (a .element * 2 + a .row)) (a .two))
-      by (inr a) = rw (a .is, side-at m (a .edge) (a .row) (a .there) (a .four)) (edge-row f (a .edge) (a .row) (a .there) (a .four))
+      by (inr (inl a)) = rw (a .is, side-at m (a .edge) (a .row) (a .there) (a .four)) (edge-row f (a .edge) (a .row) (a .there) (a .four))
+      by (inr (inr a)) = rw (a .is, jump-at m (a .jump) (a .row) (a .there) (a .four)) (jump-row (a .jump) (a .row) (w (elements m * 2 + edges m * 4 + (a .jump * 4 + a .row))) (a .four))
 
 -- ---- accepted multipliers
 

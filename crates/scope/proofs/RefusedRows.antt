@@ -10,7 +10,7 @@ use Rattle.scope.specs.declared.Place.{Place}
 use Rattle.scope.specs.declared.Place.the-variants.{Row, Node}
 use Rattle.scope.specs.Answer.{placeNumber}
 use Rattle.scope.specs.Columns.{Rule, rightAngle, naming, parts, n, l}
-use Rattle.scope.specs.Mesh.{meshLayout, elements, sides, fromNode, toNode}
+use Rattle.scope.specs.Mesh.{meshLayout, elements, edges, sides, fromNode, toNode, jumpFrom, jumpTo, facingFrom, facingTo}
 use Rattle.scope.specs.Polygon.{polygonOf}
 use Rattle.scope.specs.Claim.{claimLayout, stress}
 use Rattle.scope.specs.Rows as R
@@ -18,14 +18,14 @@ use Rattle.scope.specs.Rows.{pairAt, equalityRows, strengthRows}
 use Rattle.scope.specs.Meets.{RowMet}
 use Rattle.scope.specs.Refusals.{ruleNumber, meshPhases, claimPhases, Refusal}
 use Rattle.scope.specs.RowNumbers.{rowNumbered, sideNumbered, RowNumbers}
-use Rattle.scope.specs.RefusalTable.{MeshRow, of-lines, five, six, seven, eight, forty-two, TableRow, of-mesh, of-claim-lines, twenty-one, twenty-two, thirty-one, thirty-two, thirty-three}
+use Rattle.scope.specs.RefusalTable.{MeshRow, of-lines, five, six, seven, eight, forty-four, forty-two, TableRow, of-mesh, of-claim-lines, twenty-one, twenty-two, thirty-one, thirty-two, thirty-three}
 use Rattle.scope.specs.RefusedRows.{EqualityFails, StrengthFails, PairsFail}
 use Rattle.scope.proofs.Phases.{EachIn, each-refusal, own-number}
 use Rattle.scope.proofs.Exactly.{OfParts, not-of-parts, each-number, refused-on-mesh}
 use Rattle.scope.proofs.LineRefusals.{other-number}
 use Rattle.scope.proofs.NumberRanges.{mesh-facts}
 use Rattle.scope.proofs.Pairs.{pairs}
-use Rattle.scope.proofs.Printed.{balance-x, balance-y, normal, shear, strength}
+use Rattle.scope.proofs.Printed.{balance-x, balance-y, normal, shear, jump-normal, jump-shear, strength}
 use Rattle.scope.proofs.RefusalTable.{table-row}
 use Rattle.scope.proofs.RowNumbers.{row-numbers}
 use Rattle.scope.specs.Tests.{rowAt}
@@ -81,6 +81,10 @@ module _ (m c : List ℤ) where
           shear-from = λ i h d g. row-fails (equalityRows m) place (2 * elements m + 4 * i + 2) f (by .shear-from i h) d (shear m (stress m c) (l c) (n c) i (fromNode m i) .1 g);
           normal-to = λ i h d g. row-fails (equalityRows m) place (2 * elements m + 4 * i + 3) f (by .normal-to i h) d (normal m (stress m c) (l c) (n c) i (toNode m i) .1 g);
           shear-to = λ i h d g. row-fails (equalityRows m) place (2 * elements m + 4 * i + 4) f (by .shear-to i h) d (shear m (stress m c) (l c) (n c) i (toNode m i) .1 g);
+          jump-normal-from = λ i h d g. row-fails (equalityRows m) place (2 * elements m + 4 * edges m + 4 * i + 1) f (by .jump-normal-from i h) d (jump-normal m (stress m c) (l c) (n c) i (jumpFrom m i) (facingFrom m i) .1 g);
+          jump-shear-from = λ i h d g. row-fails (equalityRows m) place (2 * elements m + 4 * edges m + 4 * i + 2) f (by .jump-shear-from i h) d (jump-shear m (stress m c) (l c) (n c) i (jumpFrom m i) (facingFrom m i) .1 g);
+          jump-normal-to = λ i h d g. row-fails (equalityRows m) place (2 * elements m + 4 * edges m + 4 * i + 3) f (by .jump-normal-to i h) d (jump-normal m (stress m c) (l c) (n c) i (jumpTo m i) (facingTo m i) .1 g);
+          jump-shear-to = λ i h d g. row-fails (equalityRows m) place (2 * elements m + 4 * edges m + 4 * i + 4) f (by .jump-shear-to i h) d (jump-shear m (stress m c) (l c) (n c) i (jumpTo m i) (facingTo m i) .1 g);
         }
 
     pub strength-fails : Refusal m c 22 (Row place) → StrengthFails m c place
@@ -109,7 +113,8 @@ module _ (m c : List ℤ) where
   of-mesh-row (six k l a h) e = absurd (omega arith)
   of-mesh-row (seven v l a b h) e = absurd (omega arith)
   of-mesh-row (eight g l a b d h) e = absurd (omega arith)
-  of-mesh-row (forty-two v l a b d g h) e = let (many, at) = pairs m .brings-101st v .0 h in record { many = many; node = ap suc (sym at) }
+  of-mesh-row (forty-four j l a b d g h) e = absurd (omega arith)
+  of-mesh-row (forty-two v l a b d g i h) e = let (many, at) = pairs m .brings-101st v .0 h in record { many = many; node = ap suc (sym at) }
 
   of-table-row : {k : ℕ} {p : Place} → TableRow m c k p → k ≡ 42 → PairsFail m (placeNumber p)
   unfolding claimLayout

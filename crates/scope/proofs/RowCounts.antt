@@ -10,9 +10,9 @@ use lib.IntN.{ℤ, pos}
 use lib.ListN.{length, length-append, length-map}
 use Rattle.integer.specs.Tests.{eqZ}
 use Rattle.scope.specs.Members.{_∈_}
-use Rattle.scope.specs.Mesh.{elements, edges, sides, edgeEntry, equalityCount}
+use Rattle.scope.specs.Mesh.{elements, edges, sides, jumps, edgeEntry, equalityCount}
 use Rattle.scope.specs.Polygon.{Point, sidesTo, polygonSides, polygonOf}
-use Rattle.scope.specs.Rows.{Kind, asked, unfixed, strength, Row, countFrom, joined, balanceX, balanceY, balanceRows, fixedIf, normalRow, shearRow, sideRows, strengthPairs, pairCount, strengthRow, pairRows, strengthRows, equalityRows}
+use Rattle.scope.specs.Rows.{Kind, asked, unfixed, strength, Row, countFrom, joined, balanceX, balanceY, balanceRows, fixedIf, normalRow, shearRow, sideRows, agreeRow, jumpNormal, jumpShear, jumpRows, strengthPairs, pairCount, strengthRow, pairRows, strengthRows, equalityRows}
 use Rattle.scope.proofs.Lists.{count-length, each-nil, each-cons, each-++, each-map, each-joined}
 use Rattle.scope.proofs.PolygonRule.{listed-polygon}
 
@@ -35,9 +35,21 @@ pub side-count : (m : List ℤ) → length (sideRows m) ≡ edges m * 4
 unfolding sideRows
 side-count m = length-joined _ 4 (countFrom 0 (edges m)) (λ a i. refl) ∙ ap (λ (k : ℕ). k * 4) (count-length 0 (edges m))
 
+pub jump-count : (m : List ℤ) → length (jumpRows m) ≡ jumps m * 4
+unfolding jumpRows
+jump-count m = length-joined _ 4 (countFrom 0 (jumps m)) (λ a i. refl) ∙ ap (λ (k : ℕ). k * 4) (count-length 0 (jumps m))
+
 pub equality-count : (m : List ℤ) → length (equalityRows m) ≡ equalityCount m
 unfolding equalityRows
-equality-count m = length-append (balanceRows m) (sideRows m) ∙ ap₂ _+_ (balance-count m) (side-count m)
+equality-count m =
+    omega (
+      arith,
+      length-append (balanceRows m) (sideRows m ++ jumpRows m),
+      length-append (sideRows m) (jumpRows m),
+      balance-count m,
+      side-count m,
+      jump-count m,
+    )
 
 -- no equality row is a strength row
 other : {X : Type 0} {k : Kind} → k ≡ asked → k ≡ strength → X
@@ -52,16 +64,19 @@ fixed-or-not what fixed = by (eqZ fixed what || eqZ fixed (pos 3))
     by false e = let z : _≡_ {A = ℕ} 0 1 = cc in omega arith
 
 pub equality-kind : (m : List ℤ) (r : Row) → r ∈ equalityRows m → ¬ (r .kind ≡ strength)
-unfolding equalityRows balanceRows sideRows balanceX balanceY normalRow shearRow
+unfolding equalityRows balanceRows sideRows jumpRows balanceX balanceY normalRow shearRow jumpNormal jumpShear agreeRow
 equality-kind m =
     each-++ P
     (each-joined P _ (countFrom 0 (elements m)) (λ e i. each-cons P (λ h. other refl h) (each-cons P (λ h. other refl h) (each-nil P))))
+    (each-++ P
     (each-joined P _ (countFrom 0 (edges m))
     (λ g i.
     each-cons P (fixed-or-not (pos 1) (edgeEntry m g 2))
     (each-cons P (fixed-or-not (pos 2) (edgeEntry m g 2))
     (each-cons P (fixed-or-not (pos 1) (edgeEntry m g 2))
     (each-cons P (fixed-or-not (pos 2) (edgeEntry m g 2)) (each-nil P))))))
+    (each-joined P _ (countFrom 0 (jumps m))
+    (λ j i. each-cons P (λ h. other refl h) (each-cons P (λ h. other refl h) (each-cons P (λ h. other refl h) (each-cons P (λ h. other refl h) (each-nil P)))))))
   where
     P : Row → Type 0
     P r = ¬ (r .kind ≡ strength)

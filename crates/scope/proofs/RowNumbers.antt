@@ -8,11 +8,11 @@ use native.Mathlib.Omega.{arith}
 use lib.IntN.{ℤ}
 use lib.ListN.{length, getD, length-append, length-map, List·getD-append}
 use lib.Seq.{getD-append-add}
-use Rattle.scope.specs.Mesh.{elements, edges, sides, fromNode, toNode}
+use Rattle.scope.specs.Mesh.{elements, edges, sides, jumps, fromNode, toNode, jumpFrom, jumpTo, facingFrom, facingTo}
 use Rattle.scope.specs.Polygon.{polygonSides, polygonOf}
-use Rattle.scope.specs.Rows.{Row, Pair, countFrom, joined, balanceX, balanceY, balanceRows, normalRow, shearRow, sideRows, strengthPairs, pairCount, pairAt, pairRows, strengthRows, equalityRows, rowsOf}
+use Rattle.scope.specs.Rows.{Row, Pair, countFrom, joined, balanceX, balanceY, balanceRows, normalRow, shearRow, sideRows, jumpNormal, jumpShear, jumpRows, strengthPairs, pairCount, pairAt, pairRows, strengthRows, equalityRows, rowsOf}
 use Rattle.scope.specs.RowNumbers.{sideAt, pairRow, RowNumbers}
-use Rattle.scope.proofs.RowCounts.{balance-count, equality-count, polygon-sides, strength-count}
+use Rattle.scope.proofs.RowCounts.{balance-count, side-count, jump-count, equality-count, polygon-sides, strength-count}
 use Rattle.scope.proofs.Lists.{count-length, at-count, at-map}
 use Rattle.scope.specs.Tests.{rowAt}
 
@@ -49,32 +49,49 @@ rows-after es ss k = getD-append-add es ss k _
 
 -- ---- the rows of a mesh
 
--- the two rows of an element, and the four of an edge
+-- the two rows of an element, the four of an edge, and the four of a jump
 abbrev pub elementRows : List ℤ → ℕ → List Row
 elementRows m e = balanceX m e ∷ balanceY m e ∷ []
 
 abbrev pub edgeRows : List ℤ → ℕ → List Row
 edgeRows m g = normalRow m g (fromNode m g) ∷ shearRow m g (fromNode m g) ∷ normalRow m g (toNode m g) ∷ shearRow m g (toNode m g) ∷ []
 
+abbrev pub rowsOfJump : List ℤ → ℕ → List Row
+rowsOfJump m j =
+    jumpNormal m j (jumpFrom m j) (facingFrom m j)
+    ∷ jumpShear m j (jumpFrom m j) (facingFrom m j)
+    ∷ jumpNormal m j (jumpTo m j) (facingTo m j)
+    ∷ jumpShear m j (jumpTo m j) (facingTo m j)
+    ∷ []
+
 module _ (m : List ℤ) where
   pub balance-at : (e i : ℕ) → e < elements m → i < 2 → rowAt (equalityRows m) (e * 2 + i) ≡ rowAt (elementRows m e) i
   unfolding equalityRows balanceRows rowAt
   balance-at e i h k =
-      rows-before (balanceRows m) (sideRows m) (e * 2 + i) (omega (arith, balance-count m))
+      rows-before (balanceRows m) (sideRows m ++ jumpRows m) (e * 2 + i) (omega (arith, balance-count m))
       ∙ at-pieces (elementRows m) 2 (λ e. refl) (elements m) _ e i h k
 
   pub side-at : (g i : ℕ) → g < edges m → i < 4 → rowAt (equalityRows m) (elements m * 2 + (g * 4 + i)) ≡ rowAt (edgeRows m g) i
   unfolding equalityRows sideRows rowAt
   side-at g i h k =
-      ap (λ n. rowAt (balanceRows m ++ sideRows m) (n + (g * 4 + i))) (sym (balance-count m))
-      ∙ rows-after (balanceRows m) (sideRows m) (g * 4 + i)
+      ap (λ n. rowAt (balanceRows m ++ (sideRows m ++ jumpRows m)) (n + (g * 4 + i))) (sym (balance-count m))
+      ∙ rows-after (balanceRows m) (sideRows m ++ jumpRows m) (g * 4 + i)
+      ∙ rows-before (sideRows m) (jumpRows m) (g * 4 + i) (omega (arith, side-count m))
       ∙ at-pieces (edgeRows m) 4 (λ g. refl) (edges m) _ g i h k
 
-  pub equality-among : (k : ℕ) → k < elements m * 2 + edges m * 4 → rowAt (rowsOf m) k ≡ rowAt (equalityRows m) k
+  pub jump-at : (j i : ℕ) → j < jumps m → i < 4 → rowAt (equalityRows m) (elements m * 2 + edges m * 4 + (j * 4 + i)) ≡ rowAt (rowsOfJump m j) i
+  unfolding equalityRows jumpRows rowAt
+  jump-at j i h k =
+      ap (rowAt (balanceRows m ++ (sideRows m ++ jumpRows m))) (omega (arith, balance-count m, side-count m))
+      ∙ rows-after (balanceRows m) (sideRows m ++ jumpRows m) (length (sideRows m) + (j * 4 + i))
+      ∙ rows-after (sideRows m) (jumpRows m) (j * 4 + i)
+      ∙ at-pieces (rowsOfJump m) 4 (λ j. refl) (jumps m) _ j i h k
+
+  pub equality-among : (k : ℕ) → k < elements m * 2 + edges m * 4 + jumps m * 4 → rowAt (rowsOf m) k ≡ rowAt (equalityRows m) k
   unfolding rowsOf
   equality-among k h = rows-before (equalityRows m) (strengthRows m) k (omega (arith, equality-count m))
 
-  pub strength-among : (k : ℕ) → rowAt (rowsOf m) (elements m * 2 + edges m * 4 + k) ≡ rowAt (strengthRows m) k
+  pub strength-among : (k : ℕ) → rowAt (rowsOf m) (elements m * 2 + edges m * 4 + jumps m * 4 + k) ≡ rowAt (strengthRows m) k
   unfolding rowsOf
   strength-among k = ap (λ n. rowAt (equalityRows m ++ strengthRows m) (n + k)) (sym (equality-count m)) ∙ rows-after (equalityRows m) (strengthRows m) k
 
@@ -92,7 +109,7 @@ module _ (m : List ℤ) (listed : (sides m ≡ 12) ⊎ ((sides m ≡ 20) ⊎ (si
       at-joined (pairRows (polygonOf (sides m)) m) (sides m) length-pair (strengthPairs m) (record { at = 0; soil = 0 }) _ a k l j
       ∙ at-map _ (polygonSides (polygonOf (sides m) .corners)) k _ _ (omega (arith, polygon-sides (sides m) listed))
 
-  pub row-count : length (rowsOf m) ≡ elements m * 2 + edges m * 4 + pairCount m * sides m
+  pub row-count : length (rowsOf m) ≡ elements m * 2 + edges m * 4 + jumps m * 4 + pairCount m * sides m
   unfolding rowsOf
   row-count = length-append (equalityRows m) (strengthRows m) ∙ ap₂ _+_ (equality-count m) (strength-count m listed)
 
@@ -105,6 +122,10 @@ module _ (m : List ℤ) (listed : (sides m ≡ 12) ⊎ ((sides m ≡ 20) ⊎ (si
     shear-from = λ g h. ap (rowAt (equalityRows m)) (omega arith) ∙ side-at m g 1 h (omega arith);
     normal-to = λ g h. ap (rowAt (equalityRows m)) (omega arith) ∙ side-at m g 2 h (omega arith);
     shear-to = λ g h. ap (rowAt (equalityRows m)) (omega arith) ∙ side-at m g 3 h (omega arith);
+    jump-normal-from = λ j h. ap (rowAt (equalityRows m)) (omega arith) ∙ jump-at m j 0 h (omega arith);
+    jump-shear-from = λ j h. ap (rowAt (equalityRows m)) (omega arith) ∙ jump-at m j 1 h (omega arith);
+    jump-normal-to = λ j h. ap (rowAt (equalityRows m)) (omega arith) ∙ jump-at m j 2 h (omega arith);
+    jump-shear-to = λ j h. ap (rowAt (equalityRows m)) (omega arith) ∙ jump-at m j 3 h (omega arith);
     equalities = equality-count m ∙ omega arith;
     strength = λ a k h j. ap (rowAt (strengthRows m)) (omega arith) ∙ strength-at a k h j ∙ ap (λ i. pairRow m (pairAt m a) (sideAt (polygonOf (sides m)) i)) (omega arith);
     strengths = strength-count m listed;

@@ -10,16 +10,16 @@ use Rattle.integer.specs.Tests.{eqZ}
 use Rattle.scope.specs.declared.Place.the-variants.{Row}
 use Rattle.scope.specs.Checks.{someBelow}
 use Rattle.scope.specs.Columns.{Limit, between, oneOf, free, isOneOf, within, allWithin, Rule, rightAngle, naming, parts, names, allNamed, at, hasField, hasMultipliers, n, l, ruleTest}
-use Rattle.scope.specs.Mesh.{elements, corner, cornerCount, around, elementSoil, fromNode, toNode}
+use Rattle.scope.specs.Mesh.{elements, edges, x, y, corner, cornerCount, around, elementSoil, fromNode, toNode, jumpFrom, jumpTo, facingFrom, facingTo}
 use Rattle.scope.specs.Rows as R
 use Rattle.scope.specs.Rows.{hasCorner, hasSoil}
 use Rattle.scope.specs.Sums.{rowHolds, zeroIfUnfixed}
-use Rattle.scope.specs.Statements.{OneOf, Within, AllWithin, AllNamed, PartsFit, Says, LeftTurns, SideAt, OwnSides, InElement, IsSide, OuterEdge, PairsFit, NoneOnUnfixed}
+use Rattle.scope.specs.Statements.{OneOf, Within, AllWithin, AllNamed, PartsFit, Says, LeftTurns, SideAt, OwnSides, InElement, IsSide, OuterSide, OuterEdge, FreeSide, SamePoint, Joint, PairsFit, NoneOnUnfixed}
 use Rattle.scope.specs.Pairs.{SoilAround}
 use Rattle.scope.specs.Meets.{RowMet}
 use Rattle.scope.proofs.Meets.{row-holds}
 use Rattle.scope.proofs.Decides.{Decides, both, either, opposite, said-as, equal, at-most, equalℤ, at-mostℤ, belowℤ, some-below, all-below}
-use Rattle.scope.specs.Tests.{turn, leftTurnAt, leftTurns, hasSide, ownSideAt, ownSides, inElement, hasEnds, outerEdge, pairsFit}
+use Rattle.scope.specs.Tests.{turn, leftTurnAt, leftTurns, hasSide, ownSideAt, ownSides, inElement, outerSide, hasEnds, outerEdge, usedByJump, freeSide, samePoint, isJoint, pairsFit}
 
 -- ---- lines
 
@@ -117,15 +117,51 @@ is-side m a b =
     (λ h. record { element = h .0; there = h .1; place = h .2 .0; inside = h .2 .1; same = h .2 .2 })
     (λ h. (h .element, h .there, (h .place, h .inside, h .same)))
 
+pub outer-side : (m : List ℤ) (a b : ℕ) → Decides (outerSide m a b) (OuterSide m a b)
+unfolding outerSide
+outer-side m a b =
+    said-as (both (is-side m a b) (opposite (is-side m b a)))
+    (λ h. record { isSide = h .0; reverseIsNone = h .1 })
+    (λ h. (h .isSide, h .reverseIsNone))
+
+-- some edge below n has the side from a to b
+some-edge : (m : List ℤ) (a b n : ℕ) → Decides (someBelow (hasEnds m a b) n) ((k : ℕ) × (k < n) × ((fromNode m k ≡ a) × (toNode m k ≡ b)))
+unfolding hasEnds
+some-edge m a b n = some-below (λ k. both (equal (fromNode m k) a) (equal (toNode m k) b)) n
+
 pub outer-edge : (m : List ℤ) (g : ℕ) → Decides (outerEdge m g) (OuterEdge m g)
-unfolding outerEdge hasEnds
+unfolding outerEdge
 outer-edge m g =
     said-as
+    (both (outer-side m (fromNode m g) (toNode m g)) (opposite (some-edge m (fromNode m g) (toNode m g) g)))
+    (λ h. record { outer = h .0; isFirst = λ k l s. h .1 (k, l, s) })
+    (λ h. (h .outer, λ s. h .isFirst (s .0) (s .1) (s .2)))
+
+free-side : (m : List ℤ) (j a b : ℕ) → Decides (freeSide m j a b) (FreeSide m j a b)
+unfolding freeSide usedByJump
+free-side m j a b =
+    said-as
     (both
-    (both (is-side m (fromNode m g) (toNode m g)) (opposite (is-side m (toNode m g) (fromNode m g))))
-    (opposite (some-below (λ k. both (equal (fromNode m k) (fromNode m g)) (equal (toNode m k) (toNode m g))) g)))
-    (λ h. record { isSide = h .0 .0; isOuter = h .0 .1; isFirst = λ k l s. h .1 (k, l, s) })
-    (λ h. ((h .isSide, h .isOuter), λ s. h .isFirst (s .0) (s .1) (s .2)))
+    (both (outer-side m a b) (opposite (some-edge m a b (edges m))))
+    (opposite (some-below (λ k. either (both (equal _ _) (equal _ _)) (both (equal _ _) (equal _ _))) j)))
+    (λ h. record { outer = h .0 .0; noEdge = λ k l s. h .0 .1 (k, l, s); noEarlierJump = λ k l s. h .1 (k, l, s) })
+    (λ h. ((h .outer, λ s. h .noEdge (s .0) (s .1) (s .2)), λ s. h .noEarlierJump (s .0) (s .1) (s .2)))
+
+same-point : (m : List ℤ) (a b : ℕ) → Decides (samePoint m a b) (SamePoint m a b)
+unfolding samePoint
+same-point m a b = both (equalℤ (x m a) (x m b)) (equalℤ (y m a) (y m b))
+
+pub is-joint : (m : List ℤ) (j : ℕ) → Decides (isJoint m j) (Joint m j)
+unfolding isJoint
+is-joint m j =
+    said-as
+    (both
+    (both
+    (both (free-side m j (jumpFrom m j) (jumpTo m j)) (free-side m j (facingTo m j) (facingFrom m j)))
+    (same-point m (jumpFrom m j) (facingFrom m j)))
+    (same-point m (jumpTo m j) (facingTo m j)))
+    (λ h. record { side = h .0 .0 .0; facing = h .0 .0 .1; atFrom = h .0 .1; atTo = h .1 })
+    (λ h. (((h .side, h .facing), h .atFrom), h .atTo))
 
 pub soil-around : (m : List ℤ) (v s : ℕ) → Decides (hasSoil m v s) (SoilAround m v s)
 unfolding hasSoil

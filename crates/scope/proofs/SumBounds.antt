@@ -14,10 +14,10 @@ use Rattle.integer.proofs.Ring.{ring, terms}
 use Rattle.integer.specs.Sum.{sumOf}
 use Rattle.integer.proofs.SumLaws.{sumOf-++}
 use Rattle.scope.specs.Members.{_∈_}
-use Rattle.scope.specs.Mesh.{nodes, elements, edges, sides, deadX, deadY, soilEntry, x, y, corner, elementSoil, edgeEntry, fromNode, toNode, equalityCount}
+use Rattle.scope.specs.Mesh.{nodes, elements, edges, sides, jumps, deadX, deadY, soilEntry, x, y, corner, elementSoil, edgeEntry, fromNode, toNode, equalityCount}
 use Rattle.scope.specs.Polygon.{Side, polygonSides, polygonOf}
-use Rattle.scope.specs.Rows.{Row, countFrom, node, crossAt, riseAcross, runAcross, twiceArea, balanceX, balanceY, balanceRows, stepX, stepY, stepSquare, normalRow, shearRow, sideRows, strengthPairs, cross, strengthRow, pairRows, strengthRows, equalityRows, rowsOf}
-use Rattle.scope.specs.Bounds.{mostCoordinate, mostForce, mostTraction, mostMultiplier, strengthMultiplier, mostArea, balanceRight, mostBalanceRows, mostSquare, sideRight, mostSideRows, weightedCross, twiceStrength, strengthSum, mostStrengthRows}
+use Rattle.scope.specs.Rows.{Row, countFrom, node, crossAt, riseAcross, runAcross, twiceArea, balanceX, balanceY, balanceRows, stepX, stepY, stepSquare, normalRow, shearRow, sideRows, agreeRow, jumpNormal, jumpShear, jumpRows, strengthPairs, cross, strengthRow, pairRows, strengthRows, equalityRows, rowsOf}
+use Rattle.scope.specs.Bounds.{mostCoordinate, mostForce, mostTraction, mostMultiplier, strengthMultiplier, mostArea, balanceRight, mostBalanceRows, mostSquare, sideRight, mostSideRows, jumpRight, mostJumpRows, weightedCross, twiceStrength, strengthSum, mostStrengthRows}
 use Rattle.scope.specs.PolygonRule.{ListedPolygon}
 use Rattle.scope.specs.Sums.{weightedSum, weighed, limitSum}
 use Rattle.scope.specs.Claim.{multiplier}
@@ -26,7 +26,7 @@ use Rattle.scope.specs.NumberRanges.{Between, MeshFacts, ClaimFacts}
 use Rattle.scope.proofs.Lists.{of-count, each-nil, each-cons, each-map, each-joined}
 use Rattle.scope.proofs.NumberRanges.{mesh-facts}
 use Rattle.scope.proofs.Pairs.{pairs, few-pairs}
-use Rattle.scope.proofs.RowCounts.{balance-count, side-count, equality-count, strength-count}
+use Rattle.scope.proofs.RowCounts.{balance-count, side-count, jump-count, equality-count, strength-count}
 use Rattle.scope.proofs.PolygonRule.{listed-polygon}
 
 -- ---- limits as bounds
@@ -125,6 +125,15 @@ module _ (m : List ℤ) (f : MeshFacts m) where
       P : Row → Type 0
       P r = Right sideRight r
 
+  jump-right : (r : Row) → r ∈ jumpRows m → Right jumpRight r
+  unfolding jumpRows jumpNormal jumpShear agreeRow
+  jump-right =
+      let zero : Within jumpRight (pos 0) = Within-pos 0 in
+      each-joined P _ (countFrom 0 (jumps m)) (λ j i. each-cons P zero (each-cons P zero (each-cons P zero (each-cons P zero (each-nil P)))))
+    where
+      P : Row → Type 0
+      P r = Right jumpRight r
+
   strength-right : (g : ListedPolygon (sides m)) → (r : Row) → r ∈ strengthRows m → Right (g .product * twiceStrength) r
   unfolding strengthRows pairRows strengthRow
   strength-right g =
@@ -170,7 +179,8 @@ limit-bound m c s k t =
     Within-le
     (rw (← limit-++ w (equalityRows m) (strengthRows m)) at
     (Within-+ℤ
-    (rw (← limit-++ w (balanceRows m) (sideRows m)) at (Within-+ℤ balances edgeSides))
+    (rw (← limit-++ w (balanceRows m) (sideRows m ++ jumpRows m)) at
+    (Within-+ℤ balances (rw (← limit-++ (λ i. w (length (balanceRows m) + i)) (sideRows m) (jumpRows m)) at (Within-+ℤ edgeSides joints))))
     strengths))
     (omega arith)
   where
@@ -198,6 +208,14 @@ limit-bound m c s k t =
         (λ i h. equality (length (balanceRows m) + i) (omega (arith, balance-count m, side-count m)))
         (side-right m f))
         (omega (arith, side-count m, f .counts .edgesMost))
+
+    joints : Within (mostJumpRows * (mostMultiplier * jumpRight)) (limitSum (λ i. w (length (balanceRows m) + (length (sideRows m) + i))) (jumpRows m))
+    joints =
+        Within-le
+        (rows-bound mostMultiplier jumpRight (λ i. w (length (balanceRows m) + (length (sideRows m) + i))) (jumpRows m)
+        (λ i h. equality (length (balanceRows m) + (length (sideRows m) + i)) (omega (arith, balance-count m, side-count m, jump-count m)))
+        (jump-right m f))
+        (omega (arith, jump-count m, f .counts .jumpsMost))
 
     strength : (i : ℕ) → i < length (strengthRows m) → Within (strengthMultiplier (sides m)) (w (length (equalityRows m) + i))
     strength i h =

@@ -17,7 +17,7 @@ use Rattle.scope.specs.Phases.{Below, FirstFails, HoldsAt, Everywhere, R
 use Rattle.scope.specs.Columns.{Rule, rightAngle, naming, parts, hasField, hasMultipliers, n, l}
 use Rattle.scope.specs.Layout.{Group, Layout, Placed, groups, lineCount, numberCount, lineOf, groupAt, numbersAt}
 use Rattle.scope.specs.Mesh.{meshLayout, nodes}
-use Rattle.scope.specs.Claim.{claimHeader, stressLines, elementMultipliers, edgeMultipliers, strengthMultipliers, claimLayout, stress, multiplier}
+use Rattle.scope.specs.Claim.{claimHeader, stressLines, elementMultipliers, edgeMultipliers, jumpMultipliers, strengthMultipliers, claimLayout, stress, multiplier}
 use Rattle.scope.specs.Rows.{equalityRows, strengthRows, rowsOf}
 use Rattle.scope.specs.Statements.{Says, AllSay, Complete}
 use Rattle.scope.specs.Refusals.{ruleNumber, ruleSteps, lineSteps, linesPhase, leftoverPhase, linePhases, shapePhases, meshPhases, fieldPhases, multiplierPhases, fieldPart, multiplierPart, partPhases, claimPhases, LineRefusal, SoundTo, CountFails, LimitFails, RuleFails, MeshLineNumbers, ClaimLineNumbers, tableNumbers, InTable}
@@ -175,10 +175,10 @@ no-rules (g ∷ gs) h from k =
     cases (ltb k (g .lines)) (λ t. rw (t, lineOf) (h .0)) (λ t. rw (t, lineOf) (no-rules gs (h .1) _ _))
 
 after-header : (m c : List ℤ) (k : ℕ) → groupAt (claimLayout m) c (suc k) .rules ≡ []
-unfolding claimLayout groups claimHeader stressLines elementMultipliers edgeMultipliers strengthMultipliers
+unfolding claimLayout groups claimHeader stressLines elementMultipliers edgeMultipliers jumpMultipliers strengthMultipliers
 after-header m c k =
     ap (λ (l : Placed). l .group .rules) (line-after claimHeader (claimLayout m .body c) 0 (suc k) (omega arith))
-    ∙ no-rules (claimLayout m .body c) (refl, (refl, (refl, (refl, tt)))) _ _
+    ∙ no-rules (claimLayout m .body c) (refl, (refl, (refl, (refl, (refl, tt))))) _ _
 
 parts-first : (m c : List ℤ) (k : ℕ) → RuleFails (claimLayout m) c parts k → k ≡ 0
 parts-first m c zero h = refl
@@ -247,7 +247,7 @@ in-table m c k p r = each-refusal InTableNumbers (meshPhases m ++ claimPhases m 
         each-join InTableNumbers (meshPhases m) (claimPhases m c)
         (each-join InTableNumbers (linePhases meshLayout m) (shapePhases m) (lines-listed meshLayout m (listed 1 tt) (listed 2 tt)) (λ a. (
           λ k c h l r. own-listed (listed 5 tt) r,
-          λ e. (λ k c h l r. own-listed (listed 6 tt) r, λ e. (λ k c h l r. own-listed (listed 7 tt) r, λ e. (λ k c h l r. own-listed (listed 8 tt) r, λ e. (λ k c h l r. own-listed (listed 42 tt) r, λ i. tt)))),
+          λ e. (λ k c h l r. own-listed (listed 6 tt) r, λ e. (λ k c h l r. own-listed (listed 7 tt) r, λ e. (λ k c h l r. own-listed (listed 8 tt) r, λ e. (λ k c h l r. own-listed (listed 44 tt) r, λ e. (λ k c h l r. own-listed (listed 42 tt) r, λ i. tt))))),
         )))
         (λ mesh.
         each-join InTableNumbers (linePhases (claimLayout m) c) (partPhases m c) (lines-listed (claimLayout m) c (listed 11 tt) (listed 12 tt)) (λ lines.

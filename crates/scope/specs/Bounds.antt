@@ -3,7 +3,7 @@
 -- The largest radius, step and cross product leave room for document 02, N9: "all whole-number points on the circle of
 -- radius 1105", "at most 40 nodes and 40 node-and-soil pairs", "its strength multipliers are at most 300".
 use Prim.Native.Nat.{ℕ, _+_, _*_, _^_}
-use Rattle.scope.specs.Mesh.{mostPairs, mostElements, mostEdges, mostSides, elementRows, edgeRows, mostEqualityRows}
+use Rattle.scope.specs.Mesh.{mostPairs, mostElements, mostEdges, mostSides, mostJumps, elementRows, edgeRows, rowsPerJump, mostEqualityRows}
 
 -- ---- limits (document 01, 'The two files')
 
@@ -91,7 +91,15 @@ sideRight = mostSquare * mostTraction
 abbrev pub mostSideRows : ℕ
 mostSideRows = mostEdges * edgeRows
 
--- ---- equality rows: of either kind
+-- ---- jump rows: products of two steps, no load, and the right side 0
+
+abbrev pub jumpRight : ℕ
+jumpRight = 0
+
+abbrev pub mostJumpRows : ℕ
+mostJumpRows = mostJumps * rowsPerJump
+
+-- ---- equality rows: of any kind
 
 -- entries of a row, a coefficient, and the coefficient of l or the right side
 abbrev pub mostEntries : ℕ

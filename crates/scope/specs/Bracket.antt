@@ -9,7 +9,7 @@ use lib.IntN.{ℤ, pos, _-ℤ_, _*ℤ_}
 use lib.Signed.{_≤ℤ_, _<ℤ_}
 use lib.ListN.{length}
 use Rattle.scope.specs.Members.{_∈_}
-use Rattle.scope.specs.Mesh.{nodes, elements, edges, corner, fromNode, toNode}
+use Rattle.scope.specs.Mesh.{nodes, elements, edges, jumps, corner, fromNode, toNode, jumpFrom, jumpTo, facingFrom, facingTo}
 use Rattle.scope.specs.Rows.{Kind, asked, unfixed, strength, Row, rowsOf}
 use Rattle.scope.specs.Sums.{weightedSum, leftSide, rightSide, weighed, columnSum, liveSum, limitSum, openRows}
 use Rattle.scope.specs.Tests.{rowAt}
@@ -18,12 +18,14 @@ use Rattle.scope.specs.Tests.{rowAt}
 abbrev pub Columns : ℕ → List Row → Type 0
 Columns columns rs = (r : Row) → r ∈ rs → (e : ℤ × ℕ) → e ∈ r .entries → e .1 < columns
 
--- each corner of an element and each end of an edge is a node of the mesh; then no row of it has an entry beyond its
--- 3·nodes columns
+-- each corner of an element, each end of an edge and each of a jump's four is a node of the mesh; then no row of it
+-- has an entry beyond its 3·nodes columns
 pub record NodesNamed (m : List ℤ) : Type 0 where
   pub corners : (e i : ℕ) → e < elements m → i < 4 → corner m e i < nodes m
   pub froms : (g : ℕ) → g < edges m → fromNode m g < nodes m
   pub tos : (g : ℕ) → g < edges m → toNode m g < nodes m
+  pub jumpFroms : (j : ℕ) → j < jumps m → (jumpFrom m j < nodes m) × (facingFrom m j < nodes m)
+  pub jumpTos : (j : ℕ) → j < jumps m → (jumpTo m j < nodes m) × (facingTo m j < nodes m)
 
 abbrev pub MeshColumns : List ℤ → Type 0
 MeshColumns m = NodesNamed m → Columns (3 * nodes m) (rowsOf m)

@@ -1,5 +1,5 @@
 -- A mesh (document 01, 'The two files', "Mesh, in this order"): its lines, and what its numbers are.
--- Soils, nodes, elements and edges are counted from 0 here; the file counts from 1.
+-- Soils, nodes, elements, edges and jumps are counted from 0 here; the file counts from 1.
 use mathlib.Core.Bool.{cond}
 use mathlib.Core.List.{List, [], _∷_}
 use Prim.Native.Nat.{ℕ, _+_, _-_, _*_, _%_}
@@ -10,7 +10,7 @@ use Rattle.scope.specs.Columns.{between, oneOf, free, upTo, rightAngle, 
 use Rattle.scope.specs.Layout.{Group, Layout, groups, linesBefore, count, entry}
 
 -- the limits that bounds are made of: the most nodes, pairs of a node and a soil ("Pairs are at most 100", document
--- 02, N2), elements, soils, edges and sides
+-- 02, N2), elements, soils, edges, sides and jumps
 abbrev pub mostNodes : ℕ
 mostNodes = 100
 
@@ -29,7 +29,11 @@ mostEdges = 60
 abbrev pub mostSides : ℕ
 mostSides = 36
 
--- "Header: nodes 4 to 100, elements 1 to 100, soils 1 to 16, edges 0 to 60, sides 12, 20 or 36"
+abbrev pub mostJumps : ℕ
+mostJumps = 60
+
+-- "Header: nodes 4 to 100, elements 1 to 100, soils 1 to 16, edges 0 to 60, sides 12, 20 or 36"; "The mesh header gains
+-- a sixth column, jumps 0 to 60" (document 02, N6)
 unfoldable pub meshHeader : Group
 meshHeader = record {
   lines = 1;
@@ -39,14 +43,15 @@ meshHeader = record {
       ∷ between (pos 1) (pos mostSoils)
       ∷ between (pos 0) (pos mostEdges)
       ∷ oneOf (pos 12 ∷ pos 20 ∷ pos mostSides ∷ [])
+      ∷ between (pos 0) (pos mostJumps)
       ∷ [];
   rules = [];
 }
 
--- how many columns each line has: of the header, of a soil, of a node, of an element, of an edge (`MeshFacts` counts a
--- mesh's numbers by them)
+-- how many columns each line has: of the header, of a soil, of a node, of an element, of an edge, of a jump
+-- (`MeshFacts` counts a mesh's numbers by them)
 abbrev pub meshHeaderColumns : ℕ
-meshHeaderColumns = 5
+meshHeaderColumns = 6
 
 abbrev pub soilColumns : ℕ
 soilColumns = 8
@@ -59,6 +64,9 @@ elementColumns = 5
 
 abbrev pub edgeColumns : ℕ
 edgeColumns = 7
+
+abbrev pub jumpColumns : ℕ
+jumpColumns = 4
 
 unfoldable pub nodes : List ℤ → ℕ
 nodes m = count (at m 0)
@@ -74,6 +82,9 @@ edges m = count (at m 3)
 
 unfoldable pub sides : List ℤ → ℕ
 sides m = count (at m 4)
+
+unfoldable pub jumps : List ℤ → ℕ
+jumps m = count (at m 5)
 
 -- "Each soil: p 0 to 1,000, q 1 to 1,000, h 1 to 1,000, cohesion C 0 to 10,000, dead force x and y, live force x and y
 -- (each -1,000 to 1,000)"
@@ -110,13 +121,23 @@ edgeLines n ns = record {
   rules = naming ((0, ns) ∷ (1, ns) ∷ []) ∷ [];
 }
 
+-- "a line each after the edges: from and to on one side, then the two facing nodes in the same order" (document 02,
+-- N6)
+unfoldable pub jumpLines : ℕ → ℕ → Group
+jumpLines n ns = record {
+  lines = n;
+  limits = replicate jumpColumns free;
+  rules = naming ((0, ns) ∷ (1, ns) ∷ (2, ns) ∷ (3, ns) ∷ []) ∷ [];
+}
+
 -- the lines after the header, in a mesh of so many things
-abbrev pub meshLines : ℕ → ℕ → ℕ → ℕ → List Group
-meshLines nodeCount elementCount soilCount edgeCount =
+abbrev pub meshLines : ℕ → ℕ → ℕ → ℕ → ℕ → List Group
+meshLines nodeCount elementCount soilCount edgeCount jumpCount =
     soilLines soilCount
     ∷ nodeLines nodeCount
     ∷ elementLines elementCount nodeCount soilCount
     ∷ edgeLines edgeCount nodeCount
+    ∷ jumpLines jumpCount nodeCount
     ∷ []
 
 -- the lines of a mesh: refusals 1 to 4
@@ -125,7 +146,7 @@ meshLayout = record {
   formNumber = 1;
   limitNumber = 2;
   header = meshHeader;
-  body = λ m. meshLines (nodes m) (elements m) (soils m) (edges m);
+  body = λ m. meshLines (nodes m) (elements m) (soils m) (edges m) (jumps m);
 }
 
 unfoldable pub meshGroups : List ℤ → List Group
@@ -199,17 +220,40 @@ toNode m g = count (edgeEntry m g 1) - 1
 unfoldable pub edgeLine : List ℤ → ℕ → ℕ
 edgeLine m g = linesBefore (meshGroups m) 4 + g
 
+-- jump j: its two nodes on one side of the joint, and those that face them
+unfoldable pub jumpEntry : List ℤ → ℕ → ℕ → ℤ
+jumpEntry m j c = entry (meshGroups m) m 5 j c
+
+unfoldable pub jumpFrom : List ℤ → ℕ → ℕ
+jumpFrom m j = count (jumpEntry m j 0) - 1
+
+unfoldable pub jumpTo : List ℤ → ℕ → ℕ
+jumpTo m j = count (jumpEntry m j 1) - 1
+
+unfoldable pub facingFrom : List ℤ → ℕ → ℕ
+facingFrom m j = count (jumpEntry m j 2) - 1
+
+unfoldable pub facingTo : List ℤ → ℕ → ℕ
+facingTo m j = count (jumpEntry m j 3) - 1
+
+-- the line of jump j, counted from 0
+unfoldable pub jumpLine : List ℤ → ℕ → ℕ
+jumpLine m j = linesBefore (meshGroups m) 5 + j
+
 -- ---- what is counted
 
--- the equality rows: two for each element, then four for each edge
+-- the equality rows: two for each element, then four for each edge, then "four rows after the edge rows" for each jump
 abbrev pub elementRows : ℕ
 elementRows = 2
 
 abbrev pub edgeRows : ℕ
 edgeRows = 4
 
+abbrev pub rowsPerJump : ℕ
+rowsPerJump = 4
+
 abbrev pub equalityCount : List ℤ → ℕ
-equalityCount m = elements m * elementRows + edges m * edgeRows
+equalityCount m = elements m * elementRows + edges m * edgeRows + jumps m * rowsPerJump
 
 abbrev pub mostEqualityRows : ℕ
-mostEqualityRows = mostElements * elementRows + mostEdges * edgeRows
+mostEqualityRows = mostElements * elementRows + mostEdges * edgeRows + mostJumps * rowsPerJump

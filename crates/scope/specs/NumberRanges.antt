@@ -12,15 +12,15 @@ use Rattle.scope.specs.Layout.{entry}
 use Rattle.scope.specs.Claim.{claimHeaderColumns, stressColumns, ifThere, stress, multiplier}
 use Rattle.scope.specs.Rows.{pairCount}
 use Rattle.scope.specs.Statements.{PartsFit}
-use Rattle.scope.specs.Mesh.{mostNodes, mostElements, mostSoils, mostEdges, mostSides, meshHeaderColumns, soilColumns, nodeColumns, elementColumns, edgeColumns, elementRows, edgeRows, meshGroups, nodes, elements, soils, edges, sides, p, q, h, cohesion, soilEntry, x, y, corner, elementSoil, edgeEntry, fromNode, toNode, equalityCount}
+use Rattle.scope.specs.Mesh.{mostNodes, mostElements, mostSoils, mostEdges, mostSides, mostJumps, meshHeaderColumns, soilColumns, nodeColumns, elementColumns, edgeColumns, jumpColumns, elementRows, edgeRows, rowsPerJump, meshGroups, nodes, elements, soils, edges, sides, jumps, p, q, h, cohesion, soilEntry, x, y, corner, elementSoil, edgeEntry, fromNode, toNode, jumpEntry, jumpFrom, jumpTo, facingFrom, facingTo, equalityCount}
 
 -- z is from lo to hi
 pub record Between (lo hi z : ℤ) : Type 0 where
   pub least : lo ≤ℤ z
   pub most : z ≤ℤ hi
 
--- "nodes 4 to 100, elements 1 to 100, soils 1 to 16, edges 0 to 60, sides 12, 20 or 36"; a count of edges below 0
--- would be read as 0, so the number itself is bounded
+-- "nodes 4 to 100, elements 1 to 100, soils 1 to 16, edges 0 to 60, sides 12, 20 or 36", "jumps 0 to 60"; a count of
+-- edges or of jumps below 0 would be read as 0, so the number itself is bounded
 pub record Counts (m : List ℤ) : Type 0 where
   pub nodesLeast : 4 ≤ nodes m
   pub nodesMost : nodes m ≤ mostNodes
@@ -31,6 +31,8 @@ pub record Counts (m : List ℤ) : Type 0 where
   pub edgesLeast : pos 0 ≤ℤ at m 3
   pub edgesMost : edges m ≤ mostEdges
   pub sidesListed : (sides m ≡ 12) ⊎ ((sides m ≡ 20) ⊎ (sides m ≡ mostSides))
+  pub jumpsLeast : pos 0 ≤ℤ at m 5
+  pub jumpsMost : jumps m ≤ mostJumps
 
 -- soil s
 pub record SoilFacts (m : List ℤ) (s : ℕ) : Type 0 where
@@ -60,15 +62,25 @@ pub record EdgeFacts (m : List ℤ) (g : ℕ) : Type 0 where
   pub fixedRange : Between (pos 1) (pos 3) (edgeEntry m g 2)
   pub loadRange : (c : ℕ) → c < 4 → Between (negℤ (pos 10000)) (pos 10000) (edgeEntry m g (3 + c))
 
+-- jump j: its nodes count from 1
+pub record JumpFacts (m : List ℤ) (j : ℕ) : Type 0 where
+  pub fromOne : (c : ℕ) → c < jumpColumns → pos 1 ≤ℤ jumpEntry m j c
+  pub fromThere : jumpFrom m j < nodes m
+  pub toThere : jumpTo m j < nodes m
+  pub facingFromThere : facingFrom m j < nodes m
+  pub facingToThere : facingTo m j < nodes m
+
 -- a mesh whose lines are sound: all its numbers are there, and none is left over
 pub record MeshFacts (m : List ℤ) : Type 0 where
   pub counts : Counts m
   pub size : length m
-      ≡ meshHeaderColumns + soils m * soilColumns + nodes m * nodeColumns + elements m * elementColumns + edges m * edgeColumns
+      ≡ meshHeaderColumns + soils m * soilColumns + nodes m * nodeColumns + elements m * elementColumns
+      + edges m * edgeColumns + jumps m * jumpColumns
   pub soil : (s : ℕ) → s < soils m → SoilFacts m s
   pub node : (v : ℕ) → v < nodes m → NodeFacts m v
   pub element : (e : ℕ) → e < elements m → ElementFacts m e
   pub edge : (g : ℕ) → g < edges m → EdgeFacts m g
+  pub jump : (j : ℕ) → j < jumps m → JumpFacts m j
 
 -- ---- a claim whose lines are sound, on a mesh whose lines are
 
@@ -83,6 +95,7 @@ pub record ClaimFacts (m c : List ℤ) : Type 0 where
       + ifThere (hasField c) (nodes m) * stressColumns
       + ifThere (hasMultipliers c) (elements m) * elementRows
       + ifThere (hasMultipliers c) (edges m) * edgeRows
+      + ifThere (hasMultipliers c) (jumps m) * rowsPerJump
       + ifThere (hasMultipliers c) (pairCount m) * sides m
   pub stressRange : at c 0 ≡ pos 1 → (j : ℕ) → j < nodes m * stressColumns
       → Between (negℤ (pos 1000000000)) (pos 1000000000) (stress m c j)

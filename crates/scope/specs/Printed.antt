@@ -1,5 +1,5 @@
--- The rows as document 01 prints them ('Rows'), over whole numbers, with l and n on the side where it has them; and
--- what a field that meets the rows of a mesh meets.
+-- The rows as document 01 prints them ('Rows'), and those of jumps as document 02 says them (N6), over whole numbers,
+-- with l and n on the side where they have them; and what a field that meets the rows of a mesh meets.
 use mathlib.Core.Path.{_≡_}
 use mathlib.Core.Logic.{_↔_, _⊎_}
 use mathlib.Core.List.{List}
@@ -7,9 +7,9 @@ use Prim.Native.Nat.{ℕ, _+_, _%_, _<_}
 use lib.IntN.{ℤ, pos, _+ℤ_, _-ℤ_, _*ℤ_, negℤ}
 use lib.Signed.{_≤ℤ_}
 use Rattle.scope.specs.Members.{_∈_}
-use Rattle.scope.specs.Mesh.{elements, edges, sides, p, q, h, cohesion, deadX, deadY, liveX, liveY, x, y, corner, elementSoil, edgeEntry, fromNode, toNode}
+use Rattle.scope.specs.Mesh.{elements, edges, sides, jumps, p, q, h, cohesion, deadX, deadY, liveX, liveY, x, y, corner, elementSoil, edgeEntry, fromNode, toNode, jumpFrom, jumpTo, facingFrom, facingTo}
 use Rattle.scope.specs.Polygon.{Side, polygonSides, polygonOf}
-use Rattle.scope.specs.Rows.{sx, sy, t, twiceArea, stepX, stepY, Pair, strengthPairs, rowsOf}
+use Rattle.scope.specs.Rows.{sx, sy, t, twiceArea, stepX, stepY, jumpStepX, jumpStepY, Pair, strengthPairs, rowsOf}
 use Rattle.scope.specs.Meets.{FieldMeets}
 
 -- ---- balance: an element's corners are numbered 0 to 3; x, y, sx, sy and t go by corner; D is twice its area
@@ -69,6 +69,17 @@ FixesNormal fixed = (fixed ≡ pos 1) ⊎ (fixed ≡ pos 3)
 abbrev pub FixesShear : ℤ → Type 0
 FixesShear fixed = (fixed ≡ pos 2) ⊎ (fixed ≡ pos 3)
 
+-- ---- jumps: (u, w) is the step from from to to; two nodes face each other
+
+-- "the normal expression of document 01 .. is equal on both nodes, and the shear likewise" (document 02, N6)
+abbrev pub NormalAgrees : (u w sx sy t facing-sx facing-sy facing-t : ℤ) → Type 0
+NormalAgrees u w sx sy t facing-sx facing-sy facing-t =
+    normalForce u w sx sy t ≡ normalForce u w facing-sx facing-sy facing-t
+
+abbrev pub ShearAgrees : (u w sx sy t facing-sx facing-sy facing-t : ℤ) → Type 0
+ShearAgrees u w sx sy t facing-sx facing-sy facing-t =
+    shearForce u w sx sy t ≡ shearForce u w facing-sx facing-sy facing-t
+
 -- ---- strength
 
 -- "r·h·[(d-b)(sx-sy) - 2(c-a)t] ≤ (ad-bc)·[2qCn - p(sx+sy)]", for the side from (a, b) to (c, d): its left side, the
@@ -122,13 +133,22 @@ module _ (m : List ℤ) (s : ℕ → ℤ) (l n : ℤ) where
       FixesShear (edgeEntry m g 2)
       → Shear (stepX m g) (stepY m g) (s (sx v)) (s (sy v)) (s (t v)) (edgeEntry m g 4) (edgeEntry m g 6) n l
 
+  -- jump j at its end v, which f faces
+  abbrev pub NormalAgreesAt : ℕ → ℕ → ℕ → Type 0
+  NormalAgreesAt j v f =
+      NormalAgrees (jumpStepX m j) (jumpStepY m j) (s (sx v)) (s (sy v)) (s (t v)) (s (sx f)) (s (sy f)) (s (t f))
+
+  abbrev pub ShearAgreesAt : ℕ → ℕ → ℕ → Type 0
+  ShearAgreesAt j v f =
+      ShearAgrees (jumpStepX m j) (jumpStepY m j) (s (sx v)) (s (sy v)) (s (t v)) (s (sx f)) (s (sy f)) (s (t f))
+
   -- the pair a of a node and a soil, for the side d of a polygon of radius r
   abbrev pub StrengthAt : ℤ → Pair → Side → Type 0
   StrengthAt r a d =
       Strength r d (p m (a .soil)) (q m (a .soil)) (h m (a .soil)) (cohesion m (a .soil)) n (s (sx (a .at)))
       (s (sy (a .at))) (s (t (a .at)))
 
-  -- all that document 01 asks of the field
+  -- all that is asked of the field
   pub record MeetsPrinted : Type 0 where
     pub balance-x : (e : ℕ) → e < elements m → BalanceXAt e
     pub balance-y : (e : ℕ) → e < elements m → BalanceYAt e
@@ -136,6 +156,10 @@ module _ (m : List ℤ) (s : ℕ → ℤ) (l n : ℤ) where
     pub shear-from : (g : ℕ) → g < edges m → ShearAt g (fromNode m g)
     pub normal-to : (g : ℕ) → g < edges m → NormalAt g (toNode m g)
     pub shear-to : (g : ℕ) → g < edges m → ShearAt g (toNode m g)
+    pub jump-normal-from : (j : ℕ) → j < jumps m → NormalAgreesAt j (jumpFrom m j) (facingFrom m j)
+    pub jump-shear-from : (j : ℕ) → j < jumps m → ShearAgreesAt j (jumpFrom m j) (facingFrom m j)
+    pub jump-normal-to : (j : ℕ) → j < jumps m → NormalAgreesAt j (jumpTo m j) (facingTo m j)
+    pub jump-shear-to : (j : ℕ) → j < jumps m → ShearAgreesAt j (jumpTo m j) (facingTo m j)
     pub strength : (a : Pair) → a ∈ strengthPairs m → (d : Side) → d ∈ polygonSides (polygonOf (sides m) .corners)
         → StrengthAt (polygonOf (sides m) .radius) a d
 

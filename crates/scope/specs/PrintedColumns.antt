@@ -7,9 +7,9 @@ use mathlib.Core.List.{List}
 use Prim.Native.Nat.{ℕ, zero, suc, _+_, _*_, _<_}
 use lib.IntN.{ℤ, pos, _+ℤ_, _-ℤ_, _*ℤ_, negℤ}
 use lib.Signed.{_<ℤ_}
-use Rattle.scope.specs.Mesh.{nodes, elements, edges, sides, p, q, h, cohesion, deadX, deadY, liveX, liveY, x, y, corner, elementSoil, edgeEntry, fromNode, toNode}
+use Rattle.scope.specs.Mesh.{nodes, elements, edges, sides, jumps, p, q, h, cohesion, deadX, deadY, liveX, liveY, x, y, corner, elementSoil, edgeEntry, fromNode, toNode, jumpFrom, jumpTo, facingFrom, facingTo}
 use Rattle.scope.specs.Polygon.{Side, polygonOf}
-use Rattle.scope.specs.Rows.{sx, sy, t, twiceArea, stepX, stepY, Pair, pairCount, pairAt, balanceX, balanceY, normalRow, shearRow, equalityRows, rowsOf}
+use Rattle.scope.specs.Rows.{sx, sy, t, twiceArea, stepX, stepY, jumpStepX, jumpStepY, Pair, pairCount, pairAt, balanceX, balanceY, normalRow, shearRow, jumpNormal, jumpShear, equalityRows, rowsOf}
 use Rattle.scope.specs.Statements.{MeetsColumns}
 use Rattle.scope.specs.Sums.{leftSide, rightSide, unit, columnSum, liveSum, limitSum}
 use Rattle.scope.specs.RowNumbers.{sideAt, pairRow}
@@ -38,6 +38,17 @@ module _ (m : List ℤ) (s : ℕ → ℤ) (l n : ℤ) where
   lessShear g v = shearForce (stepX m g) (stepY m g) (s (sx v)) (s (sy v)) (s (t v))
       -ℤ edgeForce (stepX m g) (stepY m g) (edgeEntry m g 4) (edgeEntry m g 6) n l
 
+  -- "first node's minus the facing one's"
+  abbrev pub lessJumpNormal : ℕ → ℕ → ℕ → ℤ
+  lessJumpNormal j v f =
+      normalForce (jumpStepX m j) (jumpStepY m j) (s (sx v)) (s (sy v)) (s (t v))
+      -ℤ normalForce (jumpStepX m j) (jumpStepY m j) (s (sx f)) (s (sy f)) (s (t f))
+
+  abbrev pub lessJumpShear : ℕ → ℕ → ℕ → ℤ
+  lessJumpShear j v f =
+      shearForce (jumpStepX m j) (jumpStepY m j) (s (sx v)) (s (sy v)) (s (t v))
+      -ℤ shearForce (jumpStepX m j) (jumpStepY m j) (s (sx f)) (s (sy f)) (s (t f))
+
   abbrev pub lessStrength : Pair → Side → ℤ
   lessStrength a d =
       deviator (polygonOf (sides m) .radius) d (h m (a .soil)) (s (sx (a .at))) (s (sy (a .at))) (s (t (a .at)))
@@ -49,6 +60,10 @@ module _ (m : List ℤ) (s : ℕ → ℤ) (l n : ℤ) where
     pub balance-y : (e : ℕ) → leftSide s l (balanceY m e) -ℤ rightSide n (balanceY m e) ≡ lessY e
     pub normal : (g v : ℕ) → leftSide s l (normalRow m g v) -ℤ rightSide n (normalRow m g v) ≡ lessNormal g v
     pub shear : (g v : ℕ) → leftSide s l (shearRow m g v) -ℤ rightSide n (shearRow m g v) ≡ lessShear g v
+    pub jump-normal : (j v f : ℕ)
+        → leftSide s l (jumpNormal m j v f) -ℤ rightSide n (jumpNormal m j v f) ≡ lessJumpNormal j v f
+    pub jump-shear : (j v f : ℕ)
+        → leftSide s l (jumpShear m j v f) -ℤ rightSide n (jumpShear m j v f) ≡ lessJumpShear j v f
     pub strength : (a : Pair) (d : Side)
         → leftSide s l (pairRow m a d) -ℤ rightSide n (pairRow m a d) ≡ lessStrength a d
 
@@ -60,7 +75,7 @@ sumBelow f zero = pos 0
 sumBelow f (suc n) = sumBelow f n +ℤ f n
 
 -- "for each element 2, for each edge 4 ..; then for each node a line of as many as there are sides", by pairs
--- (document 02, N2)
+-- (document 02, N2); "for each jump a line of four multipliers .. after the edge lines" (N6)
 module _ (m : List ℤ) (w : ℕ → ℤ) where
   abbrev pub ofElement : ℕ → ℕ → ℤ
   ofElement e i = w (e * 2 + i)
@@ -68,10 +83,13 @@ module _ (m : List ℤ) (w : ℕ → ℤ) where
   abbrev pub ofEdge : ℕ → ℕ → ℤ
   ofEdge g i = w (elements m * 2 + (g * 4 + i))
 
-  abbrev pub ofPair : ℕ → ℕ → ℤ
-  ofPair a k = w (elements m * 2 + edges m * 4 + (a * sides m + k))
+  abbrev pub ofJump : ℕ → ℕ → ℤ
+  ofJump j i = w (elements m * 2 + edges m * 4 + (j * 4 + i))
 
-  -- multiplier times left minus right, summed over all rows: elements, edges, pairs
+  abbrev pub ofPair : ℕ → ℕ → ℤ
+  ofPair a k = w (elements m * 2 + edges m * 4 + jumps m * 4 + (a * sides m + k))
+
+  -- multiplier times left minus right, summed over all rows: elements, edges, jumps, pairs
   unfoldable pub weighedRows : (ℕ → ℤ) → ℤ → ℤ → ℤ
   weighedRows s l n =
       sumBelow (λ e. ofElement e 0 *ℤ lessX m s l n e +ℤ ofElement e 1 *ℤ lessY m s l n e) (elements m)
@@ -82,6 +100,13 @@ module _ (m : List ℤ) (w : ℕ → ℤ) where
       +ℤ ofEdge g 2 *ℤ lessNormal m s l n g (toNode m g)
       +ℤ ofEdge g 3 *ℤ lessShear m s l n g (toNode m g))
       (edges m)
+      +ℤ sumBelow
+      (λ j.
+      ofJump j 0 *ℤ lessJumpNormal m s l n j (jumpFrom m j) (facingFrom m j)
+      +ℤ ofJump j 1 *ℤ lessJumpShear m s l n j (jumpFrom m j) (facingFrom m j)
+      +ℤ ofJump j 2 *ℤ lessJumpNormal m s l n j (jumpTo m j) (facingTo m j)
+      +ℤ ofJump j 3 *ℤ lessJumpShear m s l n j (jumpTo m j) (facingTo m j))
+      (jumps m)
       +ℤ sumBelow
       (λ a. sumBelow (λ k. ofPair a k *ℤ lessStrength m s l n (pairAt m a) (sideAt (polygonOf (sides m)) k))
       (sides m))

@@ -17,14 +17,14 @@ use Rattle.scope.specs.Members.{_∈_}
 use Rattle.scope.specs.Phases.{Step, Phase, step, phase, ifPart, RefusedBy}
 use Rattle.scope.specs.Columns.{allWithin, Rule, rightAngle, naming, parts, ruleTest, hasField, hasMultipliers, n, l}
 use Rattle.scope.specs.Layout.{Group, Layout, width, groups, lineCount, numberCount, groupAt, numbersAt}
-use Rattle.scope.specs.Mesh.{meshLayout, nodes, elements, edges, edgeLine}
+use Rattle.scope.specs.Mesh.{meshLayout, nodes, elements, edges, jumps, edgeLine, jumpLine}
 use Rattle.scope.specs.Claim.{claimLayout, stress, multiplier}
 use Rattle.scope.specs.Rows as R
 use Rattle.scope.specs.Rows.{equalityRows, strengthRows, rowsOf}
 use Rattle.scope.specs.Sums.{rowHolds, zeroIfUnfixed, columnSum, liveSum}
-use Rattle.scope.specs.Tests.{leftTurns, ownSides, inElement, outerEdge, pairsFit, rowAt}
+use Rattle.scope.specs.Tests.{leftTurns, ownSides, inElement, outerEdge, isJoint, pairsFit, rowAt}
 use Rattle.scope.specs.Meets.{RowMet}
-use Rattle.scope.specs.Statements.{AllWithin, Says, AllSay, Complete, InLimits, LineSound, LeftTurns, OwnSides, InElement, OuterEdge, PairsFit, NoneOnUnfixed}
+use Rattle.scope.specs.Statements.{AllWithin, Says, AllSay, Complete, InLimits, LineSound, LeftTurns, OwnSides, InElement, OuterEdge, Joint, PairsFit, NoneOnUnfixed}
 
 -- ---- lines: 1 to 4 of a mesh, 11 to 13 of a claim (which is which is said at the end, number by number)
 
@@ -84,17 +84,22 @@ nodesPhase m = phase 7 (nodes m) (InElement m) (inElement m) (λ v. Node (suc v)
 abbrev pub edgesPhase : List ℤ → Phase
 edgesPhase m = phase 8 (edges m) (OuterEdge m) (outerEdge m) (λ g. Line (suc (edgeLine m g)))
 
+-- 44 (document 02, N6): "with the line", unless its two sides are a joint
+abbrev pub jointsPhase : List ℤ → Phase
+jointsPhase m = phase 44 (jumps m) (Joint m) (isJoint m) (λ j. Line (suc (jumpLine m j)))
+
 -- 42 (document 02, N2): "with the node that brings the 101st pair"
 abbrev pub pairsPhase : List ℤ → Phase
 pairsPhase m = phase 42 (nodes m) (PairsFit m) (pairsFit m) (λ v. Node (suc v))
 
--- "then 5, 6, 7, 8, each over the whole mesh, lowest place first"; 42 "after 8"
+-- "then 5, 6, 7, 8, each over the whole mesh, lowest place first"; 42 "after 8"; 44 "after 8 and before 42"
 abbrev pub shapePhases : List ℤ → List Phase
 shapePhases m =
     turnsPhase m
     ∷ ownSidesPhase m
     ∷ nodesPhase m
     ∷ edgesPhase m
+    ∷ jointsPhase m
     ∷ pairsPhase m
     ∷ []
 
@@ -223,7 +228,7 @@ pub record ClaimLineNumbers (m c : List ℤ) : Type 0 where
 -- ---- all numbers of document 01's table and of document 02's requests, and no other
 
 abbrev pub tableNumbers : List ℕ
-tableNumbers = 1 ∷ 2 ∷ 3 ∷ 4 ∷ 5 ∷ 6 ∷ 7 ∷ 8 ∷ 11 ∷ 12 ∷ 13 ∷ 21 ∷ 22 ∷ 31 ∷ 32 ∷ 33 ∷ 42 ∷ []
+tableNumbers = 1 ∷ 2 ∷ 3 ∷ 4 ∷ 5 ∷ 6 ∷ 7 ∷ 8 ∷ 11 ∷ 12 ∷ 13 ∷ 21 ∷ 22 ∷ 31 ∷ 32 ∷ 33 ∷ 42 ∷ 44 ∷ []
 
 abbrev pub InTable : List ℤ → List ℤ → Type 0
 InTable m c = (k : ℕ) (p : Place) → Refusal m c k p → k ∈ tableNumbers

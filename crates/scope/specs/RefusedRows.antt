@@ -7,14 +7,14 @@ use lib.IntN.{ℤ}
 use Rattle.scope.specs.declared.Place.{Place}
 use Rattle.scope.specs.declared.Place.the-variants.{Row}
 use Rattle.scope.specs.Columns.{n, l}
-use Rattle.scope.specs.Mesh.{elements, edges, sides, fromNode, toNode}
+use Rattle.scope.specs.Mesh.{elements, edges, sides, jumps, fromNode, toNode, jumpFrom, jumpTo, facingFrom, facingTo}
 use Rattle.scope.specs.Polygon.{polygonOf}
 use Rattle.scope.specs.Claim.{stress}
 use Rattle.scope.specs.Rows.{pairCount, pairAt}
 use Rattle.scope.specs.RowNumbers.{sideNumbered}
-use Rattle.scope.specs.Printed.{BalanceXAt, BalanceYAt, NormalAt, ShearAt, StrengthAt}
+use Rattle.scope.specs.Printed.{BalanceXAt, BalanceYAt, NormalAt, ShearAt, NormalAgreesAt, ShearAgreesAt, StrengthAt}
 
--- elements, edges and pairs are counted from 0 here
+-- elements, edges, jumps and pairs are counted from 0 here
 module _ (m c : List ℤ) (place : ℕ) where
   -- refusal 21
   pub record EqualityFails : Type 0 where
@@ -28,6 +28,14 @@ module _ (m c : List ℤ) (place : ℕ) where
         → ¬ NormalAt m (stress m c) (l c) (n c) g (toNode m g)
     pub shear-to : (g : ℕ) → g < edges m → place ≡ 2 * elements m + 4 * g + 4
         → ¬ ShearAt m (stress m c) (l c) (n c) g (toNode m g)
+    pub jump-normal-from : (j : ℕ) → j < jumps m → place ≡ 2 * elements m + 4 * edges m + 4 * j + 1
+        → ¬ NormalAgreesAt m (stress m c) (l c) (n c) j (jumpFrom m j) (facingFrom m j)
+    pub jump-shear-from : (j : ℕ) → j < jumps m → place ≡ 2 * elements m + 4 * edges m + 4 * j + 2
+        → ¬ ShearAgreesAt m (stress m c) (l c) (n c) j (jumpFrom m j) (facingFrom m j)
+    pub jump-normal-to : (j : ℕ) → j < jumps m → place ≡ 2 * elements m + 4 * edges m + 4 * j + 3
+        → ¬ NormalAgreesAt m (stress m c) (l c) (n c) j (jumpTo m j) (facingTo m j)
+    pub jump-shear-to : (j : ℕ) → j < jumps m → place ≡ 2 * elements m + 4 * edges m + 4 * j + 4
+        → ¬ ShearAgreesAt m (stress m c) (l c) (n c) j (jumpTo m j) (facingTo m j)
 
   -- refusal 22
   pub record StrengthFails : Type 0 where

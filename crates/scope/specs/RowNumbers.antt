@@ -1,13 +1,13 @@
--- The numbers of the rows (document 01, 'Rows'), over the lists of rows. Elements, edges and pairs are counted from 0
--- here, so that document 01's element is `suc e`; rows and sides are counted from 1, as there.
+-- The numbers of the rows (document 01, 'Rows'; document 02, N6), over the lists of rows. Elements, edges, jumps and
+-- pairs are counted from 0 here, so that document 01's element is `suc e`; rows and sides are counted from 1, as there.
 use mathlib.Core.Path.{_≡_}
 use mathlib.Core.List.{List}
 use Prim.Native.Nat.{ℕ, suc, _+_, _*_, _-_, _<_}
 use lib.IntN.{ℤ, pos}
 use lib.ListN.{length, getD}
-use Rattle.scope.specs.Mesh.{elements, edges, sides, p, q, h, cohesion, fromNode, toNode}
+use Rattle.scope.specs.Mesh.{elements, edges, sides, jumps, p, q, h, cohesion, fromNode, toNode, jumpFrom, jumpTo, facingFrom, facingTo}
 use Rattle.scope.specs.Polygon.{point, Side, Polygon, polygonSides, polygonOf}
-use Rattle.scope.specs.Rows.{Row, Pair, pairCount, pairAt, balanceX, balanceY, normalRow, shearRow, strengthRow, equalityRows, strengthRows, rowsOf}
+use Rattle.scope.specs.Rows.{Row, Pair, pairCount, pairAt, balanceX, balanceY, normalRow, shearRow, jumpNormal, jumpShear, strengthRow, equalityRows, strengthRows, rowsOf}
 use Rattle.scope.specs.Tests.{rowAt}
 
 -- row k of a list, counted from 1
@@ -39,14 +39,28 @@ pub record RowNumbers (m : List ℤ) : Type 0 where
       → rowNumbered (equalityRows m) (2 * elements m + 4 * g + 3) ≡ normalRow m g (toNode m g)
   pub shear-to : (g : ℕ) → g < edges m
       → rowNumbered (equalityRows m) (2 * elements m + 4 * g + 4) ≡ shearRow m g (toNode m g)
-  pub equalities : length (equalityRows m) ≡ 2 * elements m + 4 * edges m
+  -- "four rows after the edge rows, in an edge's order"
+  pub jump-normal-from : (j : ℕ) → j < jumps m
+      → rowNumbered (equalityRows m) (2 * elements m + 4 * edges m + 4 * j + 1)
+      ≡ jumpNormal m j (jumpFrom m j) (facingFrom m j)
+  pub jump-shear-from : (j : ℕ) → j < jumps m
+      → rowNumbered (equalityRows m) (2 * elements m + 4 * edges m + 4 * j + 2)
+      ≡ jumpShear m j (jumpFrom m j) (facingFrom m j)
+  pub jump-normal-to : (j : ℕ) → j < jumps m
+      → rowNumbered (equalityRows m) (2 * elements m + 4 * edges m + 4 * j + 3)
+      ≡ jumpNormal m j (jumpTo m j) (facingTo m j)
+  pub jump-shear-to : (j : ℕ) → j < jumps m
+      → rowNumbered (equalityRows m) (2 * elements m + 4 * edges m + 4 * j + 4)
+      ≡ jumpShear m j (jumpTo m j) (facingTo m j)
+  pub equalities : length (equalityRows m) ≡ 2 * elements m + 4 * edges m + 4 * jumps m
   -- "Its number is (node-1)·sides + k", by pairs: pair `suc a`, side `suc k`
   pub strength : (a k : ℕ) → a < pairCount m → k < sides m
       → rowNumbered (strengthRows m) (a * sides m + suc k)
       ≡ pairRow m (pairAt m a) (sideNumbered (polygonOf (sides m)) (suc k))
   pub strengths : length (strengthRows m) ≡ pairCount m * sides m
   -- all rows, as multipliers are numbered: the equality rows, then the strength rows
-  pub equality-first : (k : ℕ) → k < 2 * elements m + 4 * edges m
+  pub equality-first : (k : ℕ) → k < 2 * elements m + 4 * edges m + 4 * jumps m
       → rowNumbered (rowsOf m) (suc k) ≡ rowNumbered (equalityRows m) (suc k)
   pub strength-after : (k : ℕ)
-      → rowNumbered (rowsOf m) (2 * elements m + 4 * edges m + suc k) ≡ rowNumbered (strengthRows m) (suc k)
+      → rowNumbered (rowsOf m) (2 * elements m + 4 * edges m + 4 * jumps m + suc k)
+      ≡ rowNumbered (strengthRows m) (suc k)

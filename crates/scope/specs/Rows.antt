@@ -9,7 +9,7 @@ use lib.Dec.{eqb}
 use lib.ListN.{length, getD}
 use Rattle.integer.specs.Tests.{eqZ}
 use Rattle.scope.specs.Checks.{someBelow}
-use Rattle.scope.specs.Mesh.{nodes, elements, soils, edges, sides, p, q, h, cohesion, deadX, deadY, liveX, liveY, x, y, corner, elementSoil, edgeEntry, fromNode, toNode}
+use Rattle.scope.specs.Mesh.{nodes, elements, soils, edges, sides, jumps, p, q, h, cohesion, deadX, deadY, liveX, liveY, x, y, corner, elementSoil, edgeEntry, fromNode, toNode, jumpFrom, jumpTo, facingFrom, facingTo}
 use Rattle.scope.specs.Polygon.{Point, Side, Polygon, polygonSides, polygonOf}
 
 -- ---- what a row is
@@ -107,15 +107,19 @@ stepSquare m g = stepX m g *ℤ stepX m g +ℤ stepY m g *ℤ stepY m g
 unfoldable pub fixedIf : ℤ → ℤ → Kind
 fixedIf what fixed = cond (eqZ fixed what || eqZ fixed (pos 3)) asked unfixed
 
+-- the normal expression at node v of a side with the step (u, w): "w²·sx - 2uw·t + u²·sy"
+abbrev pub normalEntries : ℤ → ℤ → ℕ → List (ℤ × ℕ)
+normalEntries u w v = (w *ℤ w, sx v) ∷ (negℤ (pos 2 *ℤ u *ℤ w), t v) ∷ (u *ℤ u, sy v) ∷ []
+
+-- the shear expression: "uw·(sx-sy) + (w²-u²)·t"
+abbrev pub shearEntries : ℤ → ℤ → ℕ → List (ℤ × ℕ)
+shearEntries u w v = (u *ℤ w, sx v) ∷ (negℤ (u *ℤ w), sy v) ∷ (w *ℤ w -ℤ u *ℤ u, t v) ∷ []
+
 -- "normal: w²·sx - 2uw·t + u²·sy = (u²+w²)·(n·dead + l·live)" at node v
 unfoldable pub normalRow : List ℤ → ℕ → ℕ → Row
 normalRow m g v = record {
   kind = fixedIf (pos 1) (edgeEntry m g 2);
-  entries =
-      (stepY m g *ℤ stepY m g, sx v)
-      ∷ (negℤ (pos 2 *ℤ stepX m g *ℤ stepY m g), t v)
-      ∷ (stepX m g *ℤ stepX m g, sy v)
-      ∷ [];
+  entries = normalEntries (stepX m g) (stepY m g) v;
   live = negℤ (stepSquare m g *ℤ edgeEntry m g 5);
   right = stepSquare m g *ℤ edgeEntry m g 3;
 }
@@ -124,11 +128,7 @@ normalRow m g v = record {
 unfoldable pub shearRow : List ℤ → ℕ → ℕ → Row
 shearRow m g v = record {
   kind = fixedIf (pos 2) (edgeEntry m g 2);
-  entries =
-      (stepX m g *ℤ stepY m g, sx v)
-      ∷ (negℤ (stepX m g *ℤ stepY m g), sy v)
-      ∷ (stepY m g *ℤ stepY m g -ℤ stepX m g *ℤ stepX m g, t v)
-      ∷ [];
+  entries = shearEntries (stepX m g) (stepY m g) v;
   live = negℤ (stepSquare m g *ℤ edgeEntry m g 6);
   right = stepSquare m g *ℤ edgeEntry m g 4;
 }
@@ -144,6 +144,46 @@ sideRows m =
     ∷ shearRow m g (toNode m g)
     ∷ [])
     (countFrom 0 (edges m))
+
+-- ---- jumps (001, 2.3; document 02, N6)
+
+-- "the step from from to to"
+unfoldable pub jumpStepX : List ℤ → ℕ → ℤ
+jumpStepX m j = x m (jumpTo m j) -ℤ x m (jumpFrom m j)
+
+unfoldable pub jumpStepY : List ℤ → ℕ → ℤ
+jumpStepY m j = y m (jumpTo m j) -ℤ y m (jumpFrom m j)
+
+-- minus an expression
+abbrev pub minus : List (ℤ × ℕ) → List (ℤ × ℕ)
+minus [] = []
+minus (e ∷ rest) = (negℤ (e .0), e .1) ∷ minus rest
+
+-- "first node's minus the facing one's, right side 0": a row without load, never unfixed
+unfoldable pub agreeRow : List (ℤ × ℕ) → List (ℤ × ℕ) → Row
+agreeRow first facing = record { kind = asked; entries = first ++ minus facing; live = pos 0; right = pos 0 }
+
+-- "the normal expression of document 01, with the step from from to to, is equal on both nodes, and the shear
+-- likewise", at a node v and the one that faces it
+unfoldable pub jumpNormal : List ℤ → ℕ → ℕ → ℕ → Row
+jumpNormal m j v facing =
+    agreeRow (normalEntries (jumpStepX m j) (jumpStepY m j) v) (normalEntries (jumpStepX m j) (jumpStepY m j) facing)
+
+unfoldable pub jumpShear : List ℤ → ℕ → ℕ → ℕ → Row
+jumpShear m j v facing =
+    agreeRow (shearEntries (jumpStepX m j) (jumpStepY m j) v) (shearEntries (jumpStepX m j) (jumpStepY m j) facing)
+
+-- "four rows after the edge rows, in an edge's order": normal and shear at from, then at to
+unfoldable pub jumpRows : List ℤ → List Row
+jumpRows m =
+    joined
+    (λ j.
+    jumpNormal m j (jumpFrom m j) (facingFrom m j)
+    ∷ jumpShear m j (jumpFrom m j) (facingFrom m j)
+    ∷ jumpNormal m j (jumpTo m j) (facingTo m j)
+    ∷ jumpShear m j (jumpTo m j) (facingTo m j)
+    ∷ [])
+    (countFrom 0 (jumps m))
 
 -- ---- strength (001, eq. 12 to 17, polygon inside the circle)
 
@@ -226,9 +266,9 @@ strengthRows m = joined (pairRows (polygonOf (sides m)) m) (strengthPairs m)
 
 -- ---- all rows
 
--- the equality rows: balance rows, then side rows
+-- the equality rows: balance rows, then side rows, then jump rows
 unfoldable pub equalityRows : List ℤ → List Row
-equalityRows m = balanceRows m ++ sideRows m
+equalityRows m = balanceRows m ++ (sideRows m ++ jumpRows m)
 
 unfoldable pub rowsOf : List ℤ → List Row
 rowsOf m = equalityRows m ++ strengthRows m

@@ -9,7 +9,7 @@ use lib.Signed.{_≤ℤ_, _<ℤ_}
 use lib.ListN.{length}
 use Rattle.scope.specs.Columns.{Limit, between, oneOf, free, Rule, rightAngle, naming, parts, at, n, l}
 use Rattle.scope.specs.Layout.{Layout, width, groups, lineCount, numberCount, groupAt, numbersAt}
-use Rattle.scope.specs.Mesh.{mostPairs, meshLayout, nodes, elements, edges, corner, cornerCount, around, fromNode, toNode}
+use Rattle.scope.specs.Mesh.{mostPairs, meshLayout, nodes, elements, edges, jumps, x, y, corner, cornerCount, around, fromNode, toNode, jumpFrom, jumpTo, facingFrom, facingTo}
 use Rattle.scope.specs.Rows as R
 use Rattle.scope.specs.Rows.{pairsBelow, equalityRows, rowsOf}
 use Rattle.scope.specs.Sums.{columnSum, liveSum}
@@ -111,23 +111,51 @@ pub record IsSide (m : List ℤ) (a b : ℕ) : Type 0 where
   pub inside : place < cornerCount m element
   pub same : SideAt m a b element place
 
--- edge g is a side of an element, its reverse is none, and no earlier edge has it
+-- "An outer side (an element's directed side whose reverse is no element's)", from a to b
+pub record OuterSide (m : List ℤ) (a b : ℕ) : Type 0 where
+  pub isSide : IsSide m a b
+  pub reverseIsNone : ¬ IsSide m b a
+
+-- edge g is an outer side, and no earlier edge has it
 pub record OuterEdge (m : List ℤ) (g : ℕ) : Type 0 where
-  pub isSide : IsSide m (fromNode m g) (toNode m g)
-  pub isOuter : ¬ IsSide m (toNode m g) (fromNode m g)
+  pub outer : OuterSide m (fromNode m g) (toNode m g)
   pub isFirst : (k : ℕ) → k < g → ¬ ((fromNode m k ≡ fromNode m g) × (toNode m k ≡ toNode m g))
+
+-- the side from a to b is one of the two that jump k uses
+abbrev pub UsedByJump : List ℤ → ℕ → ℕ → ℕ → Type 0
+UsedByJump m a b k =
+    ((jumpFrom m k ≡ a) × (jumpTo m k ≡ b)) ⊎ ((facingTo m k ≡ a) × (facingFrom m k ≡ b))
+
+-- the side from a to b is an outer side "used by no edge or earlier jump" than j
+pub record FreeSide (m : List ℤ) (j a b : ℕ) : Type 0 where
+  pub outer : OuterSide m a b
+  pub noEdge : (k : ℕ) → k < edges m → ¬ ((fromNode m k ≡ a) × (toNode m k ≡ b))
+  pub noEarlierJump : (k : ℕ) → k < j → ¬ UsedByJump m a b k
+
+-- "coordinates equal"
+abbrev pub SamePoint : List ℤ → ℕ → ℕ → Type 0
+SamePoint m a b = (x m a ≡ x m b) × (y m a ≡ y m b)
+
+-- jump j: "from to to, and facing to back to facing from, are both outer sides as directed, coordinates equal at each
+-- end, used by no edge or earlier jump" (document 02, N6)
+pub record Joint (m : List ℤ) (j : ℕ) : Type 0 where
+  pub side : FreeSide m j (jumpFrom m j) (jumpTo m j)
+  pub facing : FreeSide m j (facingTo m j) (facingFrom m j)
+  pub atFrom : SamePoint m (jumpFrom m j) (facingFrom m j)
+  pub atTo : SamePoint m (jumpTo m j) (facingTo m j)
 
 -- "Pairs are at most 100": the nodes up to v have no more
 abbrev pub PairsFit : List ℤ → ℕ → Type 0
 PairsFit m v = length (pairsBelow m (suc v)) ≤ mostPairs
 
--- a mesh that passes 1 to 8 and 42
+-- a mesh that passes 1 to 8, 44 and 42
 pub record MeshSound (m : List ℤ) : Type 0 where
   pub lines : LinesSound meshLayout m
   pub leftTurns : (e : ℕ) → e < elements m → LeftTurns m e
   pub ownSides : (e : ℕ) → e < elements m → OwnSides m e
   pub inElement : (v : ℕ) → v < nodes m → InElement m v
   pub outerEdges : (g : ℕ) → g < edges m → OuterEdge m g
+  pub joints : (j : ℕ) → j < jumps m → Joint m j
   pub pairsFit : (v : ℕ) → v < nodes m → PairsFit m v
 
 -- ---- multipliers
@@ -151,7 +179,7 @@ HasField c = at c 0 ≡ pos 1
 abbrev pub HasMultipliers : List ℤ → Type 0
 HasMultipliers c = at c 1 ≡ pos 1
 
--- a field that is there meets every balance, side and strength row
+-- a field that is there meets every balance, side, jump and strength row
 abbrev pub RowsMet : List ℤ → List ℤ → Type 0
 RowsMet m c = FieldMeets (stress m c) (l c) (n c) (rowsOf m)
 

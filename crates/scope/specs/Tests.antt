@@ -1,14 +1,15 @@
--- What is tested of a mesh after its lines (document 01, 'Verdict and report', refusals 5 to 8; document 02, 42), and
--- the row that 21, 22 and 31 test.
-use mathlib.Core.Bool.{Bool, not, _&&_}
+-- What is tested of a mesh after its lines (document 01, 'Verdict and report', refusals 5 to 8; document 02, 44 and
+-- 42), and the row that 21, 22 and 31 test.
+use mathlib.Core.Bool.{Bool, not, _&&_, _||_}
 use mathlib.Core.List.{List, []}
 use Prim.Native.Nat.{ℕ, suc, _+_, _-_}
 use lib.IntN.{ℤ, pos, _-ℤ_, _*ℤ_}
 use lib.Signed.{ltZ}
 use lib.Dec.{eqb, leb}
 use lib.ListN.{length, getD}
+use Rattle.integer.specs.Tests.{eqZ}
 use Rattle.scope.specs.Checks.{someBelow, allBelow}
-use Rattle.scope.specs.Mesh.{mostPairs, elements, x, y, cornerCount, around, fromNode, toNode}
+use Rattle.scope.specs.Mesh.{mostPairs, elements, edges, x, y, cornerCount, around, fromNode, toNode, jumpFrom, jumpTo, facingFrom, facingTo}
 use Rattle.scope.specs.Rows as R
 use Rattle.scope.specs.Rows.{hasCorner, pairsBelow}
 
@@ -39,6 +40,10 @@ ownSides m e = allBelow (ownSideAt m e) (cornerCount m e)
 unfoldable pub inElement : List ℤ → ℕ → Bool
 inElement m v = someBelow (hasCorner m v) (elements m)
 
+-- "An outer side (an element's directed side whose reverse is no element's)", from a to b: what 8 and 44 ask for
+unfoldable pub outerSide : List ℤ → ℕ → ℕ → Bool
+outerSide m a b = someBelow (hasSide m a b) (elements m) && not (someBelow (hasSide m b a) (elements m))
+
 -- edge k goes from a to b
 unfoldable pub hasEnds : List ℤ → ℕ → ℕ → ℕ → Bool
 hasEnds m a b k = eqb (fromNode m k) a && eqb (toNode m k) b
@@ -46,9 +51,29 @@ hasEnds m a b k = eqb (fromNode m k) a && eqb (toNode m k) b
 -- refusal 8: "edge is no element's side, or its reverse is one, or an earlier edge has it"
 unfoldable pub outerEdge : List ℤ → ℕ → Bool
 outerEdge m g =
-    someBelow (hasSide m (fromNode m g) (toNode m g)) (elements m)
-    && not (someBelow (hasSide m (toNode m g) (fromNode m g)) (elements m))
-    && not (someBelow (hasEnds m (fromNode m g) (toNode m g)) g)
+    outerSide m (fromNode m g) (toNode m g) && not (someBelow (hasEnds m (fromNode m g) (toNode m g)) g)
+
+-- the side from a to b is one of the two that jump k uses: from to to, facing to back to facing from
+unfoldable pub usedByJump : List ℤ → ℕ → ℕ → ℕ → Bool
+usedByJump m a b k = (eqb (jumpFrom m k) a && eqb (jumpTo m k) b) || (eqb (facingTo m k) a && eqb (facingFrom m k) b)
+
+-- the side from a to b is an outer side "used by no edge or earlier jump", earlier than jump j
+unfoldable pub freeSide : List ℤ → ℕ → ℕ → ℕ → Bool
+freeSide m j a b =
+    outerSide m a b && not (someBelow (hasEnds m a b) (edges m)) && not (someBelow (usedByJump m a b) j)
+
+-- nodes with the same coordinates
+unfoldable pub samePoint : List ℤ → ℕ → ℕ → Bool
+samePoint m a b = eqZ (x m a) (x m b) && eqZ (y m a) (y m b)
+
+-- refusal 44 (document 02, N6): "unless from to to, and facing to back to facing from, are both outer sides as
+-- directed, coordinates equal at each end, used by no edge or earlier jump"
+unfoldable pub isJoint : List ℤ → ℕ → Bool
+isJoint m j =
+    freeSide m j (jumpFrom m j) (jumpTo m j)
+    && freeSide m j (facingTo m j) (facingFrom m j)
+    && samePoint m (jumpFrom m j) (facingFrom m j)
+    && samePoint m (jumpTo m j) (facingTo m j)
 
 -- refusal 42 (document 02, N2): "Pairs are at most 100", counted to node v
 unfoldable pub pairsFit : List ℤ → ℕ → Bool

@@ -29,7 +29,7 @@ unfolding put
 put-taken free t v byte e = sym (ap (λ (b : Bool). cond b (set t v byte) t) e)
 
 -- the byte of a place that is given one
-abbrev kept : (ℕ → Bool) → ℕ → ℕ → ℕ
+abbrev pub kept : (ℕ → Bool) → ℕ → ℕ → ℕ
 kept free old byte = cond (free old) byte old
 
 pub holds-as : {n : ℕ} {f g : ℕ → ℕ} {t : List ℕ} → Holds n f t → ((v : ℕ) → f v ≡ g v) → Holds n g t

@@ -3,4 +3,5 @@ pub mod MeshLaws
 pub mod ByteTables
 pub mod MarkTables
 pub mod SideTables
+pub mod JointTables
 pub mod PairTables

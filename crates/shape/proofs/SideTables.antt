@@ -14,9 +14,9 @@ use Rattle.mesh.specs.declared.sizes.Sizes.{Sizes}
 use Rattle.scope.specs.Checks.{someBelow, allBelow}
 use Rattle.scope.specs.Mesh.{mostNodes, mostElements, nodes, elements, edges, cornerCount, around, fromNode, toNode}
 use Rattle.scope.specs.Rows.{firstWhere}
-use Rattle.scope.specs.Tests.{ownSideAt, hasEnds, hasSide, ownSides, outerEdge}
+use Rattle.scope.specs.Tests.{ownSideAt, hasEnds, hasSide, ownSides, outerSide, outerEdge}
 use Rattle.mesh.specs.MeshContracts.{Sized}
-use Rattle.shape.specs.ShapeContracts.{noByte, Holds, isNone, put, keepFirst, byteBelow, byteAt, atPlace, SideBytes, sideByte, SideTable, edgeByte, EdgeTable}
+use Rattle.shape.specs.ShapeContracts.{noByte, Holds, isNone, put, keepFirst, byteBelow, byteAt, atPlace, SideBytes, sideByte, SideTable, edgeByte, EdgeTable, isUntaken}
 use Rattle.shape.proofs.MeshLaws.{around-there, side-fits, edge-fits}
 use Rattle.shape.proofs.ByteTables.{holds-as, holds-each, same-place, put-one, first-below, first-found, some-there, byte-found, free-below, cond-same, byte-more, given, none-given, one-given, all-given}
 
@@ -26,10 +26,10 @@ whole : {n : ℕ} {f : ℕ → ℕ} {t : List ℕ} → Holds n f t → Holds (le
 whole {f = f} {t = t} h = subst (λ (n : ℕ). Holds n f t) (sym (h .size)) h
 
 module _ {m : List ℤ} {f : ℕ → ℕ → ℕ} {t : List ℕ} (h : SideBytes m f t) where
-  bytes-to : {g : ℕ → ℕ → ℕ} {u : List ℕ} → Holds (length t) (atPlace g) u → SideBytes m g u
+  pub bytes-to : {g : ℕ → ℕ → ℕ} {u : List ℕ} → Holds (length t) (atPlace g) u → SideBytes m g u
   bytes-to k = record { room = omega (arith, h .room, k .size); bytes = whole k }
 
-  byte-of : {s : Sizes} → Sized m s → {a b : ℕ} → a < nodes m → b < nodes m → byteAt t a b ≡ f a b
+  pub byte-of : {s : Sizes} → Sized m s → {a b : ℕ} → a < nodes m → b < nodes m → byteAt t a b ≡ f a b
   byte-of k {a} {b} i j =
       let most = k .facts .counts .nodesMost in
       h .bytes .says (a * mostNodes + b) (omega (arith, h .room)) ∙ ap₂ f (omega arith) (omega arith)
@@ -90,10 +90,6 @@ module _ (m : List ℤ) {s : Sizes} (k : Sized m s) {e : ℕ} (l : e < elements 
       ∙ first-found has (elements m) l (has-own j) .1
 
 -- ---- the sides that edges take
-
--- a byte of a side that no edge has taken
-abbrev pub isUntaken : ℕ → Bool
-isUntaken byte = ltb byte mostElements
 
 module _ (m : List ℤ) where
   no-edge : (a b : ℕ) → sideByte m (elements m) a b ≡ edgeByte m 0 a b
@@ -156,7 +152,24 @@ module _ (m : List ℤ) {s : Sizes} (k : Sized m s) where
           ap (λ (b : Bool). cond b (cond (isUntaken (now v)) (mostElements + g) (now v)) (now v)) (same-place mostNodes (fromNode m g) (toNode m g) (omega (arith, k .facts .edge g l .toThere, k .facts .counts .nodesMost)) v)
           ∙ edge-step g (v / mostNodes) (v % mostNodes)
 
-  edge-none : (a b : ℕ) → isNone (edgeByte m (edges m) a b) ≡ not (someBelow (hasSide m a b) (elements m))
+  -- a side is untaken exactly where it is an element's and no edge has it
+  pub edge-untaken : (a b : ℕ) → isUntaken (edgeByte m (edges m) a b) ≡ someBelow (hasSide m a b) (elements m) && not (someBelow (hasEnds m a b) (edges m))
+  unfolding edgeByte
+  edge-untaken a b = by (someBelow (hasSide m a b) (elements m)) (side-none a b)
+    where
+      side : ℕ
+      side = sideByte m (elements m) a b
+
+      byte : ℕ
+      byte = byteBelow side (hasEnds m a b) (λ k. mostElements + k) (edges m)
+
+      by : (c : Bool) → isNone side ≡ not c → isUntaken (cond (isNone side) noByte byte) ≡ c && not (someBelow (hasEnds m a b) (edges m))
+      by false d = ap (λ (x : Bool). isUntaken (cond x noByte byte)) d ∙ le-ltb noByte mostElements (omega arith)
+      by true d =
+          ap (λ (x : Bool). isUntaken (cond x noByte byte)) d
+          ∙ free-below isUntaken (side-untaken a b d) (hasEnds m a b) (λ k. mostElements + k) (edges m) (λ k i. le-ltb (mostElements + k) mostElements (omega arith))
+
+  pub edge-none : (a b : ℕ) → isNone (edgeByte m (edges m) a b) ≡ not (someBelow (hasSide m a b) (elements m))
   unfolding edgeByte byteBelow
   edge-none a b = by (isNone side) refl ∙ side-none a b
     where
@@ -208,7 +221,7 @@ module _ (m : List ℤ) {s : Sizes} (k : Sized m s) where
 
     -- an edge is an outer side, once, exactly where it has taken its side and the reverse has no byte
     pub outer-edge-is : {t : List ℕ} → EdgeTable m (edges m) t → {a b byte back : ℕ} → a ≡ fromNode m g → b ≡ toNode m g → byte ≡ byteAt t a b → back ≡ byteAt t b a → outerEdge m g ≡ eqb byte (mostElements + g) && eqb back noByte
-    unfolding outerEdge hasEnds
+    unfolding outerEdge outerSide hasEnds
     outer-edge-is {t} h d e f r =
         let p = fromNode m g in
         let q = toNode m g in

@@ -1,4 +1,5 @@
--- What contracts say of the tables that the checks of a shape fill and read: of marks, of sides, of edges, of pairs.
+-- What contracts say of the tables that the checks of a shape fill and read: of marks, of sides, of edges, of jumps, of
+-- pairs.
 use mathlib.Core.Path.{_≡_}
 use mathlib.Core.Bool.{Bool, cond, _&&_}
 use mathlib.Core.List.{List, [], _∷_, _++_, map}
@@ -9,9 +10,9 @@ use lib.ListN.{length, getD, set}
 use Rattle.scope.specs.declared.Outcome.{Outcome}
 use Rattle.scope.specs.declared.Outcome.the-variants.{Passed, Refused}
 use Rattle.scope.specs.Checks.{someBelow}
-use Rattle.scope.specs.Mesh.{mostNodes, mostElements, mostSoils, mostPairs, nodes, elements, elementSoil}
+use Rattle.scope.specs.Mesh.{mostNodes, mostElements, mostSoils, mostPairs, nodes, elements, edges, elementSoil}
 use Rattle.scope.specs.Rows.{Pair, firstWhere, hasCorner, passing, strengthPairs}
-use Rattle.scope.specs.Tests.{hasSide, hasEnds}
+use Rattle.scope.specs.Tests.{hasSide, hasEnds, usedByJump}
 use Rattle.shape.specs.declared.pairs.Paired.{Paired}
 
 -- ---- tables of bytes
@@ -87,6 +88,23 @@ edgeByte m g a b =
 
 abbrev pub EdgeTable : List ℤ → ℕ → List ℕ → Type 0
 EdgeTable m g t = SideBytes m (edgeByte m g) t
+
+-- the byte of a side that no edge and no jump has taken is an element's number
+abbrev pub isUntaken : ℕ → Bool
+isUntaken byte = ltb byte mostElements
+
+-- the byte of a side that a jump uses
+abbrev pub usedByte : ℕ
+usedByte = 254
+
+-- the byte of the side a to b once the first j jumps have used theirs: `usedByte` where an edge has not taken it
+unfoldable pub jumpByte : List ℤ → ℕ → ℕ → ℕ → ℕ
+jumpByte m j a b =
+    let byte : ℕ = edgeByte m (edges m) a b in
+    cond (someBelow (usedByJump m a b) j) (cond (isUntaken byte) usedByte byte) byte
+
+abbrev pub JumpTable : List ℤ → ℕ → List ℕ → Type 0
+JumpTable m j t = SideBytes m (jumpByte m j) t
 
 -- ---- pairs (document 02, N2): two bytes for each, its node and then its soil
 

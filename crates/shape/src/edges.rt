@@ -1,7 +1,6 @@
 // 8: each edge is an outer side, once.
 // Each edge takes its side in the table of sides: the byte is then FIRST_EDGE and the number of the lowest edge that
-// has
-// it.
+// has it.
 use mesh::sizes::MOST_ELEMENTS;
 use mesh::sizes::MOST_NODES;
 use mesh::sizes::Sizes;
@@ -21,7 +20,7 @@ use crate::sides::side_byte;
 use crate::tables::NONE;
 
 // The byte of a side that edge 0 has taken: lower ones are numbers of elements.
-const FIRST_EDGE: u8 = MOST_ELEMENTS as u8;
+pub const FIRST_EDGE: u8 = MOST_ELEMENTS as u8;
 
 // Edge g takes its side, where it is one and no earlier edge has it.
 fn take_side(m: &[i64], s: Sizes, g: usize, t: &mut [u8])

@@ -1,7 +1,8 @@
-// The shape of a mesh (document 01, refusals 5 to 8; document 02, 42), and its pairs of a node and a soil.
+// The shape of a mesh (document 01, refusals 5 to 8; document 02, 44 and 42), and its pairs of a node and a soil.
 
 mod corners;
 mod edges;
+mod joints;
 mod marks;
 pub mod mesh_checks;
 mod nodes;

@@ -1,4 +1,4 @@
-// The shape of a mesh whose lines have passed: refusals 5 to 8 and 42 in their order, and the pairs of a mesh that
+// The shape of a mesh whose lines have passed: refusals 5 to 8, 44 and 42 in their order, and the pairs of a mesh that
 // passes.
 use mesh::sizes::MOST_NODES;
 use mesh::sizes::Sizes;
@@ -7,11 +7,12 @@ ghost use mathlib.Core.Path.{_≡_};
 ghost use mathlib.Core.List.{[], _∷_};
 ghost use Rattle.scope.specs.Mesh.{elements};
 ghost use Rattle.scope.specs.Phases.{checkPhases};
-ghost use Rattle.scope.specs.Refusals.{ownSidesPhase, nodesPhase, edgesPhase, shapePhases};
+ghost use Rattle.scope.specs.Refusals.{ownSidesPhase, nodesPhase, edgesPhase, jointsPhase, shapePhases};
 ghost use Rattle.mesh.specs.MeshContracts.{Sized};
 ghost use Rattle.shape.specs.ShapeContracts.{MarkTable, SideTable, PairedAs};
 use crate::edges::edges_check;
 use crate::edges::take_sides;
+use crate::joints::joints_check;
 use crate::marks::MARKS;
 use crate::marks::mark_table;
 use crate::nodes::nodes_check;
@@ -30,12 +31,26 @@ const SMALL_TABLE: usize = SMALL_NODES * MOST_NODES;
 
 const TABLE: usize = MOST_NODES * MOST_NODES;
 
-// Refusals 6 to 8, by a table in which no byte is given yet.
+// Refusals 8 and 44, by a table of the elements' sides: the edges take theirs, and then the jumps.
+fn edges_and_joints(m: &[i64], s: Sizes, t: &mut [u8]) -> Outcome
+    requires { ⌜ Sized (now m) s × SideTable (now m) (elements (now m)) (now t) ⌝ }
+    ensures { λ r. ⌜ r ≡ checkPhases (edgesPhase (now (m .entry)) ∷ jointsPhase (now (m .entry)) ∷ []) ⌝ }
+{
+    take_sides(m, s, t);
+    let edges = edges_check(m, s, t);
+    match edges {
+        Outcome::Refused { number, place } => Outcome::Refused { number, place },
+        Outcome::Passed => joints_check(m, s, t),
+    }
+}
+
+// Refusals 6 to 8 and 44, by a table in which no byte is given yet.
 fn checks_by_table(m: &[i64], s: Sizes, marks: &[u8; MARKS], t: &mut [u8]) -> Outcome
     requires { ⌜ Sized (now m) s × MarkTable (now m) (elements (now m)) (now marks) × SideTable (now m) 0 (now t) ⌝ }
     ensures { λ r. ⌜ r
         ≡ checkPhases
-        (ownSidesPhase (now (m .entry)) ∷ nodesPhase (now (m .entry)) ∷ edgesPhase (now (m .entry)) ∷ []) ⌝ }
+        (ownSidesPhase (now (m .entry)) ∷ nodesPhase (now (m .entry)) ∷ edgesPhase (now (m .entry))
+        ∷ jointsPhase (now (m .entry)) ∷ []) ⌝ }
 {
     side_table(m, s, t);
     let sides = sides_check(m, s, t);
@@ -45,22 +60,20 @@ fn checks_by_table(m: &[i64], s: Sizes, marks: &[u8; MARKS], t: &mut [u8]) -> Ou
             let nodes = nodes_check(m, s, marks);
             match nodes {
                 Outcome::Refused { number, place } => Outcome::Refused { number, place },
-                Outcome::Passed => {
-                    take_sides(m, s, t);
-                    edges_check(m, s, t)
-                }
+                Outcome::Passed => edges_and_joints(m, s, t),
             }
         }
     }
 }
 
-// Refusals 6 to 8. For speed a small mesh has a small table: the bytes that need no filling were 6 % of the time of
+// Refusals 6 to 8 and 44. For speed a small mesh has a small table: the bytes that need no filling were 6 % of the time of
 // the worked sheet.
-fn sides_nodes_edges(m: &[i64], s: Sizes, marks: &[u8; MARKS]) -> Outcome
+fn sides_to_joints(m: &[i64], s: Sizes, marks: &[u8; MARKS]) -> Outcome
     requires { ⌜ Sized (now m) s × MarkTable (now m) (elements (now m)) (now marks) ⌝ }
     ensures { λ r. ⌜ r
         ≡ checkPhases
-        (ownSidesPhase (now (m .entry)) ∷ nodesPhase (now (m .entry)) ∷ edgesPhase (now (m .entry)) ∷ []) ⌝ }
+        (ownSidesPhase (now (m .entry)) ∷ nodesPhase (now (m .entry)) ∷ edgesPhase (now (m .entry))
+        ∷ jointsPhase (now (m .entry)) ∷ []) ⌝ }
 {
     if s.nodes <= SMALL_NODES {
         let mut small = [NONE; SMALL_TABLE];
@@ -70,7 +83,7 @@ fn sides_nodes_edges(m: &[i64], s: Sizes, marks: &[u8; MARKS]) -> Outcome
     checks_by_table(m, s, marks, &mut table)
 }
 
-// Refusals 5 to 8 and 42, in their order, and the pairs.
+// Refusals 5 to 8, 44 and 42, in their order, and the pairs.
 pub fn mesh_shape(m: &[i64], s: Sizes) -> Paired
     requires { ⌜ Sized (now m) s ⌝ }
     ensures { λ r. ⌜ PairedAs (checkPhases (shapePhases (now (m .entry)))) (now (m .entry)) r ⌝ }
@@ -80,7 +93,7 @@ pub fn mesh_shape(m: &[i64], s: Sizes) -> Paired
         return no_pairs(number, place);
     }
     let marks = mark_table(m, s);
-    let sides = sides_nodes_edges(m, s, &marks);
+    let sides = sides_to_joints(m, s, &marks);
     if let Outcome::Refused { number, place } = sides {
         return no_pairs(number, place);
     }

@@ -63,7 +63,7 @@ module _ {m : List ℤ} {r : MeshAnswer} where
       let bytes : PairBytes (strengthPairs m) (r .pairs) = subst (λ (o : Outcome). PairBytes (pairsIf o m) (r .pairs)) passes (a .pairs) in
       record {
         passes = passes;
-        sized = subst (Sized m) (sym are) (record { facts = known .facts; nodesAre = refl; elementsAre = refl; soilsAre = refl; edgesAre = refl; sidesAre = refl; pairsFew = few });
+        sized = subst (Sized m) (sym are) (record { facts = known .facts; nodesAre = refl; elementsAre = refl; soilsAre = refl; edgesAre = refl; sidesAre = refl; jumpsAre = refl; pairsFew = few });
         pairsAre = ap (λ (s : Sizes). s .pairs) are;
         table = record { size = bytes .size; node = λ k l. bytes .node k l (omega arith); soil = λ k l. bytes .soil k l (omega arith) };
       }
@@ -75,7 +75,7 @@ passed-mesh {m} {s} {z} {p} k e h f g =
     let passes : Passed ≡ meshCheck m = then-goes-on e (sym shape) ∙ sym (mesh-checked m) in
     let count : p .count ≡ pairCount m = h .count ∙ ap (λ (o : Outcome). length (pairsIf o m)) shape in
     let sizes : paired s (p .count) ≡ sizesIf Passed m =
-    (λ i. record { nodes = k .nodesAre i; elements = k .elementsAre i; soils = k .soilsAre i; edges = k .edgesAre i; sides = k .sidesAre i; pairs = count i }) in
+    (λ i. record { nodes = k .nodesAre i; elements = k .elementsAre i; soils = k .soilsAre i; edges = k .edgesAre i; sides = k .sidesAre i; jumps = k .jumpsAre i; pairs = count i }) in
     record {
       outcome = passes;
       sizes = g ∙ sizes ∙ ap (λ (o : Outcome). sizesIf o m) passes;

@@ -8,7 +8,7 @@ use Rattle.scope.specs.declared.Outcome.{Outcome}
 use Rattle.scope.specs.declared.Outcome.the-variants.{Passed, Refused}
 use Rattle.mesh.specs.declared.sizes.Sizes.{Sizes}
 use Rattle.verdict.specs.declared.MeshAnswer.{MeshAnswer}
-use Rattle.scope.specs.Mesh.{nodes, elements, soils, edges, sides}
+use Rattle.scope.specs.Mesh.{nodes, elements, soils, edges, sides, jumps}
 use Rattle.scope.specs.Rows.{pairCount}
 use Rattle.scope.specs.Verdict.{meshCheck}
 use Rattle.mesh.specs.MeshContracts.{Sized, PairTable}
@@ -18,7 +18,7 @@ use Rattle.shape.specs.ShapeContracts.{PairBytes, pairsIf}
 
 -- the counts of a mesh that passes, its pairs among them; a mesh that is refused has none
 abbrev pub noSizes : Sizes
-noSizes = record { nodes = 0; elements = 0; soils = 0; edges = 0; sides = 0; pairs = 0 }
+noSizes = record { nodes = 0; elements = 0; soils = 0; edges = 0; sides = 0; jumps = 0; pairs = 0 }
 
 unfoldable pub sizesIf : Outcome → List ℤ → Sizes
 sizesIf Passed m = record {
@@ -27,6 +27,7 @@ sizesIf Passed m = record {
   soils = soils m;
   edges = edges m;
   sides = sides m;
+  jumps = jumps m;
   pairs = pairCount m;
 }
 sizesIf (Refused c p) m = noSizes

@@ -40,6 +40,7 @@ fn refused_mesh(number: u32, place: Place) -> MeshAnswer
         soils: 0,
         edges: 0,
         sides: 0,
+        jumps: 0,
         pairs: 0,
     };
     MeshAnswer {

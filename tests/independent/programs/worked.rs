@@ -52,7 +52,7 @@ fn one_in_three_million() -> Sheet {
     let zeros = " / 0 0 0 0 0 0 0 0 0 0 0 0".repeat(4);
     Sheet {
         mesh: printed(
-            "4 1 1 2 12 / 0 1 1 10000 0 0 0 0 / 0 0 / 169 0 / 288 120 / 0 120 / 1 2 3 4 1 / \
+            "4 1 1 2 12 0 / 0 1 1 10000 0 0 0 0 / 0 0 / 169 0 / 288 120 / 0 120 / 1 2 3 4 1 / \
              1 2 3 -1 1 6000 6600 / 2 3 3 0 0 -6000 6500",
         ),
         claim: printed(&format!(
@@ -62,7 +62,7 @@ fn one_in_three_million() -> Sheet {
 }
 
 fn hundred_nodes(nodes: i64) -> Files {
-    let mut mesh = vec![vec![nodes, 81, 1, 0, 12], vec![0, 1, 1, 10, 0, 0, 0, 0]];
+    let mut mesh = vec![vec![nodes, 81, 1, 0, 12, 0], vec![0, 1, 1, 10, 0, 0, 0, 0]];
     mesh.extend((0..nodes).map(|node| vec![node % 10, node / 10]));
     let corner = |e: i64| e / 9 * 10 + e % 9 + 1;
     mesh.extend(

@@ -15,6 +15,8 @@ pub struct Multipliers {
     pub balance: Vec<[i64; 2]>,
     /// Normal and shear at from, then at to.
     pub sides: Vec<[i64; 4]>,
+    /// In an edge's order.
+    pub jumps: Vec<[i64; 4]>,
     /// One for each polygon side of each pair of node and soil, pair by pair.
     pub strength: Vec<i64>,
 }
@@ -58,10 +60,12 @@ impl<L: Lines> Reader<'_, L> {
         if has_multipliers {
             let balance = self.group(mesh.elements.len(), 100_000)?;
             let sides = self.group(mesh.edges.len(), 100_000)?;
+            let jumps = self.group(mesh.jumps.len(), 100_000)?;
             let strength = self.strength(mesh.pairs.len(), mesh.polygon.sides.len())?;
             multipliers = Some(Multipliers {
                 balance,
                 sides,
+                jumps,
                 strength,
             });
         }

@@ -2,7 +2,7 @@
 //! Every sum fits 64 bits: the largest right side, of an edge, stays below 2.1e18.
 
 use crate::claim::Field;
-use crate::mesh::{Edge, Element, Mesh, Pair};
+use crate::mesh::{Element, Mesh, Pair};
 use crate::polygon::Side;
 use crate::{refuse, Refusal};
 
@@ -20,15 +20,17 @@ pub fn balance(mesh: &Mesh, element: &Element) -> ([[i64; 2]; 4], i64) {
     (coefficients, doubled_area)
 }
 
-/// The step (u, w) of an edge.
-pub fn step(mesh: &Mesh, edge: &Edge) -> (i64, i64) {
-    let (from, to) = (mesh.nodes[edge.from], mesh.nodes[edge.to]);
-    (to[0] - from[0], to[1] - from[1])
+/// Normal and shear on a side with step (u, w), times u² + w².
+fn traction((u, w): (i64, i64), [sx, sy, t]: [i64; 3]) -> [i64; 2] {
+    let normal = w * w * sx - 2 * u * w * t + u * u * sy;
+    let shear = u * w * (sx - sy) + (w * w - u * u) * t;
+    [normal, shear]
 }
 
 pub fn check(mesh: &Mesh, field: &Field) -> Result<(), Refusal> {
     check_balance(mesh, field)?;
     check_sides(mesh, field)?;
+    check_jumps(mesh, field)?;
     check_strength(mesh, field)
 }
 
@@ -52,20 +54,29 @@ fn check_balance(mesh: &Mesh, field: &Field) -> Result<(), Refusal> {
 
 fn check_sides(mesh: &Mesh, field: &Field) -> Result<(), Refusal> {
     for (k, edge) in mesh.edges.iter().enumerate() {
-        let (u, w) = step(mesh, edge);
+        let step @ (u, w) = mesh.step(edge.from, edge.to);
         let asked =
             |part: usize| (u * u + w * w) * (field.n * edge.dead[part] + field.l * edge.live[part]);
-        let (normal, shear) = (asked(0), asked(1));
-        let fails = |node: usize| {
-            let [sx, sy, t] = field.stresses[node];
-            [
-                edge.fixed[0] && w * w * sx - 2 * u * w * t + u * u * sy != normal,
-                edge.fixed[1] && u * w * (sx - sy) + (w * w - u * u) * t != shear,
-            ]
-        };
-        let [[a, b], [c, d]] = [fails(edge.from), fails(edge.to)];
-        if let Some(row) = [a, b, c, d].iter().position(|&failed| failed) {
-            return refuse(21, 2 * mesh.elements.len() + 4 * k + row + 1);
+        let asked = [asked(0), asked(1)];
+        let found = [edge.from, edge.to].map(|node| traction(step, field.stresses[node]));
+        let found = found.as_flattened();
+        let fails = |row: usize| edge.fixed[row % 2] && found[row] != asked[row % 2];
+        if let Some(row) = (0..4).find(|&row| fails(row)) {
+            return refuse(21, mesh.rows_before_sides() + 4 * k + row + 1);
+        }
+    }
+    Ok(())
+}
+
+/// Normal and shear agree on both sides of each jump.
+fn check_jumps(mesh: &Mesh, field: &Field) -> Result<(), Refusal> {
+    for (k, jump) in mesh.jumps.iter().enumerate() {
+        let step = mesh.step(jump.from, jump.to);
+        let at = |node: usize| traction(step, field.stresses[node]);
+        let (found, facing) = ([jump.from, jump.to].map(at), jump.facing.map(at));
+        let (found, facing) = (found.as_flattened(), facing.as_flattened());
+        if let Some(row) = (0..4).find(|&row| found[row] != facing[row]) {
+            return refuse(21, mesh.rows_before_jumps() + 4 * k + row + 1);
         }
     }
     Ok(())

@@ -52,6 +52,13 @@ pub struct Edge {
     pub live: [i64; 2],
 }
 
+/// A side where stress may jump, and the nodes that face its ends (document 02, N6).
+pub struct Jump {
+    pub from: usize,
+    pub to: usize,
+    pub facing: [usize; 2],
+}
+
 /// A node and a soil of an element around it (document 02, N2).
 #[derive(Clone, Copy)]
 pub struct Pair {
@@ -65,6 +72,7 @@ pub struct Mesh {
     pub nodes: Vec<[i64; 2]>,
     pub elements: Vec<Element>,
     pub edges: Vec<Edge>,
+    pub jumps: Vec<Jump>,
     /// Each node with each soil of the elements around it, in the order of their strength rows.
     pub pairs: Vec<Pair>,
 }
@@ -89,17 +97,18 @@ fn named(number: i64, count: usize) -> Option<usize> {
 impl Mesh {
     pub fn read(lines: &mut impl Lines) -> Result<Mesh, Refusal> {
         let mut reader = Reader { lines, place: 0 };
-        let header = reader.line::<5>()?;
+        let header = reader.line::<6>()?;
         let Some(polygon) = header_polygon(&header) else {
             return reader.refuse(2);
         };
-        let [nodes, elements, soils, edges] = [0, 1, 2, 3].map(|k| header[k] as usize);
+        let [nodes, elements, soils, edges, _, jumps] = header.map(|count| count as usize);
         let mut mesh = Mesh {
             polygon,
             soils: reader.group(soils, Reader::soil)?,
             nodes: reader.group(nodes, Reader::node)?,
             elements: reader.group(elements, |r| r.element(nodes, soils))?,
             edges: reader.group(edges, |r| r.edge(nodes))?,
+            jumps: reader.group(jumps, |r| r.jump(nodes))?,
             pairs: Vec::new(),
         };
         if !reader.lines.at_end() {
@@ -114,14 +123,36 @@ impl Mesh {
     pub fn edge_line(&self) -> usize {
         2 + self.soils.len() + self.nodes.len() + self.elements.len()
     }
+
+    /// The line of the first jump.
+    pub fn jump_line(&self) -> usize {
+        self.edge_line() + self.edges.len()
+    }
+
+    /// The number of the first side row, less one.
+    pub fn rows_before_sides(&self) -> usize {
+        2 * self.elements.len()
+    }
+
+    /// The number of the first jump row, less one.
+    pub fn rows_before_jumps(&self) -> usize {
+        self.rows_before_sides() + 4 * self.edges.len()
+    }
+
+    /// The step (u, w) from one node to another.
+    pub fn step(&self, from: usize, to: usize) -> (i64, i64) {
+        let (from, to) = (self.nodes[from], self.nodes[to]);
+        (to[0] - from[0], to[1] - from[1])
+    }
 }
 
-fn header_polygon(header: &[i64; 5]) -> Option<Polygon> {
-    let [nodes, elements, soils, edges, sides] = *header;
+fn header_polygon(header: &[i64; 6]) -> Option<Polygon> {
+    let [nodes, elements, soils, edges, sides, jumps] = *header;
     let counts = within(nodes, 4, 100)
         && within(elements, 1, 100)
         && within(soils, 1, 16)
-        && within(edges, 0, 60);
+        && within(edges, 0, 60)
+        && within(jumps, 0, 60);
     if counts {
         Polygon::of(sides)
     } else {
@@ -219,6 +250,20 @@ impl<L: Lines> Reader<'_, L> {
             fixed: [fixed != 2, fixed != 1],
             dead: [dead_normal, dead_shear],
             live: [live_normal, live_shear],
+        })
+    }
+
+    fn jump(&mut self, nodes: usize) -> Result<Jump, Refusal> {
+        let line: [i64; 4] = self.line()?;
+        let [Some(from), Some(to), Some(facing_from), Some(facing_to)] =
+            line.map(|node| named(node, nodes))
+        else {
+            return self.refuse(4);
+        };
+        Ok(Jump {
+            from,
+            to,
+            facing: [facing_from, facing_to],
         })
     }
 }

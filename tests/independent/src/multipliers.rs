@@ -1,7 +1,7 @@
 //! Multipliers against the rows: refusals 31, 32 and 33, and the limit W/m ("Columns").
 
 use crate::claim::Multipliers;
-use crate::field::{balance, step};
+use crate::field::balance;
 use crate::mesh::Mesh;
 use crate::{refuse, Load, Refusal};
 
@@ -22,6 +22,7 @@ pub fn check(mesh: &Mesh, multipliers: &Multipliers) -> Result<Load, Refusal> {
     };
     sums.add_balance(mesh, multipliers);
     sums.add_sides(mesh, multipliers);
+    sums.add_jumps(mesh, multipliers);
     sums.add_strength(mesh, multipliers);
     if let Some(column) = sums.columns.as_flattened().iter().position(|&sum| sum != 0) {
         return refuse(32, column + 1);
@@ -41,7 +42,7 @@ fn check_unfixed(mesh: &Mesh, multipliers: &Multipliers) -> Result<(), Refusal> 
     for (k, (edge, line)) in mesh.edges.iter().zip(&multipliers.sides).enumerate() {
         let wrong = |row: &usize| !edge.fixed[row % 2] && line[*row] != 0;
         if let Some(row) = (0..4).find(wrong) {
-            return refuse(31, 2 * mesh.elements.len() + 4 * k + row + 1);
+            return refuse(31, mesh.rows_before_sides() + 4 * k + row + 1);
         }
     }
     Ok(())
@@ -64,23 +65,39 @@ impl Sums {
         }
     }
 
+    /// Multipliers of a normal and a shear row at one node, on a side with step (u, w).
+    fn add_traction(&mut self, node: usize, (u, w): (i64, i64), [normal, shear]: [i64; 2]) {
+        let column = &mut self.columns[node];
+        column[0] += w * w * normal + u * w * shear;
+        column[1] += u * u * normal - u * w * shear;
+        column[2] += (w * w - u * u) * shear - 2 * u * w * normal;
+    }
+
     fn add_sides(&mut self, mesh: &Mesh, multipliers: &Multipliers) {
-        for (edge, &line) in mesh.edges.iter().zip(&multipliers.sides) {
-            let (u, w) = step(mesh, edge);
-            let [normal, shear, normal_to, shear_to] = line;
-            for (node, normal, shear) in
-                [(edge.from, normal, shear), (edge.to, normal_to, shear_to)]
-            {
-                let column = &mut self.columns[node];
-                column[0] += w * w * normal + u * w * shear;
-                column[1] += u * u * normal - u * w * shear;
-                column[2] += (w * w - u * u) * shear - 2 * u * w * normal;
-            }
+        for (edge, &[normal, shear, normal_to, shear_to]) in
+            mesh.edges.iter().zip(&multipliers.sides)
+        {
+            let step @ (u, w) = mesh.step(edge.from, edge.to);
+            self.add_traction(edge.from, step, [normal, shear]);
+            self.add_traction(edge.to, step, [normal_to, shear_to]);
             let work = |load: [i64; 2]| {
                 (u * u + w * w) * ((normal + normal_to) * load[0] + (shear + shear_to) * load[1])
             };
             self.m -= i128::from(work(edge.live));
             self.w += i128::from(work(edge.dead));
+        }
+    }
+
+    /// A jump's rows have the first node's traction minus the facing one's, and right side 0.
+    fn add_jumps(&mut self, mesh: &Mesh, multipliers: &Multipliers) {
+        for (jump, &[normal, shear, normal_to, shear_to]) in
+            mesh.jumps.iter().zip(&multipliers.jumps)
+        {
+            let step = mesh.step(jump.from, jump.to);
+            self.add_traction(jump.from, step, [normal, shear]);
+            self.add_traction(jump.facing[0], step, [-normal, -shear]);
+            self.add_traction(jump.to, step, [normal_to, shear_to]);
+            self.add_traction(jump.facing[1], step, [-normal_to, -shear_to]);
         }
     }
 

@@ -1,6 +1,7 @@
-//! The shape of a mesh whose lines have passed: refusals 5 to 8 and 42, each over the whole mesh.
+//! The shape of a mesh whose lines have passed: refusals 5 to 8, 44 and 42, each over the
+//! whole mesh.
 
-use crate::mesh::{Edge, Element, Mesh, Pair};
+use crate::mesh::{Edge, Element, Jump, Mesh, Pair};
 use crate::{refuse, Refusal};
 
 const MOST_SOILS: usize = 16;
@@ -11,7 +12,8 @@ pub fn check(mesh: &Mesh) -> Result<Vec<Pair>, Refusal> {
     check_turns(mesh)?;
     let sides = directed_sides(&mesh.elements)?;
     let around = soils_around(mesh)?;
-    check_edges(mesh, &sides)?;
+    let used = check_edges(mesh, &sides)?;
+    check_jumps(mesh, &sides, used)?;
     pairs_of(&around)
 }
 
@@ -83,13 +85,30 @@ fn soils_around(mesh: &Mesh) -> Result<Vec<u16>, Refusal> {
     }
 }
 
-/// Refusal 8: an edge is an outer side, as directed, and is there once.
-fn check_edges(mesh: &Mesh, sides: &Sides) -> Result<(), Refusal> {
+/// Refusal 8: an edge is an outer side, as directed, and is there once. The sides that edges use.
+fn check_edges(mesh: &Mesh, sides: &Sides) -> Result<Sides, Refusal> {
     let mut used = Sides::none();
     let mut is_good =
         |&Edge { from, to, .. }: &Edge| sides.has_outer(from, to) && used.add(from, to);
     match mesh.edges.iter().position(|edge| !is_good(edge)) {
         Some(edge) => refuse(8, mesh.edge_line() + edge),
+        None => Ok(used),
+    }
+}
+
+/// Refusal 44: both sides of a jump are outer ones, as directed, at one place, and used by no edge
+/// or earlier jump.
+fn check_jumps(mesh: &Mesh, sides: &Sides, mut used: Sides) -> Result<(), Refusal> {
+    let mut is_good = |jump: &Jump| {
+        let [facing_from, facing_to] = jump.facing;
+        let mut is_free = |from, to| sides.has_outer(from, to) && used.add(from, to);
+        is_free(jump.from, jump.to)
+            && is_free(facing_to, facing_from)
+            && mesh.nodes[jump.from] == mesh.nodes[facing_from]
+            && mesh.nodes[jump.to] == mesh.nodes[facing_to]
+    };
+    match mesh.jumps.iter().position(|jump| !is_good(jump)) {
+        Some(jump) => refuse(44, mesh.jump_line() + jump),
         None => Ok(()),
     }
 }

@@ -2,6 +2,7 @@
 //! The answers were worked out by hand from documents 01 and 02.
 
 mod base;
+mod jumps;
 mod pairs;
 mod triangles;
 
@@ -37,6 +38,7 @@ pub fn tables() -> Vec<Table> {
     let mut all = base::tables().to_vec();
     all.push(triangles::table());
     all.extend(pairs::tables());
+    all.push(jumps::table());
     all
 }
 

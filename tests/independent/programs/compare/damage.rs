@@ -62,37 +62,41 @@ fn line(random: &mut Random, lines: &mut Lines) {
     }
 }
 
-/// Where a mesh's soils, nodes, elements and edges begin, if earlier damage left them in place.
-fn groups(mesh: &Lines) -> Option<[usize; 5]> {
-    let [nodes, elements, soils, edges, _] = mesh[0][..] else {
+/// Where a mesh's soils, nodes, elements, edges and jumps begin, if earlier damage left them in place.
+fn groups(mesh: &Lines) -> Option<[usize; 6]> {
+    let [nodes, elements, soils, edges, _, jumps] = mesh[0][..] else {
         return None;
     };
-    let mut ends = [1usize; 5];
-    for (k, (count, width)) in [(soils, 8), (nodes, 2), (elements, 5), (edges, 7)]
-        .into_iter()
-        .enumerate()
-    {
+    let mut ends = [1usize; 6];
+    let groups = [
+        (soils, 8),
+        (nodes, 2),
+        (elements, 5),
+        (edges, 7),
+        (jumps, 4),
+    ];
+    for (k, (count, width)) in groups.into_iter().enumerate() {
         ends[k + 1] = ends[k].checked_add(usize::try_from(count).ok()?)?;
         let lines = mesh.get(ends[k]..ends[k + 1])?;
         if k < 3 && lines.is_empty() || lines.iter().any(|line| line.len() != width) {
             return None;
         }
     }
-    (ends[4] == mesh.len()).then_some(ends)
+    (ends[5] == mesh.len()).then_some(ends)
 }
 
 /// One line of a mesh so that each refusal from 3 to 8 comes about in each of its ways.
 fn shape(random: &mut Random, mesh: &mut Lines) {
-    let Some([soils, nodes, elements, edges, end]) = groups(mesh) else {
+    let Some([soils, nodes, elements, edges, jumps, end]) = groups(mesh) else {
         return;
     };
     let soil = soils + random.below(nodes - soils);
     let element = elements + random.below(edges - elements);
     let other = elements + random.below(edges - elements);
     let node = nodes + random.below(elements - nodes);
-    let edge = edges + random.below((end - edges).max(1));
+    let edge = edges + random.below((jumps - edges).max(1));
     let corner = random.below(4);
-    match random.below(14) {
+    match random.below(18) {
         0 => mesh[soil][random.below(3)] += 1,
         1 => mesh[element][corner] = near_limit(random),
         2 => mesh[element][4] = near_limit(random),
@@ -101,12 +105,36 @@ fn shape(random: &mut Random, mesh: &mut Lines) {
         5 => mesh[element] = mesh[other].clone(),
         6 => mesh[element][corner] = mesh[other][corner],
         7 => mesh[node][random.below(2)] += random.between(-2, 2),
-        8 if edge < end => mesh[edge].swap(0, 1),
-        9 if edge < end => edge_of(random, mesh, element, edge),
-        10 if edge < end => mesh[edge] = mesh[edges + random.below(end - edges)].clone(),
+        8 if edge < jumps => mesh[edge].swap(0, 1),
+        9 if edge < jumps => edge_of(random, mesh, element, edge),
+        10 if edge < jumps => mesh[edge] = mesh[edges + random.below(jumps - edges)].clone(),
         11 => mesh[element][corner] = mesh[element][(corner + 1) % 4],
         12 => mesh[element][3] = mesh[element][2],
+        13 => add_node(mesh, elements),
+        _ if jumps < end => jump(random, mesh, element, edges, jumps),
         _ => add_node(mesh, elements),
+    }
+}
+
+/// One jump so that 44 comes about in each of its ways, or 4.
+fn jump(random: &mut Random, mesh: &mut Lines, element: usize, edges: usize, jumps: usize) {
+    let end = mesh.len();
+    let jump = jumps + random.below(end - jumps);
+    let other = jumps + random.below(end - jumps);
+    let corner = random.below(4);
+    let (from, to) = (mesh[element][corner], mesh[element][(corner + 1) % 4]);
+    match random.below(8) {
+        0 => mesh[jump].swap(0, 1),
+        1 => mesh[jump].swap(2, 3),
+        2 => mesh[jump].rotate_left(2),
+        3 => mesh[jump] = mesh[other].clone(),
+        4 => mesh[jump].reverse(),
+        5 if edges < jumps => {
+            let line = mesh[edges + random.below(jumps - edges)][..2].to_vec();
+            mesh[jump][..2].copy_from_slice(&line);
+        }
+        6 => mesh[jump] = vec![from, to, from, to],
+        _ => mesh[jump][random.below(4)] = near_limit(random),
     }
 }
 

@@ -1,5 +1,6 @@
-//! Sheets that are accepted, or nearly: rectangular grids in layers, some cells cut into triangles,
-//! with a field that depends on height alone and multipliers around one corner and over the whole grid.
+//! Sheets that are accepted, or nearly: rectangular grids in layers, some cells cut into triangles, some
+//! with a joint, where the field may jump; else the field depends on height alone. Multipliers are
+//! around one corner and over the whole grid.
 
 use crate::random::Random;
 use independent::sheet::{Lines, Sheet};
@@ -26,6 +27,23 @@ fn radius_and_rise(sides: i64) -> (i64, i64) {
     }
 }
 
+/// A line of the grid, upright or level, whose nodes from one on are there twice.
+#[derive(Clone, Copy)]
+struct Joint {
+    upright: bool,
+    /// Which grid line it is, and the first place along it that is doubled; before that is the tip.
+    line: usize,
+    first: usize,
+}
+
+/// A node of the grid; on a joint the second one is beyond it.
+#[derive(Clone, Copy)]
+struct Spot {
+    column: usize,
+    row: usize,
+    beyond: bool,
+}
+
 struct Grid {
     columns: usize,
     rows: usize,
@@ -34,11 +52,17 @@ struct Grid {
     sides: i64,
     soils: Lines,
     layer_soil: Vec<usize>,
+    joint: Option<Joint>,
+    spots: Vec<Spot>,
     elements: Lines,
+    edges: Lines,
+    jumps: Lines,
     /// Dead and live parts of sx, and of sy and t at each height.
     sx: [i64; 2],
     sy: Vec<[i64; 2]>,
     t: Vec<[i64; 2]>,
+    /// What is added beyond a joint: to sy if it is upright, to sx if it is level.
+    leap: [i64; 2],
 }
 
 fn common_divisor(a: i64, b: i64) -> i64 {
@@ -124,6 +148,50 @@ fn triangles(random: &mut Random, corners: [i64; 4], soil: i64) -> Lines {
     vec![triangle([a, b, c]), triangle([c, d, a])]
 }
 
+impl Joint {
+    /// On a line of a grid that isn't small; the tip is at the grid's end or inside.
+    fn new(random: &mut Random, columns: usize, rows: usize) -> Option<Joint> {
+        let upright = random.one_in(2);
+        let (lines, length) = if upright {
+            (columns, rows)
+        } else {
+            (rows, columns)
+        };
+        if lines < 2 || columns * rows > 64 || random.one_in(2) {
+            return None;
+        }
+        let first = if random.one_in(2) {
+            0
+        } else {
+            1 + random.below(length)
+        };
+        Some(Joint {
+            upright,
+            line: 1 + random.below(lines - 1),
+            first,
+        })
+    }
+
+    /// Whether a place of the grid has two nodes.
+    fn doubles(&self, column: usize, row: usize) -> bool {
+        let (across, along) = if self.upright {
+            (column, row)
+        } else {
+            (row, column)
+        };
+        across == self.line && along >= self.first
+    }
+
+    /// Whether a cell lies beyond the joint's line.
+    fn has_beyond(&self, column: usize, row: usize) -> bool {
+        if self.upright {
+            column >= self.line
+        } else {
+            row >= self.line
+        }
+    }
+}
+
 impl Grid {
     fn new(random: &mut Random) -> Grid {
         let largest = if random.one_in(4) { 9 } else { 3 };
@@ -141,27 +209,90 @@ impl Grid {
         };
         let t = integrated(random, &ys, &forces(0));
         let sy = integrated(random, &ys, &forces(1));
-        let sx = [random.between(-40, 40), random.between(-40, 40)];
-        let sides = random.pick(&[12, 20, 36]);
+        let any_part = |random: &mut Random| [random.between(-40, 40), random.between(-40, 40)];
+        let joint = Joint::new(random, columns, rows);
+        let whole = joint.is_some_and(|joint| joint.first == 0);
         let mut grid = Grid {
             columns,
             rows,
             xs,
             ys,
-            sides,
+            sides: random.pick(&[12, 20, 36]),
             soils,
             layer_soil,
+            joint,
+            spots: Vec::new(),
             elements: Lines::new(),
-            sx,
+            edges: Lines::new(),
+            jumps: Lines::new(),
+            sx: any_part(random),
             sy,
             t,
+            leap: if whole { any_part(random) } else { [0, 0] },
         };
+        grid.spots = grid.all_spots();
         grid.elements = grid.cells(random);
+        grid.edges = grid.all_edges(random);
+        grid.jumps = grid.all_jumps(random);
         grid
     }
 
-    fn node(&self, column: usize, row: usize) -> i64 {
-        (row * (self.columns + 1) + column + 1) as i64
+    /// The nodes row by row, then the second ones along the joint.
+    fn all_spots(&self) -> Vec<Spot> {
+        let places =
+            || (0..=self.rows).flat_map(|row| (0..=self.columns).map(move |column| (column, row)));
+        let side = |column: usize, row: usize| {
+            let on_line = |joint: &Joint| (if joint.upright { column } else { row }) == joint.line;
+            self.joint
+                .is_some_and(|joint| joint.has_beyond(column, row) && !on_line(&joint))
+        };
+        let first = places().map(|(column, row)| Spot {
+            column,
+            row,
+            beyond: side(column, row),
+        });
+        let doubled = |&(column, row): &(usize, usize)| {
+            self.joint.is_some_and(|joint| joint.doubles(column, row))
+        };
+        let second = places().filter(doubled).map(|(column, row)| Spot {
+            column,
+            row,
+            beyond: true,
+        });
+        first.chain(second).collect()
+    }
+
+    /// The node at a corner of a cell, which lies `right` and `up` of its lower left one.
+    fn corner(&self, cell: (usize, usize), right: usize, up: usize) -> i64 {
+        let (column, row) = (cell.0 + right, cell.1 + up);
+        let beyond = self
+            .joint
+            .is_some_and(|joint| joint.doubles(column, row) && joint.has_beyond(cell.0, cell.1));
+        let there = |spot: &Spot| (spot.column, spot.row) == (column, row);
+        let found = if beyond {
+            self.spots.iter().rposition(there)
+        } else {
+            self.spots.iter().position(there)
+        };
+        found.expect("a node at each place") as i64 + 1
+    }
+
+    /// sx, sy and t at a spot, each dead and live.
+    fn stress(&self, spot: Spot) -> [[i64; 2]; 3] {
+        let upright = self.joint.is_some_and(|joint| joint.upright);
+        let leap = |here: bool| {
+            if spot.beyond && here {
+                self.leap
+            } else {
+                [0, 0]
+            }
+        };
+        let sum = |a: [i64; 2], b: [i64; 2]| [a[0] + b[0], a[1] + b[1]];
+        [
+            sum(self.sx, leap(!upright)),
+            sum(self.sy[spot.row], leap(upright)),
+            self.t[spot.row],
+        ]
     }
 
     /// A soil with the forces of this one.
@@ -186,7 +317,7 @@ impl Grid {
         for row in 0..self.rows {
             for column in 0..self.columns {
                 let corners = [(0, 0), (1, 0), (1, 1), (0, 1)]
-                    .map(|(right, up)| self.node(column + right, row + up));
+                    .map(|(right, up)| self.corner((column, row), right, up));
                 let soil = if with_twins {
                     self.twin(random, self.layer_soil[row])
                 } else {
@@ -203,81 +334,109 @@ impl Grid {
         all
     }
 
-    /// Foot and top: normal sy, and shear -t since the step is along x.
-    fn level_edge(&self, from: i64, to: i64, row: usize, fixed: i64) -> Vec<i64> {
-        let (sy, t) = (self.sy[row], self.t[row]);
-        vec![from, to, fixed, sy[0], -t[0], sy[1], -t[1]]
+    /// An edge on a side of a cell from one of its corners to another, its loads the field's own: along
+    /// x the normal is sy and the shear -t; along y the normal is sx, and the shear t where it is the
+    /// same at both ends.
+    fn edge(&self, cell: (usize, usize), from: [usize; 2], to: [usize; 2], fixed: i64) -> Vec<i64> {
+        let [from, to] = [from, to].map(|[right, up]| self.corner(cell, right, up));
+        let [start, end] = [from, to].map(|node| self.spots[node as usize - 1]);
+        let [sx, sy, t] = self.stress(start);
+        if start.row == end.row {
+            vec![from, to, fixed, sy[0], -t[0], sy[1], -t[1]]
+        } else {
+            let fixed = if t == self.t[end.row] { fixed } else { 1 };
+            vec![from, to, fixed, sx[0], t[0], sx[1], t[1]]
+        }
     }
 
-    /// Left and right: normal sx, and shear t where it is the same at both ends.
-    fn upright_edge(&self, from: i64, to: i64, row: usize, fixed: i64) -> Vec<i64> {
-        let t = self.t[row];
-        let fixed = if t == self.t[row + 1] { fixed } else { 1 };
-        vec![from, to, fixed, self.sx[0], t[0], self.sx[1], t[1]]
-    }
-
-    /// Every outer side, counterclockwise; the first is the right side below the last corner.
-    fn edges(&self, random: &mut Random, all_fixed: bool) -> Lines {
+    /// Every outer side but the joint's, counterclockwise; the first is the right side below the last
+    /// corner.
+    fn all_edges(&self, random: &mut Random) -> Lines {
+        let all_fixed = random.one_in(2);
         let mut fixed = || if all_fixed { 3 } else { random.between(1, 3) };
+        let (last_column, last_row) = (self.columns - 1, self.rows - 1);
         let mut edges = Vec::new();
         for row in (0..self.rows).rev() {
-            let (low, high) = (
-                self.node(self.columns, row),
-                self.node(self.columns, row + 1),
-            );
-            edges.push(self.upright_edge(low, high, row, fixed()));
+            edges.push(self.edge((last_column, row), [1, 0], [1, 1], fixed()));
         }
         for column in (0..self.columns).rev() {
-            let (left, right) = (
-                self.node(column, self.rows),
-                self.node(column + 1, self.rows),
-            );
-            edges.push(self.level_edge(right, left, self.rows, fixed()));
+            edges.push(self.edge((column, last_row), [1, 1], [0, 1], fixed()));
         }
         for row in 0..self.rows {
-            let (low, high) = (self.node(0, row), self.node(0, row + 1));
-            edges.push(self.upright_edge(high, low, row, fixed()));
+            edges.push(self.edge((0, row), [0, 1], [0, 0], fixed()));
         }
         for column in 0..self.columns {
-            let (left, right) = (self.node(column, 0), self.node(column + 1, 0));
-            edges.push(self.level_edge(left, right, 0, fixed()));
+            edges.push(self.edge((column, 0), [0, 0], [1, 0], fixed()));
         }
         edges
     }
 
-    fn mesh(&self, edges: &Lines) -> Lines {
-        let nodes = (self.columns + 1) * (self.rows + 1);
-        let counts = [nodes, self.elements.len(), self.soils.len(), edges.len()];
-        let mut mesh = vec![counts.iter().map(|&count| count as i64).collect::<Vec<_>>()];
-        mesh[0].push(self.sides);
-        mesh.extend(self.soils.iter().cloned());
-        for &y in &self.ys {
-            mesh.extend(self.xs.iter().map(|&x| vec![x, y]));
+    /// The jumps along the joint, from either side.
+    fn all_jumps(&self, random: &mut Random) -> Lines {
+        let Some(joint) = self.joint else {
+            return Lines::new();
+        };
+        let length = if joint.upright {
+            self.rows
+        } else {
+            self.columns
+        };
+        let mut jumps = Lines::new();
+        for k in joint.first.saturating_sub(1)..length {
+            let [from, to, facing_from, facing_to] = if joint.upright {
+                let (near, far) = ((joint.line - 1, k), (joint.line, k));
+                [(near, 1, 0), (near, 1, 1), (far, 0, 0), (far, 0, 1)]
+            } else {
+                let (near, far) = ((k, joint.line - 1), (k, joint.line));
+                [(near, 1, 1), (near, 0, 1), (far, 1, 0), (far, 0, 0)]
+            }
+            .map(|(cell, right, up)| self.corner(cell, right, up));
+            jumps.push(if random.one_in(2) {
+                vec![from, to, facing_from, facing_to]
+            } else {
+                vec![facing_to, facing_from, to, from]
+            });
         }
+        jumps
+    }
+
+    fn mesh(&self) -> Lines {
+        let counts = [
+            self.spots.len(),
+            self.elements.len(),
+            self.soils.len(),
+            self.edges.len(),
+            self.sides as usize,
+            self.jumps.len(),
+        ];
+        let mut mesh = vec![counts.iter().map(|&count| count as i64).collect::<Vec<_>>()];
+        mesh.extend(self.soils.iter().cloned());
+        mesh.extend(
+            self.spots
+                .iter()
+                .map(|spot| vec![self.xs[spot.column], self.ys[spot.row]]),
+        );
         mesh.extend(self.elements.iter().cloned());
-        mesh.extend(edges.iter().cloned());
+        mesh.extend(self.edges.iter().cloned());
+        mesh.extend(self.jumps.iter().cloned());
         mesh
     }
 
     fn field(&self, n: i64, l: i64) -> Lines {
         let at = |part: [i64; 2]| n * part[0] + l * part[1];
-        let mut field = Vec::new();
-        for (sy, t) in self.sy.iter().zip(&self.t) {
-            let line = vec![at(self.sx), at(*sy), at(*t)];
-            field.extend(std::iter::repeat(line).take(self.columns + 1));
-        }
-        field
+        let line = |&spot: &Spot| self.stress(spot).map(at).to_vec();
+        self.spots.iter().map(line).collect()
     }
 
-    /// Zero multipliers, a line for each element, edge and pair.
-    fn zero_multipliers(&self, edges: usize) -> Lines {
+    /// Zero multipliers, a line for each element, edge, jump and pair.
+    fn zero_multipliers(&self) -> Lines {
         let mut lines = vec![vec![0; 2]; self.elements.len()];
-        lines.extend(vec![vec![0; 4]; edges]);
+        lines.extend(vec![vec![0; 4]; self.edges.len() + self.jumps.len()]);
         lines.extend(vec![vec![0; self.sides as usize]; self.pairs().len()]);
         lines
     }
 
-    /// Strength multipliers at the last pair, in the upper right corner, on the two sides next to (r, 0), where sx - sy is
+    /// Strength multipliers at the upper right corner on the two sides next to (r, 0), where sx - sy is
     /// largest, or next to (-r, 0); the right side's and the top's normal rows undo them.
     fn add_corner(&self, random: &mut Random, lines: &mut Lines) {
         let half = self.sides as usize / 2;
@@ -286,8 +445,13 @@ impl Grid {
         } else {
             [half - 1, half]
         };
-        let (_, soil) = *self.pairs().last().expect("a pair");
-        let soil = &self.soils[soil as usize - 1];
+        let corner = self.corner((self.columns - 1, self.rows - 1), 1, 1);
+        let pairs = self.pairs();
+        let pair = pairs
+            .iter()
+            .rposition(|&(node, _)| node == corner)
+            .expect("a pair");
+        let soil = &self.soils[pairs[pair].1 as usize - 1];
         let (r, rise) = radius_and_rise(self.sides);
         let sign = if rows[0] == 0 { 1 } else { -1 };
         let (difference, friction) = (2 * r * soil[2] * rise * sign, 2 * soil[0] * r * rise);
@@ -298,27 +462,25 @@ impl Grid {
             whole_from(across, right * right),
             whole_from(down, top * top),
         ) * random.between(1, 2);
-        let elements = self.elements.len();
-        let last = lines.len() - 1;
-        rows.iter().for_each(|&row| lines[last][row] += y);
+        let (elements, first) = (self.elements.len(), lines.len() - pairs.len());
+        rows.iter().for_each(|&row| lines[first + pair][row] += y);
         lines[elements][2] -= y * across / (right * right);
         lines[elements + self.rows][0] -= y * down / (top * top);
     }
 
-    /// A rigid step (a, b) of the whole grid; every outer side has an edge with both parts fixed.
-    fn add_rigid(&self, random: &mut Random, edges: &Lines, lines: &mut Lines) {
+    /// A rigid step (a, b) of the whole grid; every outer side has an edge with both parts fixed, or a
+    /// jump, whose rows undo the step on both of its sides.
+    fn add_rigid(&self, random: &mut Random, lines: &mut Lines) {
         let (a, b) = (400 * random.between(-9, 9), 400 * random.between(-9, 9));
         let elements = self.elements.len();
         let at = |node: i64| {
-            let (row, column) = (
-                (node - 1) as usize / self.xs.len(),
-                (node - 1) as usize % self.xs.len(),
-            );
-            (self.xs[column], self.ys[row])
+            let spot = self.spots[node as usize - 1];
+            (self.xs[spot.column], self.ys[spot.row])
         };
         lines[..elements].fill(vec![a, b]);
-        for (line, edge) in lines[elements..].iter_mut().zip(edges) {
-            let (from, to) = (at(edge[0]), at(edge[1]));
+        let outer = self.edges.iter().chain(&self.jumps);
+        for (line, side) in lines[elements..].iter_mut().zip(outer) {
+            let (from, to) = (at(side[0]), at(side[1]));
             let (u, w) = (to.0 - from.0, to.1 - from.1);
             let size = u * u + w * w;
             for end in [0, 2] {
@@ -328,7 +490,7 @@ impl Grid {
         }
     }
 
-    fn claim(&self, random: &mut Random, edges: &Lines) -> Lines {
+    fn claim(&self, random: &mut Random) -> Lines {
         let parts = random.pick(&[[1, 0], [0, 1], [1, 1], [1, 1]]);
         let mut claim = vec![vec![parts[0], parts[1], 0, 0]];
         if parts[0] == 1 {
@@ -338,12 +500,10 @@ impl Grid {
             claim.extend(self.field(n, l));
         }
         if parts[1] == 1 {
-            let mut lines = self.zero_multipliers(edges.len());
+            let mut lines = self.zero_multipliers();
             self.add_corner(random, &mut lines);
-            if edges.len() == 2 * (self.columns + self.rows)
-                && edges.iter().all(|edge| edge[2] == 3)
-            {
-                self.add_rigid(random, edges, &mut lines);
+            if self.edges.iter().all(|edge| edge[2] == 3) {
+                self.add_rigid(random, &mut lines);
             }
             claim.extend(lines);
         }
@@ -361,8 +521,6 @@ pub fn sheet(random: &mut Random) -> Sheet {
 /// A mesh and claims for it.
 pub fn family(random: &mut Random, claims: usize) -> (Lines, Vec<Lines>) {
     let grid = Grid::new(random);
-    let all_fixed = random.one_in(2);
-    let edges = grid.edges(random, all_fixed);
-    let claims = (0..claims).map(|_| grid.claim(random, &edges)).collect();
-    (grid.mesh(&edges), claims)
+    let claims = (0..claims).map(|_| grid.claim(random)).collect();
+    (grid.mesh(), claims)
 }

@@ -3,7 +3,7 @@ use mathlib.Core.Path.{sym}
 use native.Mathlib.Omega.{arith}
 use lib.ListN.{length-replicate}
 use Rattle.scope.specs.Columns.{upTo}
-use Rattle.scope.specs.Claim.{stressLines, elementMultipliers, edgeMultipliers, strengthMultipliers}
+use Rattle.scope.specs.Claim.{stressLines, elementMultipliers, edgeMultipliers, jumpMultipliers, strengthMultipliers}
 use Rattle.lines.specs.Table.{kindLines, claimBody, evenLines}
 use Rattle.lines.proofs.GroupLaws.{few-there}
 use borrow.Author.Needs.{needs}
@@ -22,16 +22,20 @@ if-there-requires-3 c κs = search needs
 if-there-requires-4 : tie.Need-if-there-requires-4
 if-there-requires-4 c κs = search needs
 
+if-there-requires-5 : tie.Need-if-there-requires-5
+if-there-requires-5 c κs = search needs
+
 returns : tie.Need-returns
-unfolding kindLines claimBody evenLines stressLines elementMultipliers edgeMultipliers strengthMultipliers upTo
+unfolding kindLines claimBody evenLines stressLines elementMultipliers edgeMultipliers jumpMultipliers strengthMultipliers upTo
 returns c =
-    let p = c .before .before .before .before .pre in
-    let a = c .before .before .before .if-there .ensures in
-    let b = c .before .before .if-there2 .ensures in
-    let d = c .before .if-there3 .ensures in
-    let e = c .if-there4 .ensures in
+    let p = c .before .before .before .before .before .pre in
+    let a = c .before .before .before .before .if-there .ensures in
+    let b = c .before .before .before .if-there2 .ensures in
+    let d = c .before .before .if-there3 .ensures in
+    let j = c .before .if-there4 .ensures in
+    let e = c .if-there5 .ensures in
     record {
-      same = rw (a, b, d, e);
+      same = rw (a, b, d, j, e);
       table = record {
         size = omega arith;
         good = (
@@ -40,7 +44,10 @@ returns c =
             record { wide = omega arith; fewLines = few-there _ b (p .fewElements); someColumn = omega arith; fewColumns = omega arith },
             (
               record { wide = omega arith; fewLines = few-there _ d (omega (arith, p .fewEdges)); someColumn = omega arith; fewColumns = omega arith },
-              (record { wide = sym (length-replicate _ _); fewLines = few-there _ e (omega (arith, p .fewPairs)); someColumn = p .someSide; fewColumns = p .fewSides }, tt),
+              (
+                record { wide = omega arith; fewLines = few-there _ j (omega (arith, p .fewJumps)); someColumn = omega arith; fewColumns = omega arith },
+                (record { wide = sym (length-replicate _ _); fewLines = few-there _ e (omega (arith, p .fewPairs)); someColumn = p .someSide; fewColumns = p .fewSides }, tt),
+              ),
             ),
           ),
         );
@@ -55,4 +62,5 @@ claim-groups-spec =
     if-there-requires-2
     if-there-requires-3
     if-there-requires-4
+    if-there-requires-5
     returns)

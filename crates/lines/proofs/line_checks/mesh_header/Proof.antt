@@ -5,7 +5,7 @@ use denote.Ref.{now}
 use Rattle.scope.specs.Mesh.{meshLayout, meshHeader}
 use Rattle.scope.specs.Verdict.{rulesHold}
 use Rattle.lines.specs.LineContracts.{ranges}
-use Rattle.lines.proofs.LineLaws.{line-short, line-outside, line-by-rules, mesh-header-line, mesh-header-limits, first-fails, second-fails, both-hold, sides-read, so, not-so}
+use Rattle.lines.proofs.LineLaws.{line-short, line-outside, line-by-rules, mesh-header-line, mesh-header-limits, first-fails, second-fails, both-hold, last-read, so, not-so}
 use borrow.Author.Needs.{needs}
 use Rattle.lines.proofs.line_checks.mesh_header.Statement.{statement}
 use Rattle.lines.proofs.line_checks.mesh_header.Tie as tie
@@ -47,11 +47,14 @@ returns-2 c =
     let outside = first-fails _ (mesh-header-limits m (omega arith)) (not-so (c .before .before .limits-hold .ensures) (c .before .if2 .taken)) in
     c .refused2 .ensures ∙ line-outside meshLayout meshHeader m _ (omega arith) outside ∙ mesh-header-line m
 
-shared-slice-copy-out-is-sides : tie.Need-shared-slice-copy-out-is-sides
-shared-slice-copy-out-is-sides c = search needs
+shared-slice-copy-out-sides-and-jumps : tie.Need-shared-slice-copy-out-sides-and-jumps
+shared-slice-copy-out-sides-and-jumps c = search needs
 
-is-sides-requires : tie.Need-is-sides-requires
-is-sides-requires c κs = search needs
+shared-slice-copy-out-sides-and-jumps-2 : tie.Need-shared-slice-copy-out-sides-and-jumps-2
+shared-slice-copy-out-sides-and-jumps-2 c = search needs
+
+sides-and-jumps-requires : tie.Need-sides-and-jumps-requires
+sides-and-jumps-requires c κs = search needs
 
 refused-requires-3 : tie.Need-refused-requires-3
 refused-requires-3 c κs = search needs
@@ -59,17 +62,19 @@ refused-requires-3 c κs = search needs
 returns-3 : tie.Need-returns-3
 unfolding meshHeader meshLayout ranges
 returns-3 c =
-    let m = now (c .before .before .before .before .before .before .before .before .before .before .args .m) in
-    let sides = sides-read (record { sfits = c .before .before .before .is-sides-arg .given }) ∙ not-so (c .before .before .is-sides .ensures) (c .before .if3 .taken) in
-    let outside = second-fails (mesh-header-limits m (omega arith)) (so (c .before .before .before .before .before .limits-hold .ensures) (c .before .before .before .before .if2 .left)) sides in
+    let a = c .before .before .before in
+    let m = now (a .before .before .before .before .before .before .before .before .args .m) in
+    let last = last-read (record { sfits = a .before .sides-and-jumps-arg .given }) (record { sfits = a .sides-and-jumps-arg2 .given }) ∙ not-so (c .before .before .sides-and-jumps .ensures) (c .before .if3 .taken) in
+    let outside = second-fails (mesh-header-limits m (omega arith)) (so (a .before .before .before .limits-hold .ensures) (a .before .before .if2 .left)) last in
     c .refused3 .ensures ∙ line-outside meshLayout meshHeader m _ (omega arith) outside ∙ mesh-header-line m
 
 returns-4 : tie.Need-returns-4
 unfolding meshHeader meshLayout ranges rulesHold
 returns-4 c =
-    let m = now (c .before .before .before .before .before .before .before .before .before .args .m) in
-    let sides = sides-read (record { sfits = c .before .before .is-sides-arg .given }) ∙ so (c .before .is-sides .ensures) (c .if3 .left) in
-    let hold = both-hold (mesh-header-limits m (omega arith)) (so (c .before .before .before .before .limits-hold .ensures) (c .before .before .before .if2 .left)) sides in
+    let a = c .before .before in
+    let m = now (a .before .before .before .before .before .before .before .before .args .m) in
+    let last = last-read (record { sfits = a .before .sides-and-jumps-arg .given }) (record { sfits = a .sides-and-jumps-arg2 .given }) ∙ so (c .before .sides-and-jumps .ensures) (c .if3 .left) in
+    let hold = both-hold (mesh-header-limits m (omega arith)) (so (a .before .before .before .limits-hold .ensures) (a .before .before .if2 .left)) last in
     line-by-rules meshLayout meshHeader m _ (omega arith) hold ∙ mesh-header-line m
 
 pub mesh-header-spec : {M : Type 1} → statement M
@@ -86,8 +91,9 @@ mesh-header-spec =
     limits-hold-requires
     refused-requires-2
     returns-2
-    shared-slice-copy-out-is-sides
-    is-sides-requires
+    shared-slice-copy-out-sides-and-jumps
+    shared-slice-copy-out-sides-and-jumps-2
+    sides-and-jumps-requires
     refused-requires-3
     returns-3
     returns-4)

@@ -1,5 +1,5 @@
 -- `line_check` meets its contract: each kind of line by the function that checks it.
-use Rattle.scope.specs.Mesh.{soilLines, elementLines, edgeLines}
+use Rattle.scope.specs.Mesh.{soilLines, elementLines, edgeLines, jumpLines}
 use Rattle.lines.specs.Table.{ruledLines}
 use borrow.Author.Needs.{needs}
 use Rattle.lines.proofs.line_tests.line_check.Statement.{statement}
@@ -23,6 +23,12 @@ enum-told-3 c = search needs
 check-edge-requires : tie.Need-check-edge-requires
 check-edge-requires c κs = search needs
 
+enum-told-4 : tie.Need-enum-told-4
+enum-told-4 c = search needs
+
+check-jump-requires : tie.Need-check-jump-requires
+check-jump-requires c κs = search needs
+
 returns : tie.Need-returns
 unfolding ruledLines soilLines
 returns c = rw (c .before .enum-told .given .1) (c .check-soil .ensures)
@@ -35,6 +41,10 @@ returns-3 : tie.Need-returns-3
 unfolding ruledLines edgeLines
 returns-3 c = rw (c .before .enum-told3 .given .1) (c .check-edge .ensures)
 
+returns-4 : tie.Need-returns-4
+unfolding ruledLines jumpLines
+returns-4 c = rw (c .before .enum-told4 .given .1) (c .check-jump .ensures)
+
 pub line-check-spec : {M : Type 1} → statement M
 line-check-spec =
     tie.close
@@ -45,6 +55,9 @@ line-check-spec =
     check-element-requires
     enum-told-3
     check-edge-requires
+    enum-told-4
+    check-jump-requires
     returns
     returns-2
-    returns-3)
+    returns-3
+    returns-4)

@@ -3,7 +3,7 @@ use mathlib.Core.Path.{_≡_, refl, sym, _∙_, subst}
 use Prim.Native.Nat.{_+_, _*_, _-_, _≤_}
 use native.Mathlib.Omega.{arith}
 use Rattle.mesh.proofs.Places.{few-things}
-use Rattle.scope.specs.Mesh.{elements, edges}
+use Rattle.scope.specs.Mesh.{equalityCount}
 use Rattle.rows.specs.MultiplierContracts.{Summed}
 use Rattle.rows.proofs.MultiplierLaws.{none-summed, one-summed, room}
 use borrow.Author.Needs.{needs}
@@ -47,7 +47,7 @@ returns c =
     let rows = c .before .before in
     let start = rows .before in
     let loop = c .before .loop in
-    let e : loop .k ≡ elements (start .args .m .now) * 2 + edges (start .args .m .now) * 4 = omega (arith, rows .equality-count .ensures .0 _ (start .pre .0)) in
+    let e : loop .k ≡ equalityCount (start .args .m .now) = omega (arith, rows .equality-count .ensures .0 _ (start .pre .0)) in
     subst (λ k. Summed (start .args .m .now) (start .args .y .now) k (loop .columns) (loop .sums)) e (loop .inv .1)
 
 pub equality-sums-spec : {M : Type 1} → statement M

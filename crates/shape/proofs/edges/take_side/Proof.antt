@@ -5,10 +5,10 @@ use native.Mathlib.Omega.{arith}
 use borrow.Author.Needs.{needs}
 use borrow.Author.Tests.{lt-ltb, le-ltb}
 use Rattle.scope.specs.Mesh.{mostNodes, mostElements}
-use Rattle.shape.specs.ShapeContracts.{put}
+use Rattle.shape.specs.ShapeContracts.{put, isUntaken}
 use Rattle.shape.proofs.MeshLaws.{edge-fits}
 use Rattle.shape.proofs.ByteTables.{put-free, put-taken}
-use Rattle.shape.proofs.SideTables.{isUntaken, take-more}
+use Rattle.shape.proofs.SideTables.{take-more}
 use Rattle.shape.proofs.edges.take_side.Statement.{statement}
 use Rattle.shape.proofs.edges.take_side.Tie as tie
 

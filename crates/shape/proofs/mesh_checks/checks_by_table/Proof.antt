@@ -27,11 +27,8 @@ enum-known-nodes c = search needs
 enum-told-2 : tie.Need-enum-told-2
 enum-told-2 c = search needs
 
-take-sides-requires : tie.Need-take-sides-requires
-take-sides-requires c κs = search needs
-
-edges-check-requires : tie.Need-edges-check-requires
-edges-check-requires c κs = search needs
+edges-and-joints-requires : tie.Need-edges-and-joints-requires
+edges-and-joints-requires c κs = search needs
 
 same-length : tie.Need-same-length
 same-length c = search needs
@@ -55,9 +52,9 @@ same-length-3 c = search needs
 returns-3 : tie.Need-returns-3
 unfolding checkPhases
 returns-3 c =
-    let asked = c .before .before .before .before .before .before .before .before in
+    let asked = c .before .before .before .before .before .before in
     let passed = sym (asked .before .before .before .sides-check .ensures) ∙ asked .before .enum-told .given .1 in
-    then-goes-on passed (then-goes-on (sym (asked .nodes-check .ensures) ∙ c .before .before .before .before .before .before .enum-told2 .given .1) (c .edges-check .ensures))
+    then-goes-on passed (then-goes-on (sym (asked .nodes-check .ensures) ∙ c .before .before .before .before .enum-told2 .given .1) (c .before .before .edges-and-joints .ensures))
 
 pub checks-by-table-spec : {M : Type 1} → statement M
 checks-by-table-spec =
@@ -70,8 +67,7 @@ checks-by-table-spec =
     nodes-check-requires
     enum-known-nodes
     enum-told-2
-    take-sides-requires
-    edges-check-requires
+    edges-and-joints-requires
     same-length
     returns
     same-length-2

@@ -1,4 +1,4 @@
--- `mesh_shape` meets its contract: the turns first, then the sides, nodes and edges, and the pairs last.
+-- `mesh_shape` meets its contract: the turns first, then the sides, nodes, edges and jumps, and the pairs last.
 use mathlib.Core.Path.{sym, _∙_}
 use borrow.Author.Needs.{needs}
 use Rattle.shape.proofs.MeshLaws.{turns-refuse, rest-refuses, pairs-last}
@@ -26,8 +26,8 @@ enum-told c = search needs
 mark-table-requires : tie.Need-mark-table-requires
 mark-table-requires c κs = search needs
 
-sides-nodes-edges-requires : tie.Need-sides-nodes-edges-requires
-sides-nodes-edges-requires c κs = search needs
+sides-to-joints-requires : tie.Need-sides-to-joints-requires
+sides-to-joints-requires c κs = search needs
 
 enum-known-sides : tie.Need-enum-known-sides
 enum-known-sides c = search needs
@@ -40,7 +40,7 @@ returns-2 c =
     let asked = c .before .before in
     let rest = asked .before .before in
     let told = rest .before .before .before in
-    paired-as _ (c .no-pairs2 .ensures _) (rest-refuses _ (sym (told .before .before .turns-check .ensures) ∙ told .enum-told .given .1) (sym (rest .sides-nodes-edges .ensures) ∙ asked .sides .given .1))
+    paired-as _ (c .no-pairs2 .ensures _) (rest-refuses _ (sym (told .before .before .turns-check .ensures) ∙ told .enum-told .given .1) (sym (rest .sides-to-joints .ensures) ∙ asked .sides .given .1))
 
 enum-told-2 : tie.Need-enum-told-2
 enum-told-2 c = search needs
@@ -53,7 +53,7 @@ returns-3 c =
     let passed = c .before .before in
     let rest = passed .before .before in
     let told = rest .before .before .before in
-    paired-as _ (c .pairs-check .ensures) (pairs-last _ (sym (told .before .before .turns-check .ensures) ∙ told .enum-told .given .1) (sym (rest .sides-nodes-edges .ensures) ∙ passed .enum-told2 .given .1))
+    paired-as _ (c .pairs-check .ensures) (pairs-last _ (sym (told .before .before .turns-check .ensures) ∙ told .enum-told .given .1) (sym (rest .sides-to-joints .ensures) ∙ passed .enum-told2 .given .1))
 
 pub mesh-shape-spec : {M : Type 1} → statement M
 mesh-shape-spec =
@@ -65,7 +65,7 @@ mesh-shape-spec =
     returns
     enum-told
     mark-table-requires
-    sides-nodes-edges-requires
+    sides-to-joints-requires
     enum-known-sides
     no-pairs-requires-2
     returns-2

@@ -1,11 +1,11 @@
--- `sides_nodes_edges` meets its contract: either table has room for the sides of all nodes.
+-- `sides_to_joints` meets its contract: either table has room for the sides of all nodes.
 use Prim.Native.Nat.{_*_}
 use native.Mathlib.Omega.{arith}
 use borrow.Author.Needs.{needs}
 use Rattle.scope.specs.Mesh.{mostNodes}
 use Rattle.shape.proofs.SideTables.{no-sides}
-use Rattle.shape.proofs.mesh_checks.sides_nodes_edges.Statement.{statement}
-use Rattle.shape.proofs.mesh_checks.sides_nodes_edges.Tie as tie
+use Rattle.shape.proofs.mesh_checks.sides_to_joints.Statement.{statement}
+use Rattle.shape.proofs.mesh_checks.sides_to_joints.Tie as tie
 
 slice-aggregate-checks-by-table : tie.Need-slice-aggregate-checks-by-table
 slice-aggregate-checks-by-table c = search needs
@@ -25,8 +25,8 @@ checks-by-table-requires-2 c κs = let k = c .before .before .before .pre in (k 
 returns-2 : tie.Need-returns-2
 returns-2 c = search needs
 
-pub sides-nodes-edges-spec : {M : Type 1} → statement M
-sides-nodes-edges-spec =
+pub sides-to-joints-spec : {M : Type 1} → statement M
+sides-to-joints-spec =
     tie.close
     (tie.spec
     slice-aggregate-checks-by-table
