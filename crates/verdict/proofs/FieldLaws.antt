@@ -14,7 +14,7 @@ use Rattle.integer.proofs.Machine.{within-SFits, Is-read}
 use Rattle.integer.specs.Tests.{eqZ}
 use Rattle.scope.specs.declared.Outcome.the-variants.{Passed, Refused}
 use Rattle.scope.specs.declared.Place.the-variants as P
-use Rattle.rows.specs.declared.equality_rows.EqualityRow.{EqualityRow}
+use Rattle.equality.specs.declared.equality_rows.EqualityRow.{EqualityRow}
 use Rattle.scope.specs.Columns.{at, l, n}
 use Rattle.scope.specs.Claim.{stress}
 use Rattle.scope.specs.Mesh.{equalityCount}
@@ -25,10 +25,11 @@ use Rattle.scope.specs.Refusals.{equalitiesPhase}
 use Rattle.scope.specs.NumberRanges.{ClaimFacts}
 use Rattle.scope.proofs.RowCounts.{equality-count}
 use Rattle.scope.specs.Tests.{rowAt}
-use Rattle.rows.specs.RowContracts.{rowOf, Filled, FieldFits}
+use Rattle.equality.specs.EqualityContracts.{rowOf, Filled}
+use Rattle.verdict.specs.FieldContracts.{FieldFits}
 use Rattle.lines.specs.SearchContracts.{firstFailing}
-use Rattle.rows.proofs.ClaimLaws.{claim-within, rest-within, stress-of, scale-within, load-within, field-long}
-use Rattle.rows.proofs.StrengthLaws.{being}
+use Rattle.criterion.proofs.ClaimLaws.{claim-within, rest-within, stress-of, scale-within, load-within, field-long}
+use Rattle.criterion.proofs.StrengthLaws.{being}
 use Rattle.lines.proofs.Loops.{phase-fails, phase-done}
 
 -- ---- numbers that the machine read back

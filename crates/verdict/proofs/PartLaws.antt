@@ -24,8 +24,8 @@ use Rattle.scope.specs.Rows.{rowsOf}
 use Rattle.scope.specs.Sums.{liveSum, limitSum, openRows}
 use Rattle.scope.specs.Phases.{ifPart, Phase, checkPhases}
 use Rattle.scope.specs.Verdict.{lowerLoad, upperLoad, openCount, answer}
-use Rattle.rows.specs.declared.multiplier_checks.Limit.the-variants as L
-use Rattle.rows.specs.LimitContracts.{limitOf}
+use Rattle.multipliers.specs.declared.multiplier_checks.Limit.the-variants as L
+use Rattle.multipliers.specs.LimitContracts.{limitOf}
 use Rattle.scope.specs.Checks.{_then_}
 use Rattle.scope.specs.Refusals.{fieldPart, multiplierPart, partPhases}
 use Rattle.scope.proofs.Refusals.{parts-checked}

@@ -29,7 +29,7 @@ use Rattle.mesh.proofs.Places.{as-sizes}
 use Rattle.shape.specs.declared.pairs.Paired.{Paired}
 use Rattle.shape.specs.ShapeContracts.{PairBytes, pairsIf, PairedAs}
 use Rattle.verdict.specs.JudgeContracts.{noSizes, sizesIf, MeshAnswered, SoundMesh}
-use Rattle.rows.specs.RowContracts.{Judged}
+use Rattle.criterion.specs.StrengthContracts.{Judged}
 use Rattle.lines.proofs.Loops.{then-goes-on}
 use Rattle.shape.proofs.PairTables.{none-put}
 

@@ -13,15 +13,16 @@ ghost use Rattle.scope.specs.Refusals.{equalitiesPhase, strengthsPhase, fieldPh
 ghost use Rattle.scope.specs.Tests.{rowAt};
 ghost use Rattle.mesh.specs.MeshContracts.{Sized};
 ghost use Rattle.lines.specs.SearchContracts.{firstFailing};
-ghost use Rattle.rows.specs.RowContracts.{StepsFit, PairFits, sideSlack, FieldFits, Judged, MeshSteps};
+ghost use Rattle.criterion.specs.StrengthContracts.{StepsFit, PairFits, sideSlack, Judged, MeshSteps};
+ghost use Rattle.verdict.specs.FieldContracts.{FieldFits};
+use criterion::strength_rows::pair_holds;
+use criterion::strength_rows::pair_state;
+use criterion::strength_rows::side_holds;
+use equality::equality_rows::equality_row;
+use equality::row_sums::left_side;
 use mesh::sizes::Sizes;
 use mesh::sizes::equality_count;
 use mesh::sizes::number_at;
-use rows::equality_rows::equality_row;
-use rows::equality_rows::left_side;
-use rows::strength_rows::pair_holds;
-use rows::strength_rows::pair_state;
-use rows::strength_rows::side_holds;
 use scope::Outcome;
 use scope::Place;
 

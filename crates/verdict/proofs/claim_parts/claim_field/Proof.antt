@@ -3,8 +3,8 @@ use mathlib.Core.Path.{_∙_}
 use native.Mathlib.Omega.{arith}
 use Rattle.integer.proofs.Machine.{machine, told, apart}
 use Rattle.scope.specs.Columns.{at}
-use Rattle.rows.proofs.ClaimLaws.{claim-within, claim-long}
-use Rattle.rows.proofs.StrengthLaws.{being}
+use Rattle.criterion.proofs.ClaimLaws.{claim-within, claim-long}
+use Rattle.criterion.proofs.StrengthLaws.{being}
 use Rattle.verdict.proofs.PartLaws.{part-there, no-part}
 use Rattle.verdict.proofs.claim_parts.claim_field.Statement.{statement}
 use Rattle.verdict.proofs.claim_parts.claim_field.Tie as tie

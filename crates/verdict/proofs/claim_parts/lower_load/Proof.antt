@@ -2,7 +2,7 @@
 use native.Mathlib.Omega.{arith}
 use Rattle.integer.proofs.Machine.{machine, told, apart, Is-read}
 use Rattle.scope.specs.Columns.{at}
-use Rattle.rows.proofs.StrengthLaws.{being}
+use Rattle.criterion.proofs.StrengthLaws.{being}
 use Rattle.verdict.proofs.PartLaws.{load-there, no-load}
 use borrow.Author.Needs.{needs}
 use Rattle.verdict.proofs.claim_parts.lower_load.Statement.{statement}

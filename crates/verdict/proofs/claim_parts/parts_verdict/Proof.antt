@@ -2,9 +2,9 @@
 use mathlib.Core.Path.{sym, _∙_}
 use native.Mathlib.Omega.{arith}
 use Rattle.integer.proofs.Machine.{machine, unbounded, exact}
-use Rattle.rows.proofs.ClaimLaws.{claim-within, claim-long}
+use Rattle.criterion.proofs.ClaimLaws.{claim-within, claim-long}
 use Rattle.verdict.proofs.PartLaws.{field-refused, limit-refused, limit-absent, limit-exact, multipliers-are}
-use Rattle.rows.proofs.StrengthLaws.{sides-listed, steps-as}
+use Rattle.criterion.proofs.StrengthLaws.{sides-listed, steps-as}
 use borrow.Author.Needs.{needs}
 use Rattle.verdict.proofs.claim_parts.parts_verdict.Statement.{statement}
 use Rattle.verdict.proofs.claim_parts.parts_verdict.Tie as tie

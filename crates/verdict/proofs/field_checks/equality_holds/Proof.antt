@@ -3,9 +3,9 @@ use lib.IntN.{ℤ, _+ℤ_, _*ℤ_}
 use Rattle.integer.specs.Tests.{eqZ}
 use Rattle.scope.specs.Columns.{at}
 use Rattle.scope.specs.Sums.{leftSide, weightedSum}
-use Rattle.rows.specs.RowContracts.{rowOf, entriesOf}
+use Rattle.equality.specs.EqualityContracts.{rowOf, entriesOf}
 use Rattle.verdict.proofs.FieldLaws.{load-read, row-asked, row-unfixed}
-use Rattle.rows.proofs.RowLaws.{fits-wider}
+use Rattle.equality.proofs.EntryLaws.{fits-wider}
 use mathlib.Core.Path.{_≡_, sym, _∙_, ap₂}
 use native.Mathlib.Omega.{arith}
 use mir.Syntax.{w64}

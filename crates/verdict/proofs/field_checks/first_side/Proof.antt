@@ -10,7 +10,7 @@ use borrow.Author.Tests.{not-true, not-false}
 use Rattle.scope.specs.Rows.{firstWhere}
 use Rattle.lines.specs.SearchContracts.{firstFailing}
 use Rattle.lines.proofs.Loops.{search-more, search-stops}
-use Rattle.rows.specs.RowContracts.{sideSlack}
+use Rattle.criterion.specs.StrengthContracts.{sideSlack}
 use Rattle.verdict.proofs.field_checks.first_side.Statement.{statement}
 use Rattle.verdict.proofs.field_checks.first_side.Tie as tie
 

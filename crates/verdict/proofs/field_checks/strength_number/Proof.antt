@@ -1,6 +1,6 @@
 -- `strength_number` meets its contract: the numbers are small.
 use native.Mathlib.Omega.{arith}
-use Rattle.rows.proofs.StrengthLaws.{first-row}
+use Rattle.criterion.proofs.StrengthLaws.{first-row}
 use borrow.Author.Needs.{needs}
 use Rattle.verdict.proofs.field_checks.strength_number.Statement.{statement}
 use Rattle.verdict.proofs.field_checks.strength_number.Tie as tie

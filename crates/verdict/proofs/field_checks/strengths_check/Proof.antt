@@ -8,8 +8,8 @@ use Rattle.scope.specs.declared.Outcome.the-variants.{Refused}
 use Rattle.scope.specs.Rows.{firstWhere}
 use Rattle.lines.specs.SearchContracts.{firstFailing}
 use Rattle.lines.proofs.Loops.{search-more, search-stops}
-use Rattle.rows.specs.RowContracts.{pairHolds}
-use Rattle.rows.proofs.StrengthLaws.{steps-as, steps-fit, pair-fits, strengths-refused, strengths-passed}
+use Rattle.criterion.specs.StrengthContracts.{pairHolds}
+use Rattle.criterion.proofs.StrengthLaws.{steps-as, steps-fit, pair-fits, strengths-refused, strengths-passed}
 use borrow.Author.Needs.{needs}
 use Rattle.verdict.proofs.field_checks.strengths_check.Statement.{statement}
 use Rattle.verdict.proofs.field_checks.strengths_check.Tie as tie

@@ -1,0 +1,4 @@
+-- Contracts between functions, nothing that a reader must believe: sums over multipliers, the limit, the open rows.
+pub mod MultiplierContracts
+pub mod LimitContracts
+pub mod OpenContracts
