@@ -1,2 +1,3 @@
--- Contracts between functions, nothing that a reader must believe: a polygon's sides and a pair's strength rows as numbers.
+-- Contracts between functions, nothing that a reader must believe: a polygon's sides and a pair's strength rows as
+-- numbers.
 pub mod StrengthContracts
