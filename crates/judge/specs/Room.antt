@@ -8,7 +8,7 @@ use Rattle.scope.specs.declared.Outcome.{Outcome}
 use Rattle.scope.specs.declared.Outcome.the-variants.{Passed, Refused}
 use Rattle.scope.specs.Answer.{placeNumber}
 use Rattle.scope.specs.Mesh.{nodes}
-use Rattle.scope.specs.Rows.{balanceRows, sideRows, strengthRows}
+use Rattle.scope.specs.Rows.{balanceRows, sideRows, jumpRows, strengthRows}
 use Rattle.scope.specs.Verdict.{meshCheck}
 use Rattle.judge.specs.declared.room.MeshSizes.{MeshSizes}
 use Rattle.judge.specs.ClaimBytes.{claimBytes}
@@ -30,6 +30,7 @@ noSizes k place = record {
   place = place;
   «balance_rows» = 0;
   «side_rows» = 0;
+  «jump_rows» = 0;
   «strength_rows» = 0;
   columns = 0;
   «field_bytes» = 0;
@@ -45,6 +46,7 @@ sizesFor Passed m = record {
   place = 0;
   «balance_rows» = length (balanceRows m);
   «side_rows» = length (sideRows m);
+  «jump_rows» = length (jumpRows m);
   «strength_rows» = length (strengthRows m);
   columns = 3 * nodes m;
   «field_bytes» = claimBytes m withField;

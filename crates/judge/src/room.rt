@@ -5,6 +5,7 @@ use crate::claim_bytes;
 use crate::judge_mesh_file;
 use mesh::sizes::EDGE_ROWS;
 use mesh::sizes::ELEMENT_ROWS;
+use mesh::sizes::JUMP_ROWS;
 use mesh::sizes::Sizes;
 use reader::MESH_ROOM;
 use scope::Outcome;
@@ -26,6 +27,7 @@ pub struct MeshSizes {
     pub place: u32,
     pub balance_rows: u64,
     pub side_rows: u64,
+    pub jump_rows: u64,
     pub strength_rows: u64,
     pub columns: u64,
     pub field_bytes: u64,
@@ -45,6 +47,7 @@ fn no_sizes(number: u32, place: u32) -> MeshSizes
         place,
         balance_rows: 0,
         side_rows: 0,
+        jump_rows: 0,
         strength_rows: 0,
         columns: 0,
         field_bytes: 0,
@@ -66,6 +69,7 @@ fn sizes_for(s: Sizes) -> MeshSizes
         place: 0,
         balance_rows: (s.elements * ELEMENT_ROWS) as u64,
         side_rows: (s.edges * EDGE_ROWS) as u64,
+        jump_rows: (s.jumps * JUMP_ROWS) as u64,
         strength_rows: (s.pairs * s.sides) as u64,
         columns: (STRESSES * s.nodes) as u64,
         field_bytes: field as u64,

@@ -8,4 +8,5 @@ pub mod OpenColumn
 pub mod Promises
 pub mod PromisesApplied
 pub mod RunPromises
+pub mod SizesPromises
 pub mod RunApplied

@@ -30,14 +30,18 @@ mul-t16 : tie.Need-mul-t16
 mul-t16 c = search needs
 
 mul-t18 : tie.Need-mul-t18
-mul-t18 c = omega (arith, few-strengths (c .before .before .before .before .before .before .before .before .before .pre))
+mul-t18 c = search needs
 
 mul-t20 : tie.Need-mul-t20
-mul-t20 c = search needs
+mul-t20 c =
+    omega (arith, few-strengths (c .before .before .before .before .before .before .before .before .before .before .pre))
+
+mul-t22 : tie.Need-mul-t22
+mul-t22 c = search needs
 
 returns : tie.Need-returns
 returns c =
-    let both = c .before .before .before .before in
+    let both = c .before .before .before .before .before in
     let multipliers = both .before .before in
     let field = multipliers .before .before in
     λ m k. counts-are k (field .claim-bytes .ensures m k) (multipliers .claim-bytes2 .ensures m k) (both .claim-bytes3 .ensures m k)
@@ -56,4 +60,5 @@ sizes-for-spec =
     mul-t16
     mul-t18
     mul-t20
+    mul-t22
     returns)
