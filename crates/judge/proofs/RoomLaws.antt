@@ -28,14 +28,14 @@ few-strengths f = mul-le-mul (f .fewPairs) (f .fewSides)
 
 -- the counts of an accepted mesh
 module _ {m : List ℤ} {s : Sizes} (k : Counted m s) {field multipliers both : ℕ} where
-  pub counts-are : field ≡ claimBytes m withField → multipliers ≡ claimBytes m withMultipliers → both ≡ claimBytes m withBoth → _≡_ {A = MeshSizes} (record { number = 0; place = 0; «balance_rows» = s .elements * 2; «side_rows» = s .edges * 4; «jump_rows» = s .jumps * 4; «strength_rows» = s .pairs * s .sides; columns = 3 * s .nodes; «field_bytes» = field; «multipliers_bytes» = multipliers; «both_bytes» = both }) (sizesFor Passed m)
+  pub counts-are : field ≡ claimBytes m withField → multipliers ≡ claimBytes m withMultipliers → both ≡ claimBytes m withBoth → _≡_ {A = MeshSizes} (record { number = 0; place = 0; «balance_rows» = s .elements * 2; «side_rows» = s .edges * 4; «jump_rows» = s .jumps * 4; «strength_rows» = s .pairs * s .sides; columns = s .nodes * 3; «field_bytes» = field; «multipliers_bytes» = multipliers; «both_bytes» = both }) (sizesFor Passed m)
   unfolding sizesFor
   counts-are f g b =
       let balance : s .elements * 2 ≡ length (balanceRows m) = ap (λ (e : ℕ). e * 2) (k .sizes .elementsAre) ∙ sym (balance-count m) in
       let side : s .edges * 4 ≡ length (sideRows m) = ap (λ (e : ℕ). e * 4) (k .sizes .edgesAre) ∙ sym (side-count m) in
       let jump : s .jumps * 4 ≡ length (jumpRows m) = ap (λ (e : ℕ). e * 4) (k .sizes .jumpsAre) ∙ sym (jump-count m) in
       let strengths : s .pairs * s .sides ≡ length (strengthRows m) = ap₂ _*_ (k .pairsAre) (k .sizes .sidesAre) ∙ sym (strength-count m (k .sizes .counts .sidesListed)) in
-      let columns : 3 * s .nodes ≡ 3 * nodes m = ap (λ (e : ℕ). 3 * e) (k .sizes .nodesAre) in
+      let columns : s .nodes * 3 ≡ 3 * nodes m = omega (arith, k .sizes .nodesAre) in
       λ i. record {
         number = 0;
         place = 0;

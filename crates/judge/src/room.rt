@@ -3,6 +3,7 @@
 
 use crate::claim_bytes;
 use crate::judge_mesh_file;
+use lines::layout::STRESS_COLUMNS;
 use mesh::sizes::EDGE_ROWS;
 use mesh::sizes::ELEMENT_ROWS;
 use mesh::sizes::JUMP_ROWS;
@@ -34,9 +35,6 @@ pub struct MeshSizes {
     pub multipliers_bytes: u64,
     pub both_bytes: u64,
 }
-
-// The stresses of a node, which are the columns.
-const STRESSES: usize = 3;
 
 // "A refused mesh gives its refusal and no sizes."
 fn no_sizes(number: u32, place: u32) -> MeshSizes
@@ -71,7 +69,7 @@ fn sizes_for(s: Sizes) -> MeshSizes
         side_rows: (s.edges * EDGE_ROWS) as u64,
         jump_rows: (s.jumps * JUMP_ROWS) as u64,
         strength_rows: (s.pairs * s.sides) as u64,
-        columns: (STRESSES * s.nodes) as u64,
+        columns: (s.nodes * STRESS_COLUMNS) as u64,
         field_bytes: field as u64,
         multipliers_bytes: multipliers as u64,
         both_bytes: both as u64,
