@@ -8,5 +8,6 @@ pub mod OpenColumn
 pub mod Promises
 pub mod PromisesApplied
 pub mod RunPromises
-pub mod SizesPromises
 pub mod RunApplied
+pub mod SizesPromises
+pub mod SizesApplied

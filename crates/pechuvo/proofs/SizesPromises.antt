@@ -15,24 +15,25 @@ use Rattle.scope.specs.declared.Place.{Place}
 use Rattle.scope.specs.declared.Outcome.{Outcome}
 use Rattle.scope.specs.declared.Outcome.the-variants.{Passed, Refused}
 use Rattle.scope.specs.Columns.{at, hasField, hasMultipliers}
-use Rattle.scope.specs.Mesh.{meshLayout, nodes, elements, edges, jumps}
-use Rattle.scope.specs.Rows.{balanceRows, sideRows, jumpRows, equalityRows, strengthRows}
-use Rattle.scope.specs.Claim.{claimLayout}
+use Rattle.scope.specs.Mesh.{meshLayout, nodes, elements, edges, sides, jumps}
+use Rattle.scope.specs.Rows.{balanceRows, sideRows, jumpRows, equalityRows, strengthRows, rowsOf}
+use Rattle.scope.specs.Claim.{claimHeaderColumns, ifThere, claimLayout}
 use Rattle.scope.specs.Answer.{placeFor, meshNumberOf, meshPlaceOf}
 use Rattle.scope.specs.Statements.{LinesSound, MeshSound, HasField, HasMultipliers}
 use Rattle.scope.specs.Verdict.{meshCheck}
 use Rattle.scope.specs.AnsweredMesh.{MeshExactly}
-use Rattle.scope.proofs.RowCounts.{balance-count, side-count, jump-count}
+use Rattle.scope.proofs.RowCounts.{balance-count, side-count, jump-count, strength-count}
+use Rattle.scope.proofs.NumberRanges.{counts}
 use Rattle.scope.proofs.PlaceKinds.{mesh-exactly}
 use Rattle.scope.proofs.Refusals.{lines-passed, mesh-passed}
-use Rattle.reader.specs.File.{fileWidth}
+use Rattle.reader.specs.File.{fileWidth, lineBytes}
 use Rattle.judge.specs.declared.room.MeshSizes.{MeshSizes}
 use Rattle.judge.specs.Judge.{claimNumbers}
 use Rattle.judge.specs.ClaimBytes.{claimBytes}
 use Rattle.judge.specs.Room.{withField, withMultipliers, withBoth, noSizes, sizesFor, meshSizes}
-use Rattle.judge.proofs.ClaimBytes.{claim-length}
+use Rattle.judge.proofs.ClaimBytes.{claim-length, claim-bytes}
 use Rattle.judge.proofs.RoomLaws.{by-parts}
-use Rattle.pechuvo.specs.Promises.{meshIn, claimIn, SizesAsked, ClaimLengths, SizesTold}
+use Rattle.pechuvo.specs.Promises.{meshIn, claimIn, SizesAsked, ClaimLengths, SizesOf, SizesTold}
 
 -- whether a part is there, as the layout asks it
 there : {z : ℤ} → z ≡ pos 1 → eqZ z (pos 1) ≡ true
@@ -106,34 +107,56 @@ module _ (mesh : List ℕ) (r : MeshSizes) (asked : SizesAsked mesh r) where
     unfolding sizesFor
     are-both = ap (λ x. x .«both_bytes») (passed e)
 
-    all-equalities : r .«balance_rows» + r .«side_rows» + r .«jump_rows» ≡ length (equalityRows m)
-    unfolding equalityRows
-    all-equalities =
-        omega (arith, are-balance, are-side, are-jump, length-append (balanceRows m) (sideRows m ++ jumpRows m), length-append (sideRows m) (jumpRows m))
+    -- all rows are the rows of each kind
+    all-rows : r .«balance_rows» + r .«side_rows» + r .«jump_rows» + r .«strength_rows» ≡ length (rowsOf m)
+    unfolding rowsOf equalityRows
+    all-rows =
+        omega (
+          arith,
+          are-balance,
+          are-side,
+          are-jump,
+          are-strength,
+          length-append (balanceRows m ++ (sideRows m ++ jumpRows m)) (strengthRows m),
+          length-append (balanceRows m) (sideRows m ++ jumpRows m),
+          length-append (sideRows m) (jumpRows m),
+        )
+
+    header-once : r .«field_bytes» + r .«multipliers_bytes» ≡ r .«both_bytes» + lineBytes fileWidth claimHeaderColumns
+    unfolding hasField hasMultipliers at ifThere lineBytes
+    header-once =
+        omega (arith, are-field, are-multipliers, are-both, claim-bytes m withField, claim-bytes m withMultipliers, claim-bytes m withBoth)
 
     module _ (claim : List ℕ) (lines : LinesSound (claimLayout m) (claimIn mesh claim)) where
       long : length claim ≡ claimBytes m (claimIn mesh claim)
       long = claim-length m claim (mesh-passed m .passed (sound e)) (lines-passed (claimLayout m) (claimIn mesh claim) .passed lines)
 
       kinds : ClaimLengths mesh r claim
-      unfolding hasField hasMultipliers
+      unfolding hasField hasMultipliers at
       kinds = record {
         field = λ f g. long ∙ by-parts m (claimIn mesh claim) withField (there f) (not-there g) ∙ sym are-field;
         multipliers = λ f g. long ∙ by-parts m (claimIn mesh claim) withMultipliers (not-there f) (there g) ∙ sym are-multipliers;
         both = λ f g. long ∙ by-parts m (claimIn mesh claim) withBoth (there f) (there g) ∙ sym are-both;
       }
 
+    sizes-of : SizesOf mesh r
+    sizes-of = record {
+      balance = (are-balance, omega (arith, are-balance, balance-count m));
+      side = (are-side, omega (arith, are-side, side-count m));
+      jump = (are-jump, omega (arith, are-jump, jump-count m));
+      strengths = (are-strength, are-strength ∙ strength-count m (counts m (sound e .lines) .sidesListed));
+      rows = all-rows;
+      columns = are-columns;
+      lengths = kinds;
+      one-header = header-once;
+    }
+
   pub sizes-told : SizesTold mesh r
   sizes-told = record {
-    accepted = (λ e. sound e, λ s. numbers .0 ∙ exactly .passes .1 s);
+    accepted = (sound, λ s. numbers .0 ∙ exactly .passes .1 s);
+    place-zero = λ e. numbers .1 ∙ exactly .place-zero (sym (numbers .0) ∙ e);
     refused = λ k j h.
         (λ p. exactly .refuses k j h .0 (sym (numbers .0) ∙ p .0, sym (numbers .1) ∙ p .1), λ x. let p = exactly .refuses k j h .1 x in (numbers .0 ∙ p .0, numbers .1 ∙ p .1));
     no-sizes = none-of m r (meshCheck m) told;
-    balance = λ e. omega (arith, are-balance e, balance-count m);
-    side = λ e. omega (arith, are-side e, side-count m);
-    jump = λ e. omega (arith, are-jump e, jump-count m);
-    equalities = λ e. all-equalities e;
-    strengths = λ e. are-strength e;
-    columns = λ e. are-columns e;
-    lengths = λ e claim lines. kinds e claim lines;
+    sizes = sizes-of;
   }

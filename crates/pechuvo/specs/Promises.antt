@@ -1,9 +1,8 @@
 -- What a caller of `pechuvo_check` may rely on: demands 1, 2 and 3 of document 01, with the decimals of document 02,
 -- N5, each promise a plain statement about the number and the place that are returned and about the bytes of the
--- buffer; and callers of `pechuvo_check_run` (document 02, N3) and
--- `pechuvo_mesh_sizes` (N7).
--- Each is proved of every call (`proofs/Promises.antt`, `proofs/RunPromises.antt`) and applied to document 01's sheet
--- (`proofs/PromisesApplied.antt`, `proofs/RunApplied.antt`). What number and place say of the two files' numbers is
+-- buffer; and callers of `pechuvo_check_run` (document 02, N3) and `pechuvo_mesh_sizes` (N7).
+-- Each is proved of every call (`proofs/Promises.antt`, `RunPromises.antt`, `SizesPromises.antt`) and applied to
+-- document 01's sheet (`proofs/PromisesApplied.antt`, `RunApplied.antt`, `SizesApplied.antt`). What number and place say of the two files' numbers is
 -- said as for numbers handed over (`numbers/specs/Promises.antt`).
 use mathlib.Core.Path.{_≡_}
 use mathlib.Core.Logic.{_↔_, _⊎_, _≢_}
@@ -15,10 +14,10 @@ use lib.Signed.{_<ℤ_}
 use lib.ListN.{length, take, drop, replicate}
 use Rattle.integer.specs.Fraction.{_over_, _≈ᶠ_, _≤ᶠ_, _<ᶠ_}
 use Rattle.scope.specs.Columns.{n, l}
-use Rattle.scope.specs.Mesh.{meshLayout, nodes, elements, edges, jumps}
+use Rattle.scope.specs.Mesh.{meshLayout, nodes, elements, edges, sides, jumps}
 use Rattle.scope.specs.Answer.{placeFor}
-use Rattle.scope.specs.Rows.{equalityRows, strengthRows, rowsOf}
-use Rattle.scope.specs.Claim.{claimLayout, stress, multiplier}
+use Rattle.scope.specs.Rows.{Row, pairCount, balanceRows, sideRows, jumpRows, strengthRows, rowsOf}
+use Rattle.scope.specs.Claim.{claimHeaderColumns, claimLayout, stress, multiplier}
 use Rattle.scope.specs.Statements.{LinesSound, MeshSound, HasField, HasMultipliers}
 use Rattle.scope.specs.Refusals.{MeshRefusal}
 use Rattle.scope.specs.Bracket.{Open}
@@ -29,7 +28,7 @@ use Rattle.numbers.specs.declared.numbers_answer.NumbersAnswer.{NumbersAnswer}
 use Rattle.numbers.specs.Promises as Handed-over
 use Rattle.numbers.specs.Promises.{Returned, ReturnsZero, RefusesExactly, NumbersListed, TellsField, RowsRefused, FieldExactly, MultipliersExactly, CriterionForEachPair, PairsAsked, JumpsAsked, TractionsOnJoints, FractionsBracket}
 use Rattle.numbers.specs.NumbersAnswer.{answerOf}
-use Rattle.reader.specs.File.{fileOf, fileWidth}
+use Rattle.reader.specs.File.{fileOf, fileWidth, lineBytes}
 use Rattle.reader.specs.WellFormed.{Fit, FormFails}
 use Rattle.report.specs.Text.{word, number as shows, said}
 use Rattle.report.specs.Report.{columnBytes, reportBytes, lowerText, upperText, reportLine, Decimals, usualDecimals}
@@ -239,6 +238,10 @@ pub record RunCall (mesh claims before : List ℕ) (judged : List (List ℕ)) (r
 abbrev pub SizesAsked : (mesh : List ℕ) (r : MeshSizes) → Type 0
 SizesAsked mesh r = r ≡ meshSizes (meshIn mesh)
 
+-- so many rows as the definition lists, and as a reader counts them
+abbrev pub Counts : (k : ℕ) (rows : List Row) (counted : ℕ) → Type 0
+Counts k rows counted = (k ≡ length rows) × (k ≡ counted)
+
 -- "Every claim that passes 11, 12 and 13 has exactly the length said for its kind"
 pub record ClaimLengths (mesh : List ℕ) (r : MeshSizes) (claim : List ℕ) : Type 0 where
   pub field : HasField (claimIn mesh claim) → (¬ HasMultipliers (claimIn mesh claim)) → length claim ≡ r .«field_bytes»
@@ -246,20 +249,25 @@ pub record ClaimLengths (mesh : List ℕ) (r : MeshSizes) (claim : List ℕ) : T
       → length claim ≡ r .«multipliers_bytes»
   pub both : HasField (claimIn mesh claim) → HasMultipliers (claimIn mesh claim) → length claim ≡ r .«both_bytes»
 
+-- "the row and column counts are those of the definition": two balance rows for each element, four side rows for each
+-- edge and four jump rows for each jump, "unfixed ones counted", a strength row for each side of each pair, "three a
+-- node"
+pub record SizesOf (mesh : List ℕ) (r : MeshSizes) : Type 0 where
+  pub balance : Counts (r .«balance_rows») (balanceRows (meshIn mesh)) (2 * elements (meshIn mesh))
+  pub side : Counts (r .«side_rows») (sideRows (meshIn mesh)) (4 * edges (meshIn mesh))
+  pub jump : Counts (r .«jump_rows») (jumpRows (meshIn mesh)) (4 * jumps (meshIn mesh))
+  pub strengths : Counts (r .«strength_rows») (strengthRows (meshIn mesh)) (pairCount (meshIn mesh) * sides (meshIn mesh))
+  pub rows : r .«balance_rows» + r .«side_rows» + r .«jump_rows» + r .«strength_rows» ≡ length (rowsOf (meshIn mesh))
+  pub columns : r .columns ≡ 3 * nodes (meshIn mesh)
+  pub lengths : (claim : List ℕ) → LinesSound (claimLayout (meshIn mesh)) (claimIn mesh claim) → ClaimLengths mesh r claim
+  -- a claim with both parts has one header
+  pub one-header : r .«field_bytes» + r .«multipliers_bytes» ≡ r .«both_bytes» + lineBytes fileWidth claimHeaderColumns
+
 pub record SizesTold (mesh : List ℕ) (r : MeshSizes) : Type 0 where
-  -- 0 exactly when the mesh is accepted; else its refusal, "and no sizes"
+  -- 0 exactly when the mesh is accepted; else "its refusal and no sizes"
   pub accepted : (r .number ≡ 0) ↔ MeshSound (meshIn mesh)
+  pub place-zero : r .number ≡ 0 → r .place ≡ 0
   pub refused : (k j : ℕ) → k ≢ 0
       → ((r .number ≡ k) × (r .place ≡ j)) ↔ MeshRefusal (meshIn mesh) k (placeFor k j)
   pub no-sizes : r .number ≢ 0 → r ≡ noSizes (r .number) (r .place)
-  -- "the row and column counts are those of the definition": two balance rows for each element, four side rows for
-  -- each edge and four for each jump, "unfixed ones counted", a strength row for each side of each pair, "three a node"
-  pub balance : r .number ≡ 0 → r .«balance_rows» ≡ 2 * elements (meshIn mesh)
-  pub side : r .number ≡ 0 → r .«side_rows» ≡ 4 * edges (meshIn mesh)
-  pub jump : r .number ≡ 0 → r .«jump_rows» ≡ 4 * jumps (meshIn mesh)
-  pub equalities : r .number ≡ 0
-      → r .«balance_rows» + r .«side_rows» + r .«jump_rows» ≡ length (equalityRows (meshIn mesh))
-  pub strengths : r .number ≡ 0 → r .«strength_rows» ≡ length (strengthRows (meshIn mesh))
-  pub columns : r .number ≡ 0 → r .columns ≡ 3 * nodes (meshIn mesh)
-  pub lengths : r .number ≡ 0 → (claim : List ℕ) → LinesSound (claimLayout (meshIn mesh)) (claimIn mesh claim)
-      → ClaimLengths mesh r claim
+  pub sizes : r .number ≡ 0 → SizesOf mesh r
