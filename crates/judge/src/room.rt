@@ -13,8 +13,10 @@ use scope::Outcome;
 use scope::place_number;
 ghost use mathlib.Core.Path.{_≡_};
 ghost use mathlib.Core.List.{List};
+ghost use Prim.Native.Nat.{_*_, _≤_};
 ghost use lib.IntN.{ℤ};
 ghost use Rattle.scope.specs.declared.Outcome.the-variants.{Passed};
+ghost use Rattle.scope.specs.Mesh.{mostPairs, mostSides};
 ghost use Rattle.mesh.specs.MeshContracts.{FewThings, Counted};
 ghost use Rattle.reader.specs.File.{fileWidth};
 ghost use Rattle.judge.specs.Judge.{meshNumbers};
@@ -54,6 +56,14 @@ fn no_sizes(number: u32, place: u32) -> MeshSizes
     }
 }
 
+// So many rows, or columns, for each of so many things.
+fn count_of(things: usize, each: usize) -> u64
+    requires { ⌜ (things ≤ mostPairs) × (each ≤ mostSides) ⌝ }
+    ensures { λ r. ⌜ r ≡ things * each ⌝ }
+{
+    (things * each) as u64
+}
+
 // The sizes of an accepted mesh with these counts.
 fn sizes_for(s: Sizes) -> MeshSizes
     requires { ⌜ FewThings s ⌝ }
@@ -65,11 +75,11 @@ fn sizes_for(s: Sizes) -> MeshSizes
     MeshSizes {
         number: 0,
         place: 0,
-        balance_rows: (s.elements * ELEMENT_ROWS) as u64,
-        side_rows: (s.edges * EDGE_ROWS) as u64,
-        jump_rows: (s.jumps * JUMP_ROWS) as u64,
-        strength_rows: (s.pairs * s.sides) as u64,
-        columns: (s.nodes * STRESS_COLUMNS) as u64,
+        balance_rows: count_of(s.elements, ELEMENT_ROWS),
+        side_rows: count_of(s.edges, EDGE_ROWS),
+        jump_rows: count_of(s.jumps, JUMP_ROWS),
+        strength_rows: count_of(s.pairs, s.sides),
+        columns: count_of(s.nodes, STRESS_COLUMNS),
         field_bytes: field as u64,
         multipliers_bytes: multipliers as u64,
         both_bytes: both as u64,

@@ -2,8 +2,8 @@
 -- N5, each promise a plain statement about the number and the place that are returned and about the bytes of the
 -- buffer; and callers of `pechuvo_check_run` (document 02, N3) and `pechuvo_mesh_sizes` (N7).
 -- Each is proved of every call (`proofs/Promises.antt`, `RunPromises.antt`, `SizesPromises.antt`) and applied to
--- document 01's sheet (`proofs/PromisesApplied.antt`, `RunApplied.antt`, `SizesApplied.antt`). What number and place say of the two files' numbers is
--- said as for numbers handed over (`numbers/specs/Promises.antt`).
+-- document 01's sheet (`proofs/PromisesApplied.antt`, `RunApplied.antt`, `SizesApplied.antt`). What number and place
+-- say of the two files' numbers is said as for numbers handed over (`numbers/specs/Promises.antt`).
 use mathlib.Core.Path.{_≡_}
 use mathlib.Core.Logic.{_↔_, _⊎_, _≢_}
 use mathlib.Core.List.{List, _∷_, _++_}
