@@ -144,7 +144,7 @@ module _ (mesh : List ℕ) (r : MeshSizes) (asked : SizesAsked mesh r) where
       balance = (are-balance, omega (arith, are-balance, balance-count m));
       side = (are-side, omega (arith, are-side, side-count m));
       jump = (are-jump, omega (arith, are-jump, jump-count m));
-      strengths = (are-strength, are-strength ∙ strength-count m (counts m (sound e .lines) .sidesListed));
+      strength = (are-strength, are-strength ∙ strength-count m (counts m (sound e .lines) .sidesListed));
       rows = all-rows;
       columns = are-columns;
       lengths = kinds;

@@ -256,10 +256,11 @@ pub record SizesOf (mesh : List ℕ) (r : MeshSizes) : Type 0 where
   pub balance : Counts (r .«balance_rows») (balanceRows (meshIn mesh)) (2 * elements (meshIn mesh))
   pub side : Counts (r .«side_rows») (sideRows (meshIn mesh)) (4 * edges (meshIn mesh))
   pub jump : Counts (r .«jump_rows») (jumpRows (meshIn mesh)) (4 * jumps (meshIn mesh))
-  pub strengths : Counts (r .«strength_rows») (strengthRows (meshIn mesh)) (pairCount (meshIn mesh) * sides (meshIn mesh))
+  pub strength : Counts (r .«strength_rows») (strengthRows (meshIn mesh)) (pairCount (meshIn mesh) * sides (meshIn mesh))
   pub rows : r .«balance_rows» + r .«side_rows» + r .«jump_rows» + r .«strength_rows» ≡ length (rowsOf (meshIn mesh))
   pub columns : r .columns ≡ 3 * nodes (meshIn mesh)
-  pub lengths : (claim : List ℕ) → LinesSound (claimLayout (meshIn mesh)) (claimIn mesh claim) → ClaimLengths mesh r claim
+  pub lengths : (claim : List ℕ) → LinesSound (claimLayout (meshIn mesh)) (claimIn mesh claim)
+      → ClaimLengths mesh r claim
   -- a claim with both parts has one header
   pub one-header : r .«field_bytes» + r .«multipliers_bytes» ≡ r .«both_bytes» + lineBytes fileWidth claimHeaderColumns
 
