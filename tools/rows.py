@@ -470,6 +470,14 @@ def judge_claim(mesh, rows, claim):
     return Verdict(0, 0, "none", **told)
 
 
+def sizes(mesh):
+    """Rows of each kind (balance, side, jump, strength; unfixed ones counted), columns, and the bytes of a claim with
+    a field, with multipliers and with both (document 02, N7)."""
+    counts = [count * columns for count, columns, _ in multiplier_groups(mesh)]
+    claims = [claim_bytes(mesh, field, multipliers) for field, multipliers in ((1, 0), (0, 1), (1, 1))]
+    return [*counts, 3 * len(mesh.nodes), *claims]
+
+
 def judged_mesh(mesh_lines):
     """The mesh of lines that pass, and its rows; Refused where they don't."""
     mesh = mesh_of(mesh_lines)

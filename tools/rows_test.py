@@ -1,7 +1,7 @@
 #!/usr/bin/env python3
 """Holds rows.py to sheets/expected and to cases of another make: rows_test.py [FOLDER..], each folder with
 `expected` (name, number, place, report line, kind of place, room, decimals) and the files that it names, and
-where they are there `numbers` and `runs`, as sheets/runs is."""
+where they are there `numbers`, `runs`, as sheets/runs is, and `sizes`."""
 
 import os
 import sys
@@ -64,12 +64,24 @@ def differing_runs(folder):
             yield f"{name}: {rows.check_run(mesh, claims, int(room))[1:]}, expected {line}"
 
 
+def differing_sizes(folder):
+    for line in lines_of(folder, "sizes"):
+        name, number, place, kind, *expected = line.split("\t")
+        try:
+            mesh, _ = rows.judged_mesh(rows.FileLines(rows.read(os.path.join(folder, name + ".mesh")), 1))
+            told = ["0", "0", "none", *map(str, rows.sizes(mesh))]
+        except rows.Refused as refusal:
+            told = [str(refusal.number), str(refusal.place), refusal.kind, "-"]
+        if told != [number, place, kind, *expected]:
+            yield f"{name}: {told}, expected {line}"
+
+
 def main():
     parts = [(SHEETS, "expected", differing_sheets), (SHEETS, "decimals", differing_decimals)]
     parts += [(SHEETS, "runs/expected", differing_runs)]
     for folder in sys.argv[1:]:
         parts += [(folder, "expected", differing_files), (folder, "numbers/expected", differing_numbers)]
-        parts += [(folder, "runs/expected", differing_runs)]
+        parts += [(folder, "runs/expected", differing_runs), (folder, "sizes", differing_sizes)]
     differing, count = [], 0
     for folder, part, compare in parts:
         path = os.path.join(folder, part)

@@ -5,6 +5,7 @@
 mod archive;
 mod lists;
 mod runs;
+mod sizes;
 
 use independent::Answer;
 use std::fs;
@@ -18,6 +19,7 @@ struct Make {
     check: fn(&[u8], &[u8], i64, &mut [u8]) -> Answer,
     check_numbers: fn(&[i64], &[i64]) -> independent::Numbers,
     check_run: fn(&[u8], &[u8], &mut [u8]) -> independent::Run,
+    mesh_sizes: fn(&[u8]) -> independent::Sizes,
 }
 
 const MAKES: [Make; 2] = [
@@ -26,12 +28,14 @@ const MAKES: [Make; 2] = [
         check: archive::check,
         check_numbers: archive::check_numbers,
         check_run: archive::check_run,
+        mesh_sizes: archive::mesh_sizes,
     },
     Make {
         name: "independent",
         check: independent::check,
         check_numbers: independent::check_numbers,
         check_run: independent::check_run,
+        mesh_sizes: independent::mesh_sizes,
     },
 ];
 
@@ -107,6 +111,7 @@ fn main() {
     files(&mut tally, &folder);
     lists::all(&mut tally, &format!("{folder}/numbers"));
     runs::all(&mut tally, &format!("{folder}/runs"));
+    sizes::all(&mut tally, &folder);
     std::env::args()
         .skip(2)
         .for_each(|runs| runs::all(&mut tally, &runs));
