@@ -485,6 +485,14 @@ def judged_mesh(mesh_lines):
     return mesh, rows_of(mesh)
 
 
+def mesh_sizes(mesh):
+    """The sizes of a mesh file: number, place and kind of place, then its sizes, or - where it is refused."""
+    try:
+        return [0, 0, "none", *sizes(judged_mesh(FileLines(mesh, 1))[0])]
+    except Refused as refusal:
+        return [refusal.number, refusal.place, refusal.kind, "-"]
+
+
 def refused(refusal):
     return Verdict(refusal.number, refusal.place, refusal.kind)
 

@@ -66,19 +66,15 @@ def differing_runs(folder):
 
 def differing_sizes(folder):
     for line in lines_of(folder, "sizes"):
-        name, number, place, kind, *expected = line.split("\t")
-        try:
-            mesh, _ = rows.judged_mesh(rows.FileLines(rows.read(os.path.join(folder, name + ".mesh")), 1))
-            told = ["0", "0", "none", *map(str, rows.sizes(mesh))]
-        except rows.Refused as refusal:
-            told = [str(refusal.number), str(refusal.place), refusal.kind, "-"]
-        if told != [number, place, kind, *expected]:
+        name, *expected = line.split("\t")
+        told = rows.mesh_sizes(rows.read(os.path.join(folder, name + ".mesh")))
+        if list(map(str, told)) != expected:
             yield f"{name}: {told}, expected {line}"
 
 
 def main():
     parts = [(SHEETS, "expected", differing_sheets), (SHEETS, "decimals", differing_decimals)]
-    parts += [(SHEETS, "runs/expected", differing_runs)]
+    parts += [(SHEETS, "runs/expected", differing_runs), (SHEETS, "sizes", differing_sizes)]
     for folder in sys.argv[1:]:
         parts += [(folder, "expected", differing_files), (folder, "numbers/expected", differing_numbers)]
         parts += [(folder, "runs/expected", differing_runs), (folder, "sizes", differing_sizes)]

@@ -1,14 +1,14 @@
--- The promises of the sizes of a mesh applied to document 01's sheet, which has no jump, to two blocks on a joint, which have one, and to an empty mesh: antt computes what is told, and the promise says the rest.
+-- The promises of the sizes of a mesh applied to document 01's sheets and a seam of clay, which have no jump, to two blocks on a joint, which have one, and to an empty mesh: antt computes what is told, and the promise says the rest.
 use mathlib.Core.Path.{_≡_, refl, sym, ap}
-use mathlib.Core.List.{List, []}
-use Prim.Native.Nat.{ℕ, _+_, _*_}
+use mathlib.Core.List.{[]}
+use Prim.Native.Nat.{ℕ, _*_}
 use native.Mathlib.Omega.{arith}
 use lib.ListN.{length}
 use Rattle.scope.specs.declared.Place.the-variants.{Line}
-use Rattle.scope.specs.Mesh.{nodes, elements, jumps}
+use Rattle.scope.specs.Mesh.{nodes, jumps}
 use Rattle.scope.specs.Rows.{sideRows, jumpRows, rowsOf}
 use Rattle.scope.specs.Claim.{claimLayout}
-use Rattle.scope.specs.Statements.{MeshSound, LinesSound}
+use Rattle.scope.specs.Statements.{MeshSound, LinesSound, HasMultipliers}
 use Rattle.scope.specs.Answer.{placeFor}
 use Rattle.scope.specs.Refusals.{MeshRefusal}
 use Rattle.scope.proofs.Refusals.{lines-passed}
@@ -16,39 +16,44 @@ use Rattle.reader.specs.WellFormed.{bytesOf}
 use Rattle.judge.specs.declared.room.MeshSizes.{MeshSizes}
 use Rattle.judge.specs.ClaimBytes.{claimBytes}
 use Rattle.judge.specs.Room.{noSizes, sizesFor, meshSizes}
-use Rattle.pechuvo.specs.Sheets.{jointMesh, jointBlocks}
+use Rattle.pechuvo.specs.Sheets.{Sheet, seamMesh, seamFault, jointMesh, jointBlocks}
 use Rattle.pechuvo.specs.Promises.{meshIn, claimIn, SizesAsked, SizesOf, SizesTold}
 use Rattle.pechuvo.proofs.Sheets.{computedLine}
-use Rattle.pechuvo.proofs.PromisesApplied.{at}
+use Rattle.pechuvo.proofs.PromisesApplied.{at, no-field}
 use Rattle.pechuvo.proofs.SizesPromises.{sizes-told}
 
 -- for proofs by computation: besides the definitions that read a file, those of the sizes
 unfoldable opened : Unit {0}
-unfolding computedLine bytesOf claimBytes sizesFor meshSizes jointMesh jointBlocks
+unfolding computedLine bytesOf claimBytes sizesFor meshSizes seamMesh seamFault jointMesh jointBlocks
 opened = tt
+
+-- an accepted mesh with so many rows of each kind, so many columns, and these lengths of a claim
+abbrev sized : (balance side jump strength columns field multipliers both : ℕ) → MeshSizes
+sized balance side jump strength columns field multipliers both = record {
+  number = 0;
+  place = 0;
+  «balance_rows» = balance;
+  «side_rows» = side;
+  «jump_rows» = jump;
+  «strength_rows» = strength;
+  columns = columns;
+  «field_bytes» = field;
+  «multipliers_bytes» = multipliers;
+  «both_bytes» = both;
+}
+
+-- the lines of a sheet's claim pass
+abbrev LinesPass : Sheet → Type 0
+LinesPass s = LinesSound (claimLayout (meshIn (s .mesh))) (claimIn (s .mesh) (s .claim))
 
 -- ---- document 01's sheet: one element, three edges, no jump, four pairs, twelve sides
 
 abbrev sheetSizes : MeshSizes
-sheetSizes = record {
-  number = 0;
-  place = 0;
-  «balance_rows» = 2;
-  «side_rows» = 12;
-  «jump_rows» = 0;
-  «strength_rows» = 48;
-  columns = 12;
-  «field_bytes» = 197;
-  «multipliers_bytes» = 801;
-  «both_bytes» = 949;
-}
-
-sheet-asked : SizesAsked (at 0 .mesh) sheetSizes
-unfolding opened
-sheet-asked = refl
+sheetSizes = sized 2 12 0 48 12 197 801 949
 
 sheet-told : SizesTold (at 0 .mesh) sheetSizes
-sheet-told = sizes-told (at 0 .mesh) sheetSizes sheet-asked
+unfolding opened
+sheet-told = sizes-told (at 0 .mesh) sheetSizes refl
 
 pub sheet-sound : MeshSound (meshIn (at 0 .mesh))
 sheet-sound = sheet-told .accepted .0 refl
@@ -66,8 +71,8 @@ sheet-no-jumps = (sym (sheet-sizes .jump .0), sym (sheet-sizes .jump .1))
 pub sheet-columns : 12 ≡ 3 * nodes (meshIn (at 0 .mesh))
 sheet-columns = sheet-sizes .columns
 
--- its claim has both parts, and 949 bytes; multipliers alone have 801
-sheet-lines : LinesSound (claimLayout (meshIn (at 0 .mesh))) (claimIn (at 0 .mesh) (at 0 .claim))
+-- its claim has both parts
+sheet-lines : LinesPass (at 0)
 unfolding opened
 sheet-lines = lines-passed (claimLayout (meshIn (at 0 .mesh))) (claimIn (at 0 .mesh) (at 0 .claim)) .says refl
 
@@ -75,37 +80,64 @@ pub sheet-length : length (at 0 .claim) ≡ 949
 unfolding opened
 sheet-length = sheet-sizes .lengths (at 0 .claim) sheet-lines .both refl refl
 
+-- ---- multipliers alone, on two elements with six edges
+
+abbrev aloneSizes : MeshSizes
+aloneSizes = sized 4 24 0 72 18 271 1263 1485
+
+alone-told : SizesTold (at 9 .mesh) aloneSizes
+unfolding opened
+alone-told = sizes-told (at 9 .mesh) aloneSizes refl
+
+alone-lines : LinesPass (at 9)
+unfolding opened
+alone-lines = lines-passed (claimLayout (meshIn (at 9 .mesh))) (claimIn (at 9 .mesh) (at 9 .claim)) .says refl
+
+pub alone-length : length (at 9 .claim) ≡ 1263
+unfolding opened
+alone-length = alone-told .sizes refl .lengths (at 9 .claim) alone-lines .multipliers no-field refl
+
+-- ---- a field alone, on the seam: twelve pairs on eight nodes
+
+abbrev seamSizes : MeshSizes
+seamSizes = sized 6 32 0 144 24 345 2256 2552
+
+seam-told : SizesTold (seamFault .mesh) seamSizes
+unfolding opened
+seam-told = sizes-told (seamFault .mesh) seamSizes refl
+
+seam-lines : LinesPass seamFault
+unfolding opened
+seam-lines = lines-passed (claimLayout (meshIn (seamFault .mesh))) (claimIn (seamFault .mesh) (seamFault .claim)) .says refl
+
+no-multipliers : ¬ HasMultipliers (claimIn (seamFault .mesh) (seamFault .claim))
+unfolding opened
+no-multipliers e = let z : _≡_ {A = ℕ} 0 1 = cc in omega arith
+
+pub seam-length : length (seamFault .claim) ≡ 345
+unfolding opened
+seam-length = seam-told .sizes refl .lengths (seamFault .claim) seam-lines .field refl no-multipliers
+
 -- ---- two blocks on a joint: two elements, six edges, a jump, eight pairs
 
 abbrev jointSizes : MeshSizes
-jointSizes = record {
-  number = 0;
-  place = 0;
-  «balance_rows» = 4;
-  «side_rows» = 24;
-  «jump_rows» = 4;
-  «strength_rows» = 96;
-  columns = 24;
-  «field_bytes» = 345;
-  «multipliers_bytes» = 1602;
-  «both_bytes» = 1898;
-}
+jointSizes = sized 4 24 4 96 24 345 1602 1898
 
-joint-asked : SizesAsked (jointBlocks .mesh) jointSizes
+joint-told : SizesTold (jointBlocks .mesh) jointSizes
 unfolding opened
-joint-asked = refl
+joint-told = sizes-told (jointBlocks .mesh) jointSizes refl
 
 joint-sizes : SizesOf (jointBlocks .mesh) jointSizes
-joint-sizes = sizes-told (jointBlocks .mesh) jointSizes joint-asked .sizes refl
+joint-sizes = joint-told .sizes refl
 
 pub joint-jumps : (4 ≡ length (jumpRows (meshIn (jointBlocks .mesh)))) × (4 ≡ 4 * jumps (meshIn (jointBlocks .mesh)))
 joint-jumps = joint-sizes .jump
 
--- the normal rows of sides that fix the shear alone are counted
+-- the normal rows of edges that fix the shear alone are counted
 pub joint-sides : 24 ≡ length (sideRows (meshIn (jointBlocks .mesh)))
 joint-sides = joint-sizes .side .0
 
-joint-lines : LinesSound (claimLayout (meshIn (jointBlocks .mesh))) (claimIn (jointBlocks .mesh) (jointBlocks .claim))
+joint-lines : LinesPass jointBlocks
 unfolding opened
 joint-lines = lines-passed (claimLayout (meshIn (jointBlocks .mesh))) (claimIn (jointBlocks .mesh) (jointBlocks .claim)) .says refl
 

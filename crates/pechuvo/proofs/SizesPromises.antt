@@ -1,6 +1,6 @@
 -- The promises of the sizes of a mesh hold of every call: the counts are lengths of the definition's lists, and a claim
 -- that passes is as long as its parts say.
-use mathlib.Core.Path.{_≡_, refl, sym, ap, _∙_, subst}
+use mathlib.Core.Path.{_≡_, refl, sym, ap, _∙_}
 use mathlib.Core.Bool.{true, false}
 use mathlib.Core.Logic.{_≢_}
 use mathlib.Core.List.{List, _++_}
@@ -11,15 +11,14 @@ use lib.Ieee.Bits.{is-true, is-false}
 use lib.ListN.{length, length-append}
 use Rattle.integer.specs.Tests.{eqZ}
 use Rattle.integer.proofs.TestLaws.{yes-eqZ, no-eqZ}
-use Rattle.scope.specs.declared.Place.{Place}
 use Rattle.scope.specs.declared.Outcome.{Outcome}
 use Rattle.scope.specs.declared.Outcome.the-variants.{Passed, Refused}
 use Rattle.scope.specs.Columns.{at, hasField, hasMultipliers}
-use Rattle.scope.specs.Mesh.{meshLayout, nodes, elements, edges, sides, jumps}
+use Rattle.scope.specs.Mesh.{nodes}
 use Rattle.scope.specs.Rows.{balanceRows, sideRows, jumpRows, equalityRows, strengthRows, rowsOf}
 use Rattle.scope.specs.Claim.{claimHeaderColumns, ifThere, claimLayout}
-use Rattle.scope.specs.Answer.{placeFor, meshNumberOf, meshPlaceOf}
-use Rattle.scope.specs.Statements.{LinesSound, MeshSound, HasField, HasMultipliers}
+use Rattle.scope.specs.Answer.{meshNumberOf, meshPlaceOf}
+use Rattle.scope.specs.Statements.{LinesSound, MeshSound}
 use Rattle.scope.specs.Verdict.{meshCheck}
 use Rattle.scope.specs.AnsweredMesh.{MeshExactly}
 use Rattle.scope.proofs.RowCounts.{balance-count, side-count, jump-count, strength-count}
@@ -28,7 +27,6 @@ use Rattle.scope.proofs.PlaceKinds.{mesh-exactly}
 use Rattle.scope.proofs.Refusals.{lines-passed, mesh-passed}
 use Rattle.reader.specs.File.{fileWidth, lineBytes}
 use Rattle.judge.specs.declared.room.MeshSizes.{MeshSizes}
-use Rattle.judge.specs.Judge.{claimNumbers}
 use Rattle.judge.specs.ClaimBytes.{claimBytes}
 use Rattle.judge.specs.Room.{withField, withMultipliers, withBoth, noSizes, sizesFor, meshSizes}
 use Rattle.judge.proofs.ClaimBytes.{claim-length, claim-bytes}

@@ -1,5 +1,6 @@
 //! Holds the proved program and the independent implementation to cases of a third make: number,
-//! place, report and every byte of the buffer. The argument is the folder of cases.
+//! place, report and every byte of the buffer. The arguments are the folder of cases, and folders of sheets with
+//! `runs` and `sizes`.
 
 #[path = "../../independent/programs/compare/archive.rs"]
 mod archive;
@@ -112,9 +113,10 @@ fn main() {
     lists::all(&mut tally, &format!("{folder}/numbers"));
     runs::all(&mut tally, &format!("{folder}/runs"));
     sizes::all(&mut tally, &folder);
-    std::env::args()
-        .skip(2)
-        .for_each(|runs| runs::all(&mut tally, &runs));
+    for sheets in std::env::args().skip(2) {
+        runs::all(&mut tally, &format!("{sheets}/runs"));
+        sizes::all(&mut tally, &sheets);
+    }
     println!("{} answers, {} of them differ", tally.answers, tally.wrong);
     std::process::exit(if tally.wrong == 0 && tally.answers > 0 {
         0
