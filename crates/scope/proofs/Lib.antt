@@ -39,4 +39,7 @@ pub mod AcceptedFractions
 pub mod InOrder
 pub mod SumBounds
 pub mod AnswerBounds
+pub mod Layers
+pub mod LayerOrder
+pub mod Filled
 pub mod Applied

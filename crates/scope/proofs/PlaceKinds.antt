@@ -8,7 +8,7 @@ use native.Mathlib.Omega.{arith}
 use lib.Dec.{eqb}
 use lib.IntN.{ℤ}
 use Rattle.scope.specs.declared.Place.{Place}
-use Rattle.scope.specs.declared.Place.the-variants.{Line, Row, Column, Node, Element}
+use Rattle.scope.specs.declared.Place.the-variants.{Line, Row, Column, Node, Element, Height}
 use Rattle.scope.specs.declared.Outcome.{Outcome}
 use Rattle.scope.specs.declared.Outcome.the-variants.{Passed, Refused}
 use Rattle.scope.specs.Answer.{placeNumber, placeFor, meshNumberOf, meshPlaceOf}
@@ -88,14 +88,15 @@ mesh-place-kind {m} r = each-refusal Kind (meshPhases m) (mesh-kinds m) (r .by)
 
 pub place-number : (k j : ℕ) → placeNumber (placeFor k j) ≡ j
 unfolding placeFor
-place-number k j = by (eqb k 5 || eqb k 6) (eqb k 7 || eqb k 42) (eqb k 21 || eqb k 22 || eqb k 31) (eqb k 32 || eqb k 33)
+place-number k j = by (eqb k 5 || eqb k 6) (eqb k 7 || eqb k 42) (eqb k 21 || eqb k 22 || eqb k 31) (eqb k 32 || eqb k 33) (eqb k 45)
   where
-    by : (a b c d : Bool) → placeNumber (cond a (Element j) (cond b (Node j) (cond c (Row j) (cond d (Column j) (Line j))))) ≡ j
-    by true b c d = refl
-    by false true c d = refl
-    by false false true d = refl
-    by false false false true = refl
-    by false false false false = refl
+    by : (a b c d e : Bool) → placeNumber (cond a (Element j) (cond b (Node j) (cond c (Row j) (cond d (Column j) (cond e (Height j) (Line j)))))) ≡ j
+    by true b c d e = refl
+    by false true c d e = refl
+    by false false true d e = refl
+    by false false false true e = refl
+    by false false false false true = refl
+    by false false false false false = refl
 
 -- ---- a mesh alone
 

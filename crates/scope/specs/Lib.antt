@@ -27,6 +27,9 @@ pub mod Accepted
 pub mod AnsweredClaim
 pub mod NumberRanges
 pub mod Bounds
+pub mod Layers
+pub mod Filled
+pub mod LayerRows
 pub mod PolygonRule
 pub mod RowNumbers
 pub mod Printed
