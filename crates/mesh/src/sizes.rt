@@ -10,8 +10,10 @@ ghost use lib.ListN.{length};
 ghost use Rattle.integer.specs.Bounds.{Is};
 ghost use Rattle.scope.specs.Columns.{at};
 ghost use Rattle.scope.specs.Layout.{count};
+ghost use Rattle.scope.specs.Filled.{soilPlace};
 ghost use Rattle.scope.specs.Mesh.{
   mostPairs,
+  mostElements,
   soilColumns,
   edgeColumns,
   jumpColumns,
@@ -218,7 +220,7 @@ fn node_x(m: &[i64], s: Sizes, v: usize) -> i64
     number_in(m, nodes_from(s), v, NODE_COLUMNS, 0)
 }
 
-fn node_y(m: &[i64], s: Sizes, v: usize) -> i64
+pub fn node_y(m: &[i64], s: Sizes, v: usize) -> i64
     requires { ⌜ Sized (now m) s × (v < nodes (now m)) ⌝ }
     ensures { λ r. ⌜ Is r (y (now (m .entry)) v) 1000 ⌝ }
 {
@@ -253,6 +255,14 @@ pub fn element_soil(m: &[i64], s: Sizes, e: usize) -> usize
     ensures { λ r. ⌜ r ≡ elementSoil (now (m .entry)) e ⌝ }
 {
     thing_in(m, elements_from(s), e, ELEMENT_COLUMNS, 4)
+}
+
+// Where the soil of element e stands among the numbers of a mesh with these sizes.
+pub fn soil_place(s: Sizes, e: usize) -> usize
+    requires { ⌜ FewThings s × (e < mostElements) ⌝ }
+    ensures { λ r. ⌜ ((m : List ℤ) → SizesAre m s → r ≡ soilPlace m e) ⌝ }
+{
+    elements_from(s) + e * ELEMENT_COLUMNS + 4
 }
 
 // Column c of a soil: p, q, h, cohesion, dead force x and y, live force x and y.

@@ -22,20 +22,12 @@ use Rattle.scope.specs.Bounds.{mostCoordinate}
 use Rattle.scope.specs.Layers.{layers, soil, soilAt, lowest, highest}
 use Rattle.scope.specs.Filled.{heightOf, soilPlace, soilOf, givenNumber, given, filled, withSoils}
 use Rattle.scope.specs.LayerRows.{NodeHeights, OneLayer, TableSound, Reordered, soilNumber, FilledFrom, RepeatTwice}
-use Rattle.scope.proofs.Decides.{Decides, equal, opposite, equalℤ, first-where}
+use Rattle.scope.proofs.Decides.{Decides, is-yes, is-no, equal, opposite, equalℤ, first-where}
 use Rattle.scope.proofs.Lists.{count-length, at-count, at-map}
 use Rattle.scope.proofs.Layers.{first-is, soil-at, same-heights, heights-of, node-heights}
 use Rattle.scope.proofs.Lines.{group}
 use Rattle.scope.proofs.NumberRanges.{count-range}
 use Rattle.scope.proofs.LayerOrder.{reordered-soil}
-
-is-yes : {b : Bool} {A : Type 0} → Decides b A → A → b ≡ true
-is-yes {b = true} d a = refl
-is-yes {b = false} d a = absurd (d .passes a)
-
-is-no : {b : Bool} {A : Type 0} → Decides b A → ¬ A → b ≡ false
-is-no {b = true} d f = absurd (f (d .holds tt))
-is-no {b = false} d f = refl
 
 -- ---- which element's soil a number is
 
@@ -193,6 +185,10 @@ module _ (f : ℕ → ℤ) (m : List ℤ) where
   unfolding meshGroups groups meshLayout
   groups-kept = rw (nodes-kept, elements-kept, soils-kept, edges-kept)
 
+  pub place-kept : (e : ℕ) → soilPlace (given f m) e ≡ soilPlace m e
+  unfolding soilPlace
+  place-kept e = ap (λ (gs : List Group). numbersBefore gs 3 + e * elementColumns + 4) groups-kept
+
   -- a number that is no soil, by its line
   abbrev place : ℕ → ℕ → ℕ → ℕ
   place j i c = numbersBefore (meshGroups m) j + i * width (group (meshGroups m) j) + c
@@ -245,7 +241,7 @@ module _ (f : ℕ → ℤ) (m : List ℤ) (k : MeshFacts (given f m)) where
   corner-there : (e i : ℕ) → e < elements m → i < 4 → corner m e i < nodes m
   corner-there e i l h = omega (arith, k .element e (omega (arith, elements-kept f m)) .cornerThere i h, corner-kept f m e i h, nodes-kept f m)
 
-  height-kept : (e : ℕ) → e < elements m → heightOf (given f m) e ≡ heightOf m e
+  pub height-kept : (e : ℕ) → e < elements m → heightOf (given f m) e ≡ heightOf m e
   unfolding heightOf
   height-kept e l = ap₂ _+_ (ap₂ _+_ (ap₂ _+_ (at-corner 0 (omega arith)) (at-corner 1 (omega arith))) (at-corner 2 (omega arith))) (at-corner 3 (omega arith))
     where

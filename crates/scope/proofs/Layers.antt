@@ -104,13 +104,19 @@ module _ (t m : List ℤ) where
   row-layers (forty-six-else i tops h) = inr (held tops, inl (record { here = i; there = h .there; lower = held (h .lower); fails = inl (h .fails, refl); called = refl }))
   row-layers (forty-five q tops parts g) =
       let e : 4 * lowest m + (q - 4 * lowest m) ≡ q = omega (arith, g .fromLowest) in
-      inr (held tops, inr (held parts, inl (record {
-        here = q - 4 * lowest m;
-        there = omega (arith, g .fromLowest, g .toHighest);
-        lower = λ j i. (g .below (4 * lowest m + j) (omega arith) (omega (arith, g .fromLowest)), tt);
-        fails = inl (λ s. g .inNone (subst (InLayer t) e s), refl);
-        called = ap Height e;
-      })))
+      inr (
+        held tops,
+        inr (
+          held parts,
+          inl (record {
+            here = q - 4 * lowest m;
+            there = omega (arith, g .fromLowest, g .toHighest);
+            lower = λ j i. (g .below (4 * lowest m + j) (omega arith) (omega (arith, g .fromLowest)), tt);
+            fails = inl (λ s. g .inNone (subst (InLayer t) e s), refl);
+            called = ap Height e;
+          }),
+        ),
+      )
 
   -- refused with a number and a place exactly when the table of refusals has a row with them
   pub layers-refused : (k : ℕ) (p : Place) → (checkPhases (layerPhases t m) ≡ Refused k p) ↔ LayerRow t m k p

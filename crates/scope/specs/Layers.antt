@@ -27,6 +27,10 @@ mostLayers = 32
 abbrev pub layerColumns : ℕ
 layerColumns = 3
 
+-- the largest bottom or top in size
+abbrev pub mostLevel : ℕ
+mostLevel = 2000
+
 unfoldable pub layers : List ℤ → ℕ
 layers t = length t / layerColumns
 

@@ -1,0 +1,5 @@
+-- Laws that the proofs of the functions use.
+pub mod LayerLaws
+pub mod GapLaws
+pub mod HeightLaws
+pub mod FillingLaws
