@@ -67,7 +67,7 @@ apart-says t lo hi i =
 -- ---- exactly when
 
 module _ (t m : List ℤ) where
-  layers-decided : Decided (layerPhases t m)
+  pub layers-decided : Decided (layerPhases t m)
   layers-decided = (
     λ i h b. one-step (top-above-says t i),
     λ tops. (
@@ -125,7 +125,7 @@ module _ (t m : List ℤ) where
     λ r. layers-exact .refuses .refused k p (row-layers r),
   )
 
-  sound-of : AllPass (layerPhases t m) → TableSound t (lowest m) (highest m)
+  pub sound-of : AllPass (layerPhases t m) → TableSound t (lowest m) (highest m)
   sound-of a = record { tops = alone (a .0); once = λ q l u. one q l u (there q l u) }
     where
       there : (q : ℕ) → 4 * lowest m ≤ q → q ≤ 4 * highest m → InLayer t q

@@ -42,4 +42,6 @@ pub mod AnswerBounds
 pub mod Layers
 pub mod LayerOrder
 pub mod Filled
+pub mod Table
+pub mod TableApplied
 pub mod Applied

@@ -30,6 +30,7 @@ pub mod Bounds
 pub mod Layers
 pub mod Filled
 pub mod LayerRows
+pub mod Table
 pub mod PolygonRule
 pub mod RowNumbers
 pub mod Printed
@@ -47,3 +48,4 @@ pub mod Parts
 pub mod AcceptedMultipliers
 pub mod AcceptedFractions
 pub mod Worked
+pub mod WorkedTable
