@@ -29,6 +29,11 @@ use Rattle.scope.proofs.Lines.{group}
 use Rattle.scope.proofs.NumberRanges.{count-range}
 use Rattle.scope.proofs.LayerOrder.{reordered-soil}
 
+-- a height is by the corners, the repeated one twice
+pub repeat-twice : (m : List ℤ) (e : ℕ) → RepeatTwice m e
+unfolding heightOf
+repeat-twice m e s = omega (arith, ap (λ (v : ℕ). count (y m v)) s)
+
 -- ---- which element's soil a number is
 
 module _ (m : List ℤ) where
@@ -105,6 +110,24 @@ module _ (f : ℕ → ℤ) (m : List ℤ) where
       ∙ ap₂ (λ (c d : Bool). cond (c && d) (f (soilOf m (soilPlace m e))) (at m (soilPlace m e))) (lt-ltb (soilOf m (soilPlace m e)) (elements m) (omega (arith, its-element m e l))) (is-yes (equalℤ (at m (soilPlace m e)) (pos 0)) z)
       ∙ ap f (its-element m e l)
 
+  -- an element that is given soil 0 stays as it was
+  pub given-still : (e : ℕ) → e < elements m → f e ≡ pos 0 → at (given f m) (soilPlace m e) ≡ at m (soilPlace m e)
+  given-still e l z = by (decLt (soilPlace m e) (length m)) (eqZ (at m (soilPlace m e)) (pos 0)) (equalℤ (at m (soilPlace m e)) (pos 0))
+    where
+      by : Dec (soilPlace m e < length m) → (b : Bool) → Decides b (at m (soilPlace m e) ≡ pos 0) → at (given f m) (soilPlace m e) ≡ at m (soilPlace m e)
+      by (yes k) true d = given-zero e l k (d .holds tt) ∙ z ∙ sym (d .holds tt)
+      by (yes k) false d = given-own (soilPlace m e) (λ s. d .passes s)
+      by (no k) b d = past (soilPlace m e) (omega arith)
+
+  pub given-none : ((e : ℕ) → f e ≡ pos 0) → given f m ≡ m
+  unfolding at givenNumber
+  given-none none = ext-getD (pos 0) (given f m) m given-length (λ k l. at-given k (omega (arith, l, given-length)) ∙ by k (ltb (soilOf m k) (elements m)) (eqZ (at m k) (pos 0)) (equalℤ (at m k) (pos 0)))
+    where
+      by : (k : ℕ) (a b : Bool) → Decides b (at m k ≡ pos 0) → cond (a && b) (f (soilOf m k)) (at m k) ≡ at m k
+      by k true true d = none (soilOf m k) ∙ sym (d .holds tt)
+      by k true false d = refl
+      by k false b d = refl
+
 -- ---- where the soils that are given are the same
 
 module _ (f g : ℕ → ℤ) (m : List ℤ) where
@@ -127,6 +150,11 @@ module _ (f g : ℕ → ℤ) (m : List ℤ) where
   -- .. for each element
   pub given-cong : ((e : ℕ) → e < elements m → f e ≡ g e) → given f m ≡ given g m
   given-cong same = given-by (λ k l. at-given f m k l ∙ same-number k (λ e b s. same e b) ∙ sym (at-given g m k l))
+
+  -- .. for each but one whose soil is not there
+  pub given-beyond : (e : ℕ) → length m ≤ soilPlace m e → ((d : ℕ) → ¬ (d ≡ e) → f d ≡ g d) → given f m ≡ given g m
+  given-beyond e far same =
+      given-by (λ k b. at-given f m k b ∙ same-number k (λ d c s. same d (λ z. absurd (omega (arith, b, far, s, ap (soilPlace m) z)))) ∙ sym (at-given g m k b))
 
   -- .. for each but e: where it has soil 0 its number is set, and where it has not nothing is to be done
   module _ (e : ℕ) (l : e < elements m) (there : soilPlace m e < length m) (same : (d : ℕ) → ¬ (d ≡ e) → f d ≡ g d) where
@@ -211,7 +239,7 @@ module _ (f : ℕ → ℤ) (m : List ℤ) where
   unfolding y soilPlace numbersBefore meshGroups groups meshLayout meshHeader soilLines nodeLines elementLines edgeLines
   y-kept v l = entry-kept 2 v 1 (λ e d z. absurd (omega arith))
 
-  element-kept : (e c : ℕ) → c < 4 → entry (meshGroups (given f m)) (given f m) 3 e c ≡ entry (meshGroups m) m 3 e c
+  pub element-kept : (e c : ℕ) → c < 4 → entry (meshGroups (given f m)) (given f m) 3 e c ≡ entry (meshGroups m) m 3 e c
   unfolding soilPlace numbersBefore meshGroups groups meshLayout meshHeader soilLines nodeLines elementLines edgeLines
   element-kept e c l = entry-kept 3 e c (λ d k z. absurd (omega arith))
 
@@ -414,7 +442,3 @@ module _ (t m : List ℤ) where
     pub reordered-filled : {u : List ℤ} → Reordered t u → filled t m ≡ filled u m
     unfolding filled withSoils
     reordered-filled {u} r = given-cong (λ e. soilAt t (heightOf m e)) (λ e. soilAt u (heightOf m e)) m (λ e l. reordered-soil r (heightOf m e) (element-layer (λ e. pos 1) m k t s e l))
-
-pub repeat-twice : (m : List ℤ) (e : ℕ) → RepeatTwice m e
-unfolding heightOf
-repeat-twice m e s = omega (arith, ap (λ (v : ℕ). count (y m v)) s)

@@ -42,6 +42,7 @@ pub mod AnswerBounds
 pub mod Layers
 pub mod LayerOrder
 pub mod Filled
+pub mod SoilAllowed
 pub mod Table
 pub mod TableApplied
 pub mod Applied

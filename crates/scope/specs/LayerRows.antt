@@ -1,18 +1,20 @@
 -- What 46 and 45 say, and what a filled mesh is, in plain statements (document 02, N8): each refusal with all before it,
 -- each height in exactly one layer, lines in another order, the soil of each element.
 use mathlib.Core.Path.{_≡_}
+use mathlib.Core.Logic.{_↔_, _⊎_}
 use mathlib.Core.List.{List}
 use Prim.Native.Nat.{ℕ, _+_, _*_, _≤_, _<_}
 use lib.IntN.{ℤ, pos}
+use lib.Signed.{_≤ℤ_}
 use lib.ListN.{length}
 use Rattle.scope.specs.declared.Place.{Place}
 use Rattle.scope.specs.declared.Place.the-variants.{Height}
 use Rattle.scope.specs.Columns.{at}
 use Rattle.scope.specs.Layout.{count, entry}
-use Rattle.scope.specs.Mesh.{meshGroups, nodes, elements, y, corner}
+use Rattle.scope.specs.Mesh.{meshGroups, nodes, elements, soils, y, corner}
 use Rattle.scope.specs.RefusalTable.{LowestFails, AtAll}
 use Rattle.scope.specs.Layers.{layers, bottom, top, soil, layerLine, lowest, highest, Has, TopAbove, Apart, InLayer}
-use Rattle.scope.specs.Filled.{heightOf, soilPlace}
+use Rattle.scope.specs.Filled.{heightOf, soilPlace, withSoils}
 
 -- ---- the two refusals
 
@@ -76,6 +78,10 @@ pub record Reordered (t u : List ℤ) : Type 0 where
 abbrev pub soilNumber : List ℤ → ℕ → ℤ
 soilNumber m e = entry (meshGroups m) m 3 e 4
 
+-- z names one of k things
+abbrev pub Named : ℕ → ℤ → Type 0
+Named k z = (pos 1 ≤ℤ z) × (z ≤ℤ pos k)
+
 -- f is the mesh m filled from t: nothing else is changed, an element with a soil keeps it, and one with soil 0 has that
 -- of the layer with bottom ≤ height < top
 pub record FilledFrom (t m f : List ℤ) : Type 0 where
@@ -84,6 +90,12 @@ pub record FilledFrom (t m f : List ℤ) : Type 0 where
   pub own : (e : ℕ) → e < elements m → ¬ (soilNumber m e ≡ pos 0) → soilNumber f e ≡ soilNumber m e
   pub layered : (e : ℕ) → e < elements m → soilPlace m e < length m → soilNumber m e ≡ pos 0
       → (o : OneLayer t (heightOf m e)) → soilNumber f e ≡ soil t (o .layer)
+
+-- with a table, an element's line is judged with its own corners, and its soil is 0 or one of the mesh's
+pub record SoilAllowed (m : List ℤ) (e : ℕ) : Type 0 where
+  pub corners : (c : ℕ) → c < 4 → entry (meshGroups (withSoils m)) (withSoils m) 3 e c ≡ entry (meshGroups m) m 3 e c
+  pub soilNamed : Named (soils m) (soilNumber (withSoils m) e)
+      ↔ ((soilNumber m e ≡ pos 0) ⊎ Named (soils m) (soilNumber m e))
 
 -- a triangle's third corner counts twice
 abbrev pub RepeatTwice : List ℤ → ℕ → Type 0
