@@ -3,4 +3,5 @@ pub mod TableLaws
 pub mod LayerLaws
 pub mod GapLaws
 pub mod HeightLaws
+pub mod NamingLaws
 pub mod FillingLaws

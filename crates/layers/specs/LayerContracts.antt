@@ -5,9 +5,11 @@ use mathlib.Core.List.{List}
 use Prim.Native.Nat.{ℕ, _*_, _≤_, _<_}
 use lib.IntN.{ℤ, pos}
 use lib.Dec.{ltb}
-use lib.ListN.{length}
+use lib.ListN.{length, set}
 use lib.Signed.{leZ, ltZ}
 use Rattle.integer.specs.Bounds.{AllWithin}
+use Rattle.integer.specs.Tests.{eqZ}
+use Rattle.scope.specs.Columns.{at}
 use Rattle.scope.specs.Mesh.{soils}
 use Rattle.scope.specs.NumberRanges.{Between}
 use Rattle.scope.specs.Layers.{mostLayers, layerColumns, mostLevel, layers, bottom, top, soil, soilAt, lowest, highest}
@@ -42,6 +44,14 @@ meet t lo hi i j =
 -- the soil of each element below e by its layer, and else soil 1
 abbrev pub soilsTo : List ℤ → List ℤ → ℕ → ℕ → ℤ
 soilsTo t m e d = cond (ltb d e) (soilAt t (heightOf m d)) (pos 1)
+
+-- soil 1 for each element below e, and else soil 0
+abbrev pub onesTo : ℕ → ℕ → ℤ
+onesTo e d = cond (ltb d e) (pos 1) (pos 0)
+
+-- number k becomes 1 where it is there and 0
+unfoldable pub named : List ℤ → ℕ → List ℤ
+named ns k = cond (ltb k (length ns) && eqZ (at ns k) (pos 0)) (set ns k (pos 1)) ns
 
 -- a mesh whose lines have passed with soil 1 for each soil 0, and a table that has passed for it
 pub record Fillable (t : List ℤ) (n : ℕ) (m : List ℤ) (s : Sizes) : Type 0 where

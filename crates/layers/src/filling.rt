@@ -9,7 +9,8 @@ ghost use Rattle.integer.specs.Tests.{eqZ};
 ghost use Rattle.scope.specs.Columns.{at};
 ghost use Rattle.scope.specs.Filled.{given, filled, withSoils};
 ghost use Rattle.scope.specs.Mesh.{elements};
-ghost use Rattle.layers.specs.LayerContracts.{soilsTo, Fillable};
+ghost use Rattle.mesh.specs.MeshContracts.{SizesAre};
+ghost use Rattle.layers.specs.LayerContracts.{named, soilsTo, Fillable};
 use crate::heights::element_height;
 use crate::layer_tests::layer_of;
 use crate::layer_tests::soil_of;
@@ -23,6 +24,33 @@ fn is_zero(ns: &[i64], k: usize) -> bool
         return true;
     }
     false
+}
+
+// Number k becomes 1 where it is there and 0.
+fn name_soil(ns: &mut [i64], k: usize)
+    ensures { λ _. ⌜ now (ns .exit) ≡ named (now (ns .entry)) k ⌝ }
+{
+    if ns.len() <= k {
+        return;
+    }
+    if !is_zero(ns, k) {
+        return;
+    }
+    ns[k] = 1;
+}
+
+// Each element's soil 0 becomes soil 1, as far as the list goes: of the mesh only the header has passed.
+pub fn name_soils(m: &mut [i64], s: Sizes)
+    requires { ⌜ SizesAre (now m) s ⌝ }
+    ensures { λ _. ⌜ now (m .exit) ≡ withSoils (now (m .entry)) ⌝ }
+{
+    let count = s.elements;
+    let mut e: usize = 0;
+    while e < count {
+        let k = soil_place(s, e);
+        name_soil(m, k);
+        e += 1;
+    }
 }
 
 // Element e of the mesh m takes its soil, in a list where the elements before it have theirs, and the others soil 1.

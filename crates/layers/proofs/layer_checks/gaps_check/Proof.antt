@@ -31,7 +31,7 @@ returns : tie.Need-returns Inv-loop μ-loop
 returns c =
     let p = c .before .before .before .before .pre in
     let inv = c .before .before .before .loop .inv in
-    gap-here _ _ _ (inv .1) _ (inv .0) (c .before .before .loop-test .taken) (p .0 .counted) (omega (arith, c .if1 .taken, c .before .layer-of .ensures)) (omega arith)
+    gap-here _ _ _ (inv .1) _ (inv .0) (omega (arith, c .before .before .loop-test .taken)) (p .0 .counted) (omega (arith, c .if1 .taken, c .before .layer-of .ensures)) (omega arith)
 
 top-over-requires : tie.Need-top-over-requires Inv-loop μ-loop
 top-over-requires c κs = (c .before .before .before .before .pre .0, c .if1 .left, found-has _ _ (c .before .layer-of .ensures) (c .if1 .left))
