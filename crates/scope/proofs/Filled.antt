@@ -15,9 +15,9 @@ use borrow.Author.Tests.{lt-ltb, le-ltb}
 use Rattle.integer.specs.Tests.{eqZ}
 use Rattle.scope.specs.Columns.{at}
 use Rattle.scope.specs.Layout.{Group, width, groups, numbersBefore, count, entry}
-use Rattle.scope.specs.Mesh.{mostSides, meshHeaderColumns, soilColumns, elementColumns, meshHeader, soilLines, nodeLines, elementLines, edgeLines, meshLayout, meshGroups, nodes, elements, soils, edges, sides, p, q, h, cohesion, soilEntry, x, y, corner, elementSoil, edgeEntry, fromNode, toNode}
+use Rattle.scope.specs.Mesh.{mostSides, meshHeaderColumns, soilColumns, elementColumns, meshHeader, soilLines, nodeLines, elementLines, edgeLines, jumpLines, meshLayout, meshGroups, nodes, elements, soils, edges, sides, jumps, p, q, h, cohesion, soilEntry, x, y, corner, elementSoil, edgeEntry, fromNode, toNode, jumpEntry, jumpFrom, jumpTo, facingFrom, facingTo}
 use Rattle.scope.specs.Rows.{countFrom, firstWhere}
-use Rattle.scope.specs.NumberRanges.{Between, Counts, SoilFacts, NodeFacts, ElementFacts, EdgeFacts, MeshFacts}
+use Rattle.scope.specs.NumberRanges.{Between, Counts, SoilFacts, NodeFacts, ElementFacts, EdgeFacts, JumpFacts, MeshFacts}
 use Rattle.scope.specs.Bounds.{mostCoordinate}
 use Rattle.scope.specs.Layers.{layers, soil, soilAt, lowest, highest}
 use Rattle.scope.specs.Filled.{heightOf, soilPlace, soilOf, givenNumber, given, filled, withSoils}
@@ -209,9 +209,13 @@ module _ (f : ℕ → ℤ) (m : List ℤ) where
   unfolding sides
   sides-kept = ap count (header-kept 4 (omega arith))
 
+  pub jumps-kept : jumps (given f m) ≡ jumps m
+  unfolding jumps
+  jumps-kept = ap count (header-kept 5 (omega arith))
+
   groups-kept : meshGroups (given f m) ≡ meshGroups m
   unfolding meshGroups groups meshLayout
-  groups-kept = rw (nodes-kept, elements-kept, soils-kept, edges-kept)
+  groups-kept = rw (nodes-kept, elements-kept, soils-kept, edges-kept, jumps-kept)
 
   pub place-kept : (e : ℕ) → soilPlace (given f m) e ≡ soilPlace m e
   unfolding soilPlace
@@ -228,19 +232,19 @@ module _ (f : ℕ → ℤ) (m : List ℤ) where
       ∙ given-other f m (place j i c) none
 
   soil-kept : (s c : ℕ) → s < soils m → c < soilColumns → soilEntry (given f m) s c ≡ soilEntry m s c
-  unfolding soilEntry soilPlace numbersBefore meshGroups groups meshLayout meshHeader soilLines nodeLines elementLines edgeLines
+  unfolding soilEntry soilPlace numbersBefore meshGroups groups meshLayout meshHeader soilLines nodeLines elementLines edgeLines jumpLines
   soil-kept s c l k = entry-kept 1 s c (λ e d z. absurd (omega arith))
 
   x-kept : (v : ℕ) → v < nodes m → x (given f m) v ≡ x m v
-  unfolding x soilPlace numbersBefore meshGroups groups meshLayout meshHeader soilLines nodeLines elementLines edgeLines
+  unfolding x soilPlace numbersBefore meshGroups groups meshLayout meshHeader soilLines nodeLines elementLines edgeLines jumpLines
   x-kept v l = entry-kept 2 v 0 (λ e d z. absurd (omega arith))
 
   pub y-kept : (v : ℕ) → v < nodes m → y (given f m) v ≡ y m v
-  unfolding y soilPlace numbersBefore meshGroups groups meshLayout meshHeader soilLines nodeLines elementLines edgeLines
+  unfolding y soilPlace numbersBefore meshGroups groups meshLayout meshHeader soilLines nodeLines elementLines edgeLines jumpLines
   y-kept v l = entry-kept 2 v 1 (λ e d z. absurd (omega arith))
 
   pub element-kept : (e c : ℕ) → c < 4 → entry (meshGroups (given f m)) (given f m) 3 e c ≡ entry (meshGroups m) m 3 e c
-  unfolding soilPlace numbersBefore meshGroups groups meshLayout meshHeader soilLines nodeLines elementLines edgeLines
+  unfolding soilPlace numbersBefore meshGroups groups meshLayout meshHeader soilLines nodeLines elementLines edgeLines jumpLines
   element-kept e c l = entry-kept 3 e c (λ d k z. absurd (omega arith))
 
   pub corner-kept : (e i : ℕ) → i < 4 → corner (given f m) e i ≡ corner m e i
@@ -248,22 +252,26 @@ module _ (f : ℕ → ℤ) (m : List ℤ) where
   corner-kept e i l = ap (λ (z : ℤ). count z - 1) (element-kept e i l)
 
   edge-kept : (g c : ℕ) → edgeEntry (given f m) g c ≡ edgeEntry m g c
-  unfolding edgeEntry soilPlace numbersBefore meshGroups groups meshLayout meshHeader soilLines nodeLines elementLines edgeLines
+  unfolding edgeEntry soilPlace numbersBefore meshGroups groups meshLayout meshHeader soilLines nodeLines elementLines edgeLines jumpLines
   edge-kept g c = entry-kept 4 g c (λ e d z. absurd (omega arith))
 
+  jump-kept : (j c : ℕ) → jumpEntry (given f m) j c ≡ jumpEntry m j c
+  unfolding jumpEntry soilPlace numbersBefore meshGroups groups meshLayout meshHeader soilLines nodeLines elementLines edgeLines jumpLines
+  jump-kept j c = entry-kept 5 j c (λ e d z. absurd (omega arith))
+
   pub soil-number : (e : ℕ) → soilNumber (given f m) e ≡ at (given f m) (soilPlace m e)
-  unfolding entry soilPlace numbersBefore meshGroups groups meshLayout meshHeader soilLines nodeLines elementLines edgeLines
+  unfolding entry soilPlace numbersBefore meshGroups groups meshLayout meshHeader soilLines nodeLines elementLines edgeLines jumpLines
   soil-number e = ap (λ (gs : List Group). at (given f m) (numbersBefore gs 3 + e * width (group gs 3) + 4)) groups-kept
 
 pub soil-stands : (m : List ℤ) (e : ℕ) → soilNumber m e ≡ at m (soilPlace m e)
-unfolding entry soilPlace numbersBefore meshGroups groups meshLayout meshHeader soilLines nodeLines elementLines edgeLines
+unfolding entry soilPlace numbersBefore meshGroups groups meshLayout meshHeader soilLines nodeLines elementLines edgeLines jumpLines
 soil-stands m e = refl
 
 -- ---- what sound lines say
 
 module _ (f : ℕ → ℤ) (m : List ℤ) (k : MeshFacts (given f m)) where
   pub soil-there : (e : ℕ) → e < elements m → soilPlace m e < length m
-  unfolding soilPlace numbersBefore meshGroups groups meshLayout meshHeader soilLines nodeLines elementLines edgeLines
+  unfolding soilPlace numbersBefore meshGroups groups meshLayout meshHeader soilLines nodeLines elementLines edgeLines jumpLines
   soil-there e l = omega (arith, k .size, given-length f m, soils-kept f m, nodes-kept f m, elements-kept f m)
 
   corner-there : (e i : ℕ) → e < elements m → i < 4 → corner m e i < nodes m
@@ -328,6 +336,8 @@ module _ (f : ℕ → ℤ) (m : List ℤ) (k : MeshFacts (given f m)) where
           edgesLeast = subst (λ (z : ℤ). pos 0 ≤ℤ z) (header-kept f m 3 (omega arith) ∙ sym (header-kept g m 3 (omega arith))) (c .edgesLeast);
           edgesMost = omega (arith, c .edgesMost, edges-kept f m, edges-kept g m);
           sidesListed = subst (λ (n : ℕ). (n ≡ 12) ⊎ ((n ≡ 20) ⊎ (n ≡ mostSides))) (sides-kept f m ∙ sym (sides-kept g m)) (c .sidesListed);
+          jumpsLeast = subst (λ (z : ℤ). pos 0 ≤ℤ z) (header-kept f m 5 (omega arith) ∙ sym (header-kept g m 5 (omega arith))) (c .jumpsLeast);
+          jumpsMost = omega (arith, c .jumpsMost, jumps-kept f m, jumps-kept g m);
         }
 
     soil-facts : (s : ℕ) → s < soils (given g m) → SoilFacts (given g m) s
@@ -407,14 +417,34 @@ module _ (f : ℕ → ℤ) (m : List ℤ) (k : MeshFacts (given f m)) where
         same : (c : ℕ) → edgeEntry (given f m) i c ≡ edgeEntry (given g m) i c
         same c = edge-kept f m i c ∙ sym (edge-kept g m i c)
 
+    jump-facts : (j : ℕ) → j < jumps (given g m) → JumpFacts (given g m) j
+    unfolding jumpFrom jumpTo facingFrom facingTo
+    jump-facts j l = record {
+      fromOne = λ c b. subst (λ (z : ℤ). pos 1 ≤ℤ z) (same c) (old .fromOne c b);
+      fromThere = there 0 (old .fromThere);
+      toThere = there 1 (old .toThere);
+      facingFromThere = there 2 (old .facingFromThere);
+      facingToThere = there 3 (old .facingToThere);
+    }
+      where
+        old : JumpFacts (given f m) j
+        old = k .jump j (omega (arith, l, jumps-kept f m, jumps-kept g m))
+
+        same : (c : ℕ) → jumpEntry (given f m) j c ≡ jumpEntry (given g m) j c
+        same c = jump-kept f m j c ∙ sym (jump-kept g m j c)
+
+        there : (c : ℕ) → count (jumpEntry (given f m) j c) - 1 < nodes (given f m) → count (jumpEntry (given g m) j c) - 1 < nodes (given g m)
+        there c h = omega (arith, h, ap (λ (z : ℤ). count z - 1) (same c), nodes-kept f m, nodes-kept g m)
+
     pub given-facts : MeshFacts (given g m)
     given-facts = record {
       counts = counts-kept;
-      size = omega (arith, k .size, given-length f m, given-length g m, soils-kept f m, soils-kept g m, nodes-kept f m, nodes-kept g m, elements-kept f m, elements-kept g m, edges-kept f m, edges-kept g m);
+      size = omega (arith, k .size, given-length f m, given-length g m, soils-kept f m, soils-kept g m, nodes-kept f m, nodes-kept g m, elements-kept f m, elements-kept g m, edges-kept f m, edges-kept g m, jumps-kept f m, jumps-kept g m);
       soil = soil-facts;
       node = node-facts;
       element = element-facts;
       edge = edge-facts;
+      jump = jump-facts;
     }
 
 -- ---- filled from a table

@@ -18,7 +18,7 @@ layer b u s = b ∷ u ∷ s ∷ []
 -- the sheet's mesh with soil 0: `1 2 3 4 0`
 unfoldable pub soilZero : List ℤ
 soilZero =
-    (pos 4 ∷ pos 1 ∷ pos 1 ∷ pos 3 ∷ pos 12 ∷ [])
+    (pos 4 ∷ pos 1 ∷ pos 1 ∷ pos 3 ∷ pos 12 ∷ pos 0 ∷ [])
     ++ (pos 0 ∷ pos 1 ∷ pos 1 ∷ pos 10 ∷ zeros 4)
     ++ (pos 0 ∷ pos 0 ∷ pos 1 ∷ pos 0 ∷ pos 1 ∷ pos 1 ∷ pos 0 ∷ pos 1 ∷ [])
     ++ (pos 1 ∷ pos 2 ∷ pos 3 ∷ pos 4 ∷ pos 0 ∷ [])
