@@ -128,6 +128,15 @@ module _ (f : ℕ → ℤ) (m : List ℤ) where
       by k true false d = refl
       by k false b d = refl
 
+-- a mesh with no soil 0 stays as it is
+pub given-all-own : (f : ℕ → ℤ) (m : List ℤ) → ((e : ℕ) → e < elements m → ¬ (at m (soilPlace m e) ≡ pos 0)) → given f m ≡ m
+unfolding at
+given-all-own f m own = ext-getD (pos 0) (given f m) m (given-length f m) (λ k l. by k (decLt (soilOf m k) (elements m)))
+  where
+    by : (k : ℕ) → Dec (soilOf m k < elements m) → at (given f m) k ≡ at m k
+    by k (yes l) = given-own f m k (subst (λ (i : ℕ). ¬ (at m i ≡ pos 0)) (its-place m k (soilOf m k) l refl) (own (soilOf m k) l))
+    by k (no l) = given-other f m k (λ e b s. absurd (omega (arith, its-element m e b, ap (soilOf m) s)))
+
 -- ---- where the soils that are given are the same
 
 module _ (f g : ℕ → ℤ) (m : List ℤ) where
@@ -213,7 +222,7 @@ module _ (f : ℕ → ℤ) (m : List ℤ) where
   unfolding jumps
   jumps-kept = ap count (header-kept 5 (omega arith))
 
-  groups-kept : meshGroups (given f m) ≡ meshGroups m
+  pub groups-kept : meshGroups (given f m) ≡ meshGroups m
   unfolding meshGroups groups meshLayout
   groups-kept = rw (nodes-kept, elements-kept, soils-kept, edges-kept, jumps-kept)
 

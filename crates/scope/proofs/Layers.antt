@@ -141,7 +141,7 @@ module _ (t m : List ℤ) where
           same j c g (no d) (yes f) = absurd (a .1 .0 j c .0 q l u g i f h)
           same j c g (no d) (no f) = omega arith
 
-  of-sound : TableSound t (lowest m) (highest m) → AllPass (layerPhases t m)
+  pub of-sound : TableSound t (lowest m) (highest m) → AllPass (layerPhases t m)
   of-sound s = (
     held (s .tops),
     (

@@ -43,6 +43,8 @@ pub mod Layers
 pub mod LayerOrder
 pub mod Filled
 pub mod SoilAllowed
+pub mod GivenLines
 pub mod Table
+pub mod TableVerdict
 pub mod TableApplied
 pub mod Applied

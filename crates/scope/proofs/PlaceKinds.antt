@@ -28,10 +28,10 @@ use Rattle.scope.proofs.Refusals.{mesh-exact}
 use Rattle.scope.proofs.Exactly.{OfMesh, mesh-numbers}
 
 -- the place is the one for this number
-abbrev Kind : ℕ → Place → Type 0
+abbrev pub Kind : ℕ → Place → Type 0
 Kind k p = p ≡ placeFor k (placeNumber p)
 
-abbrev OfLine : ℕ → Type 0
+abbrev pub OfLine : ℕ → Type 0
 OfLine k = (j : ℕ) → Line j ≡ placeFor k j
 
 rule-of-line : (rs : List Rule) (line : List ℤ) (c : ℕ) → FirstFails (ruleSteps rs line) c → OfLine c
@@ -42,19 +42,19 @@ rule-of-line (naming cs ∷ rs) line c (inl h) = subst OfLine (h .1) (λ j. refl
 rule-of-line (parts ∷ rs) line c (inl h) = subst OfLine (h .1) (λ j. refl)
 rule-of-line (r ∷ rs) line c (inr h) = rule-of-line rs line c (h .1)
 
-step-of-line : (f : Layout) (ns : List ℤ) (k c : ℕ) → OfLine (f .formNumber) → OfLine (f .limitNumber) → FirstFails (lineSteps f (groupAt f ns k) (numbersAt f ns k)) c → OfLine c
+pub step-of-line : (f : Layout) (ns : List ℤ) (k c : ℕ) → OfLine (f .formNumber) → OfLine (f .limitNumber) → FirstFails (lineSteps f (groupAt f ns k) (numbersAt f ns k)) c → OfLine c
 step-of-line f ns k c a b (inl h) = subst OfLine (h .1) a
 step-of-line f ns k c a b (inr (x, inl h)) = subst OfLine (h .1) b
 step-of-line f ns k c a b (inr (x, inr (y, h))) = rule-of-line (groupAt f ns k .rules) (numbersAt f ns k) c h
 
-line-kinds : (f : Layout) (ns : List ℤ) → OfLine (f .formNumber) → OfLine (f .limitNumber) → EachIn Kind (linePhases f ns)
+pub line-kinds : (f : Layout) (ns : List ℤ) → OfLine (f .formNumber) → OfLine (f .limitNumber) → EachIn Kind (linePhases f ns)
 line-kinds f ns a b = (
   λ k c h l r. step-of-line f ns k c a b r (suc k),
   λ e. (λ k c h l r. subst OfLine (own-number refl r) a _, λ i. tt),
 )
 
 -- a phase of one step, whose places are those for its number
-one-kind : {number c : ℕ} {p : Place} {H : Type 0} → Kind number p → ((¬ H) × (number ≡ c)) ⊎ (H × ⊥) → Kind c p
+pub one-kind : {number c : ℕ} {p : Place} {H : Type 0} → Kind number p → ((¬ H) × (number ≡ c)) ⊎ (H × ⊥) → Kind c p
 one-kind {p} k r = subst (λ i. Kind i p) (own-number refl r) k
 
 pub mesh-kinds : (m : List ℤ) → EachIn Kind (meshPhases m)

@@ -246,7 +246,7 @@ module _ (m c : List ℤ) where
   sound-multiplier-part met =
       passes-part (multiplierPhases (equalityRows m) (rowsOf m) (3 * nodes m) (multiplier m c)) multipliers-there (λ h. sound-multipliers (equalityRows m) (rowsOf m) (3 * nodes m) (multiplier m c) (met h))
 
-  claim-decided : Decided (claimPhases m c)
+  pub claim-decided : Decided (claimPhases m c)
   claim-decided =
       decided-join (linePhases (claimLayout m) c) (partPhases m c) (lines-decided (claimLayout m) c) (λ lines.
       decided-join (fieldPart m c) (multiplierPart m c)

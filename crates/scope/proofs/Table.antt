@@ -8,24 +8,26 @@ use native.Mathlib.Omega.{arith}
 use lib.IntN.{ℤ, pos, negℤ}
 use lib.Signed.{_≤ℤ_}
 use lib.ListN.{length}
+use Rattle.integer.proofs.Order.{pos-≤ℤ}
 use Rattle.scope.specs.Columns.{at}
-use Rattle.scope.specs.Layout.{groups, numberCount, numbersBefore, entry}
-use Rattle.scope.specs.Mesh.{meshLayout, soils}
+use Rattle.scope.specs.Layout.{groups, lineCount, numberCount, numbersBefore, lineOf, entry}
+use Rattle.scope.specs.Mesh.{meshHeader, meshLayout, layoutWith, elements, soils}
 use Rattle.scope.specs.Phases.{Phase, AllPass, RefusedBy, ifPart, checkPhases}
-use Rattle.scope.specs.Statements.{LinesSound}
-use Rattle.scope.specs.NumberRanges.{Between, MeshFacts}
+use Rattle.scope.specs.Statements.{LineSound, LinesSound}
+use Rattle.scope.specs.NumberRanges.{Between, Counts, MeshFacts}
 use Rattle.scope.specs.Refusals.{linePhases, shapePhases}
 use Rattle.scope.specs.Verdict.{meshCheck}
-use Rattle.scope.specs.Layers.{mostLayers, layerColumns, mostLevel, layers, bottom, top, soil, lowest, highest, layerPhases}
-use Rattle.scope.specs.Filled.{filled, withSoils}
+use Rattle.scope.specs.Layers.{mostLayers, layerColumns, mostLevel, layers, bottom, top, soil, soilAt, lowest, highest, layerPhases}
+use Rattle.scope.specs.Filled.{heightOf, soilPlace, given, filled, withSoils}
 use Rattle.scope.specs.LayerRows.{TableSound}
-use Rattle.scope.specs.Table.{layerLines, tableLines, tableLayout, tableLinePhases, LayerFacts, TableFacts, hasTable, linesRead, meshRead, tabledPhases, tabledCheck}
+use Rattle.scope.specs.Table.{layerLines, tableLines, tableLayout, tableLinePhases, LayerFacts, TableFacts, hasTable, meshRead, tabledPhases, tabledCheck}
 use Rattle.scope.proofs.Phases.{Exact, Decided, phases-exact, decided-join, decided-part, pass-parts}
 use Rattle.scope.proofs.Lines.{LineFacts, lineIn, at-lineIn, line-facts}
-use Rattle.scope.proofs.NumberRanges.{mesh-facts}
+use Rattle.scope.proofs.NumberRanges.{header-counts, mesh-facts}
 use Rattle.scope.proofs.Refusals.{lines-decided, shape-decided, lines-sound}
-use Rattle.scope.proofs.Layers.{layers-decided, sound-of}
-use Rattle.scope.proofs.Filled.{filled-facts}
+use Rattle.scope.proofs.Layers.{layers-decided, soil-at}
+use Rattle.scope.proofs.Filled.{element-layer}
+use Rattle.scope.proofs.GivenLines.{given-lines}
 
 -- ---- what sound lines say
 
@@ -80,13 +82,13 @@ module _ (m t : List ℤ) (s : LinesSound (tableLayout m) t) where
 -- ---- exactly when
 
 module _ (t m : List ℤ) where
-  table-lines-decided : Decided (tableLinePhases t m)
+  pub table-lines-decided : Decided (tableLinePhases t m)
   table-lines-decided = lines-decided (tableLayout m) t
 
-  tabled-decided : Decided (tabledPhases t m)
+  pub tabled-decided : Decided (tabledPhases t m)
   tabled-decided =
-      decided-join (linePhases meshLayout (linesRead t m)) (ifPart (hasTable t) (tableLinePhases t m ++ layerPhases t m) ++ shapePhases (meshRead t m))
-      (lines-decided meshLayout (linesRead t m))
+      decided-join (linePhases (layoutWith (hasTable t)) m) (ifPart (hasTable t) (tableLinePhases t m ++ layerPhases t m) ++ shapePhases (meshRead t m))
+      (lines-decided (layoutWith (hasTable t)) m)
       (λ lines. decided-join (ifPart (hasTable t) (tableLinePhases t m ++ layerPhases t m)) (shapePhases (meshRead t m))
       (decided-part (hasTable t) (tableLinePhases t m ++ layerPhases t m) (decided-join (tableLinePhases t m) (layerPhases t m) table-lines-decided (λ table. layers-decided t m)))
       (λ table. shape-decided (meshRead t m)))
@@ -99,32 +101,36 @@ module _ (t m : List ℤ) where
   -- ---- where there is a table
 
   module _ (e : hasTable t ≡ true) where
-    with-table : tabledPhases t m ≡ linePhases meshLayout (withSoils m) ++ ((tableLinePhases t m ++ layerPhases t m) ++ shapePhases (filled t m))
-    unfolding linesRead meshRead
-    with-table = ap (λ (b : Bool). linePhases meshLayout (cond b (withSoils m) m) ++ (ifPart b (tableLinePhases t m ++ layerPhases t m) ++ shapePhases (cond b (filled t m) m))) e
+    pub with-table : tabledPhases t m ≡ linePhases (layoutWith true) m ++ ((tableLinePhases t m ++ layerPhases t m) ++ shapePhases (filled t m))
+    unfolding meshRead
+    with-table = ap (λ (b : Bool). linePhases (layoutWith b) m ++ (ifPart b (tableLinePhases t m ++ layerPhases t m) ++ shapePhases (cond b (filled t m) m))) e
 
-    module _ (a : AllPass (tabledPhases t m)) where
-      parts : AllPass (linePhases meshLayout (withSoils m)) × AllPass ((tableLinePhases t m ++ layerPhases t m) ++ shapePhases (filled t m))
-      parts = pass-parts (linePhases meshLayout (withSoils m)) ((tableLinePhases t m ++ layerPhases t m) ++ shapePhases (filled t m)) (subst AllPass with-table a)
+-- ---- a mesh whose lines have passed with soil 0 allowed
 
-      table : AllPass (tableLinePhases t m) × AllPass (layerPhases t m)
-      table = pass-parts (tableLinePhases t m) (layerPhases t m) (pass-parts (tableLinePhases t m ++ layerPhases t m) (shapePhases (filled t m)) (parts .1) .0)
+pub tabled-header : (m : List ℤ) → LineSound (layoutWith true) m 0 → Counts m
+unfolding layoutWith meshLayout groups lineOf meshHeader
+tabled-header m h = header-counts m (record { complete = h .complete; inLimits = h .inLimits; rulesHold = h .rulesHold })
 
-      pub tabled-lines : TableFacts m t
-      tabled-lines = table-facts m t (lines-sound (tableLayout m) t (table .0))
+module _ (m : List ℤ) (s : LinesSound (layoutWith true) m) where
+  pub tabled-counts : Counts m
+  unfolding layoutWith groups meshHeader lineCount
+  tabled-counts = tabled-header m (s .lines 0 (omega arith))
 
-      pub tabled-sound : TableSound t (lowest m) (highest m)
-      tabled-sound = sound-of t m (table .1)
+  -- with soil 1 for each soil 0 its lines are sound
+  pub named-facts : MeshFacts (withSoils m)
+  unfolding withSoils
+  named-facts = mesh-facts (given (λ e. pos 1) m) (given-lines m (λ e. pos 1) (λ e l z. record { least = pos-≤ℤ (omega arith); most = pos-≤ℤ (tabled-counts .soilsLeast) }) s)
 
-      -- the filled mesh has all that sound lines say, and passes 5 to 8 and 42
-      pub tabled-facts : MeshFacts (filled t m)
-      tabled-facts = filled-facts t m (mesh-facts (withSoils m) (lines-sound meshLayout (withSoils m) (parts .0))) tabled-sound (λ i l. tabled-lines .layer i l .soilThere)
-
-      pub tabled-shape : AllPass (shapePhases (filled t m))
-      tabled-shape = pass-parts (tableLinePhases t m ++ layerPhases t m) (shapePhases (filled t m)) (parts .1) .1
+  -- and so they are where the mesh is filled from a table that passes
+  pub filled-lines : (t : List ℤ) → TableFacts m t → TableSound t (lowest m) (highest m) → LinesSound meshLayout (filled t m)
+  unfolding filled withSoils
+  filled-lines t f sound = given-lines m (λ e. soilAt t (heightOf m e)) named s
+    where
+      named : (e : ℕ) → e < elements m → at m (soilPlace m e) ≡ pos 0 → Between (pos 1) (pos (soils m)) (soilAt t (heightOf m e))
+      named e l z = let o = element-layer (λ e. pos 1) m named-facts t sound e l in subst (Between (pos 1) (pos (soils m))) (sym (soil-at t (heightOf m e) o)) (f .layer (o .layer) (o .there) .soilThere)
 
 -- ---- where there is none
 
 pub no-table : (m : List ℤ) → tabledCheck [] m ≡ meshCheck m
-unfolding tabledCheck meshCheck hasTable linesRead meshRead
+unfolding tabledCheck meshCheck hasTable meshRead layoutWith meshLayout
 no-table m = refl

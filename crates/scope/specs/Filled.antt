@@ -38,7 +38,7 @@ given f m = map (givenNumber f m) (countFrom 0 (length m))
 unfoldable pub filled : List ℤ → List ℤ → List ℤ
 filled t m = given (λ e. soilAt t (heightOf m e)) m
 
--- "Without a table, soil 0 still gets 4": with one, the lines of a mesh are judged with soil 1, which every mesh has, for
--- each soil 0
+-- with soil 1, which every mesh has, for each soil 0: a mesh whose lines have passed with soil 0 allowed, as heights and
+-- sizes are read from it
 unfoldable pub withSoils : List ℤ → List ℤ
 withSoils m = given (λ e. pos 1) m

@@ -11,10 +11,11 @@ use Rattle.scope.specs.declared.Place.{Place}
 use Rattle.scope.specs.declared.Place.the-variants.{Height}
 use Rattle.scope.specs.Columns.{at}
 use Rattle.scope.specs.Layout.{count, entry}
-use Rattle.scope.specs.Mesh.{meshGroups, nodes, elements, soils, y, corner}
+use Rattle.scope.specs.Mesh.{elementLines, meshGroups, nodes, elements, y, corner}
+use Rattle.scope.specs.Statements.{AllSay}
 use Rattle.scope.specs.RefusalTable.{LowestFails, AtAll}
 use Rattle.scope.specs.Layers.{layers, bottom, top, soil, layerLine, lowest, highest, Has, TopAbove, Apart, InLayer}
-use Rattle.scope.specs.Filled.{heightOf, soilPlace, withSoils}
+use Rattle.scope.specs.Filled.{heightOf, soilPlace}
 
 -- ---- the two refusals
 
@@ -91,11 +92,11 @@ pub record FilledFrom (t m f : List ℤ) : Type 0 where
   pub layered : (e : ℕ) → e < elements m → soilPlace m e < length m → soilNumber m e ≡ pos 0
       → (o : OneLayer t (heightOf m e)) → soilNumber f e ≡ soil t (o .layer)
 
--- with a table, an element's line is judged with its own corners, and its soil is 0 or one of the mesh's
-pub record SoilAllowed (m : List ℤ) (e : ℕ) : Type 0 where
-  pub corners : (c : ℕ) → c < 4 → entry (meshGroups (withSoils m)) (withSoils m) 3 e c ≡ entry (meshGroups m) m 3 e c
-  pub soilNamed : Named (soils m) (soilNumber (withSoils m) e)
-      ↔ ((soilNumber m e ≡ pos 0) ⊎ Named (soils m) (soilNumber m e))
+-- with a table an element's line has its own corners, and its soil is 0 or one of the mesh's
+abbrev pub SoilAllowed : ℕ → ℕ → List ℤ → Type 0
+SoilAllowed ns ss line =
+    AllSay (elementLines 0 ns 0 ss .rules) line
+    ↔ (((c : ℕ) → c < 4 → Named ns (at line c)) × ((at line 4 ≡ pos 0) ⊎ Named ss (at line 4)))
 
 -- a triangle's third corner counts twice
 abbrev pub RepeatTwice : List ℤ → ℕ → Type 0

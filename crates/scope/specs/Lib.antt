@@ -31,6 +31,7 @@ pub mod Layers
 pub mod Filled
 pub mod LayerRows
 pub mod Table
+pub mod TableVerdict
 pub mod PolygonRule
 pub mod RowNumbers
 pub mod Printed

@@ -15,11 +15,11 @@ use Rattle.scope.specs.Answer.{placeNumber}
 use Rattle.scope.specs.Phases.{Phase, ifPart, checkPhases}
 use Rattle.scope.specs.Columns.{between, free, naming}
 use Rattle.scope.specs.Layout.{Group, Layout}
-use Rattle.scope.specs.Mesh.{meshLayout, soils}
+use Rattle.scope.specs.Mesh.{layoutWith, soils}
 use Rattle.scope.specs.NumberRanges.{Between}
 use Rattle.scope.specs.Refusals.{linePhases, shapePhases}
 use Rattle.scope.specs.Layers.{mostLayers, layerColumns, mostLevel, layers, bottom, top, soil, layerPhases}
-use Rattle.scope.specs.Filled.{filled, withSoils}
+use Rattle.scope.specs.Filled.{filled}
 
 -- ---- its lines
 
@@ -28,7 +28,7 @@ unfoldable pub layerLines : ℕ → ℕ → Group
 layerLines n ss = record {
   lines = n;
   limits = between (negℤ (pos 1000)) (pos mostLevel) ∷ between (negℤ (pos 1000)) (pos mostLevel) ∷ free ∷ [];
-  rules = naming ((2, ss) ∷ []) ∷ [];
+  rules = naming ((2, 1, ss) ∷ []) ∷ [];
 }
 
 -- "1 to 32 lines": as many as the numbers begin, and no more than 32
@@ -68,17 +68,14 @@ pub record TableFacts (m t : List ℤ) : Type 0 where
 unfoldable pub hasTable : List ℤ → Bool
 hasTable t = not (eqb (length t) 0)
 
--- the mesh's numbers as its lines are judged ("Without a table, soil 0 still gets 4"), and as all after them reads them
-unfoldable pub linesRead : List ℤ → List ℤ → List ℤ
-linesRead t m = cond (hasTable t) (withSoils m) m
-
+-- the mesh's numbers as all after the lines reads them
 unfoldable pub meshRead : List ℤ → List ℤ → List ℤ
 meshRead t m = cond (hasTable t) (filled t m) m
 
 -- the table is judged "after the mesh lines and before 5", whether or not an element has soil 0
 abbrev pub tabledPhases : List ℤ → List ℤ → List Phase
 tabledPhases t m =
-    linePhases meshLayout (linesRead t m)
+    linePhases (layoutWith (hasTable t)) m
     ++ (ifPart (hasTable t) (tableLinePhases t m ++ layerPhases t m) ++ shapePhases (meshRead t m))
 
 unfoldable pub tabledCheck : List ℤ → List ℤ → Outcome
