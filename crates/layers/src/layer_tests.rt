@@ -1,4 +1,5 @@
 // What is asked of the layers of a table: their numbers, which of them has a height, and whether two share one.
+use mesh::sizes::LAYER_COLUMNS;
 use mesh::sizes::number_at;
 ghost use mathlib.Core.Path.{_≡_};
 ghost use Prim.Native.Nat.{_<_, _≤_, _*_};
@@ -7,9 +8,6 @@ ghost use Rattle.scope.specs.Bounds.{mostCoordinate};
 ghost use Rattle.scope.specs.Layers.{mostLevel, bottom, top, soil, has, topAbove, apart};
 ghost use Rattle.scope.specs.Rows.{firstWhere};
 ghost use Rattle.layers.specs.LayerContracts.{TableRead, higher, meet};
-
-// "bottom, top .., soil".
-pub const LAYER_COLUMNS: usize = 3;
 
 // The numbers of layer i.
 fn bottom_of(t: &[i64], n: usize, i: usize) -> i64

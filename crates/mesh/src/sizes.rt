@@ -78,6 +78,11 @@ pub const EDGE_COLUMNS: usize = 7;
 
 pub const JUMP_COLUMNS: usize = 4;
 
+// "1 to 32 lines", "bottom, top .., soil" (document 02, N8): the lines of a borehole table and their columns.
+pub const MOST_LAYERS: usize = 32;
+
+pub const LAYER_COLUMNS: usize = 3;
+
 // The equality rows of an element, of an edge, and of a jump.
 pub const ELEMENT_ROWS: usize = 2;
 
