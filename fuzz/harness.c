@@ -71,6 +71,14 @@ static void compare_run(struct input in, size_t room) {
   give_all_back(on);
 }
 
+static void compare_sizes(struct input in) {
+  struct block mesh = lend(in.mesh, in.mesh_len, AT_END);
+  struct sizes a = pechuvo_mesh_sizes(mesh.bytes, in.mesh_len);
+  struct sizes b = independent_mesh_sizes(in.mesh, in.mesh_len);
+  must(memcmp(&a, &b, sizeof a) == 0, "the sizes");
+  give_back(mesh);
+}
+
 /* The numbers of a file as far as its columns go; what is no number counts as strtoll says. */
 static size_t numbers_of(const uint8_t *file, size_t length, int64_t *numbers) {
   size_t count = 0, at = 0;
@@ -112,6 +120,7 @@ int LLVMFuzzerTestOneInput(const uint8_t *data, size_t size) {
   struct input in = cut(data, size);
   compare_files(in, (int64_t)(size / 8 % 10) - 1, size % 16 == 0 ? size / 16 % LINE : LINE + size % 8);
   compare_run(in, size % 16 == 0 ? size / 16 % LINE : 3 * LINE + size % 8);
+  compare_sizes(in);
   compare_numbers(in);
   return 0;
 }

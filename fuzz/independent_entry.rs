@@ -1,6 +1,6 @@
 //! The independent implementation under C names, for the fuzzer's harness.
 
-use independent::{Answer, Numbers, Run};
+use independent::{Answer, Numbers, Run, Sizes};
 
 /// A length of 0 goes with any pointer.
 unsafe fn slice<'a, T>(start: *const T, length: usize) -> &'a [T] {
@@ -59,4 +59,10 @@ unsafe extern "C" fn independent_check_run(
         let reports = std::slice::from_raw_parts_mut(reports, reports_len);
         independent::check_run(slice(mesh, mesh_len), slice(claims, claims_len), reports)
     }
+}
+
+#[no_mangle]
+unsafe extern "C" fn independent_mesh_sizes(mesh: *const u8, mesh_len: usize) -> Sizes {
+    // SAFETY: as above.
+    unsafe { independent::mesh_sizes(slice(mesh, mesh_len)) }
 }

@@ -101,6 +101,24 @@ struct pechuvo_run pechuvo_check_run(const uint8_t *mesh, size_t mesh_length,
                                      const uint8_t *claims, size_t claims_length,
                                      uint8_t *reports, size_t reports_length);
 
+/* What a mesh asks room for. All sizes are 0 where number is not 0. */
+struct pechuvo_sizes {
+  uint32_t number; /* 0, or the mesh's refusal with its place */
+  uint32_t place;
+  uint64_t balance_rows; /* rows of each kind, unfixed ones counted */
+  uint64_t side_rows;
+  uint64_t jump_rows;
+  uint64_t strength_rows;
+  uint64_t columns;           /* three for each node */
+  uint64_t field_bytes;       /* of a claim file with a field alone */
+  uint64_t multipliers_bytes; /* with multipliers alone */
+  uint64_t both_bytes;        /* with both */
+};
+
+/* The sizes of a mesh file, from the mesh alone, for a caller who lends buffers. Every claim file that
+   passes 11, 12 and 13 has exactly the length said for its kind. */
+struct pechuvo_sizes pechuvo_mesh_sizes(const uint8_t *mesh, size_t mesh_length);
+
 /* The loads of an accepted claim as exact fractions, l/n and w/m, as they stand and not reduced. */
 struct pechuvo_numbers {
   uint32_t number;

@@ -2,7 +2,7 @@
 """Makes the sheets of this repository again: make_sheets.py FOLDER writes NAME.mesh and NAME.claim
 for every sheet, and FOLDER/expected with the report line of each, worked out by rows.py; where
 sheet_list.py says the line, the two are compared. FOLDER/decimals has lines with other decimals,
-FOLDER/runs the runs. Needs glpsol; the sheets are kept in sheets/, so that checking them needs no
+FOLDER/sizes the sizes of meshes, FOLDER/runs the runs. Needs glpsol; the sheets are kept in sheets/, so that checking them needs no
 solver."""
 
 import os
@@ -10,7 +10,7 @@ import sys
 
 import claim_from_solver
 import rows
-from sheet_list import DECIMALS, RUNS, SHEETS
+from sheet_list import DECIMALS, RUNS, SHEETS, SIZES
 
 
 def write(folder, name, data):
@@ -42,6 +42,12 @@ def decimals_line(folder, name, decimals):
     return f"{name}\t{decimals}\t{verdict.number}\t{verdict.place}\t{rows.told(written)}\n"
 
 
+def sizes_line(folder, name):
+    """Name, number, place, kind of place, the eight sizes."""
+    told = rows.mesh_sizes(rows.read(os.path.join(folder, name + ".mesh")))
+    return "\t".join([name, *map(str, told)]) + "\n"
+
+
 def write_run(folder, run):
     """One run; returns its line: name, bytes of the buffer, reports, bytes taken."""
     mesh, claims = rows.text_of(run.mesh), b""
@@ -62,10 +68,12 @@ def main():
     write(folder, "expected", "".join(lines).encode("ascii"))
     lines = [decimals_line(folder, *case) for case in DECIMALS]
     write(folder, "decimals", "".join(lines).encode("ascii"))
-    folder = os.path.join(folder, "runs")
-    os.makedirs(folder, exist_ok=True)
-    lines = [write_run(folder, run) for run in sorted(RUNS)]
-    write(folder, "expected", "".join(lines).encode("ascii"))
+    runs = os.path.join(folder, "runs")
+    os.makedirs(runs, exist_ok=True)
+    lines = [write_run(runs, run) for run in sorted(RUNS)]
+    write(runs, "expected", "".join(lines).encode("ascii"))
+    lines = [sizes_line(folder, name) for name in SIZES]
+    write(folder, "sizes", "".join(lines).encode("ascii"))
 
 
 if __name__ == "__main__":

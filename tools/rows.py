@@ -470,11 +470,27 @@ def judge_claim(mesh, rows, claim):
     return Verdict(0, 0, "none", **told)
 
 
+def sizes(mesh):
+    """Rows of each kind (balance, side, jump, strength; unfixed ones counted), columns, and the bytes of a claim with
+    a field, with multipliers and with both (document 02, N7)."""
+    counts = [count * columns for count, columns, _ in multiplier_groups(mesh)]
+    claims = [claim_bytes(mesh, field, multipliers) for field, multipliers in ((1, 0), (0, 1), (1, 1))]
+    return [*counts, 3 * len(mesh.nodes), *claims]
+
+
 def judged_mesh(mesh_lines):
     """The mesh of lines that pass, and its rows; Refused where they don't."""
     mesh = mesh_of(mesh_lines)
     judge_mesh(mesh)
     return mesh, rows_of(mesh)
+
+
+def mesh_sizes(mesh):
+    """The sizes of a mesh file: number, place and kind of place, then its sizes, or - where it is refused."""
+    try:
+        return [0, 0, "none", *sizes(judged_mesh(FileLines(mesh, 1))[0])]
+    except Refused as refusal:
+        return [refusal.number, refusal.place, refusal.kind, "-"]
 
 
 def refused(refusal):

@@ -1,7 +1,7 @@
 #!/usr/bin/env python3
 """Holds rows.py to sheets/expected and to cases of another make: rows_test.py [FOLDER..], each folder with
 `expected` (name, number, place, report line, kind of place, room, decimals) and the files that it names, and
-where they are there `numbers` and `runs`, as sheets/runs is."""
+where they are there `numbers`, `runs`, as sheets/runs is, and `sizes`."""
 
 import os
 import sys
@@ -64,12 +64,20 @@ def differing_runs(folder):
             yield f"{name}: {rows.check_run(mesh, claims, int(room))[1:]}, expected {line}"
 
 
+def differing_sizes(folder):
+    for line in lines_of(folder, "sizes"):
+        name, *expected = line.split("\t")
+        told = rows.mesh_sizes(rows.read(os.path.join(folder, name + ".mesh")))
+        if list(map(str, told)) != expected:
+            yield f"{name}: {told}, expected {line}"
+
+
 def main():
     parts = [(SHEETS, "expected", differing_sheets), (SHEETS, "decimals", differing_decimals)]
-    parts += [(SHEETS, "runs/expected", differing_runs)]
+    parts += [(SHEETS, "runs/expected", differing_runs), (SHEETS, "sizes", differing_sizes)]
     for folder in sys.argv[1:]:
         parts += [(folder, "expected", differing_files), (folder, "numbers/expected", differing_numbers)]
-        parts += [(folder, "runs/expected", differing_runs)]
+        parts += [(folder, "runs/expected", differing_runs), (folder, "sizes", differing_sizes)]
     differing, count = [], 0
     for folder, part, compare in parts:
         path = os.path.join(folder, part)

@@ -569,3 +569,6 @@ RUNS = runs()
 DECIMALS = [(name, decimals) for name in ("third_below_zero", "two_thirds") for decimals in (0, 3, 7)]
 DECIMALS += [("widest_limit", 0), ("widest_limit", 7), ("lowest_limit", 7), ("one_in_three_million", 7)]
 DECIMALS += [("worked_above", 3), ("worked", -1), ("worked", 8)]
+
+# Meshes whose sizes are told (document 02, N7): triangles, two soils, jumps, the largest.
+SIZES = ["worked", "triangle_block", "seam", "joint_blocks", "joint_grid", "footing_36", "largest"]

@@ -122,11 +122,40 @@ static void call_run(struct block mesh, struct block claim, enum lending how) {
   give_back(twice);
 }
 
+/* The sizes of a mesh from memory lent in one way: the refusal that a check of it gets and no sizes, or the
+   sizes told before. */
+static void call_sizes(struct block mesh, enum lending how) {
+  unsigned char line[LINE];
+  struct pechuvo_answer one = pechuvo_check(mesh.bytes, mesh.length, NULL, 0, DECIMALS, line, LINE);
+  int passed = one.number == 11;
+  struct pechuvo_sizes before = pechuvo_mesh_sizes(mesh.bytes, mesh.length), none = {0};
+  struct block m = lend(mesh.bytes, mesh.length, how);
+  close_for_writing(m);
+  struct pechuvo_sizes got = pechuvo_mesh_sizes(m.bytes, m.length);
+  none.number = one.number;
+  none.place = one.place;
+  expect(memcmp(&got, passed ? &before : &none, sizeof got) == 0, "the sizes");
+  expect(got.number == (passed ? 0 : one.number), "the refusal of a mesh");
+  expect(mesh.length == 0 || memcmp(m.bytes, mesh.bytes, mesh.length) == 0, "the mesh is kept");
+  give_back(m);
+}
+
+/* A claim that passes 11, 12 and 13 has the length that is said for its parts. */
+static void claim_length(struct block mesh, struct block claim) {
+  struct pechuvo_sizes sizes = pechuvo_mesh_sizes(mesh.bytes, mesh.length);
+  int field = claim.bytes[11] == '1', multipliers = claim.bytes[23] == '1';
+  uint64_t said = field && multipliers ? sizes.both_bytes
+                  : field              ? sizes.field_bytes
+                                       : sizes.multipliers_bytes;
+  expect(claim.length == said, "the length of the claim");
+}
+
 /* The files cut short at every `step`th byte: nothing behind the cut is read. */
 static void cut_files(struct block mesh, struct block claim, size_t step, int heap) {
   struct block part = mesh;
   for (part.length = 0; part.length < mesh.length; part.length += step) {
     call_each_way(part, claim, LINE, heap);
+    call_sizes(part, heap ? ON_HEAP : AT_END);
   }
   part = claim;
   for (part.length = 0; part.length < claim.length; part.length += step) {
@@ -153,6 +182,8 @@ static void empty_slices(struct block mesh, struct block claim) {
     expect(run.reports == 0 && run.bytes == 0, "a run of no claim has no report");
     run = pechuvo_check_run(mesh.bytes, mesh.length, claim.bytes, claim.length, any, 0);
     expect(run.reports == 0 && run.bytes == 0, "a run into an empty buffer has no report");
+    struct pechuvo_sizes sizes = pechuvo_mesh_sizes(any, 0);
+    expect(sizes.number == 1 && sizes.place == 1, "the sizes of an empty mesh get 1, line 1");
     struct pechuvo_numbers numbers = pechuvo_check_numbers((int64_t *)(void *)any, 0, NULL, 0);
     expect(numbers.number == 1 && numbers.place == 1, "an empty list gets 1, line 1");
   }
@@ -221,6 +252,9 @@ static void sheet(const char *name, int heap) {
   other_decimals(mesh, claim, LINE - 1, heap ? ON_HEAP : AT_START);
   call_run(mesh, claim, heap ? ON_HEAP : AT_END);
   call_run(mesh, claim, heap ? ON_HEAP : AT_START);
+  call_sizes(mesh, heap ? ON_HEAP : AT_END);
+  call_sizes(mesh, heap ? ON_HEAP : AT_START);
+  claim_length(mesh, claim);
   cut_files(mesh, claim, step, heap);
   lists(mesh, claim, step / 8 + 1, heap);
   empty_slices(mesh, claim);

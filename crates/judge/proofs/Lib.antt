@@ -4,3 +4,4 @@ pub mod Form
 pub mod Handed
 pub mod ClaimBytes
 pub mod FilesJudged
+pub mod RoomLaws

@@ -4,3 +4,4 @@ pub mod Judge
 pub mod MeshFileJudged
 pub mod ClaimBytes
 pub mod Handed
+pub mod Room

@@ -1,6 +1,8 @@
 // Two byte strings into a verdict: the numbers of a mesh file and of a claim file are read, and judged by the check of
 // numbers.
 
+pub mod room;
+
 use lines::layout::claim_groups;
 use lines::layout::has_part;
 use mesh::sizes::Sizes;

@@ -9,3 +9,5 @@ pub mod Promises
 pub mod PromisesApplied
 pub mod RunPromises
 pub mod RunApplied
+pub mod SizesPromises
+pub mod SizesApplied

@@ -366,7 +366,7 @@ refused-columns =
     (prints .first, prints .refused (λ e. omega arith), prints .lower-none .1 (inl (λ e. omega arith)), prints .upper-none .1 (inl (λ e. omega arith)))
 
 -- "open rows need both parts"
-no-field : ¬ HasField (claimIn (at 9 .mesh) (at 9 .claim))
+pub no-field : ¬ HasField (claimIn (at 9 .mesh) (at 9 .claim))
 unfolding opened
 no-field e = let z : _≡_ {A = ℕ} 0 1 = cc in omega arith
 

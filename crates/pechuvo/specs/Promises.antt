@@ -1,23 +1,25 @@
 -- What a caller of `pechuvo_check` may rely on: demands 1, 2 and 3 of document 01, with the decimals of document 02,
 -- N5, each promise a plain statement about the number and the place that are returned and about the bytes of the
--- buffer; and a caller of `pechuvo_check_run` (document 02, N3).
--- Each is proved of every call (`proofs/Promises.antt`, `proofs/RunPromises.antt`) and applied to document 01's sheet
--- (`proofs/PromisesApplied.antt`, `proofs/RunApplied.antt`). What number and place say of the two files' numbers is
--- said as for numbers handed over (`numbers/specs/Promises.antt`).
+-- buffer; and callers of `pechuvo_check_run` (document 02, N3) and `pechuvo_mesh_sizes` (N7).
+-- Each is proved of every call (`proofs/Promises.antt`, `RunPromises.antt`, `SizesPromises.antt`) and applied to
+-- document 01's sheet (`proofs/PromisesApplied.antt`, `RunApplied.antt`, `SizesApplied.antt`). What number and place
+-- say of the two files' numbers is said as for numbers handed over (`numbers/specs/Promises.antt`).
 use mathlib.Core.Path.{_≡_}
 use mathlib.Core.Logic.{_↔_, _⊎_, _≢_}
 use mathlib.Core.List.{List, _∷_, _++_}
 use mathlib.Core.Option.{some}
-use Prim.Native.Nat.{ℕ, suc, _*_, _/_, _^_, _≤_, _<_}
+use Prim.Native.Nat.{ℕ, suc, _+_, _*_, _/_, _^_, _≤_, _<_}
 use lib.IntN.{ℤ, pos, natAbs, _+ℤ_, _-ℤ_}
 use lib.Signed.{_<ℤ_}
 use lib.ListN.{length, take, drop, replicate}
 use Rattle.integer.specs.Fraction.{_over_, _≈ᶠ_, _≤ᶠ_, _<ᶠ_}
 use Rattle.scope.specs.Columns.{n, l}
-use Rattle.scope.specs.Mesh.{meshLayout}
-use Rattle.scope.specs.Rows.{rowsOf}
-use Rattle.scope.specs.Claim.{claimLayout, stress, multiplier}
-use Rattle.scope.specs.Statements.{MeshSound, HasField, HasMultipliers}
+use Rattle.scope.specs.Mesh.{meshLayout, nodes, elements, edges, sides, jumps}
+use Rattle.scope.specs.Answer.{placeFor}
+use Rattle.scope.specs.Rows.{Row, pairCount, balanceRows, sideRows, jumpRows, strengthRows, rowsOf}
+use Rattle.scope.specs.Claim.{claimHeaderColumns, claimLayout, stress, multiplier}
+use Rattle.scope.specs.Statements.{LinesSound, MeshSound, HasField, HasMultipliers}
+use Rattle.scope.specs.Refusals.{MeshRefusal}
 use Rattle.scope.specs.Bracket.{Open}
 use Rattle.scope.specs.Parts.{carried, allowed, SameRows, NumberOf}
 use Rattle.scope.specs.Tests.{rowAt}
@@ -26,12 +28,14 @@ use Rattle.numbers.specs.declared.numbers_answer.NumbersAnswer.{NumbersAnswer}
 use Rattle.numbers.specs.Promises as Handed-over
 use Rattle.numbers.specs.Promises.{Returned, ReturnsZero, RefusesExactly, NumbersListed, TellsField, RowsRefused, FieldExactly, MultipliersExactly, CriterionForEachPair, PairsAsked, JumpsAsked, TractionsOnJoints, FractionsBracket}
 use Rattle.numbers.specs.NumbersAnswer.{answerOf}
-use Rattle.reader.specs.File.{fileOf, fileWidth}
+use Rattle.reader.specs.File.{fileOf, fileWidth, lineBytes}
 use Rattle.reader.specs.WellFormed.{Fit, FormFails}
 use Rattle.report.specs.Text.{word, number as shows, said}
 use Rattle.report.specs.Report.{columnBytes, reportBytes, lowerText, upperText, reportLine, Decimals, usualDecimals}
 use Rattle.report.specs.Says.{columnOf, LineSays}
 use Rattle.judge.specs.Judge.{meshNumbers, claimNumbers, filesVerdict}
+use Rattle.judge.specs.declared.room.MeshSizes.{MeshSizes}
+use Rattle.judge.specs.Room.{noSizes, meshSizes}
 use Rattle.judge.specs.Handed.{Handed, files, numbers, meshOf, claimOf, HasAcceptedMultipliers, OnTheSameMesh, HandedBracket}
 use Rattle.run.specs.Run.{claimsJudged}
 use Rattle.run.specs.InTurn.{claimAt, InTurn}
@@ -227,3 +231,44 @@ pub record RunCall (mesh claims before : List ℕ) (judged : List (List ℕ)) (r
       → (reports ≡ 1) × (bytes ≡ 0) × ((claim : List ℕ) → SingleCall mesh claim (reportAt 0 after))
   -- "A run ends first of all when the buffer lacks 113 bytes for the next report, without 41"
   pub no-room : length before < reportBytes → (reports ≡ 0) × (bytes ≡ 0) × (after ≡ before)
+
+-- ==== Room worked out beforehand (document 02, N7)
+
+-- a call on the mesh that told these sizes
+abbrev pub SizesAsked : (mesh : List ℕ) (r : MeshSizes) → Type 0
+SizesAsked mesh r = r ≡ meshSizes (meshIn mesh)
+
+-- so many rows as the definition lists, and as a reader counts them
+abbrev pub Counts : (k : ℕ) (rows : List Row) (counted : ℕ) → Type 0
+Counts k rows counted = (k ≡ length rows) × (k ≡ counted)
+
+-- "Every claim that passes 11, 12 and 13 has exactly the length said for its kind"
+pub record ClaimLengths (mesh : List ℕ) (r : MeshSizes) (claim : List ℕ) : Type 0 where
+  pub field : HasField (claimIn mesh claim) → (¬ HasMultipliers (claimIn mesh claim)) → length claim ≡ r .«field_bytes»
+  pub multipliers : (¬ HasField (claimIn mesh claim)) → HasMultipliers (claimIn mesh claim)
+      → length claim ≡ r .«multipliers_bytes»
+  pub both : HasField (claimIn mesh claim) → HasMultipliers (claimIn mesh claim) → length claim ≡ r .«both_bytes»
+
+-- "the row and column counts are those of the definition": two balance rows for each element, four side rows for each
+-- edge and four jump rows for each jump, "unfixed ones counted", a strength row for each side of each pair, "three a
+-- node"
+pub record SizesOf (mesh : List ℕ) (r : MeshSizes) : Type 0 where
+  pub balance : Counts (r .«balance_rows») (balanceRows (meshIn mesh)) (2 * elements (meshIn mesh))
+  pub side : Counts (r .«side_rows») (sideRows (meshIn mesh)) (4 * edges (meshIn mesh))
+  pub jump : Counts (r .«jump_rows») (jumpRows (meshIn mesh)) (4 * jumps (meshIn mesh))
+  pub strength : Counts (r .«strength_rows») (strengthRows (meshIn mesh)) (pairCount (meshIn mesh) * sides (meshIn mesh))
+  pub rows : r .«balance_rows» + r .«side_rows» + r .«jump_rows» + r .«strength_rows» ≡ length (rowsOf (meshIn mesh))
+  pub columns : r .columns ≡ 3 * nodes (meshIn mesh)
+  pub lengths : (claim : List ℕ) → LinesSound (claimLayout (meshIn mesh)) (claimIn mesh claim)
+      → ClaimLengths mesh r claim
+  -- a claim with both parts has one header
+  pub one-header : r .«field_bytes» + r .«multipliers_bytes» ≡ r .«both_bytes» + lineBytes fileWidth claimHeaderColumns
+
+pub record SizesTold (mesh : List ℕ) (r : MeshSizes) : Type 0 where
+  -- 0 exactly when the mesh is accepted; else "its refusal and no sizes"
+  pub accepted : (r .number ≡ 0) ↔ MeshSound (meshIn mesh)
+  pub place-zero : r .number ≡ 0 → r .place ≡ 0
+  pub refused : (k j : ℕ) → k ≢ 0
+      → ((r .number ≡ k) × (r .place ≡ j)) ↔ MeshRefusal (meshIn mesh) k (placeFor k j)
+  pub no-sizes : r .number ≢ 0 → r ≡ noSizes (r .number) (r .place)
+  pub sizes : r .number ≡ 0 → SizesOf mesh r

@@ -1,7 +1,10 @@
 // Every call that C makes: the check of a mesh file and a claim file, two byte strings into a report line and the
-// verdict's numbers; the check of claims for one mesh, one after another; and the check of the numbers themselves.
+// verdict's numbers; the check of claims for one mesh, one after another; the check of the numbers themselves; and the
+// room that a mesh asks for.
 
 use judge::judge_files;
+use judge::room::MeshSizes;
+use judge::room::mesh_sizes;
 use numbers::numbers_answer::NumbersAnswer;
 use report::Reported;
 use report::write_report;
@@ -16,6 +19,7 @@ ghost use Rattle.numbers.specs.NumbersAnswer.{answerOf};
 ghost use Rattle.reader.specs.File.{fileWidth};
 ghost use Rattle.report.specs.Buffer.{reportedNumber, reportedPlace};
 ghost use Rattle.judge.specs.Judge.{meshNumbers};
+ghost use Rattle.judge.specs.Room.{meshSizes};
 ghost use Rattle.run.specs.Run.{RunAnswers};
 ghost use Rattle.pechuvo.specs.Answers.{Answers};
 
@@ -91,4 +95,12 @@ pub extern "C" fn pechuvo_check_numbers(m: &[i64], c: &[i64]) -> NumbersAnswer
     ensures { λ r. ⌜ r ≡ answerOf (verdict (now (m .entry)) (now (c .entry))) ⌝ }
 {
     numbers::check(m, c)
+}
+
+// The rows of each kind, the columns and the bytes of a claim, from the mesh alone, for a caller who lends the buffers.
+#[no_mangle]
+pub extern "C" fn pechuvo_mesh_sizes(mesh: &[u8]) -> MeshSizes
+    ensures { λ r. ⌜ r ≡ meshSizes (meshNumbers fileWidth (now (mesh .entry))) ⌝ }
+{
+    mesh_sizes(mesh)
 }

@@ -27,6 +27,17 @@ fn show_decimals(name: &str, sheet: &Sheet) {
     }
 }
 
+/// Room worked out beforehand (document 02, N7).
+fn show_sizes(name: &str, files: &Files) {
+    let s = independent::mesh_sizes(&files.mesh);
+    let rows = [s.balance_rows, s.side_rows, s.jump_rows, s.strength_rows];
+    let bytes = [s.field_bytes, s.multipliers_bytes, s.both_bytes];
+    println!(
+        "{name}: {}, {}: {rows:?} {} {bytes:?}",
+        s.number, s.place, s.columns
+    );
+}
+
 /// The worked sheet with another load and another sy at every node.
 fn loaded(l: i64, sy: i64) -> Sheet {
     let mut sheet = Sheet::worked();
@@ -102,6 +113,8 @@ fn main() {
     show_decimals("2/3", &thirds(0, 30, 2));
     show_decimals("-1/3", &thirds(40, 60, -1));
     show_decimals("-1/3000000", &one_in_three_million());
+    show_sizes("sizes", &worked);
+    show_sizes("sizes of an empty mesh", &empty.files());
     show("-1 decimals", &worked, -1, 113);
     show("8 decimals, 112 bytes", &worked, 8, 112);
 }

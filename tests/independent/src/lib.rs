@@ -12,11 +12,13 @@ pub mod report;
 pub mod run;
 pub mod shape;
 pub mod sheet;
+pub mod sizes;
 
 use claim::Claim;
 use lines::Lines;
 use mesh::Mesh;
 pub use run::{check_run, Run};
+pub use sizes::{mesh_sizes, Sizes};
 
 /// A refusal: its number in the table and its place.
 #[derive(Clone, Copy, Debug, PartialEq, Eq)]

@@ -1,10 +1,12 @@
 //! Holds the proved program and the independent implementation to cases of a third make: number,
-//! place, report and every byte of the buffer. The argument is the folder of cases.
+//! place, report and every byte of the buffer. The arguments are the folder of cases, and folders of sheets with
+//! `runs` and `sizes`.
 
 #[path = "../../independent/programs/compare/archive.rs"]
 mod archive;
 mod lists;
 mod runs;
+mod sizes;
 
 use independent::Answer;
 use std::fs;
@@ -18,6 +20,7 @@ struct Make {
     check: fn(&[u8], &[u8], i64, &mut [u8]) -> Answer,
     check_numbers: fn(&[i64], &[i64]) -> independent::Numbers,
     check_run: fn(&[u8], &[u8], &mut [u8]) -> independent::Run,
+    mesh_sizes: fn(&[u8]) -> independent::Sizes,
 }
 
 const MAKES: [Make; 2] = [
@@ -26,12 +29,14 @@ const MAKES: [Make; 2] = [
         check: archive::check,
         check_numbers: archive::check_numbers,
         check_run: archive::check_run,
+        mesh_sizes: archive::mesh_sizes,
     },
     Make {
         name: "independent",
         check: independent::check,
         check_numbers: independent::check_numbers,
         check_run: independent::check_run,
+        mesh_sizes: independent::mesh_sizes,
     },
 ];
 
@@ -107,9 +112,11 @@ fn main() {
     files(&mut tally, &folder);
     lists::all(&mut tally, &format!("{folder}/numbers"));
     runs::all(&mut tally, &format!("{folder}/runs"));
-    std::env::args()
-        .skip(2)
-        .for_each(|runs| runs::all(&mut tally, &runs));
+    sizes::all(&mut tally, &folder);
+    for sheets in std::env::args().skip(2) {
+        runs::all(&mut tally, &format!("{sheets}/runs"));
+        sizes::all(&mut tally, &sheets);
+    }
     println!("{} answers, {} of them differ", tally.answers, tally.wrong);
     std::process::exit(if tally.wrong == 0 && tally.answers > 0 {
         0

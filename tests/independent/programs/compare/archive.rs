@@ -1,9 +1,9 @@
 //! The proved program's C entries.
 
-use independent::{Answer, Numbers, Run};
+use independent::{Answer, Numbers, Run, Sizes};
 
 mod raw {
-    use independent::{Answer, Numbers, Run};
+    use independent::{Answer, Numbers, Run, Sizes};
 
     extern "C" {
         pub fn pechuvo_check(
@@ -29,6 +29,7 @@ mod raw {
             reports: *mut u8,
             reports_len: usize,
         ) -> Run;
+        pub fn pechuvo_mesh_sizes(mesh: *const u8, mesh_len: usize) -> Sizes;
     }
 }
 
@@ -64,4 +65,9 @@ pub fn check_run(mesh: &[u8], claims: &[u8], reports: &mut [u8]) -> Run {
             reports.len(),
         )
     }
+}
+
+pub fn mesh_sizes(mesh: &[u8]) -> Sizes {
+    // SAFETY: as above.
+    unsafe { raw::pechuvo_mesh_sizes(mesh.as_ptr(), mesh.len()) }
 }

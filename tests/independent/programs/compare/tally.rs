@@ -53,6 +53,9 @@ pub struct Tally {
     lists: BTreeMap<u32, u64>,
     /// Runs by how many reports they wrote.
     runs: BTreeMap<u64, u64>,
+    /// Meshes whose sizes were told, and claims whose lengths were held to them.
+    sizes: u64,
+    lengths: u64,
     disagreements: u64,
 }
 
@@ -122,9 +125,37 @@ impl Tally {
         ours
     }
 
-    /// A sheet as files and as numbers.
+    /// Both sizes of a mesh; a claim that passes 11, 12 and 13 has the length said for its kind.
+    pub fn sizes(&mut self, files: &Files) {
+        let theirs = archive::mesh_sizes(&files.mesh);
+        let ours = independent::mesh_sizes(&files.mesh);
+        if theirs != ours {
+            self.disagree(&format!("{theirs:?} not {ours:?}"), files);
+        }
+        if ours.number != 0 {
+            return;
+        }
+        self.sizes += 1;
+        let verdict = independent::judge_files(&files.mesh, &files.claim);
+        if verdict.is_err_and(|refusal| refusal.number < 20) {
+            return;
+        }
+        self.lengths += 1;
+        let said = match (files.claim[11], files.claim[23]) {
+            (b'1', b'1') => ours.both_bytes,
+            (b'1', _) => ours.field_bytes,
+            _ => ours.multipliers_bytes,
+        };
+        if files.claim.len() as u64 != said {
+            self.disagree(&format!("{ours:?}, not the claim's length"), files);
+        }
+    }
+
+    /// A sheet as files and as numbers, and its mesh's sizes.
     pub fn sheet(&mut self, random: &mut Random, sheet: &Sheet) {
-        self.file(&sheet.files(), How::at_random(random));
+        let files = sheet.files();
+        self.file(&files, How::at_random(random));
+        self.sizes(&files);
         self.list(&sheet.lists());
     }
 
@@ -139,6 +170,10 @@ impl Tally {
             );
         }
         println!("runs by reports: {:?}", self.runs);
+        println!(
+            "sizes: {}, claims of these lengths: {}",
+            self.sizes, self.lengths
+        );
         println!("disagreements: {}", self.disagreements);
     }
 
