@@ -20,7 +20,7 @@ use Rattle.scope.specs.Filled.{heightOf, soilPlace, given, filled, withSoils}
 use Rattle.scope.specs.LayerRows.{OneLayer}
 use Rattle.scope.proofs.Decides.{equalℤ, yes-is, no-is}
 use Rattle.scope.proofs.Layers.{soil-found, soil-at}
-use Rattle.scope.proofs.Filled.{given-length, given-cong, given-kept, given-set, given-facts, soil-there, element-layer, height-kept, place-kept, nodes-kept, elements-kept, soils-kept, edges-kept, sides-kept}
+use Rattle.scope.proofs.Filled.{given-length, given-cong, given-kept, given-set, given-facts, soil-there, element-layer, height-kept, place-kept, nodes-kept, elements-kept, soils-kept, edges-kept, sides-kept, jumps-kept}
 use Rattle.mesh.specs.declared.sizes.Sizes.{Sizes}
 use Rattle.mesh.specs.MeshContracts.{Sized, SizesAre, FewThings}
 use Rattle.mesh.proofs.Places.{as-sizes, few-things}
@@ -56,6 +56,7 @@ module _ {t : List ℤ} {n : ℕ} {m : List ℤ} {s : Sizes} (f : Fillable t n m
         soilsAre = k .soilsAre ∙ soils-kept one m ∙ sym (soils-kept (soilsTo t m e) m);
         edgesAre = k .edgesAre ∙ edges-kept one m ∙ sym (edges-kept (soilsTo t m e) m);
         sidesAre = k .sidesAre ∙ sides-kept one m ∙ sym (sides-kept (soilsTo t m e) m);
+        jumpsAre = k .jumpsAre ∙ jumps-kept one m ∙ sym (jumps-kept (soilsTo t m e) m);
         pairsFew = k .pairsFew;
       }
 
@@ -78,7 +79,7 @@ module _ {t : List ℤ} {n : ℕ} {m : List ℤ} {s : Sizes} (f : Fillable t n m
     pub place-small : soilPlace m e < 2000
     place-small =
         let k = facts .counts in
-        omega (arith, place-there, given-length one m, facts .size, k .soilsMost, k .nodesMost, k .elementsMost, k .edgesMost)
+        omega (arith, place-there, given-length one m, facts .size, k .soilsMost, k .nodesMost, k .elementsMost, k .edgesMost, k .jumpsMost)
 
     pub set-there : soilPlace m e < length (given (soilsTo t m e) m)
     set-there = omega (arith, place-there, given-length (soilsTo t m e) m)
