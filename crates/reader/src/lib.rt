@@ -86,7 +86,7 @@ fn mesh_body(table: &[u64; 256], bytes: &[u8], p: Progress, out: &mut [i64]) -> 
         (allNumbers (now (bytes .entry)) (widths (meshLayout .body (now (out .entry)))) p (now (out .entry)))
         (now (out .entry)) r (now (out .exit)) ⌝ }
 {
-    let groups = mesh_groups(header_sizes(out));
+    let groups = mesh_groups(header_sizes(out), false);
     read_groups(table, bytes, p, groups, out)
 }
 
