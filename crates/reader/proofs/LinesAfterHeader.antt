@@ -44,7 +44,7 @@ pub known : {s : Sizes} {gs : List Code.Group} {body : List Group} → Tabled s 
 known {s} t = record { sizes = s; table = t .table }
 
 pub mesh-lines : {m : List ℤ} {s : Sizes} {gs : List Code.Group} → Tabled s gs (meshBody s false) → SizesAre m s → lineWidths gs ≡ widths (meshLayout .body m)
-unfolding layoutWith meshLayout
+unfolding meshLayout layoutWith
 mesh-lines t k = widths-meant t ∙ ap widths (mesh-body false k)
 
 -- ---- the header of a mesh file

@@ -2,6 +2,7 @@
 use Prim.Native.Nat.{ℕ, _+_, _*_, _/_}
 use Rattle.scope.specs.Mesh.{mostNodes, mostElements, mostSoils, mostEdges, mostSides, mostJumps, mostPairs, meshHeaderColumns, soilColumns, nodeColumns, elementColumns, edgeColumns, jumpColumns, elementRows, edgeRows, rowsPerJump}
 use Rattle.scope.specs.Claim.{claimHeaderColumns, stressColumns}
+use Rattle.scope.specs.Layers.{mostLayers, layerColumns}
 use Rattle.reader.specs.File.{fileWidth}
 
 -- a file of so many bytes: each number has a column, and bytes left over add one number more
@@ -28,3 +29,7 @@ claimRoom =
     + mostJumps * rowsPerJump
     + mostPairs * mostSides
     + 1
+
+-- a table file: as many lines as there can be, and one for bytes left over
+abbrev pub tableRoom : ℕ
+tableRoom = mostLayers * layerColumns + 1
