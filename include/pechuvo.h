@@ -132,10 +132,12 @@ struct pechuvo_numbers {
   uint64_t open_rows;   /* 0 unless both are 1 */
 };
 
-/* Checks the numbers of a mesh and of a claim, each list in the order of the file. They get the
+/* Checks the numbers of a mesh, of a borehole table and of a claim, each list in the order of the
+   file; an empty table (count 0) is none. They get the
    refusals that files of them would get: 1 and 11 come from a list that is too short or too long,
    at the line where that shows. */
 struct pechuvo_numbers pechuvo_check_numbers(const int64_t *mesh, size_t mesh_count,
+                                             const int64_t *table, size_t table_count,
                                              const int64_t *claim, size_t claim_count);
 
 #ifdef __cplusplus
