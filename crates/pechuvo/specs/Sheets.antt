@@ -9,28 +9,40 @@ use lib.IntN.{ℤ, pos}
 use lib.ListN.{replicate}
 use Rattle.scope.specs.Mesh.{meshLayout}
 use Rattle.scope.specs.Claim.{claimLayout}
-use Rattle.reader.specs.File.{fileOf, fileWidth}
+use Rattle.scope.specs.Table.{meshRead}
+use Rattle.reader.specs.File.{fileOf, tableOf, fileWidth}
 use Rattle.pechuvo.specs.Bytes.{bytes, numbers}
 use Rattle.report.specs.Report.{reportBytes, usualDecimals}
 use Rattle.pechuvo.specs.Check.{check}
 
--- the bytes of two files, and the line that they give
+-- the bytes of three files, an empty table being none, and the line that they give
 pub record Sheet : Type 0 where
   pub mesh : List ℕ
+  pub table : List ℕ
   pub claim : List ℕ
   pub line : List ℕ
 
--- a sheet from its mesh, its claim and its line
+-- a sheet from its mesh, its table, its claim and its line
+unfoldable pub sheetWith : String → String → String → String → Sheet
+sheetWith m t c line = record {
+  mesh = fileOf fileWidth meshLayout (numbers m);
+  table = tableOf fileWidth (numbers t);
+  claim = fileOf fileWidth (claimLayout (meshRead (numbers t) (numbers m))) (numbers c);
+  line = bytes line;
+}
+
+-- without a table
 unfoldable pub sheet : String → String → String → Sheet
 sheet m c line = record {
   mesh = fileOf fileWidth meshLayout (numbers m);
+  table = [];
   claim = fileOf fileWidth (claimLayout (numbers m)) (numbers c);
   line = bytes line;
 }
 
 -- what the check writes into a buffer of 113 bytes, with z decimals, and with six
 unfoldable pub printedWith : ℤ → Sheet → List ℕ
-printedWith z s = check (s .mesh) (s .claim) z (replicate reportBytes 0) .buffer
+printedWith z s = check (s .mesh) (s .table) (s .claim) z (replicate reportBytes 0) .buffer
 
 unfoldable pub printed : Sheet → List ℕ
 printed = printedWith (pos usualDecimals)
@@ -270,6 +282,7 @@ noticing =
     -- document 01's header, of five columns: 1, line 1
     ∷ record {
       mesh = bytes "           4           1           1           3          12\n";
+      table = [];
       claim = [];
       line = bytes "                           1                           1                        none                        none\n";
     }
