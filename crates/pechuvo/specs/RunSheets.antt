@@ -10,7 +10,7 @@ use Rattle.reader.specs.File.{fileOf, tableOf, fileWidth}
 use Rattle.judge.specs.Judge.{meshFrom, meshOutcome}
 use Rattle.run.specs.Run.{Ran, run}
 use Rattle.pechuvo.specs.Bytes.{bytes, numbers}
-use Rattle.pechuvo.specs.Sheets.{workedMesh}
+use Rattle.pechuvo.specs.Sheets.{workedMesh, soilZeroMesh}
 
 -- the bytes of a mesh file, of a table file and of the claims, those of the buffer, and what a run of them gives
 pub record RunSheet : Type 0 where
@@ -98,10 +98,23 @@ several =
 unfoldable pub meshAlone : RunSheet
 meshAlone = runSheet refusedMesh [] 120 1 0 (refusedLine ∷ [])
 
+-- document 01's sheet with soil 0, and a table that gives its soil; a table that ends at the highest node: 45, place 4
+unfoldable pub tabledRun : RunSheet
+tabledRun =
+    runSheetWith soilZeroMesh "0 2 1" (claimsOn workedMesh (good ∷ beyond ∷ [])) 240 2 1898
+    (goodLine
+    ∷ "                          22                           1                        none                        none\n"
+    ∷ [])
+
+unfoldable pub tableRefused : RunSheet
+tableRefused = runSheetWith soilZeroMesh "0 1 1" (claimsOn workedMesh (good ∷ [])) 240 1 0 ("                          45                           4                        none                        none\n" ∷ [])
+
 unfoldable pub runSheets : List RunSheet
 runSheets =
     several
     ∷ meshAlone
+    ∷ tabledRun
+    ∷ tableRefused
     -- room for two reports and 112 bytes more
     ∷ runSheet workedMesh (claimsOn workedMesh (good ∷ good ∷ good ∷ [])) 338 2 1898 (goodLine ∷ goodLine ∷ [])
     -- a claim cut short by a byte: 11 in its last line, and its bytes aren't taken
