@@ -1,8 +1,8 @@
 #!/usr/bin/env python3
-"""Makes the sheets of this repository again: make_sheets.py FOLDER writes NAME.mesh, NAME.claim and,
-where there is one, NAME.table for every sheet, and FOLDER/expected with the report line of each, worked out by rows.py; where
-sheet_list.py says the line, the two are compared. FOLDER/decimals has lines with other decimals,
-FOLDER/sizes the sizes of meshes, FOLDER/runs the runs. Needs glpsol; the sheets are kept in sheets/, so that checking them needs no
+"""Makes the sheets of this repository again: make_sheets.py FOLDER writes NAME.mesh, NAME.claim and, where there is
+one, NAME.table for every sheet, and FOLDER/expected with the report line of each, worked out by rows.py; where
+sheet_list.py says the line, the two are compared. FOLDER/decimals has lines with other decimals, FOLDER/sizes the
+sizes of meshes, FOLDER/runs the runs. Needs glpsol; the sheets are kept in sheets/, so that checking them needs no
 solver."""
 
 import os
@@ -46,7 +46,7 @@ def decimals_line(folder, name, decimals):
 
 def sizes_line(folder, name):
     """Name, number, place, kind of place, the eight sizes."""
-    told = rows.mesh_sizes(rows.read(os.path.join(folder, name + ".mesh")))
+    told = rows.mesh_sizes(*(rows.read(os.path.join(folder, name + end)) for end in (".mesh", ".table")))
     return "\t".join([name, *map(str, told)]) + "\n"
 
 

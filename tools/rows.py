@@ -533,10 +533,10 @@ def judged_mesh(mesh_lines, table_lines):
     return mesh, rows_of(mesh)
 
 
-def mesh_sizes(mesh):
-    """The sizes of a mesh file: number, place and kind of place, then its sizes, or - where it is refused."""
+def mesh_sizes(mesh, table):
+    """The sizes of a mesh file and a table: number, place and kind of place, then its sizes, or - where it is refused."""
     try:
-        return [0, 0, "none", *sizes(judged_mesh(FileLines(mesh, 1))[0])]
+        return [0, 0, "none", *sizes(judged_mesh(*mesh_files(mesh, table))[0])]
     except Refused as refusal:
         return [refusal.number, refusal.place, refusal.kind, "-"]
 

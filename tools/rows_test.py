@@ -71,7 +71,7 @@ def differing_runs(folder):
 def differing_sizes(folder):
     for line in lines_of(folder, "sizes"):
         name, *expected = line.split("\t")
-        told = rows.mesh_sizes(rows.read(os.path.join(folder, name + ".mesh")))
+        told = rows.mesh_sizes(*files_of(folder, name, ".mesh", ".table"))
         if list(map(str, told)) != expected:
             yield f"{name}: {told}, expected {line}"
 

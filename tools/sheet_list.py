@@ -596,5 +596,6 @@ DECIMALS = [(name, decimals) for name in ("third_below_zero", "two_thirds") for 
 DECIMALS += [("widest_limit", 0), ("widest_limit", 7), ("lowest_limit", 7), ("one_in_three_million", 7)]
 DECIMALS += [("worked_above", 3), ("worked", -1), ("worked", 8)]
 
-# Meshes whose sizes are told (document 02, N7): triangles, two soils, jumps, the largest.
+# Meshes whose sizes are told (document 02, N7): triangles, two soils, jumps, the largest, and soils from a table.
 SIZES = ["worked", "triangle_block", "seam", "joint_blocks", "joint_grid", "footing_36", "largest"]
+SIZES += ["table_slope", "table_seam", "table_gap"]
