@@ -16,3 +16,4 @@ pub mod LinesAfterHeader
 pub mod Most
 pub mod TableBytes
 pub mod TableRead
+pub mod TableForm
