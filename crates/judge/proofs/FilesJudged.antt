@@ -59,12 +59,26 @@ module _ {zs before after : List ℤ} {r : ℕ} (l : Listed zs before r after) w
 
 -- ---- a mesh
 
-pub mesh-judged : {mesh : List ℕ} {before after : List ℤ} {r : ℕ} {a : MeshAnswer} → Listed (numbersOf fileWidth meshLayout mesh) before r after → MeshAnswered (take r after) a → MeshJudged mesh before (record { count = r; answer = a }) after
-unfolding meshNumbers
-mesh-judged {a = a} l e = record { count = l .count; numbers = l .list; answer = subst (λ (m : List ℤ). MeshAnswered m a) (front l) e }
+-- a list and its front: what the front is changed to, as long as it, leaves what is behind it
+module _ {zs before after : List ℤ} {r : ℕ} (l : Listed zs before r after) (room : length zs ≤ length before) where
+  pub listed-size : length after ≡ length before
+  listed-size = omega (arith, l .count, ap length (l .list), length-append zs (drop r before), length-drop r before)
 
-pub judged-listed : {mesh : List ℕ} {before after : List ℤ} {r : JudgedMesh} → MeshJudged mesh before r after → Listed (meshNumbers fileWidth mesh) before (r .count) after
-judged-listed j = record { count = j .count; list = j .numbers }
+  pub listed-behind : drop r after ≡ drop r before
+  listed-behind = ap (drop r) (l .list) ∙ drop-at zs (drop r before) r (sym (l .count))
+
+-- without a table
+pub judged-alone : {mesh table : List ℕ} {before after : List ℤ} {r : ℕ} {a : MeshAnswer} → length table ≡ 0 → length (meshNumbers fileWidth mesh) ≤ length before → Listed (numbersOf fileWidth meshLayout mesh) before r after → MeshAnswered (take r after) a → MeshJudged mesh table before (record { count = r; answer = a }) after
+unfolding meshNumbers meshFrom meshOutcome
+judged-alone {mesh} {table} {a = a} none room l e =
+    let empty : tableNumbersOf fileWidth table ≡ [] = no-table-file table none in
+    record {
+      count = l .count;
+      size = listed-size l room;
+      behind = listed-behind l room;
+      answer = rw (empty, no-table-read (meshNumbers fileWidth mesh), no-table (meshNumbers fileWidth mesh)) (subst (λ (m : List ℤ). MeshAnswered m a) (front l) e);
+      numbers = λ p. front l ∙ rw (empty, no-table-read (meshNumbers fileWidth mesh));
+    }
 
 -- ---- a claim
 

@@ -4,10 +4,12 @@ pub mod claim_parts;
 pub mod field_checks;
 
 ghost use mathlib.Core.Path.{_≡_};
+ghost use mathlib.Core.Bool.{true};
 ghost use Prim.Native.Nat.{_*_, _≤_};
 ghost use lib.ListN.{length, take, replicate};
 ghost use Rattle.scope.specs.Filled.{withSoils};
 ghost use Rattle.scope.specs.Mesh.{mostPairs, meshLayout};
+ghost use Rattle.scope.specs.Table.{hasTable};
 ghost use Rattle.scope.specs.TableVerdict.{tabledVerdict};
 ghost use Rattle.scope.specs.Verdict.{linesCheck, claimVerdict, verdict};
 ghost use Rattle.mesh.specs.MeshContracts.{Sized};
@@ -135,6 +137,21 @@ pub fn copy_numbers(m: &[i64], out: &mut [i64])
         out[j] = m[j];
         j += 1;
     }
+}
+
+// A mesh and its table, judged; where both pass, the mesh's numbers are filled.
+pub fn judge_tabled(m: &mut [i64], t: &[i64]) -> MeshAnswer
+    requires { ⌜ hasTable (now t) ≡ true ⌝ }
+    ensures { λ r. ⌜ TabledAnswered (now (t .entry)) (now (m .entry)) r (now (m .exit)) ⌝ }
+{
+    let lines = mesh_lines(m, true);
+    if let Outcome::Refused { number, place } = lines {
+        return refused_mesh(number, place);
+    }
+    let mut copy = [0i64; MESH_NUMBERS];
+    copy_numbers(m, &mut copy);
+    let count = m.len();
+    judge_layers(&copy[..count], t, m)
 }
 
 // The verdict on a claim's numbers on a judged mesh, whose counts and pairs are lent.
