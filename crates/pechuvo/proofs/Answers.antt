@@ -1,4 +1,4 @@
--- The verdict on three files, reported and answered, is the whole check.
+-- A verdict, reported and answered, is answered as the definition says.
 use mathlib.Core.Path.{_≡_, ap, ap₂, _∙_}
 use mathlib.Core.List.{List}
 use Prim.Native.Nat.{ℕ}
@@ -10,14 +10,12 @@ use mir.Val.{SFits}
 use mir.Facts.{toZ-ofZ}
 use borrow.Table.Steps.{cases}
 use Rattle.scope.specs.declared.Verdict.{Verdict}
-use Rattle.reader.specs.File.{fileWidth}
-use Rattle.judge.specs.Judge.{filesVerdict}
 use Rattle.report.specs.declared.Reported.{Reported}
 use Rattle.report.specs.Report.{reportBytes, isDecimals}
 use Rattle.report.specs.Buffer.{reported, afterAnswer, afterReport, reportedNumber, reportedPlace, Reports}
 use Rattle.report.proofs.DivisionLaws.{read}
 use Rattle.pechuvo.specs.Check.{answered}
-use Rattle.pechuvo.specs.Answers.{Answers}
+use Rattle.pechuvo.specs.Answers.{AnswersFor}
 
 module _ (v : Verdict) (z : ℤ) (buffer : List ℕ) where
   number-checked : reportedNumber v (reported z buffer) ≡ answered v z buffer .number
@@ -42,10 +40,9 @@ module _ (v : Verdict) (z : ℤ) (buffer : List ℕ) where
       (λ s. rw (s, answered, reported))
 
 -- the number of decimals is handed on as the machine reads it
-pub answers : {mesh table claim before after : List ℕ} {z : ℤ} {v : Verdict} {w : Reported} {number place : ℕ} → SFits w64 z → v ≡ filesVerdict fileWidth mesh table claim → Reports (read z) v before after w → (number ≡ reportedNumber v w) × (place ≡ reportedPlace v w) → Answers mesh table claim z before number place after
-answers {mesh} {table} {claim} {before} {after} {z} {v} {w} f e q a =
+pub answers : {before after : List ℕ} {z : ℤ} {u v : Verdict} {w : Reported} {number place : ℕ} → SFits w64 z → v ≡ u → Reports (read z) v before after w → (number ≡ reportedNumber v w) × (place ≡ reportedPlace v w) → AnswersFor u z before number place after
+answers {before} {after} {z} {u} {v} {w} f e q a =
     let p : Reports z v before after w = rw (toZ-ofZ f) at q in
-    let u : Verdict = filesVerdict fileWidth mesh table claim in
     record {
       numberIs = a .0 ∙ ap₂ reportedNumber e (p .answer) ∙ number-checked u z before;
       placeIs = a .1 ∙ ap₂ reportedPlace e (p .answer) ∙ place-checked u z before;

@@ -1,10 +1,9 @@
 -- The promises of a verdict that is answered, and of a claim on a mesh as it is read, hold of every call: the theorems about the definitions, read off what is returned and written.
 use mathlib.Core.Path.{_≡_, refl, sym, _∙_, ap, subst}
-use mathlib.Core.Logic.{Iff·symm, Iff·trans, _⊎_, inl, inr, _≢_}
-use mathlib.Core.Bool.{true, false}
-use mathlib.Core.List.{List, _∷_, _++_, map, append-nil, List·Memᴰ·head, List·Memᴰ·tail}
+use mathlib.Core.Logic.{_≢_}
+use mathlib.Core.List.{List, _++_}
 use mathlib.Core.Option.{some}
-use Prim.Native.Nat.{ℕ, suc, _^_, _≤_, _<_}
+use Prim.Native.Nat.{ℕ, _^_, _≤_, _<_}
 use native.Mathlib.Omega.{arith}
 use lib.Dec.{ltb}
 use lib.IntN.{ℤ, pos, natAbs, _+ℤ_, _-ℤ_}
@@ -18,57 +17,36 @@ use Rattle.integer.specs.Fraction.{_over_, _≤ᶠ_, _<ᶠ_}
 use Rattle.integer.specs.Round.{Floor, Ceil}
 use Rattle.integer.specs.Tests.{eqZ}
 use Rattle.integer.proofs.TestLaws.{yes-eqZ}
-use Rattle.scope.specs.declared.Place.{Place}
-use Rattle.scope.specs.declared.Place.the-variants.{Line}
 use Rattle.scope.specs.declared.Load.{Load}
 use Rattle.scope.specs.declared.Load.the-variants.{Exact}
 use Rattle.scope.specs.declared.OpenRows.{OpenRows}
 use Rattle.scope.specs.declared.Verdict.{Verdict}
-use Rattle.scope.specs.declared.Verdict.the-variants.{Accepted, Refused}
-use Rattle.scope.specs.Answer.{placeFor, numberOf, placeOf}
-use Rattle.scope.specs.Members.{_∈_}
+use Rattle.scope.specs.declared.Verdict.the-variants.{Accepted}
+use Rattle.scope.specs.Answer.{numberOf, placeOf}
 use Rattle.scope.specs.Columns.{at, hasField, hasMultipliers, n, l}
-use Rattle.scope.specs.Mesh.{meshLayout}
 use Rattle.scope.specs.Rows.{rowsOf}
 use Rattle.scope.specs.Sums.{openRows, liveSum, limitSum}
-use Rattle.scope.specs.Claim.{claimLayout, stress, multiplier}
+use Rattle.scope.specs.Claim.{stress, multiplier}
 use Rattle.scope.specs.Verdict.{verdict, lowerLoad, upperLoad, openCount}
 use Rattle.scope.specs.Statements.{HasField, HasMultipliers}
-use Rattle.scope.specs.Refusals.{meshPhases, claimPhases}
-use Rattle.scope.specs.Accepted.{FieldAccepted, MultipliersAccepted, ClaimAccepted}
+use Rattle.scope.specs.Accepted.{ClaimAccepted}
 use Rattle.scope.specs.Parts.{carried, allowed}
-use Rattle.scope.proofs.Exactly.{accepted-exactly, refused-exactly, verdict-cases, returns-zero, claim-by-parts, each-number}
-use Rattle.scope.proofs.Phases.{EachIn, each-refusal, own-number}
+use Rattle.scope.proofs.Exactly.{accepted-exactly, returns-zero, claim-by-parts}
 use Rattle.scope.proofs.Parts.{field-n, open-rows-count}
-use Rattle.scope.proofs.Refusals.{lines-passed}
-use Rattle.numbers.specs.declared.numbers_answer.NumbersAnswer.{NumbersAnswer}
-use Rattle.numbers.specs.NumbersAnswer.{answerOf}
-use Rattle.numbers.specs.Promises as Handed-over
-use Rattle.numbers.specs.Promises.{Returned, TellsField}
-use Rattle.numbers.proofs.Promises.{returned, returns-zero-exactly, refuses-exactly, numbers-listed, rows-refused, field-exactly, multipliers-exactly, pairs-asked, criterion-for-each-pair, jumps-asked, tractions-on-joints, fractions-allowed}
+use Rattle.numbers.specs.Promises.{Returned}
+use Rattle.numbers.proofs.Promises.{returns-zero-exactly, refuses-exactly, numbers-listed, rows-refused, field-exactly, multipliers-exactly, pairs-asked, criterion-for-each-pair, jumps-asked, tractions-on-joints}
 use Rattle.report.specs.Text.{Said, number as shows, said}
-use Rattle.report.specs.Report.{reportBytes, reportLine, mostDecimals, Decimals, isDecimals, usualDecimals}
-use Rattle.report.specs.Says.{columnOf, LoadSays, no-load, rounded, Says, says-accepted, says-refused, LineSays}
+use Rattle.report.specs.Report.{reportBytes, reportLine, mostDecimals, Decimals, isDecimals}
+use Rattle.report.specs.Says.{LoadSays, no-load, rounded, Says, says-accepted, says-refused, LineSays}
 use Rattle.report.proofs.Text.{minus-said}
 use Rattle.report.proofs.Line.{line-says, lower-within, upper-within, lower-room, upper-room}
-use Rattle.report.proofs.BufferLaws.{these-decimals, decimals-told, other-told, decimals-small}
-use Rattle.reader.specs.File.{fileWidth}
-use Rattle.judge.specs.Judge.{meshNumbers, claimNumbers, filesVerdict}
-use Rattle.reader.proofs.Regular.{mesh-regular, claim-regular}
-use Rattle.reader.proofs.WrittenBack.{written-back}
-use Rattle.judge.specs.Handed.{Handed, meshOf, claimOf}
-use Rattle.judge.proofs.Numbers.{some-side, numbers-verdict, width-there}
-use Rattle.judge.proofs.Form as Form
-use Rattle.judge.proofs.Handed.{handed-bracket}
-use Rattle.pechuvo.specs.Check.{Answered, check}
-use Rattle.pechuvo.specs.Sheets.{Sheet, printedWith, printed, starred}
-use Rattle.pechuvo.specs.Answers.{Answers}
-use Rattle.pechuvo.specs.Promises.{meshIn, claimIn, Room, AnyCall, LongFiles, OnFiles, FormExactly, MinusBelowZero, LowerPrinted, UpperPrinted, Millionths, TextsFit, Prints, OpenRowsPrinted, Call, on-files, on-numbers, AcceptedFiles, TwoCalls, CallAndMultipliers, FractionsAndCall, AsAFile, Written}
-use Rattle.pechuvo.proofs.Check.{check-cut, longer-refused}
-use Rattle.pechuvo.proofs.VerdictFits.{held, lower-held, upper-held}
+use Rattle.report.proofs.BufferLaws.{decimals-told, other-told, decimals-small}
+use Rattle.pechuvo.specs.Check.{answered}
+use Rattle.pechuvo.specs.Answers.{AnswersFor, AnswersOn}
+use Rattle.pechuvo.specs.Promises.{claimIn, Room, AnyCall, OnMesh, MinusBelowZero, LowerPrinted, UpperPrinted, Millionths, TextsFit, Prints, OpenRowsPrinted}
+use Rattle.pechuvo.proofs.VerdictFits.{held, lower-held, upper-held, Sayable, sayable}
 use Rattle.pechuvo.proofs.Words.{lower-word, upper-word, rows-word}
 use Rattle.pechuvo.proofs.OpenColumn.{open-column}
-use Rattle.pechuvo.proofs.Sheets.{starred-sheets}
 
 -- ---- the three cases of a call
 

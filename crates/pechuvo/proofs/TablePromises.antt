@@ -5,13 +5,12 @@ use mathlib.Core.List.{List, [], _∷_, map, append-nil, List·Memᴰ·head, Lis
 use Prim.Native.Nat.{ℕ, zero, suc, _≤_, _<_}
 use native.Mathlib.Omega.{arith}
 use lib.IntN.{ℤ, pos}
-use lib.ListN.{length, take}
 use Rattle.scope.specs.declared.Outcome.the-variants.{Passed}
 use Rattle.scope.specs.declared.Verdict.{Verdict}
 use Rattle.scope.specs.Answer.{numberOf, placeOf}
 use Rattle.scope.specs.Members.{_∈_}
 use Rattle.scope.specs.Accepted.{FieldAccepted, MultipliersAccepted}
-use Rattle.scope.specs.Statements.{MeshSound, HasMultipliers}
+use Rattle.scope.specs.Statements.{HasMultipliers}
 use Rattle.scope.specs.Phases.{checkPhases}
 use Rattle.scope.specs.Verdict.{meshCheck, verdict}
 use Rattle.scope.specs.Table.{hasTable, meshRead, tabledCheck}
@@ -24,7 +23,7 @@ use Rattle.numbers.specs.Promises.{returnedNumbers, Returned, TellsField}
 use Rattle.numbers.specs.TablePromises.{TableReturned}
 use Rattle.numbers.proofs.Promises.{numbers-listed, field-exactly, multipliers-exactly, fractions-allowed}
 use Rattle.numbers.proofs.TablePromises.{table-returned, table-exactly, filled-mesh}
-use Rattle.report.specs.Report.{reportBytes, reportLine, isDecimals, usualDecimals}
+use Rattle.report.specs.Report.{reportLine, isDecimals, usualDecimals}
 use Rattle.report.proofs.BufferLaws.{these-decimals}
 use Rattle.reader.specs.File.{fileWidth, lineBytes, readLine, leftOver, readRows, tableNumbersOf}
 use Rattle.judge.specs.Judge.{meshFrom, meshOutcome, claimNumbers, filesVerdict}
@@ -103,15 +102,15 @@ module _ (mesh table claim : List ℕ) where
   files-fit f = fits-late (t mesh table) (m mesh table) c f
 
   module _ (z : ℤ) (before : List ℕ) (number place : ℕ) (after : List ℕ) (h : Answers mesh table claim z before number place after) where
-    as : {v : Verdict} → filesVerdict fileWidth mesh table claim ≡ v → AnswersFor v z before number place after
-    as e = subst (λ (v : Verdict). AnswersFor v z before number place after) e h
+    for : {v : Verdict} → filesVerdict fileWidth mesh table claim ≡ v → AnswersFor v z before number place after
+    for e = subst (λ (v : Verdict). AnswersFor v z before number place after) e h
 
     pub as-read : AsRead mesh table claim z before number place after
     unfolding meshFrom
     as-read = record {
-      fits = λ f. as (files-fit f);
-      none = λ e. as (ap (λ (u : List ℕ). filesVerdict fileWidth mesh u claim) e ∙ no-table-file mesh .verdicts claim);
-      own-soils = λ f own. subst (λ (x : List ℤ). AnswersOn x claim z before number place after) (read-as-it-was (t mesh table) (m mesh table) own) (as (files-fit f));
+      fits = λ f. for (files-fit f);
+      none = λ e. for (ap (λ (u : List ℕ). filesVerdict fileWidth mesh u claim) e ∙ no-table-file mesh .verdicts claim);
+      own-soils = λ f own. subst (λ (x : List ℤ). AnswersOn x claim z before number place after) (read-as-it-was (t mesh table) (m mesh table) own) (for (files-fit f));
     }
 
     tabled : Room z before → TableReturned (t mesh table) (m mesh table) c number place
