@@ -80,7 +80,7 @@ claim-listed {m} h l = l .against m (sound-counted h)
 
 module _ {mesh : List ℕ} {before after : List ℤ} {r : JudgedMesh} (j : MeshJudged mesh before r after) where
   pub judged-sound : r .answer .outcome ≡ Passed → SoundMesh (take (r .count) after) (r .answer .sizes) (r .answer .pairs)
-  judged-sound e = subst (λ (m : List ℤ). SoundMesh m (r .answer .sizes) (r .answer .pairs)) (sym (front (judged-listed j))) (sound-mesh (j .answer) e)
+  judged-sound e = subst (λ (m : List ℤ). SoundMesh m (r .answer .sizes) (r .answer .pairs)) (sym (front (judged-listed j))) (sound-mesh (λ e. e) (j .answer) e)
 
   pub files-refused : (claim : List ℕ) {k : ℕ} {p : Place} → r .answer .outcome ≡ Fails k p → Refused k p ≡ filesVerdict fileWidth mesh claim
   unfolding filesVerdict verdict answer

@@ -14,7 +14,7 @@ use scope::Verdict;
 use scope::place_number;
 ghost use mathlib.Core.Path.{_≡_};
 ghost use Rattle.scope.specs.Answer.{numberOf, placeOf};
-ghost use Rattle.scope.specs.Verdict.{verdict};
+ghost use Rattle.scope.specs.TableVerdict.{tabledVerdict};
 ghost use Rattle.numbers.specs.NumbersAnswer.{answerOf};
 ghost use Rattle.reader.specs.File.{fileWidth};
 ghost use Rattle.report.specs.Buffer.{reportedNumber, reportedPlace};
@@ -89,12 +89,12 @@ pub extern "C" fn pechuvo_check_run(mesh: &[u8], claims: &[u8], reports: &mut [u
     check_run(mesh, claims, reports)
 }
 
-// The same check of the numbers of a mesh and of a claim, for a solver that writes no files.
+// The same check of the numbers of a mesh, of a table and of a claim, for a solver that writes no files.
 #[no_mangle]
-pub extern "C" fn pechuvo_check_numbers(m: &[i64], c: &[i64]) -> NumbersAnswer
-    ensures { λ r. ⌜ r ≡ answerOf (verdict (now (m .entry)) (now (c .entry))) ⌝ }
+pub extern "C" fn pechuvo_check_numbers(m: &[i64], t: &[i64], c: &[i64]) -> NumbersAnswer
+    ensures { λ r. ⌜ r ≡ answerOf (tabledVerdict (now (t .entry)) (now (m .entry)) (now (c .entry))) ⌝ }
 {
-    numbers::check(m, c)
+    numbers::check(m, t, c)
 }
 
 // The rows of each kind, the columns and the bytes of a claim, from the mesh alone, for a caller who lends the buffers.

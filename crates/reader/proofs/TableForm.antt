@@ -386,7 +386,7 @@ module _ (w : ℕ) (m : List ℤ) where
   some-numbers : (t : List ℤ) {c : ℕ} {p : Place} → judged m mostLayers t 0 ≡ Refused c p → hasTable t ≡ true
   unfolding hasTable
   some-numbers [] e = passed-is-not-refused (sym (judged-none m mostLayers 0) ∙ e)
-  some-numbers (z ∷ zs) e = rw (eqb·suc-zero (length zs))
+  some-numbers (z ∷ zs) e = refl
 
   -- it is a table exactly when there is a number
   pub table-written-there : (t : List ℤ) → Fit w t → hasTable (tableNumbersOf w (tableOf w t)) ≡ hasTable t
@@ -402,9 +402,9 @@ unfolding tableNumbersOf hasTable readRows
 table-there w [] = ap hasTable (rows-none [] w mostLayers)
 table-there w (b ∷ bs) = by (readLine w layerColumns (b ∷ bs)) refl ∙ sym (rw (eqb·suc-zero (length bs)))
   where
-    some-there : (zs rest : List ℤ) → length zs ≡ layerColumns → not (eqb (length (zs ++ rest)) 0) ≡ true
+    some-there : (zs rest : List ℤ) → length zs ≡ layerColumns → hasTable (zs ++ rest) ≡ true
     some-there [] rest e = absurd (omega arith)
-    some-there (z ∷ zs) rest e = rw (eqb·suc-zero (length (zs ++ rest)))
+    some-there (z ∷ zs) rest e = refl
 
     by : (o : Option (List ℤ)) → readLine w layerColumns (b ∷ bs) ≡ o → hasTable (tableNumbersOf w (b ∷ bs)) ≡ true
     by none o = ap hasTable (rows-ill [] w 31 (b ∷ bs) (omega arith) o)

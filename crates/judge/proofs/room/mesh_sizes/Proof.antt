@@ -29,7 +29,7 @@ enum-told c = search needs
 
 sizes-for-requires : tie.Need-sizes-for-requires
 sizes-for-requires c κs =
-    few-things (sound-mesh (c .before .before .before .before .judge-mesh-file .ensures .answer) (c .enum-told .given .1) .sized)
+    few-things (sound-mesh (λ e. e) (c .before .before .before .before .judge-mesh-file .ensures .answer) (c .enum-told .given .1) .sized)
 
 returns : tie.Need-returns
 returns c =
@@ -43,7 +43,7 @@ returns-2 c =
     let told = c .before in
     let judged = told .before .before .before .before .judge-mesh-file .ensures .answer in
     let passed = told .enum-told .given .1 in
-    sizes-passed judged passed (c .sizes-for .ensures _ (sound-counted (sound-mesh judged passed)))
+    sizes-passed judged passed (c .sizes-for .ensures _ (sound-counted (sound-mesh (λ e. e) judged passed)))
 
 pub mesh-sizes-spec : {M : Type 1} → statement M
 mesh-sizes-spec =
