@@ -16,7 +16,7 @@ use Rattle.lines.specs.declared.layout.Group as Code
 use Rattle.scope.specs.Columns.{at, hasField, hasMultipliers}
 use Rattle.scope.specs.Layout.{Group, groups, lineOf, lineNumbers}
 use Rattle.scope.specs.Verdict.{lineCheck, lineAt}
-use Rattle.scope.specs.Mesh.{meshHeaderColumns, meshLayout, meshHeader, layoutWith}
+use Rattle.scope.specs.Mesh.{meshHeaderColumns, meshLayout, layoutWith, meshHeader}
 use Rattle.scope.specs.Claim.{claimHeaderColumns, claimLayout, claimHeader}
 use Rattle.mesh.specs.MeshContracts.{SizesAre, Counted, HeaderThere}
 use Rattle.lines.specs.Table.{meant, AllGood, Known, Tabled, meshBody, claimBody, lineWidths}

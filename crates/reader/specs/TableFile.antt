@@ -1,5 +1,5 @@
--- A borehole table's form, said of its bytes (document 02, N8): "its lines are numbered from 1,001", "1 to 32 lines", and
--- "The table's own form .. [is] judged as a mesh's, with 1".
+-- A borehole table's form, said of its bytes (document 02, N8): "its lines are numbered from 1,001", "1 to 32 lines",
+-- and "The table's own form .. [is] judged as a mesh's, with 1".
 -- The column's width w is a parameter: `fileWidth` in a file. Lines are counted from 0 here.
 use Prim.Native.Nat.{ℕ, _*_, _≤_, _<_}
 use mathlib.Core.List.{List}

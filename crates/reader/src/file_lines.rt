@@ -216,13 +216,13 @@ pub fn read_rows(table: &[u64; 256], bytes: &[u8], line: &mut [i64], out: &mut [
         at: 0,
         numbers: 0,
     };
-    let mut i: usize = 0;
-    while i < MOST_LAYERS {
+    let mut k: usize = 0;
+    while k < MOST_LAYERS {
         if !q.going {
             return q;
         }
         q = next_line(table, bytes, q, LAYER_COLUMNS, line, out);
-        i += 1;
+        k += 1;
     }
     q
 }

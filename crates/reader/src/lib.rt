@@ -1,5 +1,5 @@
-// The bytes of a mesh file, of a table file and of a claim file into numbers: each byte is taken once, front to back, and the numbers
-// stand at the front of a list that the caller lends.
+// The bytes of a mesh file, of a table file and of a claim file into numbers: each byte is taken once, front to back,
+// and the numbers stand at the front of a list that the caller lends.
 mod column;
 mod file_lines;
 
@@ -18,14 +18,12 @@ use lines::layout::has_part;
 use lines::layout::mesh_groups;
 use lines::line_checks::claim_header;
 use lines::line_checks::mesh_header;
-use mesh::sizes::EDGE_COLUMNS;
 use mesh::sizes::EDGE_ROWS;
-use mesh::sizes::ELEMENT_COLUMNS;
 use mesh::sizes::ELEMENT_ROWS;
-use mesh::sizes::JUMP_COLUMNS;
 use mesh::sizes::JUMP_ROWS;
 use mesh::sizes::LAYER_COLUMNS;
 use mesh::sizes::MESH_HEADER;
+use mesh::sizes::MESH_NUMBERS;
 use mesh::sizes::MOST_EDGES;
 use mesh::sizes::MOST_ELEMENTS;
 use mesh::sizes::MOST_JUMPS;
@@ -33,9 +31,6 @@ use mesh::sizes::MOST_LAYERS;
 use mesh::sizes::MOST_NODES;
 use mesh::sizes::MOST_PAIRS;
 use mesh::sizes::MOST_SIDES;
-use mesh::sizes::MOST_SOILS;
-use mesh::sizes::NODE_COLUMNS;
-use mesh::sizes::SOIL_COLUMNS;
 use mesh::sizes::Sizes;
 use mesh::sizes::header_sizes;
 use scope::Outcome;
@@ -53,15 +48,9 @@ ghost use Rattle.reader.specs.Listed.{Listed, ClaimRoom, ClaimListed};
 ghost use Rattle.reader.specs.Most.{mostNumbers};
 ghost use Rattle.reader.specs.TableBytes.{mostBytes, bytesIn};
 
-// The most numbers of a mesh file, of a table file and of a claim file: their headers, as many lines as there can be, and one for
-// bytes left over.
-pub const MESH_ROOM: usize = MESH_HEADER
-    + MOST_SOILS * SOIL_COLUMNS
-    + MOST_NODES * NODE_COLUMNS
-    + MOST_ELEMENTS * ELEMENT_COLUMNS
-    + MOST_EDGES * EDGE_COLUMNS
-    + MOST_JUMPS * JUMP_COLUMNS
-    + 1;
+// The most numbers of a mesh file, of a table file and of a claim file: their headers, as many lines as there can be,
+// and one for bytes left over.
+pub const MESH_ROOM: usize = MESH_NUMBERS + 1;
 
 pub const TABLE_ROOM: usize = MOST_LAYERS * LAYER_COLUMNS + 1;
 

@@ -1,4 +1,4 @@
--- `reader::file_lines::read_rows` meets its contract. The loop's invariant: i lines are read, or all that are well formed.
+-- `reader::file_lines::read_rows` meets its contract. The loop's invariant: k lines are read, or all that are well formed.
 -- Assumes nothing.
 use mathlib.Core.Path.{_≡_, refl}
 use Prim.Native.Nat.{_-_}
@@ -12,10 +12,10 @@ use Rattle.reader.proofs.file_lines.read_rows.Statement.{statement}
 use Rattle.reader.proofs.file_lines.read_rows.Tie as tie
 
 abbrev Inv-loop : tie.InvT-loop
-Inv-loop table bytes line₀ out₀ q₀ i₀ line out q i = InRows bytes out₀ out q i × (length line ≡ length line₀)
+Inv-loop table bytes line₀ out₀ q₀ k₀ line out q k = InRows bytes out₀ out q k × (length line ≡ length line₀)
 
 abbrev μ-loop : tie.MeasureT-loop
-μ-loop table bytes line₀ out₀ q₀ i₀ line out q i = mostLayers - i
+μ-loop table bytes line₀ out₀ q₀ k₀ line out q k = mostLayers - k
 
 loop-holds : tie.Need-loop-holds Inv-loop μ-loop
 unfolding start
@@ -38,8 +38,8 @@ next-line-requires c κs =
     let p = s .before .before .before .pre in
     (p .0, (omega arith, (omega (arith, h .1, p .1 .0), rows-room (h .0) (s .loop-test .taken) (not-false _ (e .if1 .left)) (p .1 .1))))
 
-add-i : tie.Need-add-i Inv-loop μ-loop
-add-i c = omega arith
+add-k : tie.Need-add-k Inv-loop μ-loop
+add-k c = omega arith
 
 loop-less : tie.Need-loop-less Inv-loop μ-loop
 loop-less c = omega arith
@@ -72,7 +72,7 @@ read-rows-spec =
     same-length-2
     returns
     next-line-requires
-    add-i
+    add-k
     loop-less
     loop-again
     same-length-3
