@@ -1,49 +1,26 @@
 -- The bytes of a mesh with a table and of the table: lines are read alike whether or not soil 0 is allowed; a table's numbers depend on its first 32 lines and whether a byte follows; and where its lines are whole its bytes are those of its numbers.
 use mathlib.Core.Path.{_≡_, refl, sym, ap, ap₂, _∙_}
-use mathlib.Core.Bool.{Bool, true, false, cond}
+use mathlib.Core.Bool.{Bool}
 use mathlib.Core.List.{List, [], _∷_, _++_}
 use mathlib.Core.Option.{Option, none, some}
 use Prim.Native.Nat.{ℕ, zero, suc, _+_, _*_, _-_, _≤_, _<_}
 use native.Mathlib.Omega.{arith}
-use lib.IntN.{ℤ, pos}
-use lib.ListN.{length, take, drop, replicate, length-append, length-drop, take-append-drop, List·getD-append}
+use lib.IntN.{ℤ}
+use lib.ListN.{length, take, drop, replicate, length-append, length-drop, take-append-drop}
 use Rattle.scope.specs.Columns.{at}
-use Rattle.scope.specs.Layout.{groups}
-use Rattle.scope.specs.Mesh.{meshHeader, meshLayout, layoutWith, soilLines, nodeLines, elementLines, edgeLines, jumpLines, nodes, elements, soils, edges, jumps}
+use Rattle.scope.specs.Mesh.{meshLayout, layoutWith, elementLines}
 use Rattle.scope.specs.Layers.{mostLayers, layerColumns}
-use Rattle.scope.specs.Verdict.{lineCheck}
-use Rattle.reader.specs.File.{fileWidth, lineBytes, readLine, widths, headerPasses, numbersOf, leftOver, readRows, tableNumbersOf, columns, writeLines, fileOf}
-use Rattle.reader.specs.WellFormed.{Regular}
+use Rattle.reader.specs.File.{fileWidth, lineBytes, readLine, widths, leftOver, readRows, tableNumbersOf, columns, writeLines, fileOf}
 use Rattle.reader.proofs.Line.{line-means}
-use Rattle.reader.proofs.Regular.{mesh-number}
 use Rattle.reader.proofs.Cut.{drop-take, line-cut, line-there}
 use Rattle.reader.proofs.WrittenBack.{write-line}
 
 -- ---- a mesh with a table, or with none
 
-front : (h rest : List ℤ) (k : ℕ) → k < length h → at (h ++ rest) k ≡ at h k
-unfolding at
-front h rest k l = List·getD-append h rest (pos 0) k l
-
-pub layout-regular : (b : Bool) → Regular (layoutWith b)
-unfolding layoutWith meshHeader groups soilLines nodeLines elementLines edgeLines jumpLines nodes elements soils edges jumps
-layout-regular b = record {
-  oneHeader = refl;
-  byHeader = λ h rest e.
-      rw (front h rest 0 (omega arith), front h rest 1 (omega arith), front h rest 2 (omega arith), front h rest 3 (omega arith), front h rest 5 (omega arith));
-  someColumns = λ h. omega arith;
-  notLimit = omega arith;
-  notRule = mesh-number;
-}
-
 module _ (w : ℕ) (b : Bool) where
   pub layout-widths : (m : List ℤ) → widths (layoutWith b .body m) ≡ widths (meshLayout .body m)
   unfolding layoutWith meshLayout widths elementLines
   layout-widths m = refl
-
-  pub layout-numbers : (bs : List ℕ) → numbersOf w (layoutWith b) bs ≡ numbersOf w meshLayout bs
-  unfolding numbersOf headerPasses lineCheck layoutWith meshLayout widths elementLines
-  layout-numbers bs = refl
 
   pub layout-file : (zs : List ℤ) → fileOf w (layoutWith b) zs ≡ fileOf w meshLayout zs
   unfolding fileOf layoutWith meshLayout widths elementLines
