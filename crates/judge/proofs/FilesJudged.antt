@@ -66,9 +66,9 @@ empty-file table e = none (tableNumbersOf fileWidth table) (table-there fileWidt
     none [] h = refl
     none (z ∷ t) h = absurd (true≢false h)
 
-pub some-file : (table : List ℕ) → 0 < length table → hasTable (tableNumbersOf fileWidth table) ≡ true
-some-file (b ∷ bs) l = table-there fileWidth (b ∷ bs) ∙ rw (eqb·suc-zero (length bs))
-some-file [] l = absurd (omega arith)
+pub some-file : (w : ℕ) (table : List ℕ) → 0 < length table → hasTable (tableNumbersOf w table) ≡ true
+some-file w (b ∷ bs) l = table-there w (b ∷ bs) ∙ rw (eqb·suc-zero (length bs))
+some-file w [] l = absurd (omega arith)
 
 read-alone : (m : List ℤ) → meshRead [] m ≡ m
 unfolding meshRead hasTable

@@ -35,7 +35,7 @@ slice-aggregate-judge-with : tie.Need-slice-aggregate-judge-with
 slice-aggregate-judge-with c = as-many (c .before .before .before .read-mesh .ensures)
 
 judge-with-requires : tie.Need-judge-with-requires
-judge-with-requires c κs = some-file _ (omega (arith, c .before .if1 .left))
+judge-with-requires c κs = some-file _ _ (omega (arith, c .before .if1 .left))
 
 same-length-2 : tie.Need-same-length-2
 same-length-2 c = search needs
