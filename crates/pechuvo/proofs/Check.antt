@@ -23,7 +23,7 @@ use Rattle.scope.specs.Statements.{Within, LinesSound, MeshSound}
 use Rattle.scope.specs.NumberRanges.{Counts}
 use Rattle.scope.specs.Layers.{mostLayers, layerColumns, layers}
 use Rattle.scope.specs.Filled.{filled}
-use Rattle.scope.specs.Table.{hasTable, meshRead, tabledCheck}
+use Rattle.scope.specs.Table.{tableLines, hasTable, meshRead, tabledCheck}
 use Rattle.scope.specs.TableVerdict.{tabledVerdict, TableFits}
 use Rattle.scope.specs.Answer.{numberOf}
 use Rattle.scope.specs.Verdict.{answer, lineCheck, linesCheck}
@@ -34,7 +34,7 @@ use Rattle.scope.proofs.TableVerdict.{read-passes, tabled-zero}
 use Rattle.scope.proofs.NumberRanges.{counts}
 use Rattle.scope.proofs.Lines.{within-at}
 use Rattle.scope.proofs.Pairs.{few-pairs}
-use Rattle.reader.specs.File.{lineBytes, widths, numbersOf, tableNumbersOf, writeLines}
+use Rattle.reader.specs.File.{lineBytes, widths, numbersOf, tableNumbersOf, writeLines, tableOf}
 use Rattle.reader.specs.WellFormed.{bytesOf}
 use Rattle.reader.proofs.Regular.{layout-regular, same-numbers, claim-regular}
 use Rattle.reader.proofs.Cut.{numbers-cut, passed-length, group-bytes, no-bytes}
@@ -174,13 +174,24 @@ module _ (mesh table : List ℕ) where
       omega (arith, bytes, told, most)
 
   -- the table's lines are whole
-  pub whole-table : TableFits t m → (table ≡ writeLines 12 (replicate (layers t) layerColumns) t) × (length table ≡ layers t * lineBytes 12 layerColumns) × (layers t ≤ mostLayers)
+  table-size : TableFits t m → length t ≡ layers t * layerColumns
   unfolding layers hasTable
-  whole-table f = cases (hasTable t) (λ e. table-back table (layers t) (table-facts m t (f e .lines) .size)) (λ e. by t refl e)
+  table-size f = cases (hasTable t) (λ e. table-facts m t (f e .lines) .size) (λ e. by t refl e)
     where
-      by : (u : List ℤ) → t ≡ u → hasTable u ≡ false → (table ≡ writeLines 12 (replicate (layers t) layerColumns) t) × (length table ≡ layers t * lineBytes 12 layerColumns) × (layers t ≤ mostLayers)
-      by [] e d = let none : length t ≡ 0 = ap length e in table-back table (layers t) (omega (arith, none))
+      by : (u : List ℤ) → t ≡ u → hasTable u ≡ false → length t ≡ layers t * layerColumns
+      by [] e d = let none : length t ≡ 0 = ap length e in omega (arith, none)
       by (z ∷ zs) e d = absurd (true≢false d)
+
+  whole-table : TableFits t m → (table ≡ writeLines 12 (replicate (layers t) layerColumns) t) × (length table ≡ layers t * lineBytes 12 layerColumns) × (layers t ≤ mostLayers)
+  whole-table f = table-back table (layers t) (table-size f)
+
+  -- so it is the table of its numbers
+  pub table-written : TableFits t m → table ≡ tableOf 12 t
+  unfolding tableOf layers tableLines
+  table-written f =
+      let (bytes, size, few) = whole-table f in
+      let counted : layers t ≡ tableLines t = omega (arith, few, table-size f) in
+      bytes ∙ ap (λ (k : ℕ). writeLines 12 (replicate k layerColumns) t) counted
 
 accepted-short : (mesh table claim : List ℕ) → numberOf (filesVerdict 12 mesh table claim) ≡ 0
     → (length mesh < mostFileBytes) × (length table < mostFileBytes) × (length claim < mostFileBytes)

@@ -1,13 +1,13 @@
 -- The theorems about the whole check.
 pub mod Sheets
+pub mod TableFile
 pub mod Check
 pub mod Answers
 pub mod VerdictFits
 pub mod Words
 pub mod OpenColumn
 pub mod Promises
-pub mod PromisesApplied
+pub mod TablePromises
+pub mod FilePromises
 pub mod RunPromises
-pub mod RunApplied
 pub mod SizesPromises
-pub mod SizesApplied

@@ -9,7 +9,6 @@
 -- read (`AsRead`), and what the promises say of a mesh with the numbers m they say of that one.
 use mathlib.Core.Path.{_≡_}
 use mathlib.Core.Logic.{_↔_, _⊎_, _≢_}
-use mathlib.Core.Bool.{true}
 use mathlib.Core.List.{List, [], _∷_, _++_}
 use mathlib.Core.Option.{some}
 use Prim.Native.Nat.{ℕ, suc, _+_, _*_, _/_, _^_, _≤_, _<_}
@@ -20,14 +19,14 @@ use Rattle.integer.specs.Fraction.{_over_, _≈ᶠ_, _≤ᶠ_, _<ᶠ_}
 use Rattle.scope.specs.Columns.{at, n, l}
 use Rattle.scope.specs.declared.Verdict.{Verdict}
 use Rattle.scope.specs.Members.{_∈_}
-use Rattle.scope.specs.Mesh.{meshLayout, layoutWith, nodes, elements, edges, sides, jumps}
+use Rattle.scope.specs.Mesh.{meshLayout, nodes, elements, edges, sides, jumps}
 use Rattle.scope.specs.Answer.{placeFor, numberOf, placeOf}
 use Rattle.scope.specs.Rows.{Row, pairCount, balanceRows, sideRows, jumpRows, strengthRows, rowsOf}
 use Rattle.scope.specs.Claim.{claimHeaderColumns, claimLayout, stress, multiplier}
 use Rattle.scope.specs.Statements.{LinesSound, MeshSound, HasField, HasMultipliers}
 use Rattle.scope.specs.Phases.{RefusedBy}
 use Rattle.scope.specs.Filled.{soilPlace}
-use Rattle.scope.specs.Table.{hasTable, meshRead, tabledPhases}
+use Rattle.scope.specs.Table.{meshRead, tabledPhases}
 use Rattle.scope.specs.TableVerdict.{TablePasses, TableFits}
 use Rattle.scope.specs.Bracket.{Open}
 use Rattle.scope.specs.Parts.{carried, allowed, SameRows, NumberOf}
@@ -39,11 +38,11 @@ use Rattle.numbers.specs.NumbersAnswer.{answerOf}
 use Rattle.numbers.specs.TablePromises.{TableAnswers, TableExactly, FilledMesh}
 use Rattle.reader.specs.File.{fileOf, tableOf, tableNumbersOf, fileWidth, lineBytes}
 use Rattle.reader.specs.WellFormed.{Fit, FormFails}
-use Rattle.reader.specs.TableFile.{TableFormFails}
 use Rattle.report.specs.Text.{word, number as shows, said}
 use Rattle.report.specs.Report.{columnBytes, reportBytes, lowerText, upperText, reportLine, Decimals, usualDecimals}
 use Rattle.report.specs.Says.{columnOf, LineSays}
 use Rattle.judge.specs.Judge.{meshNumbers, meshFrom, meshOutcome, claimNumbers, filesVerdict}
+use Rattle.judge.specs.Form.{MeshFormFails}
 use Rattle.judge.specs.declared.room.MeshSizes.{MeshSizes}
 use Rattle.judge.specs.Room.{noSizes, meshSizes}
 use Rattle.judge.specs.Handed.{Handed, files, numbers, meshOf, claimOf, HasAcceptedMultipliers, OnTheSameMesh, HandedBracket}
@@ -150,17 +149,10 @@ pub record OnMesh (m c : List ℤ) (number place : ℕ) : Type 0 where
   pub jumps : JumpsAsked m
   pub tractions : TractionsOnJoints m c number
 
--- 1 at a line of the table: the lines of the mesh are sound, and line i of the table is at fault
-abbrev pub TableFormAt : (mesh table : List ℕ) (j : ℕ) → Type 0
-TableFormAt mesh table j =
-    (i : ℕ) × (j ≡ 1000 + i) × LinesSound (layoutWith true) (meshIn mesh) × TableFormFails fileWidth (meshIn mesh) table i
-
--- "mesh form: length, character, spelling, bytes missing or left over", and "claim form", said of the bytes; "The
--- table's own form .. judged as a mesh's, with 1", its lines "numbered from 1,001"
+-- "mesh form: length, character, spelling, bytes missing or left over", and "claim form", said of the bytes; the
+-- table's form is told with the mesh's, its lines "numbered from 1,001"
 pub record FormExactly (mesh table claim : List ℕ) (number place : ℕ) : Type 0 where
-  pub mesh-form : (j : ℕ)
-      → ((number ≡ 1) × (place ≡ suc j))
-      ↔ (FormFails fileWidth (layoutWith (hasTable (tableIn table))) mesh j ⊎ TableFormAt mesh table j)
+  pub mesh-form : (j : ℕ) → ((number ≡ 1) × (place ≡ suc j)) ↔ MeshFormFails fileWidth mesh table j
   pub claim-form : (j : ℕ)
       → ((number ≡ 11) × (place ≡ suc j))
       ↔ (MeshAccepted mesh table × FormFails fileWidth (claimLayout (meshWith mesh table)) claim j)
