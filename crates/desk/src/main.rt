@@ -1,4 +1,5 @@
-// The desk program: writes the report line of the mesh file and the claim file that its two arguments name.
+// The desk program: writes the report line of the mesh file and the claim file that its first two arguments name, with
+// the borehole table that a third names.
 
 use libc::STDOUT_FILENO;
 use pechuvo::pechuvo_check;
@@ -11,7 +12,7 @@ ghost use Rattle.judge.specs.Judge.{filesVerdict};
 ghost use Rattle.report.specs.Report.{reportLine, usualDecimals};
 
 // Reads the file that argument i names, as far as `bytes` goes, and answers how many bytes it has. "A file that can't
-// be opened counts as empty"; so does a missing argument, whose name is empty.
+// be opened counts as empty"; so does a missing argument, whose name is empty. An empty table is none.
 fn read_argument(i: usize, bytes: &mut [u8]) -> usize
     ensures { λ r. ⌜ Counts r (now (bytes .exit)) ⌝ }
 {
@@ -26,12 +27,14 @@ fn read_argument(i: usize, bytes: &mut [u8]) -> usize
     count
 }
 
-// The report line of two files: "The desk program and N3's runs go on with six".
-fn report_line(mesh: &[u8], claim: &[u8]) -> [u8; LINE]
-    ensures { λ r. ⌜ r ≡ reportLine usualDecimals (filesVerdict fileWidth (now (mesh .entry)) (now (claim .entry))) ⌝ }
+// The report line of three files: "The desk program and N3's runs go on with six".
+fn report_line(mesh: &[u8], table: &[u8], claim: &[u8]) -> [u8; LINE]
+    ensures { λ r. ⌜ r
+        ≡ reportLine usualDecimals
+        (filesVerdict fileWidth (now (mesh .entry)) (now (table .entry)) (now (claim .entry))) ⌝ }
 {
     let mut line = [0u8; LINE];
-    pechuvo_check(mesh, claim, USUAL_DECIMALS, &mut line);
+    pechuvo_check(mesh, table, claim, USUAL_DECIMALS, &mut line);
     line
 }
 
@@ -40,6 +43,12 @@ fn main() {
     let mesh_count = read_argument(1, &mut mesh);
     let mut claim = io::large_buffer();
     let claim_count = read_argument(2, &mut claim);
-    let line = report_line(&mesh[..mesh_count], &claim[..claim_count]);
+    let mut table = io::large_buffer();
+    let table_count = read_argument(3, &mut table);
+    let line = report_line(
+        &mesh[..mesh_count],
+        &table[..table_count],
+        &claim[..claim_count],
+    );
     io::write_all(STDOUT_FILENO, &line);
 }

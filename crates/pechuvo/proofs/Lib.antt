@@ -10,6 +10,7 @@ pub mod Promises
 pub mod TablePromises
 pub mod FilePromises
 pub mod PromisesApplied
+pub mod TableApplied
 pub mod RunPromises
 pub mod RunApplied
 pub mod SizesPromises
