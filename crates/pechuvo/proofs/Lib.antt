@@ -9,5 +9,9 @@ pub mod OpenColumn
 pub mod Promises
 pub mod TablePromises
 pub mod FilePromises
+pub mod PromisesApplied
+pub mod TableApplied
 pub mod RunPromises
+pub mod RunApplied
 pub mod SizesPromises
+pub mod SizesApplied

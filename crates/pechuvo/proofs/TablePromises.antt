@@ -32,9 +32,9 @@ use Rattle.judge.proofs.Handed.{handed-bracket}
 use Rattle.pechuvo.specs.Check.{answered, check}
 use Rattle.pechuvo.specs.Sheets.{Sheet, printedWith, printed, starred, tabledSheets}
 use Rattle.pechuvo.specs.Answers.{AnswersFor, Answers, AnswersOn}
-use Rattle.pechuvo.specs.Promises.{meshIn, tableIn, meshWith, claimIn, MeshAccepted, Room, AsRead, NoTable, OnTable, Call, on-files, on-numbers, TwoCalls, CallAndMultipliers, FractionsAndCall, Written}
+use Rattle.pechuvo.specs.Promises.{meshIn, tableIn, meshWith, claimIn, MeshAccepted, Room, AnyCall, AsRead, NoTable, OnTable, Call, on-files, on-numbers, TwoCalls, CallAndMultipliers, FractionsAndCall, Written}
 use Rattle.pechuvo.proofs.VerdictFits.{Sayable, tabled-sayable}
-use Rattle.pechuvo.proofs.Promises.{Cases, other, short, line, Untouched, by-cases, written, line-is}
+use Rattle.pechuvo.proofs.Promises.{Cases, other, short, line, Untouched, by-cases, written, line-is, any-call}
 use Rattle.pechuvo.proofs.Sheets.{starred-sheets, tabled-sheets}
 
 -- ---- without a table
@@ -104,6 +104,9 @@ module _ (mesh table claim : List ℕ) where
   module _ (z : ℤ) (before : List ℕ) (number place : ℕ) (after : List ℕ) (h : Answers mesh table claim z before number place after) where
     for : {v : Verdict} → filesVerdict fileWidth mesh table claim ≡ v → AnswersFor v z before number place after
     for e = subst (λ (v : Verdict). AnswersFor v z before number place after) e h
+
+    pub any-files : AnyCall (filesVerdict fileWidth mesh table claim) z before number place after
+    any-files = any-call (filesVerdict fileWidth mesh table claim) files-sayable z before number place after h
 
     pub as-read : AsRead mesh table claim z before number place after
     unfolding meshFrom
