@@ -10,12 +10,11 @@ use Rattle.report.specs.Report.{reportBytes, reportLine, isDecimals, usualDecim
 use Rattle.pechuvo.specs.Check.{answered}
 use Rattle.pechuvo.specs.Answers.{AnswersFor}
 
-pub whole-line : {v : Verdict} {before after : List ℕ} {number place : ℕ} → length before ≡ reportBytes
-    → AnswersFor v (pos 6) before number place after → after ≡ reportLine usualDecimals v
+pub whole-line : {v : Verdict} {before after : List ℕ} {number place : ℕ} → length before ≡ reportBytes → AnswersFor v (pos 6) before number place after
+    → after ≡ reportLine usualDecimals v
 unfolding answered isDecimals usualDecimals
 whole-line {v} {before} {after} l a =
-    let line = reportLine usualDecimals v in
     let b : after ≡ answered v (pos 6) before .buffer = a .bufferIs in
     (rw (l, answered) at b)
-    ∙ ap (λ (rest : List ℕ). line ++ rest) (drop-of-length-le before {i = reportBytes} (omega arith))
-    ∙ append-nil line
+    ∙ ap (λ (rest : List ℕ). reportLine usualDecimals v ++ rest) (drop-of-length-le before {i = reportBytes} (omega arith))
+    ∙ append-nil (reportLine usualDecimals v)

@@ -1,5 +1,5 @@
 // The desk program: writes the report line of the mesh file and the claim file that its first two arguments name, with
-// the borehole table that a third names.
+// the table file that a third one names.
 
 use libc::STDOUT_FILENO;
 use pechuvo::pechuvo_check;
@@ -12,7 +12,7 @@ ghost use Rattle.judge.specs.Judge.{filesVerdict};
 ghost use Rattle.report.specs.Report.{reportLine, usualDecimals};
 
 // Reads the file that argument i names, as far as `bytes` goes, and answers how many bytes it has. "A file that can't
-// be opened counts as empty"; so does a missing argument, whose name is empty. An empty table is none.
+// be opened counts as empty"; so does a missing argument, whose name is empty.
 fn read_argument(i: usize, bytes: &mut [u8]) -> usize
     ensures { λ r. ⌜ Counts r (now (bytes .exit)) ⌝ }
 {
@@ -27,7 +27,7 @@ fn read_argument(i: usize, bytes: &mut [u8]) -> usize
     count
 }
 
-// The report line of three files: "The desk program and N3's runs go on with six".
+// The report line of three files: "The desk program and N3's runs go on with six". A table of no bytes is none.
 fn report_line(mesh: &[u8], table: &[u8], claim: &[u8]) -> [u8; LINE]
     ensures { λ r. ⌜ r
         ≡ reportLine usualDecimals
@@ -43,7 +43,7 @@ fn main() {
     let mesh_count = read_argument(1, &mut mesh);
     let mut claim = io::large_buffer();
     let claim_count = read_argument(2, &mut claim);
-    let mut table = io::large_buffer();
+    let mut table = io::buffer();
     let table_count = read_argument(3, &mut table);
     let line = report_line(
         &mesh[..mesh_count],
