@@ -6,7 +6,7 @@ use mathlib.Core.List.{List}
 use Prim.Native.Nat.{ℕ, suc, _<_}
 use native.Mathlib.Omega.{arith}
 use lib.IntN.{ℤ}
-use lib.ListN.{length}
+use lib.ListN.{length, take}
 use Rattle.scope.specs.declared.Place.the-variants.{Line}
 use Rattle.scope.specs.declared.Verdict.{Verdict}
 use Rattle.scope.specs.declared.Verdict.the-variants.{Refused}
@@ -14,8 +14,8 @@ use Rattle.scope.specs.Answer.{placeFor}
 use Rattle.scope.specs.Mesh.{meshLayout, layoutWith}
 use Rattle.scope.specs.Claim.{claimLayout}
 use Rattle.scope.specs.Accepted.{ClaimAccepted}
-use Rattle.scope.specs.Table.{hasTable}
-use Rattle.scope.specs.TableVerdict.{TableFits}
+use Rattle.scope.specs.Table.{hasTable, meshRead}
+use Rattle.scope.specs.TableVerdict.{tabledVerdict, TableFits}
 use Rattle.scope.specs.Verdict.{linesCheck}
 use Rattle.scope.proofs.Refusals.{lines-passed}
 use Rattle.scope.proofs.TableVerdict.{tabled-refused}
@@ -29,10 +29,10 @@ use Rattle.reader.proofs.WrittenBack.{written-back}
 use Rattle.judge.specs.Judge.{meshNumbers, meshFrom, claimNumbers, filesVerdict}
 use Rattle.judge.proofs.Form as Form
 use Rattle.judge.proofs.Numbers.{some-side, numbers-verdict, width-there}
-use Rattle.pechuvo.specs.Check.{mostFileBytes}
+use Rattle.pechuvo.specs.Check.{mostFileBytes, mostTableBytes}
 use Rattle.pechuvo.specs.Answers.{AnswersFor, Answers}
 use Rattle.pechuvo.specs.Promises.{meshIn, tableIn, meshWith, claimIn, MeshAccepted, Room, LongFiles, FormExactly, AcceptedFiles, AsAFile}
-use Rattle.pechuvo.proofs.TableFile.{layout-file}
+use Rattle.pechuvo.proofs.TableFile.{layout-file, table-cut}
 use Rattle.pechuvo.proofs.Check.{check-cut, longer-refused, mesh-lines, table-written}
 use Rattle.pechuvo.proofs.Promises.{Cases, other, short, line, by-cases}
 use Rattle.pechuvo.proofs.TablePromises.{on-table}
@@ -50,9 +50,15 @@ module _ (mesh table claim : List ℕ) (z : ℤ) (before : List ℕ) (number pla
   abbrev c : List ℤ
   c = claimIn f claim
 
+  -- the verdict by a table's first bytes
+  cut-verdict : (n : ℕ) → mostTableBytes < n → filesVerdict fileWidth mesh table claim ≡ filesVerdict fileWidth mesh (take n table) claim
+  unfolding filesVerdict meshFrom
+  cut-verdict n l = ap (λ (u : List ℤ). tabledVerdict u m (claimIn (meshRead u m) claim)) (sym (table-cut n table l))
+
   pub long-files : LongFiles mesh table claim z before number place after
   long-files = record {
     cut = subst (λ (v : Verdict). AnswersFor v z before number place after) (check-cut mesh table claim) h;
+    table-cut = λ n l. subst (λ (v : Verdict). AnswersFor v z before number place after) (cut-verdict n l) h;
     never-accepted = λ b e. by b e (by-cases v z before number place after h);
   }
     where

@@ -1,7 +1,7 @@
 -- Each promise of the check of files, without a table, applied to document 01's sheets as bytes, with six decimals; those of document 02 to a seam of clay (N2), to other decimals (N5) and to two blocks on a joint (N6) too. antt computes what is returned and written, and the promise says the rest.
 use mathlib.Core.Path.{_≡_, refl, sym, _∙_, ap, subst}
 use mathlib.Core.Logic.{inl, inr, _≢_}
-use mathlib.Core.List.{List, [], _∷_, _++_, map, List·Memᴰ·head}
+use mathlib.Core.List.{List, [], _∷_, _++_, map}
 use mathlib.Core.Option.{some}
 use Prim.Native.Nat.{ℕ, _+_, _*_, _<_, _≤_}
 use native.Mathlib.Omega.{arith}
@@ -11,7 +11,6 @@ use lib.ListN.{length, take, drop, replicate, getD, length-replicate}
 use Rattle.integer.specs.Fraction.{_over_, _≈ᶠ_, _≤ᶠ_}
 use Rattle.scope.specs.declared.Place.the-variants.{Column}
 use Rattle.scope.proofs.Computed.{computed}
-use Rattle.scope.specs.Members.{_∈_}
 use Rattle.scope.specs.Columns.{n, l}
 use Rattle.scope.specs.Mesh.{meshLayout, nodes, elements, edges, sides, corner, elementSoil, fromNode, jumps}
 use Rattle.scope.specs.Polygon.{polygonOf}
@@ -40,7 +39,7 @@ use Rattle.numbers.proofs.PromisesApplied.{secondSoil, answer19, aloneAnswer, n
 use Rattle.reader.specs.File.{fileOf, fileWidth}
 use Rattle.reader.specs.WellFormed.{FormFails}
 use Rattle.report.specs.Text.{word, number as shows, beforePoint, afterPoint, decimal, saidNumber, belowZero, saidMinus, andSaid, signedDecimal, isNone, said}
-use Rattle.report.specs.Report.{reportBytes, reportLine, mostDecimals, Decimals, usualDecimals}
+use Rattle.report.specs.Report.{reportBytes, reportLine, mostDecimals, Decimals}
 use Rattle.report.specs.Says.{columnOf, LineSays}
 use Rattle.report.proofs.BufferLaws.{these-decimals}
 use Rattle.judge.specs.Judge.{filesVerdict}
@@ -52,7 +51,7 @@ use Rattle.pechuvo.specs.Answers.{Answers, AnswersOn}
 use Rattle.pechuvo.specs.Promises.{meshIn, meshWith, claimIn, MeshAccepted, Room, LowerPrinted, UpperPrinted, Millionths, TextsFit, OpenRowsPrinted, Call, on-files, on-numbers, AsAFile}
 use Rattle.pechuvo.proofs.Sheets.{computedLine}
 use Rattle.pechuvo.proofs.Promises.{on-mesh, prints-columns, millionths, texts-fit, prints-open-rows}
-use Rattle.pechuvo.proofs.TablePromises.{no-table-file, any-files, calls-bracket, accepted-parts, fractions-bracket, starred-written}
+use Rattle.pechuvo.proofs.TablePromises.{no-table-file, any-files, calls-bracket, accepted-parts, fractions-bracket}
 use Rattle.pechuvo.proofs.FilePromises.{long-files, form-exactly, accepted-files, as-a-file}
 
 -- for proofs by computation: besides the definitions that make a line, those that read its columns and those that say what was handed over
@@ -439,13 +438,9 @@ refused-mesh : meshOf (files (at 4 .mesh) [] (at 4 .claim)) ≡ Numbers.workedMe
 unfolding opened Numbers.zeros Numbers.workedMesh
 refused-mesh = refl
 
-sheet-has : HasMultipliers (claimOf (files (at 0 .mesh) [] (at 0 .claim)))
+sheet-claims : HasField (claimOf (files (at 0 .mesh) [] (at 0 .claim))) × HasMultipliers (claimOf (files (at 0 .mesh) [] (at 0 .claim)))
 unfolding opened
-sheet-has = refl
-
-sheet-field : HasField (claimOf (files (at 0 .mesh) [] (at 0 .claim)))
-unfolding opened
-sheet-field = refl
+sheet-claims = (refl, refl)
 
 refused-tells : TellsField (claimOf (files (at 4 .mesh) [] (at 4 .claim))) 32
 unfolding opened
@@ -453,11 +448,11 @@ refused-tells = (refl, inr (omega arith, omega arith))
 
 -- one claim
 pub one-file : HandedBracket (files (at 0 .mesh) [] (at 0 .claim)) (files (at 0 .mesh) [] (at 0 .claim))
-one-file = calls-bracket sheet-call sheet-call refl (sheet-field, inl refl) sheet-has refl
+one-file = calls-bracket sheet-call sheet-call refl (sheet-claims .0, inl refl) (sheet-claims .1) refl
 
 -- two files: the field of the claim that is refused for its multipliers, and the sheet's multipliers
 pub two-files : HandedBracket (files (at 4 .mesh) [] (at 4 .claim)) (files (at 0 .mesh) [] (at 0 .claim))
-two-files = calls-bracket refused-call sheet-call (same-mesh (refused-mesh ∙ sym sheet-mesh)) refused-tells sheet-has refl
+two-files = calls-bracket refused-call sheet-call (same-mesh (refused-mesh ∙ sym sheet-mesh)) refused-tells (sheet-claims .1) refl
 
 -- the field of a file, and multipliers handed over as numbers on another mesh with the same rows
 pub file-and-numbers : HandedBracket (files (at 4 .mesh) [] (at 4 .claim)) (numbers secondSoil [] Numbers.multipliersAlone)
@@ -467,7 +462,7 @@ file-and-numbers = calls-bracket refused-call alone-call (same-mesh refused-mesh
 -- the other way round: a field handed over as numbers, and the multipliers of a file
 pub numbers-and-file : HandedBracket (numbers Numbers.workedMesh [] Numbers.sheet19) (files (at 0 .mesh) [] (at 0 .claim))
 unfolding computed meshOf claimOf meshRead hasTable Numbers.zeros Numbers.workedStresses Numbers.workedMultipliers Numbers.workedClaim Numbers.sheet19
-numbers-and-file = calls-bracket numbers-call sheet-call (same-mesh (sym sheet-mesh)) (refl, inl refl) sheet-has refl
+numbers-and-file = calls-bracket numbers-call sheet-call (same-mesh (sym sheet-mesh)) (refl, inl refl) (sheet-claims .1) refl
 
 -- against the multipliers of the claim with l 21, which is refused with 22 for its field
 pub beyond-strength : HasAcceptedMultipliers (files (at 2 .mesh) [] (at 2 .claim))
@@ -487,23 +482,13 @@ unfolding opened Numbers.zeros Numbers.workedMesh
 beyond-mesh = refl
 
 pub sheet-and-refused : HandedBracket (files (at 0 .mesh) [] (at 0 .claim)) (files (at 2 .mesh) [] (at 2 .claim))
-sheet-and-refused = accepted-parts sheet-call (files (at 2 .mesh) [] (at 2 .claim)) (same-mesh (sheet-mesh ∙ sym beyond-mesh)) (sheet-field, inl refl) beyond-strength
+sheet-and-refused = accepted-parts sheet-call (files (at 2 .mesh) [] (at 2 .claim)) (same-mesh (sheet-mesh ∙ sym beyond-mesh)) (sheet-claims .0, inl refl) beyond-strength
 
 -- a field in fractions over twelve denominators, and the multipliers of a file
 pub fractions-and-file : pos 38 over pos 2 ≤ᶠ allowed (meshOf (files (at 0 .mesh) [] (at 0 .claim))) (claimOf (files (at 0 .mesh) [] (at 0 .claim)))
 unfolding fraction fractions
-fractions-and-file = fractions-bracket sheet-call sheet-has refl Numbers.workedMesh (sheet-accepted .mesh) (same-mesh (sym sheet-mesh)) .at-most fractions fractions-meet
+fractions-and-file = fractions-bracket sheet-call (sheet-claims .1) refl Numbers.workedMesh (sheet-accepted .mesh) (same-mesh (sym sheet-mesh)) .at-most fractions fractions-meet
 
 -- numbers handed over get the answer of a file of them
 pub nineteen-as-a-file : AsAFile [] Numbers.workedMesh Numbers.sheet19 answer19
 nineteen-as-a-file = as-a-file (untabled Numbers.workedMesh Numbers.sheet19 nineteen-answered)
-
--- ---- the sheets
-
-pub sheet-written : (number place : ℕ) (after : List ℕ) → Answers (at 0 .mesh) [] (at 0 .claim) (pos 6) room number place after
-    → take reportBytes after ≡ at 0 .line
-unfolding starred sheet usualDecimals
-sheet-written number place after h = starred-written (at 0) first room after number place h (fits .bytes)
-  where
-    first : at 0 ∈ starred
-    first = List·Memᴰ·head refl

@@ -27,12 +27,12 @@ use Rattle.reader.specs.File.{fileWidth, tableOf}
 use Rattle.report.specs.Report.{reportBytes, usualDecimals}
 use Rattle.judge.specs.Form.{MeshFormFails}
 use Rattle.judge.specs.Handed.{files, meshOf, claimOf, HandedBracket}
-use Rattle.pechuvo.specs.Sheets.{Sheet, sheet, soilZeroMesh, workedClaim, seamZero, seamMixed, seamClaim, tabledSheets}
+use Rattle.pechuvo.specs.Sheets.{Sheet, sheet, starred, soilZeroMesh, workedClaim, seamZero, seamMixed, seamClaim, tabledSheets}
 use Rattle.pechuvo.specs.Answers.{Answers, AnswersOn}
 use Rattle.pechuvo.specs.Promises.{meshIn, tableIn, meshWith, claimIn, OnTable, LowerPrinted, Call, on-files, AsAFile}
 use Rattle.pechuvo.proofs.Sheets.{computedLine}
 use Rattle.pechuvo.proofs.Promises.{on-mesh, prints-columns}
-use Rattle.pechuvo.proofs.TablePromises.{as-read, on-table, accepted-mesh, calls-bracket, tabled-written}
+use Rattle.pechuvo.proofs.TablePromises.{as-read, on-table, accepted-mesh, calls-bracket, starred-written, tabled-written}
 use Rattle.pechuvo.proofs.FilePromises.{long-files, form-exactly, accepted-files, as-a-file}
 use Rattle.pechuvo.proofs.PromisesApplied.{at, room, fits, sheet-answered}
 
@@ -140,6 +140,10 @@ long-table number place after h =
     long-files (at 0 .mesh) (replicate 65537 32) (at 0 .claim) (pos 6) room number place after h .never-accepted
     (inr (inl (omega (arith, length-replicate {A = ℕ} 65537 32))))
 
+-- and a table is decided by its first 4,096 bytes
+pub first-bytes : (table : List ℕ) (number place : ℕ) (after : List ℕ) → Answers (at 0 .mesh) table (at 0 .claim) (pos 6) room number place after → Answers (at 0 .mesh) (take 4096 table) (at 0 .claim) (pos 6) room number place after
+first-bytes table number place after h = long-files (at 0 .mesh) table (at 0 .claim) (pos 6) room number place after h .table-cut 4096 (omega arith)
+
 -- ---- loads compared: the field of the filled mesh, the multipliers of the sheet without a table
 
 soil-call : Call (files (with-table 0 .mesh) (with-table 0 .table) (with-table 0 .claim)) 0
@@ -163,7 +167,15 @@ with-and-without = calls-bracket soil-call sheet-call (ap (λ (m : List ℤ). ma
 pub numbers-as-files : (r : NumbersAnswer) → TableAnswers (pos 0 ∷ pos 2 ∷ pos 1 ∷ []) soilZero Numbers.sheet19 r → AsAFile (pos 0 ∷ pos 2 ∷ pos 1 ∷ []) soilZero Numbers.sheet19 r
 numbers-as-files r h = as-a-file h
 
--- ---- the sheets with a table give their lines
+-- ---- the sheets give their lines, without a table and with one
+
+pub sheet-written : (number place : ℕ) (after : List ℕ) → Answers (at 0 .mesh) [] (at 0 .claim) (pos 6) room number place after
+    → take reportBytes after ≡ at 0 .line
+unfolding starred sheet usualDecimals
+sheet-written number place after h = starred-written (at 0) first room after number place h (fits .bytes)
+  where
+    first : at 0 ∈ starred
+    first = List·Memᴰ·head refl
 
 pub soil-written : (number place : ℕ) (after : List ℕ) → Answers (with-table 0 .mesh) (with-table 0 .table) (with-table 0 .claim) (pos 6) room number place after
     → take reportBytes after ≡ with-table 0 .line

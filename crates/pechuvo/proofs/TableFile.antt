@@ -14,6 +14,7 @@ use Rattle.reader.specs.File.{fileWidth, lineBytes, readLine, widths, leftOver,
 use Rattle.reader.proofs.Line.{line-means}
 use Rattle.reader.proofs.Cut.{drop-take, line-cut, line-there}
 use Rattle.reader.proofs.WrittenBack.{write-line}
+use Rattle.pechuvo.specs.Check.{mostTableBytes}
 
 -- ---- a mesh with a table, or with none
 
@@ -45,7 +46,7 @@ rows-cut w k (suc r) n bs h =
     rw (line-cut w k n bs (omega arith), readRows)
     (ap₂ (λ (x y : List ℤ). elim (readLine w k bs) as (λ o. List ℤ) [ none ↦ x | some zs ↦ zs ++ y ]) (left-cut n bs (omega arith)) (ap (readRows w k r) d ∙ i))
 
-pub table-cut : (n : ℕ) (bs : List ℕ) → mostLayers * (layerColumns * fileWidth + 1) < n → tableNumbersOf fileWidth (take n bs) ≡ tableNumbersOf fileWidth bs
+pub table-cut : (n : ℕ) (bs : List ℕ) → mostTableBytes < n → tableNumbersOf fileWidth (take n bs) ≡ tableNumbersOf fileWidth bs
 unfolding tableNumbersOf lineBytes
 table-cut n bs h = rows-cut fileWidth layerColumns mostLayers n bs h
 

@@ -1,12 +1,14 @@
--- The whole check (document 01, 'What the product does' and 'Verdict and report'; document 02, N5 and N8): from the bytes
--- of a mesh, a table and a claim, a number of decimals and a buffer to what is returned and what the buffer then holds.
+-- The whole check (document 01, 'What the product does' and 'Verdict and report'; document 02, N5 and N8): from the
+-- bytes of a mesh, a table and a claim, a number of decimals and a buffer to what is returned and what the buffer then
+-- holds.
 use mathlib.Core.Bool.{true, false}
 use mathlib.Core.List.{List, _++_}
-use Prim.Native.Nat.{ℕ}
+use Prim.Native.Nat.{ℕ, _+_, _*_}
 use lib.Dec.{ltb}
 use lib.IntN.{ℤ, natAbs}
 use lib.ListN.{length, drop}
 use Rattle.scope.specs.declared.Verdict.{Verdict}
+use Rattle.scope.specs.Layers.{mostLayers, layerColumns}
 use Rattle.scope.specs.Answer.{numberOf, placeOf}
 use Rattle.reader.specs.File.{fileWidth}
 use Rattle.judge.specs.Judge.{filesVerdict}
@@ -15,6 +17,10 @@ use Rattle.report.specs.Report.{reportBytes, reportLine, isDecimals}
 -- "at most 65,536 bytes of each" file are read
 abbrev pub mostFileBytes : ℕ
 mostFileBytes = 65536
+
+-- the bytes of a table's 32 lines: with one byte more a table is refused, whatever follows
+abbrev pub mostTableBytes : ℕ
+mostTableBytes = mostLayers * (layerColumns * fileWidth + 1)
 
 -- what is returned and what the buffer holds afterwards
 pub record Answered : Type 0 where

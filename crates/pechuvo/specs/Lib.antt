@@ -1,4 +1,4 @@
--- The whole check, from two byte strings to the answer and the buffer, what a call of it answers, the worked sheets,
+-- The whole check, from three byte strings to the answer and the buffer, what a call of it answers, the worked sheets,
 -- and what a caller may rely on.
 -- A reader must believe Check, Answers, Promises and the tables of Sheets and RunSheets; Bytes and Shipped say how a
 -- table and a file of sheets/ are read. No file is a contract between functions.

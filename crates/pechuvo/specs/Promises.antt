@@ -3,8 +3,8 @@
 -- the bytes of the buffer; and callers of `pechuvo_check_run` (N3) and `pechuvo_mesh_sizes` (N7).
 -- Each is proved of every call (`proofs/Promises.antt`, `TablePromises.antt`, `FilePromises.antt`, `RunPromises.antt`,
 -- `SizesPromises.antt`) and applied to document 01's sheet (`proofs/PromisesApplied.antt`, `TableApplied.antt`,
--- `RunApplied.antt`, `SizesApplied.antt`). What number and place say of the files' numbers is said as for numbers handed
--- over (`numbers/specs/Promises.antt`, `TablePromises.antt`).
+-- `RunApplied.antt`, `SizesApplied.antt`). What number and place say of the files' numbers is said as for numbers
+-- handed over (`numbers/specs/Promises.antt`, `TablePromises.antt`).
 -- A table is refused before 5 with its own numbers; where it fits, and without one, a call is one on the mesh as it is
 -- read (`AsRead`), and what the promises say of a mesh with the numbers m they say of that one.
 use mathlib.Core.Path.{_≡_}
@@ -49,7 +49,7 @@ use Rattle.judge.specs.Handed.{Handed, files, numbers, meshOf, claimOf, HasAcce
 use Rattle.run.specs.declared.RunAnswer.{RunAnswer}
 use Rattle.run.specs.Run.{claimsJudged, RunAnswers}
 use Rattle.run.specs.InTurn.{claimAt, InTurn}
-use Rattle.pechuvo.specs.Check.{mostFileBytes}
+use Rattle.pechuvo.specs.Check.{mostFileBytes, mostTableBytes}
 use Rattle.pechuvo.specs.Answers.{Answers, AnswersOn}
 use Rattle.pechuvo.specs.Sheets.{Sheet}
 
@@ -101,6 +101,8 @@ pub record LongFiles (mesh table claim : List ℕ) (z : ℤ) (before : List ℕ)
     : Type 0 where
   pub cut : Answers (take mostFileBytes mesh) (take mostFileBytes table) (take mostFileBytes claim) z before number place
       after
+  -- of a table its 32 lines and one byte more decide
+  pub table-cut : (n : ℕ) → mostTableBytes < n → Answers mesh (take n table) claim z before number place after
   pub never-accepted : (mostFileBytes < length mesh) ⊎ ((mostFileBytes < length table) ⊎ (mostFileBytes < length claim))
       → number ≢ 0
 
@@ -108,7 +110,8 @@ pub record LongFiles (mesh table claim : List ℕ) (z : ℤ) (before : List ℕ)
 
 -- where the table fits, the call is one on the mesh that is read; with an empty file, on the mesh as it stands; and so
 -- it is where no element has soil 0
-pub record AsRead (mesh table claim : List ℕ) (z : ℤ) (before : List ℕ) (number place : ℕ) (after : List ℕ) : Type 0 where
+pub record AsRead (mesh table claim : List ℕ) (z : ℤ) (before : List ℕ) (number place : ℕ) (after : List ℕ)
+    : Type 0 where
   pub fits : TableFits (tableIn table) (meshIn mesh)
       → AnswersOn (meshWith mesh table) claim z before number place after
   pub none : table ≡ [] → AnswersOn (meshIn mesh) claim z before number place after

@@ -1,6 +1,6 @@
-// Every call that C makes: the check of a mesh file, a table file and a claim file, three byte strings into a report line
-// and the verdict's numbers; the check of claims for one mesh, one after another; the check of the numbers themselves;
-// and the room that a mesh asks for. An empty table is none.
+// Every call that C makes: the check of a mesh file, a table file and a claim file, three byte strings into a report
+// line and the verdict's numbers; the check of claims for one mesh, one after another; the check of the numbers
+// themselves; and the room that a mesh asks for. An empty table is none.
 
 use judge::judge_files;
 use judge::room::MeshSizes;
