@@ -1,7 +1,6 @@
 -- What the checks of the parts hand around: a polygon's sides as numbers, rows as numbers, and the records that their
 -- functions require and ensure.
 use mathlib.Core.Path.{_≡_}
-use mathlib.Core.Logic.{_⊎_}
 use mathlib.Core.Bool.{Bool, true, cond}
 use mathlib.Core.List.{List, [], _∷_}
 use Prim.Native.Nat.{ℕ, zero, suc, _+_, _*_, _-_, _≤_, _<_}
@@ -17,25 +16,25 @@ use Rattle.rows.specs.declared.equality_rows.EqualityRow.{EqualityRow}
 use Rattle.rows.specs.declared.equality_rows.Corners.{Corners}
 use Rattle.rows.specs.declared.equality_rows.Span.{Span}
 use Rattle.rows.specs.declared.equality_rows.Squares.{Squares}
-use Rattle.scope.specs.Mesh.{mostSides, mostPairs, nodes, sides, corner, p, q, h, cohesion}
+use Rattle.scope.specs.Mesh.{mostSides, nodes, sides, corner, p, q, h, cohesion}
 use Rattle.scope.specs.Bounds.{mostCoordinate, mostFriction, mostScale, mostLoad, mostStress, mostRadius, mostStep, mostCross, mostSquare, mostEntries, mostCoefficient, equalityRight, mostLever, twiceStrength, mostSpread, mostReserve}
 use Rattle.scope.specs.Columns.{at, hasField, n, l}
 use Rattle.scope.specs.Claim.{ifThere, stress}
-use Rattle.scope.specs.Polygon.{Point, Side, Polygon, polygonOf}
+use Rattle.scope.specs.Polygon.{Point, Side, Polygon, polygonOf, SidesListed}
 use Rattle.scope.specs.RowNumbers.{sideAt}
 use Rattle.scope.specs.PrintedColumns.{sumBelow}
 use Rattle.scope.specs.Rows.{asked, unfixed, Row, pairCount, pairAt, strengthRows, sx, sy, t, cross, riseAcross, runAcross}
 use Rattle.scope.specs.Sums.{rowHolds}
 use Rattle.scope.specs.NumberRanges.{ClaimFacts}
-use Rattle.mesh.specs.MeshContracts.{Sized, NodeAt, PairTable}
+use Rattle.mesh.specs.MeshContracts.{Sized, NodeAt, FewPairs, PairTable}
 use Rattle.scope.specs.Checks.{allBelow}
 use Rattle.scope.specs.Tests.{rowAt}
 
 -- ---- a polygon's sides
 
--- "sides 12, 20 or 36"
+-- "sides 12, 20 or 36", or 108
 pub record Listed (sides : ℕ) : Type 0 where
-  pub listed : (sides ≡ 12) ⊎ ((sides ≡ 20) ⊎ (sides ≡ 36))
+  pub listed : SidesListed sides
 
 -- after the last of n corners comes the first
 unfoldable pub next : ℕ → ℕ → ℕ
@@ -329,7 +328,7 @@ multipliersFrom m c = 4 + ifThere (hasField c) (nodes m) * 3
 pub record Judged (m c : List ℤ) (s : Sizes) (t : List ℕ) : Type 0 where
   pub sized : Sized m s
   pub pairsAre : s .pairs ≡ pairCount m
-  pub few : pairCount m ≤ mostPairs
+  pub few : FewPairs m
   pub claim : ClaimFacts m c
   pub pairTable : PairTable m t
 

@@ -6,5 +6,6 @@ pub mod equality_rows;
 pub mod multiplier_checks;
 pub mod multiplier_sums;
 pub mod open_rows;
+mod polygon_108;
 pub mod polygons;
 pub mod strength_rows;
