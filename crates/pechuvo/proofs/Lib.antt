@@ -1,5 +1,6 @@
 -- The theorems about the whole check.
 pub mod Sheets
+pub mod Sheets108
 pub mod Check
 pub mod Answers
 pub mod VerdictFits
@@ -9,3 +10,4 @@ pub mod Promises
 pub mod PromisesApplied
 pub mod RunPromises
 pub mod RunApplied
+pub mod PromisesApplied108
