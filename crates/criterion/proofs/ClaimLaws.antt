@@ -12,14 +12,15 @@ use lib.Seq.{getD-drop, take-all}
 use Rattle.integer.specs.Bounds.{Within, AllWithin}
 use Rattle.integer.proofs.BoundLaws.{Within-le, all-within, AllWithin-drop}
 use Rattle.integer.specs.Tests.{eqZ}
-use Rattle.scope.specs.Bounds.{mostScale, mostLoad, mostStress, mostMultiplier, strengthMultiplier}
+use Rattle.scope.specs.Bounds.{mostScale, mostLoad, mostStress, mostMultiplier}
 use Rattle.scope.specs.Columns.{at, hasField, hasMultipliers, n, l}
 use Rattle.scope.specs.Layout.{groups, numbersBefore}
-use Rattle.scope.specs.Mesh.{nodes, elements, edges, sides, jumps, equalityCount}
+use Rattle.scope.specs.Mesh.{strengthMultiplier, nodes, elements, edges, sides, equalityCount, jumps}
 use Rattle.scope.specs.Rows.{pairCount}
 use Rattle.scope.specs.Claim.{claimHeader, claimLayout, ifThere, stressLines, stress, multiplier}
 use Rattle.scope.specs.NumberRanges.{ClaimFacts}
 use Rattle.scope.proofs.SumBounds.{between, from-0}
+use Rattle.scope.proofs.SideLimits.{strength-most}
 use Rattle.criterion.specs.StrengthContracts.{multipliersFrom}
 
 -- ---- places
@@ -116,7 +117,7 @@ module _ {m c : List ℤ} (f : ClaimFacts m c) where
       some e (no d) =
           let j : ℕ = i - multipliersFrom m c - (equalityCount m) in
           let same : multipliersFrom m c + (equalityCount m + j) ≡ i = omega arith in
-          subst (λ j. Within mostStress (at c j)) same (Within-le (strength-within e j (omega (arith, with-multipliers e))) (omega arith))
+          subst (λ j. Within mostStress (at c j)) same (Within-le (strength-within e j (omega (arith, with-multipliers e))) (omega (arith, strength-most (sides m))))
 
   pub claim-within : AllWithin mostStress c
   unfolding at

@@ -17,7 +17,7 @@ use Rattle.integer.proofs.Machine.{Is-as}
 use Rattle.criterion.specs.declared.polygons.Step.{Step}
 use Rattle.scope.specs.Members.{_∈_}
 use Rattle.scope.specs.Columns.{at}
-use Rattle.scope.specs.Polygon.{Point, point, Side, Polygon, sidesTo, polygonSides, quarterTurn, fourQuadrants, twelve, twenty, thirtySix, polygonOf}
+use Rattle.scope.specs.Polygon.{Point, point, Side, Polygon, sidesTo, polygonSides, quarterTurn, fourQuadrants, twelve, twenty, thirtySix, oneHundredEight, polygonOf}
 use Rattle.scope.specs.Mesh.{mostSides}
 use Rattle.scope.specs.Bounds.{mostRadius}
 use Rattle.scope.specs.PolygonRule.{PolygonFits, ListedPolygon}
@@ -236,8 +236,8 @@ steps-of sides p e r u = subst (λ k. Steps (polygonOf k) k r) (sym e) (drawn (p
 
 -- every definition that a table computes with
 unfoldable pub shown : Unit {0}
-unfolding coordinates polygonOf twelve twenty thirtySix fourQuadrants quarterTurn
+unfolding coordinates polygonOf twelve twenty thirtySix oneHundredEight fourQuadrants quarterTurn
 shown = tt
 
-pub last-listed : {n : ℕ} → Listed n → (n ≡ 12 → ⊥) → (n ≡ 20 → ⊥) → n ≡ 36
-last-listed l a b = ⊎-elim (λ e. absurd (a e)) (λ r. ⊎-elim (λ e. absurd (b e)) (λ e. e) r) (l .listed)
+pub last-listed : {n : ℕ} → Listed n → (n ≡ 12 → ⊥) → (n ≡ 20 → ⊥) → (n ≡ 36 → ⊥) → n ≡ 108
+last-listed l a b c = ⊎-elim (λ e. absurd (a e)) (λ r. ⊎-elim (λ e. absurd (b e)) (λ s. ⊎-elim (λ e. absurd (c e)) (λ e. e) s) r) (l .listed)

@@ -1,7 +1,6 @@
 -- What the strength rows hand around: a polygon's sides as numbers, the numbers of a pair of a node and a soil, and a
 -- claim whose lines have passed.
 use mathlib.Core.Path.{_≡_}
-use mathlib.Core.Logic.{_⊎_}
 use mathlib.Core.Bool.{Bool, cond}
 use mathlib.Core.List.{List, [], _∷_}
 use Prim.Native.Nat.{ℕ, _+_, _*_, _≤_, _<_}
@@ -12,24 +11,24 @@ use Rattle.integer.specs.Bounds.{Within, AllWithin, Is}
 use Rattle.mesh.specs.declared.sizes.Sizes.{Sizes}
 use Rattle.criterion.specs.declared.polygons.Corner.{Corner}
 use Rattle.criterion.specs.declared.polygons.Step.{Step}
-use Rattle.scope.specs.Mesh.{mostSides, mostPairs, nodes, sides, p, q, h, cohesion}
+use Rattle.scope.specs.Mesh.{mostSides, nodes, sides, p, q, h, cohesion}
 use Rattle.scope.specs.Bounds.{mostFriction, mostRadius, mostStep, mostCross, mostLever, twiceStrength, mostSpread, mostReserve}
 use Rattle.scope.specs.Columns.{at, hasField, n, l}
 use Rattle.scope.specs.Claim.{ifThere, stress}
-use Rattle.scope.specs.Polygon.{Point, Side, Polygon, polygonOf}
+use Rattle.scope.specs.Polygon.{Point, Side, Polygon, polygonOf, SidesListed}
 use Rattle.scope.specs.RowNumbers.{sideAt}
 use Rattle.scope.specs.Rows.{pairCount, pairAt, strengthRows, sx, sy, t, cross}
 use Rattle.scope.specs.Sums.{rowHolds}
 use Rattle.scope.specs.NumberRanges.{ClaimFacts}
-use Rattle.mesh.specs.MeshContracts.{Sized, PairTable}
+use Rattle.mesh.specs.MeshContracts.{Sized, FewPairs, PairTable}
 use Rattle.scope.specs.Checks.{allBelow}
 use Rattle.scope.specs.Tests.{rowAt}
 
 -- ---- a polygon's sides
 
--- "sides 12, 20 or 36"
+-- "sides 12, 20 or 36", or 108
 pub record Listed (sides : ℕ) : Type 0 where
-  pub listed : (sides ≡ 12) ⊎ ((sides ≡ 20) ⊎ (sides ≡ 36))
+  pub listed : SidesListed sides
 
 -- after the last of n corners comes the first
 unfoldable pub next : ℕ → ℕ → ℕ
@@ -177,7 +176,7 @@ multipliersFrom m c = 4 + ifThere (hasField c) (nodes m) * 3
 pub record Judged (m c : List ℤ) (s : Sizes) (t : List ℕ) : Type 0 where
   pub sized : Sized m s
   pub pairsAre : s .pairs ≡ pairCount m
-  pub few : pairCount m ≤ mostPairs
+  pub few : FewPairs m
   pub claim : ClaimFacts m c
   pub pairTable : PairTable m t
 

@@ -1,4 +1,4 @@
-// The three polygons: their corners as constant tables, and what a strength row reads of each side.
+// The polygons: their corners as constant tables, and what a strength row reads of each side.
 ghost use mathlib.Core.Path.{_≡_};
 ghost use Prim.Native.Nat.{_+_, _*_, _<_};
 ghost use lib.ListN.{length};
@@ -6,6 +6,7 @@ ghost use Rattle.integer.specs.Bounds.{Within, AllWithin, Is};
 ghost use Rattle.scope.specs.Polygon.{polygonOf};
 ghost use Rattle.scope.specs.Bounds.{mostRadius};
 ghost use Rattle.criterion.specs.StrengthContracts.{Listed, next, Table, CornerIs, SideIs, StepIs, StepsFrom, Steps};
+use crate::polygon_108::ONE_HUNDRED_EIGHT;
 use mesh::sizes::MOST_SIDES;
 use mesh::sizes::number_at;
 
@@ -246,7 +247,10 @@ pub fn steps_of(sides: usize) -> [i64; STEP_NUMBERS]
     if sides == 20 {
         return steps_from(&TWENTY, 20);
     }
-    steps_from(&THIRTY_SIX, 36)
+    if sides == 36 {
+        return steps_from(&THIRTY_SIX, 36);
+    }
+    steps_from(&ONE_HUNDRED_EIGHT, 108)
 }
 
 // The radius of the circle around that polygon.
@@ -260,5 +264,8 @@ pub fn radius_of(sides: usize) -> i64
     if sides == 20 {
         return 25;
     }
-    65
+    if sides == 36 {
+        return 65;
+    }
+    1105
 }

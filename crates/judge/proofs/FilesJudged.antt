@@ -17,9 +17,8 @@ use Rattle.verdict.specs.declared.MeshAnswer.{MeshAnswer}
 use Rattle.mesh.specs.declared.sizes.Sizes.{Sizes}
 use Rattle.mesh.specs.MeshContracts.{Counted}
 use Rattle.verdict.specs.JudgeContracts.{MeshAnswered, SoundMesh}
-use Rattle.mesh.proofs.Places.{as-sizes}
 use Rattle.reader.proofs.Most.{numbers-by-length, mesh-most, claim-most}
-use Rattle.verdict.proofs.VerdictLaws.{sound-mesh}
+use Rattle.verdict.proofs.VerdictLaws.{sound-mesh, counted}
 use Rattle.reader.specs.File.{fileWidth, numbersOf}
 use Rattle.reader.specs.Listed.{Listed, ClaimListed}
 use Rattle.reader.specs.Most.{mostNumbers, meshRoom, claimRoom}
@@ -68,13 +67,9 @@ judged-listed j = record { count = j .count; list = j .numbers }
 
 -- ---- a claim
 
--- the sizes of a mesh that passes have its pairs counted
-pub sound-counted : {m : List ℤ} {s : Sizes} {pairs : List ℕ} → SoundMesh m s pairs → Counted m s
-sound-counted h = record { sizes = as-sizes (h .sized); pairsAre = h .pairsAre }
-
 pub claim-listed : {m before after : List ℤ} {s : Sizes} {pairs claim : List ℕ} {r : ℕ} → SoundMesh m s pairs → ClaimListed claim s before r after → Listed (claimNumbers fileWidth m claim) before r after
 unfolding claimNumbers
-claim-listed {m} h l = l .against m (sound-counted h)
+claim-listed {m} h l = l .against m (counted h)
 
 -- ---- two files
 

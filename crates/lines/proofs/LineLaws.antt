@@ -1,6 +1,6 @@
 -- Laws of the check of one line, one for each return and each turn of a loop: numbers within limits by induction on the list, form and limits and rules by the tests that led there.
 use mathlib.Core.Path.{_≡_, refl, sym, _∙_, ap, ap₂, subst}
-use mathlib.Core.Bool.{Bool, true, false, not, _&&_, _||_}
+use mathlib.Core.Bool.{Bool, true, false, cond, not, _&&_, _||_}
 use mathlib.Core.List.{List, [], _∷_}
 use Prim.Native.Nat.{ℕ, zero, suc, _+_, _<_, _≤_}
 use native.Mathlib.Omega.{arith}
@@ -24,11 +24,11 @@ use Rattle.scope.specs.declared.Place.{Place}
 use Rattle.scope.specs.declared.Place.the-variants.{Line}
 use Rattle.scope.specs.declared.Outcome.the-variants.{Passed, Refused}
 use Rattle.scope.specs.Columns as C
-use Rattle.scope.specs.Columns.{Limit, between, free, within, isOneOf, allWithin, Rule, rightAngle, naming, parts, hasField, hasMultipliers, names, allNamed, ruleTest, at}
+use Rattle.scope.specs.Columns.{Limit, between, free, within, isOneOf, allWithin, Rule, rightAngle, naming, parts, atMost, hasField, hasMultipliers, names, allNamed, ruleTest, at}
 use Rattle.scope.specs.Claim.{claimHeaderColumns}
 use Rattle.scope.specs.Layout.{Group, Layout, width, groups, lineOf, lineNumbers}
 use Rattle.scope.specs.Verdict.{lineCheck, lineAt, rulesHold}
-use Rattle.scope.specs.Mesh.{mostNodes, mostElements, mostSoils, mostEdges, mostSides, mostJumps, meshHeaderColumns, soilColumns, elementColumns, edgeColumns, jumpColumns, meshLayout, meshHeader, soilLines, edgeLines}
+use Rattle.scope.specs.Mesh.{mostNodes, mostElements, mostSoils, mostEdges, mostSides, mostStrength, listedSides, nodesFor108, strengthFor108, strengthMultiplier, meshHeaderColumns, soilColumns, elementColumns, edgeColumns, meshLayout, meshHeader, soilLines, edgeLines, mostJumps, jumpColumns}
 use Rattle.lines.specs.LineContracts.{ranges, AsMany}
 use Rattle.scope.proofs.Statements.{all-within}
 use Rattle.scope.proofs.Refusals.{line-check-passed}
@@ -211,9 +211,9 @@ unfolding lineAt lineOf groups lineNumbers meshLayout meshHeader
 mesh-header-line m = refl
 
 -- the last of the listed numbers, where it is none before
-pub last-sides : {z : ℤ} → ¬ (z ≡ pos 12) → ¬ (z ≡ pos 20) → eqZ z (pos mostSides) ≡ isOneOf (pos 12 ∷ pos 20 ∷ pos mostSides ∷ []) z
+pub last-sides : {z : ℤ} → ¬ (z ≡ pos 12) → ¬ (z ≡ pos 20) → ¬ (z ≡ pos 36) → eqZ z (pos mostSides) ≡ isOneOf listedSides z
 unfolding isOneOf
-last-sides {z} f g = rw (is-false (eqZ z (pos 12)) (no-eqZ f), is-false (eqZ z (pos 20)) (no-eqZ g)) (alone (eqZ z (pos mostSides)))
+last-sides {z} f g h = rw (is-false (eqZ z (pos 12)) (no-eqZ f), is-false (eqZ z (pos 20)) (no-eqZ g), is-false (eqZ z (pos 36)) (no-eqZ h)) (alone (eqZ z (pos mostSides)))
   where
     alone : (b : Bool) → b ≡ b || false
     alone true = refl
@@ -221,7 +221,7 @@ last-sides {z} f g = rw (is-false (eqZ z (pos 12)) (no-eqZ f), is-false (eqZ z (
 
 -- the number of sides z is listed, and the number of jumps j is within its limits
 abbrev pub lastOfHeader : ℤ → ℤ → Bool
-lastOfHeader z j = isOneOf (pos 12 ∷ pos 20 ∷ pos mostSides ∷ []) z && within (between (pos 0) (pos mostJumps)) j
+lastOfHeader z j = isOneOf listedSides z && within (between (pos 0) (pos mostJumps)) j
 
 pub last-read : {z j : ℤ} → SFits w64 z → SFits w64 j → lastOfHeader z j ≡ lastOfHeader (read z) (read j)
 last-read f g = ap₂ lastOfHeader (sym (toZ-ofZ f)) (sym (toZ-ofZ g))
@@ -247,7 +247,33 @@ mesh-header-limits (a ∷ b ∷ d ∷ e ∷ z ∷ []) l = absurd (omega arith)
 mesh-header-limits (a ∷ b ∷ d ∷ e ∷ z ∷ j ∷ m) l =
     four-and-two (within (between (pos 4) (pos mostNodes)) a) (within (between (pos 1) (pos mostElements)) b)
     (within (between (pos 1) (pos mostSoils)) d) (within (between (pos 0) (pos mostEdges)) e)
-    (isOneOf (pos 12 ∷ pos 20 ∷ pos mostSides ∷ []) z) (within (between (pos 0) (pos mostJumps)) j)
+    (isOneOf listedSides z) (within (between (pos 0) (pos mostJumps)) j)
+
+-- with the most sides the nodes are few, or else nothing is asked
+pub many-sides : (v : ℤ) {z : ℤ} → z ≡ pos mostSides → leZ v (pos nodesFor108) ≡ cond (eqZ z (pos mostSides)) (leZ v (pos nodesFor108)) true
+many-sides v e = rw e
+
+pub fewer-sides : (v : ℤ) {z : ℤ} → ¬ (z ≡ pos mostSides) → true ≡ cond (eqZ z (pos mostSides)) (leZ v (pos nodesFor108)) true
+fewer-sides v {z} f = rw (is-false (eqZ z (pos mostSides)) (no-eqZ f))
+
+-- the rule of a mesh's header, of the numbers as the machine reads them
+pub nodes-read : (m : List ℤ) → meshHeaderColumns ≤ length m → SFits w64 (getD m 0 (pos 0)) → SFits w64 (getD m 4 (pos 0)) → ruleTest (atMost 0 nodesFor108 4 mostSides) (take meshHeaderColumns m) ≡ cond (eqZ (read (getD m 4 (pos 0))) (pos mostSides)) (leZ (read (getD m 0 (pos 0))) (pos nodesFor108)) true
+unfolding ruleTest at
+nodes-read [] l f g = absurd (omega arith)
+nodes-read (a ∷ []) l f g = absurd (omega arith)
+nodes-read (a ∷ b ∷ []) l f g = absurd (omega arith)
+nodes-read (a ∷ b ∷ d ∷ []) l f g = absurd (omega arith)
+nodes-read (a ∷ b ∷ d ∷ e ∷ []) l f g = absurd (omega arith)
+nodes-read (a ∷ b ∷ d ∷ e ∷ z ∷ m) l f g = rw (toZ-ofZ f, toZ-ofZ g)
+
+-- the largest multiplier of a strength row
+pub strength-108 : {k : ℕ} → k ≡ mostSides → pos strengthFor108 ≡ pos (strengthMultiplier k)
+unfolding strengthMultiplier
+strength-108 e = rw e
+
+pub strength-fewer : {k : ℕ} → ¬ (k ≡ mostSides) → pos mostStrength ≡ pos (strengthMultiplier k)
+unfolding strengthMultiplier
+strength-fewer {k} f = rw (ne-eqb k mostSides f)
 
 pub both-hold : {a b d : Bool} → d ≡ a && b → a ≡ true → b ≡ true → d ≡ true
 both-hold e f g = e ∙ rw (f, g)

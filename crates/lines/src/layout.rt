@@ -15,12 +15,15 @@ use mesh::sizes::MOST_NODES;
 use mesh::sizes::MOST_SIDES;
 use mesh::sizes::MOST_SOILS;
 use mesh::sizes::NODE_COLUMNS;
+use mesh::sizes::NODES_FOR_108;
 use mesh::sizes::SOIL_COLUMNS;
 use mesh::sizes::Sizes;
 ghost use mathlib.Core.Path.{_≡_};
 ghost use lib.IntN.{pos};
+ghost use Rattle.integer.specs.Bounds.{Is};
 ghost use Rattle.integer.specs.Tests.{eqZ};
 ghost use Rattle.scope.specs.Columns.{at};
+ghost use Rattle.scope.specs.Mesh.{mostStrength, strengthMultiplier};
 ghost use Rattle.scope.specs.Claim.{ifThere};
 ghost use Rattle.mesh.specs.MeshContracts.{FewThings};
 ghost use Rattle.lines.specs.Table.{Tabled, meshBody, claimBody};
@@ -48,8 +51,15 @@ pub const MESH_MOST: [i64; COUNTS] = [
     MOST_EDGES as i64,
 ];
 
-// The most sides, as a number of the header.
+// The most sides, and the most nodes with so many, as numbers of the header.
 pub const SIDES_MOST: i64 = MOST_SIDES as i64;
+
+pub const NODES_MOST: i64 = NODES_FOR_108 as i64;
+
+// The largest multiplier of a strength row, and that with the most sides.
+const STRENGTH_MOST: i64 = 10000;
+
+const STRENGTH_FOR_108: i64 = 300;
 
 // The most jumps, as a number of the header.
 pub const JUMPS_MOST: i64 = MOST_JUMPS as i64;
@@ -152,11 +162,22 @@ pub fn if_there(there: bool, k: usize) -> usize
     0
 }
 
+// The largest multiplier of a strength row, of a mesh with so many sides.
+fn strength_most(sides: usize) -> i64
+    ensures { λ r. ⌜ Is r (pos (strengthMultiplier sides)) mostStrength ⌝ }
+{
+    if sides == MOST_SIDES {
+        return STRENGTH_FOR_108;
+    }
+    STRENGTH_MOST
+}
+
 // The groups of a claim on a mesh with these sizes and so many pairs, with a field and with multipliers or without.
 pub fn claim_groups(s: Sizes, field: bool, multipliers: bool) -> [Group; GROUPS]
     requires { ⌜ FewThings s ⌝ }
     ensures { λ r. ⌜ Tabled s r (claimBody s field multipliers) ⌝ }
 {
+    let most = strength_most(s.sides);
     [
         Group {
             kind: Kind::Even {
@@ -191,7 +212,7 @@ pub fn claim_groups(s: Sizes, field: bool, multipliers: bool) -> [Group; GROUPS]
             columns: JUMP_ROWS,
         },
         Group {
-            kind: Kind::Even { lo: 0, hi: 10000 },
+            kind: Kind::Even { lo: 0, hi: most },
             lines: if_there(multipliers, s.pairs),
             columns: s.sides,
         },

@@ -11,6 +11,7 @@ use crate::layout::JUMPS_MOST;
 use crate::layout::Kind;
 use crate::layout::MESH_LEAST;
 use crate::layout::MESH_MOST;
+use crate::layout::NODES_MOST;
 use crate::layout::Rule;
 use crate::layout::SIDES_MOST;
 use crate::layout::claim_groups;
@@ -26,16 +27,18 @@ use mesh::sizes::header_sizes;
 use scope::Outcome;
 use scope::Place;
 ghost use mathlib.Core.Path.{_≡_};
-ghost use mathlib.Core.Bool.{_&&_};
+ghost use mathlib.Core.Bool.{true, cond, _&&_};
 ghost use mathlib.Core.List.{List, [], _∷_, map};
 ghost use Prim.Native.Nat.{min, _/_, _<_, _≤_};
 ghost use lib.ListN.{length, take, drop};
 ghost use lib.IntN.{ℤ, pos};
+ghost use lib.Signed.{leZ};
+ghost use Rattle.integer.specs.Tests.{eqZ};
 ghost use Rattle.scope.specs.Checks.{allBelow};
 ghost use Rattle.scope.specs.Columns.{at, between, within, isOneOf, parts, ruleTest};
 ghost use Rattle.scope.specs.Layout.{width};
 ghost use Rattle.scope.specs.Verdict.{lineCheck, lineAt, linesCheck};
-ghost use Rattle.scope.specs.Mesh.{mostSides, mostJumps, meshLayout};
+ghost use Rattle.scope.specs.Mesh.{mostSides, listedSides, nodesFor108, meshLayout, mostJumps};
 ghost use Rattle.scope.specs.Claim.{claimHeaderColumns, claimHeader, claimLayout};
 ghost use Rattle.mesh.specs.MeshContracts.{FewThings, Counted};
 ghost use Rattle.lines.specs.Table.{evenLines, ruledLines, meant, Good, Table};
@@ -152,7 +155,7 @@ fn rest(s: &[i64], from: usize) -> &[i64]
 
 // The number of sides is one of those that a polygon has.
 fn is_sides(z: i64) -> bool
-    ensures { λ r. ⌜ r ≡ isOneOf (pos 12 ∷ pos 20 ∷ pos mostSides ∷ []) z ⌝ }
+    ensures { λ r. ⌜ r ≡ isOneOf listedSides z ⌝ }
 {
     if z == 12 {
         return true;
@@ -160,13 +163,26 @@ fn is_sides(z: i64) -> bool
     if z == 20 {
         return true;
     }
+    if z == 36 {
+        return true;
+    }
     z == SIDES_MOST
+}
+
+// With the most sides the nodes are few.
+fn nodes_fit(nodes: i64, sides: i64) -> bool
+    ensures { λ r. ⌜ r ≡ cond (eqZ sides (pos mostSides)) (leZ nodes (pos nodesFor108)) true ⌝ }
+{
+    if sides == SIDES_MOST {
+        return nodes <= NODES_MOST;
+    }
+    true
 }
 
 // What stands after the counts in the header of a mesh: the number of sides, and then the number of jumps.
 fn sides_and_jumps(sides: i64, jumps: i64) -> bool
     ensures { λ r. ⌜ r
-        ≡ isOneOf (pos 12 ∷ pos 20 ∷ pos mostSides ∷ []) sides && within (between (pos 0) (pos mostJumps)) jumps ⌝ }
+        ≡ isOneOf listedSides sides && within (between (pos 0) (pos mostJumps)) jumps ⌝ }
 {
     if !is_sides(sides) {
         return false;
@@ -185,6 +201,9 @@ pub fn mesh_header(m: &[i64]) -> Outcome
         return refused(2, 1);
     }
     if !sides_and_jumps(m[COUNTS], m[JUMPS_AT]) {
+        return refused(2, 1);
+    }
+    if !nodes_fit(m[0], m[COUNTS]) {
         return refused(2, 1);
     }
     Outcome::Passed

@@ -13,12 +13,14 @@ use Rattle.integer.proofs.Order.{≤ℤ-pos}
 use Rattle.mesh.specs.declared.sizes.Sizes.{Sizes}
 use Rattle.scope.specs.Columns.{at}
 use Rattle.scope.specs.Layout.{groups, numbersBefore, count, entry}
-use Rattle.scope.specs.Mesh.{meshHeaderColumns, soilColumns, nodeColumns, elementColumns, edgeColumns, jumpColumns, meshHeader, soilLines, nodeLines, elementLines, edgeLines, jumpLines, meshLayout, meshGroups, nodes, elements, soils, edges, sides, jumps, p, q, h, cohesion, soilEntry, x, y, corner, elementSoil, edgeEntry, fromNode, toNode, jumpEntry, jumpFrom, jumpTo, facingFrom, facingTo}
+use Rattle.scope.specs.Mesh.{mostPairs, meshHeaderColumns, soilColumns, nodeColumns, elementColumns, edgeColumns, meshHeader, soilLines, nodeLines, elementLines, edgeLines, meshLayout, meshGroups, nodes, elements, soils, edges, sides, p, q, h, cohesion, soilEntry, x, y, corner, elementSoil, edgeEntry, fromNode, toNode, jumpColumns, jumpLines, jumps, jumpEntry, jumpFrom, jumpTo, facingFrom, facingTo}
 use Rattle.scope.specs.NumberRanges.{Between, MeshFacts, SoilFacts, EdgeFacts, JumpFacts}
 use Rattle.scope.proofs.NumberRanges.{some-sides}
 use Rattle.scope.proofs.PolygonRule.{listed-polygon}
 use Rattle.scope.proofs.SumBounds.{apart}
-use Rattle.mesh.specs.MeshContracts.{Sized, SizesAre, HeaderThere, FewThings, NodeAt, nodesFrom, elementsFrom, edgesFrom, jumpsFrom, jumpNode}
+use Rattle.scope.proofs.SideLimits.{few-most}
+use Rattle.scope.specs.Rows.{pairCount}
+use Rattle.mesh.specs.MeshContracts.{Sized, SizesAre, HeaderThere, FewThings, NodeAt, FewPairs, nodesFrom, elementsFrom, edgesFrom, jumpsFrom, jumpNode}
 
 -- ---- counts
 
@@ -93,6 +95,9 @@ few-sizes {m} k =
       fewJumps = omega (arith, k .jumpsAre, k .counts .jumpsMost);
       fewPairs = k .pairsFew;
     }
+
+pub most-pairs : {m : List ℤ} → FewPairs m → pairCount m ≤ mostPairs
+most-pairs {m} h = few-most (sides m) (h .within)
 
 pub few-things : {m : List ℤ} {s : Sizes} → Sized m s → FewThings s
 few-things k = few-sizes (as-sizes k)

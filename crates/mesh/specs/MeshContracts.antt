@@ -6,8 +6,8 @@ use Prim.Native.Nat.{ℕ, _+_, _*_, _-_, _≤_, _<_}
 use lib.IntN.{ℤ}
 use lib.ListN.{length, getD}
 use Rattle.mesh.specs.declared.sizes.Sizes.{Sizes}
+use Rattle.scope.specs.Mesh.{mostNodes, mostElements, mostSoils, mostEdges, mostSides, mostPairs, pairsWith, meshHeaderColumns, soilColumns, nodeColumns, elementColumns, nodes, elements, soils, edges, sides, mostJumps, edgeColumns, jumps, jumpEntry}
 use Rattle.scope.specs.Layout.{count}
-use Rattle.scope.specs.Mesh.{mostNodes, mostElements, mostSoils, mostEdges, mostSides, mostJumps, mostPairs, meshHeaderColumns, soilColumns, nodeColumns, elementColumns, edgeColumns, nodes, elements, soils, edges, sides, jumps, jumpEntry}
 use Rattle.scope.specs.Rows.{pairCount, pairAt}
 use Rattle.scope.specs.NumberRanges.{MeshFacts, Counts}
 
@@ -86,10 +86,15 @@ paired s k = record {
   pairs = k;
 }
 
--- the sizes of a mesh with its node-and-soil pairs counted: what the lines of a claim go by
+-- the pairs are within the limit that goes by the number of sides (document 02, N9)
+pub record FewPairs (m : List ℤ) : Type 0 where
+  pub within : pairCount m ≤ pairsWith (sides m)
+
+-- the sizes of a mesh with its node-and-soil pairs counted, which are few: what the lines of a claim go by
 pub record Counted (m : List ℤ) (s : Sizes) : Type 0 where
   pub sizes : SizesAre m s
   pub pairsAre : s .pairs ≡ pairCount m
+  pub few : FewPairs m
 
 -- the pairs as bytes, two for each: the node of pair a stands at 2·a, its soil after it
 pub record PairTable (m : List ℤ) (t : List ℕ) : Type 0 where

@@ -23,18 +23,19 @@ use Rattle.scope.specs.declared.Place.{Place}
 use Rattle.scope.specs.declared.Place.the-variants as P
 use Rattle.scope.specs.declared.Load.the-variants.{Exact}
 use Rattle.scope.specs.Checks.{demand, lowest}
-use Rattle.scope.specs.Bounds.{mostMultiplier, strengthMultiplier}
+use Rattle.scope.specs.Bounds.{mostMultiplier}
 use Rattle.scope.specs.Columns.{between, within, at, hasField, hasMultipliers}
 use Rattle.scope.specs.Claim.{ifThere, multiplier}
 use Rattle.scope.specs.NumberRanges.{ClaimFacts}
-use Rattle.scope.specs.Mesh.{nodes, elements, edges, sides, edgeEntry, fromNode, toNode, equalityCount}
-use Rattle.scope.specs.Rows.{Kind, asked, unfixed, strength, Row, pairCount, fixedIf, balanceX, balanceY, normalRow, shearRow, agreeRow, jumpNormal, jumpShear, equalityRows, rowsOf}
+use Rattle.scope.specs.Mesh.{strengthMultiplier, nodes, elements, edges, sides, edgeEntry, fromNode, toNode, equalityCount}
+use Rattle.scope.specs.Rows.{Kind, asked, unfixed, strength, Row, pairCount, fixedIf, balanceX, balanceY, normalRow, shearRow, equalityRows, rowsOf, agreeRow, jumpNormal, jumpShear}
 use Rattle.scope.specs.Sums.{coefficient, columnSum, liveSum, limitSum, zeroIfUnfixed}
 use Rattle.scope.specs.Verdict.{multipliersCheck, upperLoad}
 use Rattle.scope.specs.Phases.{checkPhase, checkPhases}
 use Rattle.scope.specs.Refusals.{unfixedPhase, columnsPhase, livePhase, multiplierPart}
 use Rattle.scope.proofs.Checks.{lowest-cong}
 use Rattle.scope.proofs.RowCounts.{equality-count}
+use Rattle.scope.proofs.SideLimits.{strength-most}
 use Rattle.multipliers.specs.declared.multiplier_sums.Sums.{Sums}
 use Rattle.multipliers.specs.declared.multiplier_checks.Limit.{Limit}
 use Rattle.multipliers.specs.declared.multiplier_checks.Limit.the-variants as L
@@ -259,7 +260,7 @@ module _ {m c : List ℤ} (f : ClaimFacts m c) (e : at c 1 ≡ pos 1) where
       by i h (no d) =
           let k : ℕ = i - (equalityCount m) in
           let same : equalityCount m + k ≡ i = omega arith in
-          Within-le (lent i (subst (λ j. Within (strengthMultiplier (sides m)) (at c (multipliersFrom m c + j))) same (strength-within f e k (omega (arith, length-drop (multipliersFrom m c) c, with-multipliers f e))))) (omega arith)
+          Within-le (lent i (subst (λ j. Within (strengthMultiplier (sides m)) (at c (multipliersFrom m c + j))) same (strength-within f e k (omega (arith, length-drop (multipliersFrom m c) c, with-multipliers f e))))) (omega (arith, strength-most (sides m)))
 
   pub multiplier-lent : {from : ℕ} → from ≡ multipliersFrom m c → multiplier m c ≡ at (take (length c - from) (drop from c))
   multiplier-lent d = multiplier-is m c ∙ rw d (ap at (sym lent-is))

@@ -12,7 +12,8 @@ use lib.ListN.{length, take, drop}
 use Rattle.integer.specs.Tests.{eqZ}
 use Rattle.integer.proofs.TestLaws.{no-eqZ, yes-ltZ, no-ltZ}
 use Rattle.scope.specs.declared.OpenRows.the-variants.{Absent as NoCount, Count}
-use Rattle.scope.specs.Mesh.{mostSides, mostPairs, mostEqualityRows, sides, equalityCount}
+use Rattle.mesh.specs.MeshContracts.{FewPairs}
+use Rattle.scope.specs.Mesh.{mostSides, mostEqualityRows, sides, equalityCount}
 use Rattle.scope.specs.Bounds.{mostStrengthRows}
 use Rattle.scope.specs.Columns.{at, hasField, hasMultipliers, n, l}
 use Rattle.scope.specs.Claim.{stress}
@@ -105,7 +106,7 @@ module _ (m c y : List ℤ) where
       → count ≡ countBelow openTest (pairFirst m a) → s ≡ sides m → first ≡ pairFirst m a → r ≡ countBelow (sideOpen d tab y first) s → count + r ≡ countBelow openTest (pairFirst m (a + 1))
   one-more-pair a {d} {tab} h listed state steps e es ef f = one-pair-open a h listed state steps e (f ∙ ap₂ (λ f n. countBelow (sideOpen d tab y f) n) ef es)
 
-  pub count-small : Counts m → pairCount m ≤ mostPairs → (a : ℕ) {count : ℕ} → a ≤ pairCount m → count ≡ countBelow openTest (pairFirst m a) → count ≤ mostEqualityRows + mostStrengthRows
+  pub count-small : Counts m → FewPairs m → (a : ℕ) {count : ℕ} → a ≤ pairCount m → count ≡ countBelow openTest (pairFirst m a) → count ≤ mostEqualityRows + mostStrengthRows
   unfolding pairFirst
   count-small counts few a h e =
       omega (arith, e, countBelow-most openTest (pairFirst m a), few-rows counts few a h, counts .elementsMost, counts .edgesMost, counts .jumpsMost)

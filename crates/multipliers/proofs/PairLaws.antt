@@ -12,10 +12,13 @@ use Rattle.integer.proofs.Ring.{ring, terms}
 use Rattle.integer.specs.Bounds.{Within, Is}
 use Rattle.integer.proofs.BoundLaws.{Within-le, Within-+ℤ, Within-*ℤ, AllWithin-le}
 use Rattle.integer.proofs.Machine.{Is-as, Is-Within}
-use Rattle.scope.specs.Mesh.{mostNodes, mostPairs, mostSides, mostEqualityRows, sides, p, q, h, cohesion, equalityCount}
-use Rattle.scope.specs.Bounds.{strengthMultiplier, pairsWith, mostStrengthRows, equalityColumns, equalitySums, strengthSum, pairColumn}
+use Rattle.scope.specs.Mesh.{mostNodes, mostPairs, mostSides, pairsWith, strengthMultiplier, mostEqualityRows, sides, p, q, h, cohesion, equalityCount}
+use Rattle.scope.specs.Bounds.{mostStrengthRows, equalityColumns, equalitySums, strengthSum, pairColumn}
 use Rattle.scope.specs.PolygonRule.{ListedPolygon}
 use Rattle.scope.proofs.PolygonRule.{listed-polygon}
+use Rattle.scope.proofs.SideLimits.{strength-most}
+use Rattle.mesh.specs.MeshContracts.{FewPairs}
+use Rattle.mesh.proofs.Places.{most-pairs}
 use Rattle.scope.specs.Columns.{at}
 use Rattle.scope.specs.NumberRanges.{Counts}
 use Rattle.scope.specs.Polygon.{Side, polygonOf}
@@ -143,7 +146,7 @@ pair-multipliers m y a {t} l counts steps h ef en =
       bounds = λ k j.
           let w = multiplier k j in
           record {
-            itself = Within-le w (omega arith);
+            itself = Within-le w (omega (arith, strength-most (sides m)));
             run = weighted w (run-within (g .fits) k j) (g .fits .stepWeighted) (steps .run k j .same);
             rise = weighted w (rise-within (g .fits) k j) (g .fits .stepWeighted) (steps .rise k j .same);
             cross = weighted w (cross-within (g .fits) k j) (g .fits .productWeighted) (steps .cross k j .same);
@@ -320,16 +323,16 @@ module _ (m y : List ℤ) (a : ℕ) where
 -- ---- all pairs
 
 -- the strength rows before pair a
-pub few-rows : {m : List ℤ} → Counts m → pairCount m ≤ mostPairs → (a : ℕ) → a ≤ pairCount m → a * sides m ≤ mostStrengthRows
+pub few-rows : {m : List ℤ} → Counts m → FewPairs m → (a : ℕ) → a ≤ pairCount m → a * sides m ≤ mostStrengthRows
 few-rows {m} counts few a l =
-    let most : a ≤ pairsWith (sides m) = omega arith in
+    let most : a ≤ pairsWith (sides m) = omega (arith, few .within) in
     le-trans (mul-le-mul-right (sides m) most) (listed-polygon (sides m) (counts .sidesListed) .fits .rowsFit)
 
-module _ (m y : List ℤ) (counts : Counts m) (few : pairCount m ≤ mostPairs) where
+module _ (m y : List ℤ) (counts : Counts m) (few : FewPairs m) where
   -- before each pair the sums leave room
   pub pair-room : (a : ℕ) {columns : List ℤ} {sums : Sums} → a ≤ pairCount m → PairsSummed m y a columns sums → WholeSumsFit columns sums
   pair-room a l h =
-      let most : a ≤ mostPairs = omega arith in
+      let most : a ≤ mostPairs = omega (arith, most-pairs few) in
       let rows = few-rows counts few a l in
       record {
         columnsFit = AllWithin-le (sums-within (h .columnsAre)) (omega arith);

@@ -7,8 +7,8 @@ use Prim.Native.Nat.{ℕ, zero, suc, _+_, _*_, _≤_, _<_}
 use lib.IntN.{ℤ, pos, _+ℤ_, _-ℤ_, _*ℤ_, negℤ}
 use lib.ListN.{length}
 use Rattle.integer.specs.Bounds.{Within, AllWithin, Is}
-use Rattle.scope.specs.Mesh.{mostNodes, mostSides, mostPairs, sides, equalityCount}
-use Rattle.scope.specs.Bounds.{mostMultiplier, strengthMultiplier, weightedStep, weightedCross, equalityColumn, equalitySum, equalityColumns, equalitySums, strengthSum, pairColumn, mostColumn, mostSum}
+use Rattle.scope.specs.Mesh.{mostNodes, mostSides, strengthMultiplier, sides, equalityCount}
+use Rattle.scope.specs.Bounds.{mostMultiplier, weightedStep, weightedCross, equalityColumn, equalitySum, equalityColumns, equalitySums, strengthSum, pairColumn, mostColumn, mostSum}
 use Rattle.scope.specs.Columns.{at}
 use Rattle.scope.specs.Rows.{Row, pairCount, pairAt, sx, sy, t, rowsOf}
 use Rattle.scope.specs.Sums.{unit, coefficient}
@@ -17,7 +17,7 @@ use Rattle.multipliers.specs.declared.multiplier_sums.Sums.{Sums}
 use Rattle.multipliers.specs.declared.multiplier_sums.SideSums.{SideSums}
 use Rattle.multipliers.specs.declared.multiplier_sums.PairSums.{PairSums}
 use Rattle.mesh.specs.declared.sizes.Sizes.{Sizes}
-use Rattle.mesh.specs.MeshContracts.{Sized, PairTable}
+use Rattle.mesh.specs.MeshContracts.{Sized, FewPairs, PairTable}
 use Rattle.scope.specs.PrintedColumns.{sumBelow}
 use Rattle.criterion.specs.StrengthContracts.{MeshSteps}
 use Rattle.equality.specs.EqualityContracts.{SumsAre}
@@ -55,7 +55,7 @@ pub record Multipliers (m y : List ℤ) : Type 0 where
 pub record RowsGiven (m : List ℤ) (s : Sizes) (t : List ℕ) (steps y : List ℤ) : Type 0 where
   pub sized : Sized m s
   pub pairsAre : s .pairs ≡ pairCount m
-  pub few : pairCount m ≤ mostPairs
+  pub few : FewPairs m
   pub pairTable : PairTable m t
   pub sidesGiven : MeshSteps m steps
   pub multipliers : Multipliers m y

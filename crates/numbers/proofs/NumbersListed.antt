@@ -12,9 +12,9 @@ use Rattle.scope.specs.declared.Place.{Place}
 use Rattle.scope.specs.declared.Place.the-variants.{Line, Row, Column, Node, Element}
 use Rattle.scope.specs.Members.{_∈_}
 use Rattle.scope.specs.Answer.{placeNumber}
-use Rattle.scope.specs.Columns.{Rule, rightAngle, naming, hasField, hasMultipliers}
+use Rattle.scope.specs.Columns.{Rule, rightAngle, naming, atMost, hasField, hasMultipliers}
 use Rattle.scope.specs.Layout.{Group, Layout, Placed, width, groups, lineCount, lineOf, numbersAt, groupAt}
-use Rattle.scope.specs.Mesh.{edgeLine, jumpLine, meshHeader, meshLayout, soilLines, nodeLines, elementLines, edgeLines, jumpLines}
+use Rattle.scope.specs.Mesh.{mostSides, nodesFor108, edgeLine, jumpLine, meshHeader, meshLayout, soilLines, nodeLines, elementLines, edgeLines, jumpLines}
 use Rattle.scope.specs.Claim.{claimHeader, claimLayout, stressLines, elementMultipliers, edgeMultipliers, jumpMultipliers, strengthMultipliers}
 use Rattle.scope.specs.Phases.{FirstFails}
 use Rattle.scope.specs.Refusals.{ruleNumber, ruleSteps, lineSteps, linePhases, shapePhases, meshPhases, fieldPart, multiplierPart, partPhases, claimPhases, Refusal}
@@ -84,9 +84,10 @@ each-line P (g ∷ gs) none all from k = by (ltb k (g .lines)) (each-line P gs n
 mesh-rules : (m : List ℤ) (k : ℕ) → RulesInPlace (groupAt meshLayout m k .rules) (Line (suc k))
 unfolding groups meshLayout meshHeader soilLines nodeLines elementLines edgeLines jumpLines ruleNumber
 mesh-rules m k =
+    let two : RulesInPlace (atMost 0 nodesFor108 4 mostSides ∷ []) (Line (suc k)) = (plain 2 (Line (suc k)) (λ e. omega arith) (λ e. omega arith), tt) in
     let three : RulesInPlace (rightAngle ∷ []) (Line (suc k)) = (plain 3 (Line (suc k)) (λ e. omega arith) (λ e. omega arith), tt) in
     let four : (cs : List (ℕ × ℕ)) → RulesInPlace (naming cs ∷ []) (Line (suc k)) = λ cs. (plain 4 (Line (suc k)) (λ e. omega arith) (λ e. omega arith), tt) in
-    each-line (λ rs. RulesInPlace rs (Line (suc k))) (groups meshLayout m) tt (tt, (three, (tt, (four [], (four [], (four [], tt)))))) 0 k
+    each-line (λ rs. RulesInPlace rs (Line (suc k))) (groups meshLayout m) tt (two, (three, (tt, (four [], (four [], (four [], tt)))))) 0 k
 
 claim-rules : (m c : List ℤ) (k : ℕ) → RulesInPlace (groupAt (claimLayout m) c k .rules) (Line (suc k))
 unfolding groups lineOf claimLayout claimHeader stressLines elementMultipliers edgeMultipliers jumpMultipliers strengthMultipliers ruleNumber

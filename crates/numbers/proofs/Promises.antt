@@ -13,6 +13,7 @@ use Rattle.integer.proofs.FractionLaws.{≤ᶠ-trans, ≈ᶠ→≤ᶠ, ≈ᶠ-s
 use Rattle.integer.specs.Tests.{eqZ}
 use Rattle.integer.proofs.TestLaws.{eqZ-yes, eqZ-no}
 use Rattle.scope.specs.declared.Place.{Place}
+use Rattle.scope.specs.declared.Place.the-variants.{Line}
 use Rattle.scope.specs.declared.Load.{Load}
 use Rattle.scope.specs.declared.Load.the-variants.{Absent, Exact}
 use Rattle.scope.specs.declared.OpenRows.the-variants.{Absent as NoCount}
@@ -20,14 +21,14 @@ use Rattle.scope.specs.declared.Verdict.{Verdict}
 use Rattle.scope.specs.declared.Verdict.the-variants.{Accepted, Refused}
 use Rattle.scope.specs.Answer.{placeNumber, placeFor, numberOf, placeOf}
 use Rattle.scope.specs.Columns.{at, hasField, hasMultipliers, n, l}
-use Rattle.scope.specs.Mesh.{nodes}
+use Rattle.scope.specs.Mesh.{nodes, sides}
 use Rattle.scope.specs.Rows.{rowsOf}
 use Rattle.scope.specs.Sums.{liveSum, limitSum, openRows}
 use Rattle.scope.specs.Claim.{stress, multiplier}
 use Rattle.scope.specs.Verdict.{verdict, lowerLoad, upperLoad, openCount}
 use Rattle.scope.specs.Meets.{FieldMeets}
 use Rattle.scope.specs.Statements.{MeshSound, HasField, HasMultipliers}
-use Rattle.scope.specs.Refusals.{Refusal}
+use Rattle.scope.specs.Refusals.{meshPhases, claimPhases, MeshRefusal, Refusal}
 use Rattle.scope.specs.Accepted.{FieldAccepted, MultipliersAccepted}
 use Rattle.scope.specs.Bracket.{Bracket}
 use Rattle.scope.specs.Parts.{carried, allowed, SameRows, PartsBracket}
@@ -38,6 +39,10 @@ use Rattle.scope.proofs.Printed.{field-printed}
 use Rattle.scope.proofs.AcceptedField.{accepted-criterion, criterion-around, tractions-agree}
 use Rattle.scope.proofs.Jumps.{sound-jumps, tip-asks-nothing, no-jumps}
 use Rattle.scope.proofs.Pairs.{pairs, sound-pairs}
+use Rattle.scope.proofs.Phases.{join-refused}
+use Rattle.scope.proofs.NumberRanges.{mesh-facts}
+use Rattle.scope.proofs.PolygonRule.{listed-polygon}
+use Rattle.scope.proofs.SideLimits.{limits-by-sides}
 use Rattle.scope.proofs.Columns.{mesh-columns}
 use Rattle.scope.proofs.Bracket.{bracket}
 use Rattle.scope.proofs.Parts.{nodes-named, multipliers-meet, field-n, parts-bracket, open-rows-count}
@@ -50,7 +55,7 @@ use Rattle.verdict.specs.declared.MeshAnswer.{MeshAnswer}
 use Rattle.numbers.proofs.NumbersListed.{refusal-listed}
 use Rattle.numbers.specs.declared.numbers_answer.NumbersAnswer.{NumbersAnswer}
 use Rattle.numbers.specs.NumbersAnswer.{there, numerator, denominator, counted, answerOf}
-use Rattle.numbers.specs.Promises.{Answers, Returned, ReturnsZero, RefusesExactly, NumbersListed, RowsRefused, TellsField, FieldExactly, MultipliersExactly, FieldReported, MultipliersReported, CriterionForEachPair, PairsAsked, JumpsAsked, TractionsOnJoints, CallsBracket, TwoAnswers, AnswerAndMultipliers, OpenRowsReported, FractionsBracket, FractionsAndAnswer, FieldInFractions, MeshAnsweredExactly, TrianglesAsked}
+use Rattle.numbers.specs.Promises.{Answers, Returned, ReturnsZero, RefusesExactly, NumbersListed, RowsRefused, TellsField, FieldExactly, MultipliersExactly, FieldReported, MultipliersReported, CriterionForEachPair, PairsAsked, SidesAsked, JumpsAsked, TractionsOnJoints, CallsBracket, TwoAnswers, AnswerAndMultipliers, OpenRowsReported, FractionsBracket, FractionsAndAnswer, FieldInFractions, MeshAnsweredExactly, TrianglesAsked}
 
 -- every answer returns the verdict's number and place
 pub returned : {m c : List ℤ} {r : NumbersAnswer} → Answers m c r → Returned m c (r .number) (r .place)
@@ -174,6 +179,17 @@ module _ (m c : List ℤ) (number place : ℕ) (h : Returned m c number place) w
     sound = sound-pairs m;
     refused = λ e. pairs-fail m c place (refuses-exactly .exactly 42 place (λ z. omega arith) .0 (e, refl));
   }
+
+  pub sides-asked : SidesAsked m number place
+  unfolding placeFor
+  sides-asked = record {
+    limits = limits-by-sides m;
+    many-nodes = λ l e h. refuses-exactly .exactly 2 1 (λ z. omega arith) .1 (of-mesh (limits-by-sides m .with-108 e .nodes-refused l h));
+    polygon = λ s. listed-polygon (sides m) (mesh-facts m (s .lines) .counts .sidesListed);
+  }
+    where
+      of-mesh : MeshRefusal m 2 (Line 1) → Refusal m c 2 (Line 1)
+      of-mesh r = record { by = join-refused (meshPhases m) (claimPhases m c) 2 (Line 1) (inl (r .by)) }
 
 pub jumps-asked : (m : List ℤ) → JumpsAsked m
 jumps-asked m = record { sound = sound-jumps m; tip = tip-asks-nothing m; none = no-jumps m }

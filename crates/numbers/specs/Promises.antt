@@ -12,8 +12,8 @@ use lib.Signed.{_<ℤ_}
 use lib.ListN.{length}
 use Rattle.integer.specs.Fraction.{Frac, _over_, _≈ᶠ_, _≤ᶠ_}
 use Rattle.scope.specs.Members.{_∈_}
-use Rattle.scope.specs.Columns.{n, l}
-use Rattle.scope.specs.Mesh.{nodes, elements, corner}
+use Rattle.scope.specs.Columns.{at, n, l}
+use Rattle.scope.specs.Mesh.{meshHeaderColumns, nodes, elements, sides, corner}
 use Rattle.scope.specs.Rows.{rowsOf, twiceArea}
 use Rattle.scope.specs.Sums.{liveSum, limitSum}
 use Rattle.scope.specs.Claim.{claimLayout, stress, multiplier}
@@ -37,6 +37,8 @@ use Rattle.scope.specs.Tests.{rowAt}
 use Rattle.scope.specs.Meaning.{Area, OutwardNormal}
 use Rattle.scope.specs.Triangles.{ReadAsTriangle, PassedBefore}
 use Rattle.scope.specs.Pairs.{Pairs, SoundPairs}
+use Rattle.scope.specs.SideLimits.{LimitsBySides}
+use Rattle.scope.specs.PolygonRule.{ListedPolygon}
 use Rattle.verdict.specs.declared.MeshAnswer.{MeshAnswer}
 use Rattle.verdict.specs.JudgeContracts.{MeshAnswered}
 use Rattle.numbers.specs.declared.numbers_answer.NumbersAnswer.{NumbersAnswer}
@@ -141,6 +143,16 @@ pub record JumpsAsked (m : List ℤ) : Type 0 where
 -- and on each joint an accepted field has the same traction from both sides
 abbrev pub TractionsOnJoints : List ℤ → List ℤ → ℕ → Type 0
 TractionsOnJoints m c number = TellsField c number → TractionsAgree m c
+
+-- "Sides may also be 108: all whole-number points on the circle of radius 1105, in the same turning order. Such a mesh
+-- has at most 40 nodes and 40 node-and-soil pairs, and its strength multipliers are at most 300; over these, 2, 42 and
+-- 12 are given as for other limits. That every corner is on the circle, in order, with none left out is shown for the
+-- whole list together, and what holds for a polygon of any listed number of sides now includes this one" (document 02,
+-- N9)
+pub record SidesAsked (m : List ℤ) (number place : ℕ) : Type 0 where
+  pub limits : LimitsBySides m
+  pub many-nodes : meshHeaderColumns ≤ length m → sides m ≡ 108 → pos 40 <ℤ at m 0 → (number ≡ 2) × (place ≡ 1)
+  pub polygon : MeshSound m → ListedPolygon (sides m)
 
 -- "An element whose third and fourth nodes are the same is to be read as a triangle: its balance rows are the same
 -- sums, .. and three left turns are asked. The repeat makes no side .. Every other repeat still gets 5. A file that

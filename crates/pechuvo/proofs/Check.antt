@@ -1,9 +1,9 @@
 -- "a longer file is too long for any mesh or claim and is refused as its first 65,536 bytes are": by its header's limits no mesh and no claim has so many bytes, and a file's numbers depend on no byte after the first beyond its lines.
-use mathlib.Core.Path.{_≡_, refl, sym, ap, _∙_}
+use mathlib.Core.Path.{_≡_, refl, sym, ap, ap₂, _∙_}
 use mathlib.Core.Logic.{_⊎_, inl, inr, _≢_}
 use mathlib.Core.List.{List, []}
 use Prim.Native.Nat.{ℕ, _+_, _*_, _≤_, _<_}
-use native.Mathlib.Nat.{mul-le-mul}
+use native.Mathlib.Nat.{mul-add, mul-assoc, mul-one, mul-le-mul-right}
 use native.Mathlib.Omega.{arith}
 use lib.Dec.{ltb}
 use lib.IntN.{ℤ, pos, negsuc}
@@ -16,7 +16,7 @@ use Rattle.scope.specs.declared.Outcome.the-variants.{Passed, Refused as Fails}
 use Rattle.scope.specs.Columns.{free, at, hasField, hasMultipliers}
 use Rattle.integer.proofs.Order.{≤ℤ-pos}
 use Rattle.scope.specs.Layout.{width, count}
-use Rattle.scope.specs.Mesh.{mostPairs, meshLayout, meshHeader, soilLines, nodeLines, elementLines, edgeLines, jumpLines, nodes, elements, soils, edges, sides, jumps}
+use Rattle.scope.specs.Mesh.{pairsWith, meshLayout, meshHeader, soilLines, nodeLines, elementLines, edgeLines, jumpLines, nodes, elements, soils, edges, sides, jumps}
 use Rattle.scope.specs.Rows.{pairCount}
 use Rattle.scope.specs.Claim.{claimLayout, ifThere}
 use Rattle.scope.specs.Statements.{Within, MeshSound}
@@ -27,6 +27,8 @@ use Rattle.scope.proofs.Exactly.{returns-zero, there-most}
 use Rattle.scope.proofs.NumberRanges.{counts}
 use Rattle.scope.proofs.Lines.{within-at}
 use Rattle.scope.proofs.Pairs.{few-pairs}
+use Rattle.scope.proofs.PolygonRule.{listed-polygon}
+use Rattle.scope.proofs.SideLimits.{few-most}
 use Rattle.verdict.proofs.VerdictLaws.{mesh-refused}
 use Rattle.reader.specs.File.{lineBytes, widths, numbersOf}
 use Rattle.reader.specs.WellFormed.{bytesOf}
@@ -80,23 +82,19 @@ unfolding claimBytes
 claim-short m c sound =
     let k = counts m (sound .lines) in
     let ns = k .nodesMost in
-    let ps = few-pairs m sound in
+    let ps = few-most (sides m) (few-pairs m sound) in
     let es = k .elementsMost in
     let gs = k .edgesMost in
     let js = k .jumpsMost in
-    let ss = sides-most (k .sidesListed) in
     let a = there-most (hasField c) (nodes m) in
     let b = there-most (hasMultipliers c) (elements m) in
     let d = there-most (hasMultipliers c) (edges m) in
     let g = there-most (hasMultipliers c) (jumps m) in
     let e = there-most (hasMultipliers c) (pairCount m) in
-    let p : ifThere (hasMultipliers c) (pairCount m) * (sides m * 12 + 1) ≤ mostPairs * 433 = mul-le-mul {n₂ = mostPairs} {m₂ = 433} (omega arith) (omega arith) in
-    omega (arith, claim-bytes m c)
-  where
-    sides-most : (sides m ≡ 12) ⊎ ((sides m ≡ 20) ⊎ (sides m ≡ 36)) → sides m ≤ 36
-    sides-most (inl h) = omega arith
-    sides-most (inr (inl h)) = omega arith
-    sides-most (inr (inr h)) = omega arith
+    let x : ℕ = ifThere (hasMultipliers c) (pairCount m) in
+    let rows : x * sides m ≤ pairsWith (sides m) * sides m = mul-le-mul-right (sides m) (omega (arith, few-pairs m sound)) in
+    let p : x * (sides m * 12 + 1) ≡ x * sides m * 12 + x = mul-add x (sides m * 12) 1 ∙ ap₂ _+_ (sym (mul-assoc x (sides m) 12)) (mul-one x) in
+    omega (arith, claim-bytes m c, listed-polygon (sides m) (k .sidesListed) .fits .rowsFit)
 
 -- ---- two files, or their first 65,536 bytes
 

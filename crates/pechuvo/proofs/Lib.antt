@@ -1,5 +1,6 @@
 -- The theorems about the whole check.
 pub mod Sheets
+pub mod Sheets108
 pub mod Check
 pub mod Answers
 pub mod VerdictFits
@@ -11,3 +12,4 @@ pub mod RunPromises
 pub mod RunApplied
 pub mod SizesPromises
 pub mod SizesApplied
+pub mod PromisesApplied108

@@ -45,7 +45,7 @@ use Rattle.numbers.specs.declared.numbers_answer.NumbersAnswer.{NumbersAnswer}
 use Rattle.numbers.specs.NumbersAnswer.{answerOf}
 use Rattle.numbers.specs.Promises as Handed-over
 use Rattle.numbers.specs.Promises.{Returned, TellsField}
-use Rattle.numbers.proofs.Promises.{returned, returns-zero-exactly, refuses-exactly, numbers-listed, rows-refused, field-exactly, multipliers-exactly, pairs-asked, criterion-for-each-pair, jumps-asked, tractions-on-joints, fractions-allowed}
+use Rattle.numbers.proofs.Promises.{returned, returns-zero-exactly, refuses-exactly, numbers-listed, rows-refused, field-exactly, multipliers-exactly, pairs-asked, sides-asked, criterion-for-each-pair, jumps-asked, tractions-on-joints, fractions-allowed}
 use Rattle.report.specs.Text.{Said, number as shows, said}
 use Rattle.report.specs.Report.{reportBytes, reportLine, mostDecimals, Decimals, isDecimals, usualDecimals}
 use Rattle.report.specs.Says.{columnOf, LoadSays, no-load, rounded, Says, says-accepted, says-refused, LineSays}
@@ -327,6 +327,7 @@ module _ (mesh claim : List ℕ) (z : ℤ) (before : List ℕ) (number place : �
         field = field-exactly (meshIn mesh) (claimIn mesh claim) number place r;
         multipliers = multipliers-exactly (meshIn mesh) (claimIn mesh claim) number place r;
         pairs = pairs-asked (meshIn mesh) (claimIn mesh claim) number place r;
+        sides = sides-asked (meshIn mesh) (claimIn mesh claim) number place r;
         criterion = criterion-for-each-pair (meshIn mesh) (claimIn mesh claim) number place r;
         jumps = jumps-asked (meshIn mesh);
         tractions = tractions-on-joints (meshIn mesh) (claimIn mesh claim) number place r;

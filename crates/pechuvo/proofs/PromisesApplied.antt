@@ -102,7 +102,7 @@ fits-with d h = record { decimals = these-decimals h; bytes = omega (arith, leng
 six : Decimals (pos 6)
 six = these-decimals (omega arith)
 
-fits : Room (pos 6) room
+pub fits : Room (pos 6) room
 fits = fits-with 6 (omega arith)
 
 sheet-parts : HasField (claimIn (at 0 .mesh) (at 0 .claim)) × HasMultipliers (claimIn (at 0 .mesh) (at 0 .claim))

@@ -4,7 +4,7 @@ use mathlib.Core.Bool.{Bool, true, false}
 use mathlib.Core.List.{List, [], _∷_, _++_}
 use mathlib.Core.Option.{Option, none, some}
 use Prim.Native.Nat.{ℕ, zero, suc, _+_, _*_, _/_, _≤_, _<_}
-use native.Mathlib.Nat.{zero-mul, suc-mul, add-mul, mul-le-mul, le-div-iff-mul-le}
+use native.Mathlib.Nat.{zero-mul, suc-mul, add-mul, mul-le-mul-right, le-div-iff-mul-le}
 use native.Mathlib.Omega.{arith}
 use lib.IntN.{ℤ}
 use lib.ListN.{length, take, drop, replicate, length-append, length-drop, length-replicate}
@@ -15,13 +15,13 @@ use Rattle.scope.specs.declared.Outcome.the-variants.{Passed}
 use Rattle.scope.specs.Columns.{hasField, hasMultipliers}
 use Rattle.scope.specs.Layout.{Group, Layout, width, numberCount}
 use Rattle.scope.specs.Verdict.{lineCheck}
-use Rattle.scope.specs.Mesh.{mostSides, mostPairs, meshHeaderColumns, meshLayout, meshHeader, soilLines, nodeLines, elementLines, edgeLines, jumpLines, nodes, elements, soils, edges, sides, jumps, elementRows, edgeRows, rowsPerJump}
-use Rattle.scope.specs.Claim.{claimHeaderColumns, stressColumns, claimLayout, claimHeader, ifThere, stressLines, elementMultipliers, edgeMultipliers, jumpMultipliers, strengthMultipliers}
+use Rattle.scope.specs.Mesh.{pairsWith, meshHeaderColumns, meshLayout, meshHeader, soilLines, nodeLines, elementLines, edgeLines, nodes, elements, soils, edges, sides, elementRows, edgeRows, jumpLines, jumps, rowsPerJump}
+use Rattle.scope.specs.Claim.{claimHeaderColumns, stressColumns, claimLayout, claimHeader, ifThere, stressLines, elementMultipliers, edgeMultipliers, strengthMultipliers, jumpMultipliers}
 use Rattle.scope.proofs.Exactly.{there-most}
+use Rattle.scope.proofs.PolygonRule.{listed-polygon}
 use Rattle.mesh.specs.declared.sizes.Sizes.{Sizes}
 use Rattle.scope.specs.Rows.{pairCount}
 use Rattle.mesh.specs.MeshContracts.{Counted}
-use Rattle.mesh.proofs.Places.{few-sizes}
 use Rattle.lines.proofs.LineLaws.{mesh-header-line}
 use Rattle.lines.proofs.GroupLaws.{header-counts}
 use Rattle.reader.specs.File.{fileWidth, lineBytes, readLine, readLines, widths, headerPasses, numbersOf}
@@ -142,12 +142,6 @@ pub claim-most : {m : List ℤ} {s : Sizes} → Counted m s → (bs : List ℕ) 
 unfolding claimLayout claimHeader
 claim-most {m} k = numbers-most fileWidth (claimLayout m) claimRoom (omega arith) (λ c n e. told c)
   where
-    few-sides : sides m ≤ mostSides
-    few-sides = omega (arith, k .sizes .sidesAre, few-sizes (k .sizes) .fewSides)
-
-    few-pairs : pairCount m ≤ mostPairs
-    few-pairs = omega (arith, k .pairsAre, k .sizes .pairsFew)
-
     told : (c : List ℤ) → claimHeaderColumns + numberCount (claimLayout m .body c) + 1 ≤ claimRoom
     told c =
         let a = there-most (hasField c) (nodes m) in
@@ -155,7 +149,8 @@ claim-most {m} k = numbers-most fileWidth (claimLayout m) claimRoom (omega arith
         let d = there-most (hasMultipliers c) (edges m) in
         let g = there-most (hasMultipliers c) (jumps m) in
         let e = there-most (hasMultipliers c) (pairCount m) in
-        let rows : ifThere (hasMultipliers c) (pairCount m) * sides m ≤ mostPairs * mostSides =
-        mul-le-mul {n₂ = mostPairs} {m₂ = mostSides} (omega (arith, e, few-pairs)) few-sides in
+        let rows : ifThere (hasMultipliers c) (pairCount m) * sides m ≤ pairsWith (sides m) * sides m =
+        mul-le-mul-right (sides m) (omega (arith, e, k .few .within)) in
         let counts = k .sizes .counts in
-        omega (arith, claim-count m c, counts .nodesMost, counts .elementsMost, counts .edgesMost, counts .jumpsMost)
+        let fits = listed-polygon (sides m) (counts .sidesListed) .fits .numbersFit in
+        omega (arith, claim-count m c, counts .nodesFit, counts .elementsMost, counts .edgesMost, counts .jumpsMost, fits)

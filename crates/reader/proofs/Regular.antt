@@ -6,7 +6,7 @@ use Prim.Native.Nat.{ℕ, _<_}
 use native.Mathlib.Omega.{arith}
 use lib.IntN.{ℤ, pos}
 use lib.ListN.{length, length-replicate, List·getD-append}
-use Rattle.scope.specs.Columns.{Rule, rightAngle, naming, parts, at, hasField, hasMultipliers}
+use Rattle.scope.specs.Columns.{Rule, rightAngle, naming, parts, atMost, at, hasField, hasMultipliers}
 use Rattle.scope.specs.Layout.{groups}
 use Rattle.scope.specs.Mesh.{meshLayout, meshHeader, soilLines, nodeLines, elementLines, edgeLines, jumpLines, nodes, elements, soils, edges, sides, jumps}
 use Rattle.scope.specs.Claim.{claimLayout, claimHeader, stressLines, elementMultipliers, edgeMultipliers, jumpMultipliers, strengthMultipliers}
@@ -22,12 +22,14 @@ unfolding ruleNumber
 mesh-number rightAngle = omega arith
 mesh-number (naming cs) = omega arith
 mesh-number parts = omega arith
+mesh-number (atMost c k d z) = omega arith
 
 pub claim-number : (r : Rule) → 11 ≢ ruleNumber r
 unfolding ruleNumber
 claim-number rightAngle = omega arith
 claim-number (naming cs) = omega arith
 claim-number parts = omega arith
+claim-number (atMost c k d z) = omega arith
 
 pub mesh-regular : Regular meshLayout
 unfolding meshLayout meshHeader groups soilLines nodeLines elementLines edgeLines jumpLines nodes elements soils edges jumps

@@ -1,6 +1,7 @@
 -- How many numbers a file has at most: by its bytes, and by the lines that a mesh and a claim can have.
 use Prim.Native.Nat.{ℕ, _+_, _*_, _/_}
-use Rattle.scope.specs.Mesh.{mostNodes, mostElements, mostSoils, mostEdges, mostSides, mostJumps, mostPairs, meshHeaderColumns, soilColumns, nodeColumns, elementColumns, edgeColumns, jumpColumns, elementRows, edgeRows, rowsPerJump}
+use Rattle.scope.specs.Mesh.{mostNodes, mostElements, mostSoils, mostEdges, nodesFor108, meshHeaderColumns, soilColumns, nodeColumns, elementColumns, edgeColumns, elementRows, edgeRows, mostJumps, jumpColumns, rowsPerJump}
+use Rattle.scope.specs.Bounds.{mostStrengthRows}
 use Rattle.scope.specs.Claim.{claimHeaderColumns, stressColumns}
 use Rattle.reader.specs.File.{fileWidth}
 
@@ -8,7 +9,8 @@ use Rattle.reader.specs.File.{fileWidth}
 abbrev pub mostNumbers : ℕ → ℕ
 mostNumbers bytes = bytes / fileWidth + 1
 
--- a mesh file, and a claim file: their headers, as many lines as there can be, and one for bytes left over
+-- a mesh file, and a claim file: their headers, as many lines as there can be, and one for bytes left over; a claim
+-- has the most numbers with 108 sides (`PolygonFits`)
 abbrev pub meshRoom : ℕ
 meshRoom =
     meshHeaderColumns
@@ -22,9 +24,9 @@ meshRoom =
 abbrev pub claimRoom : ℕ
 claimRoom =
     claimHeaderColumns
-    + mostNodes * stressColumns
+    + nodesFor108 * stressColumns
     + mostElements * elementRows
     + mostEdges * edgeRows
     + mostJumps * rowsPerJump
-    + mostPairs * mostSides
+    + mostStrengthRows
     + 1

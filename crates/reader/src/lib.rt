@@ -28,10 +28,11 @@ use mesh::sizes::MOST_EDGES;
 use mesh::sizes::MOST_ELEMENTS;
 use mesh::sizes::MOST_JUMPS;
 use mesh::sizes::MOST_NODES;
-use mesh::sizes::MOST_PAIRS;
 use mesh::sizes::MOST_SIDES;
 use mesh::sizes::MOST_SOILS;
 use mesh::sizes::NODE_COLUMNS;
+use mesh::sizes::NODES_FOR_108;
+use mesh::sizes::PAIRS_FOR_108;
 use mesh::sizes::SOIL_COLUMNS;
 use mesh::sizes::Sizes;
 use mesh::sizes::header_sizes;
@@ -50,8 +51,8 @@ ghost use Rattle.reader.specs.Listed.{Listed, ClaimRoom, ClaimListed};
 ghost use Rattle.reader.specs.Most.{mostNumbers};
 ghost use Rattle.reader.specs.TableBytes.{mostBytes, bytesIn};
 
-// The most numbers of a mesh file, and of a claim file: their headers, as many lines as there can be, and one for
-// bytes left over.
+// The most numbers of a mesh file, and of a claim file, which has them with the most sides: their headers, as many
+// lines as there can be, and one for bytes left over.
 pub const MESH_ROOM: usize = MESH_HEADER
     + MOST_SOILS * SOIL_COLUMNS
     + MOST_NODES * NODE_COLUMNS
@@ -61,11 +62,11 @@ pub const MESH_ROOM: usize = MESH_HEADER
     + 1;
 
 pub const CLAIM_ROOM: usize = CLAIM_HEADER
-    + MOST_NODES * STRESS_COLUMNS
+    + NODES_FOR_108 * STRESS_COLUMNS
     + MOST_ELEMENTS * ELEMENT_ROWS
     + MOST_EDGES * EDGE_ROWS
     + MOST_JUMPS * JUMP_ROWS
-    + MOST_PAIRS * MOST_SIDES
+    + PAIRS_FOR_108 * MOST_SIDES
     + 1;
 
 // The bytes of a claim's header: a column takes `COLUMN_BYTES`, and a line one more.

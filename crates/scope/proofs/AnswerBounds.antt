@@ -3,7 +3,7 @@ use mathlib.Core.Path.{_≡_, refl}
 use mathlib.Core.Logic.{_⊎_, inl, inr}
 use mathlib.Core.List.{List, _++_}
 use Prim.Native.Nat.{ℕ, zero, suc, _+_, _*_, _<_, _≤_}
-use native.Mathlib.Nat.{mul-le-mul}
+use native.Mathlib.Nat.{mul-le-mul-right}
 use native.Mathlib.Decide.{decLt}
 use native.Mathlib.Omega.{arith}
 use lib.IntN.{ℤ}
@@ -12,8 +12,9 @@ use Rattle.scope.specs.declared.Place.{Place}
 use Rattle.scope.specs.Answer.{placeNumber}
 use Rattle.scope.specs.Columns.{hasField, hasMultipliers, n, l}
 use Rattle.scope.specs.Layout.{Layout, groupAt, numbersAt, groups, lineCount, linesBefore}
-use Rattle.scope.specs.Mesh.{mostPairs, mostSides, meshHeader, soilLines, nodeLines, elementLines, edgeLines, jumpLines, meshLayout, meshGroups, nodes, elements, soils, edges, sides, jumps, edgeLine, jumpLine}
-use Rattle.scope.specs.Claim.{claimHeader, stressLines, elementMultipliers, edgeMultipliers, jumpMultipliers, strengthMultipliers, claimLayout, stress, multiplier}
+use Rattle.scope.specs.Bounds.{mostStrengthRows}
+use Rattle.scope.specs.Mesh.{meshHeader, soilLines, nodeLines, elementLines, edgeLines, meshLayout, meshGroups, nodes, elements, soils, edges, sides, edgeLine, jumpLines, jumps, jumpLine}
+use Rattle.scope.specs.Claim.{claimHeader, stressLines, elementMultipliers, edgeMultipliers, strengthMultipliers, claimLayout, stress, multiplier, jumpMultipliers}
 use Rattle.scope.specs.Rows.{pairCount, equalityRows, strengthRows, rowsOf}
 use Rattle.scope.specs.Statements.{LineSound, MeshSound}
 use Rattle.scope.specs.Phases.{Below, AllHold}
@@ -24,6 +25,7 @@ use Rattle.scope.proofs.Phases.{EachIn, each-refusal, each-join, each-p
 use Rattle.scope.proofs.Refusals.{line-sound, lines-sound, mesh-sound}
 use Rattle.scope.proofs.Exactly.{OfMesh, there-most, each-number}
 use Rattle.scope.proofs.Pairs.{few-pairs}
+use Rattle.scope.proofs.SideLimits.{few-most}
 use Rattle.scope.proofs.PolygonRule.{listed-polygon}
 use Rattle.scope.proofs.RowCounts.{equality-count, strength-count}
 
@@ -38,7 +40,7 @@ claim-lines m c s =
     omega (
       arith,
       mesh-facts m (s .lines) .counts,
-      few-pairs m s,
+      few-most (sides m) (few-pairs m s),
       there-most (hasField c) (nodes m),
       there-most (hasMultipliers c) (pairCount m),
       there-most (hasMultipliers c) (elements m),
@@ -69,11 +71,11 @@ jump-line : (m : List ℤ) (j : ℕ) → jumpLine m j ≡ 1 + soils m + nodes m 
 unfolding jumpLine meshGroups meshLayout groups meshHeader soilLines nodeLines elementLines edgeLines jumpLines linesBefore
 jump-line m j = omega arith
 
-pub few-strengths : (m : List ℤ) → MeshSound m → length (strengthRows m) ≤ mostPairs * mostSides
+pub few-strengths : (m : List ℤ) → MeshSound m → length (strengthRows m) ≤ mostStrengthRows
 few-strengths m s =
     let listed = mesh-facts m (s .lines) .counts .sidesListed in
-    let most = mul-le-mul (few-pairs m s) (listed-polygon (sides m) listed .fits .fewSides) in
-    omega (arith, strength-count m listed, most)
+    let most = mul-le-mul-right (sides m) (few-pairs m s) in
+    omega (arith, strength-count m listed, most, listed-polygon (sides m) listed .fits .rowsFit)
 
 -- ---- numbers
 
@@ -96,7 +98,10 @@ numbers-most m c =
 
 -- ---- places
 
-places-most : (m c : List ℤ) → EachIn (λ k p. placeNumber p ≤ 3601) (meshPhases m ++ claimPhases m c)
+abbrev pub mostPlace : ℕ
+mostPlace = mostStrengthRows
+
+places-most : (m c : List ℤ) → EachIn (λ k p. placeNumber p ≤ mostPlace) (meshPhases m ++ claimPhases m c)
 places-most m c =
     each-join Q (meshPhases m) (claimPhases m c)
     (each-join Q (linePhases meshLayout m) (shapePhases m)
@@ -128,8 +133,8 @@ places-most m c =
     ))))
   where
     Q : ℕ → Place → Type 0
-    Q k p = placeNumber p ≤ 3601
+    Q k p = placeNumber p ≤ mostPlace
 
--- the number of a refusal is at most 44, its place at most 3,601
-pub refusal-bounds : {m c : List ℤ} {k : ℕ} {p : Place} → Refusal m c k p → (k ≤ 44) × (placeNumber p ≤ 3601)
-refusal-bounds {m} {c} r = (each-refusal (λ k p. k ≤ 44) (meshPhases m ++ claimPhases m c) (numbers-most m c) (r .by), each-refusal (λ k p. placeNumber p ≤ 3601) (meshPhases m ++ claimPhases m c) (places-most m c) (r .by))
+-- the number of a refusal is at most 44, its place at most that of the last strength row
+pub refusal-bounds : {m c : List ℤ} {k : ℕ} {p : Place} → Refusal m c k p → (k ≤ 44) × (placeNumber p ≤ mostPlace)
+refusal-bounds {m} {c} r = (each-refusal (λ k p. k ≤ 44) (meshPhases m ++ claimPhases m c) (numbers-most m c) (r .by), each-refusal (λ k p. placeNumber p ≤ mostPlace) (meshPhases m ++ claimPhases m c) (places-most m c) (r .by))

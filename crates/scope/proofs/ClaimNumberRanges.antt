@@ -15,7 +15,7 @@ use Rattle.integer.specs.Tests.{eqZ}
 use Rattle.integer.proofs.TestLaws.{yes-eqZ, no-eqZ}
 use Rattle.scope.specs.Columns.{Limit, between, free, upTo, at, hasField, hasMultipliers, n, l}
 use Rattle.scope.specs.Layout.{Group, Layout, width, groups, numberCount, numbersBefore, entry}
-use Rattle.scope.specs.Mesh.{nodes, elements, edges, sides, jumps, equalityCount}
+use Rattle.scope.specs.Mesh.{strengthMultiplier, nodes, elements, edges, sides, equalityCount, jumps}
 use Rattle.scope.specs.Rows.{pairCount}
 use Rattle.scope.specs.Claim.{claimHeader, ifThere, stressLines, elementMultipliers, edgeMultipliers, jumpMultipliers, strengthMultipliers, claimLayout, stress, multiplier}
 use Rattle.scope.specs.Statements.{Within, PartsFit, LinesSound}
@@ -84,12 +84,12 @@ module _ (m c : List ℤ) (s : LinesSound (claimLayout m) c) where
       let e : numbersBefore (groups (claimLayout m) c) 4 + k ≡ numbersBefore (groups (claimLayout m) c) 2 + (ifThere (hasMultipliers c) (elements m) * 2 + ifThere (hasMultipliers c) (edges m) * 4 + k) = omega arith in
       subst (λ (i : ℕ). Between (negℤ (pos 100000)) (pos 100000) (at c i)) e (record { least = w .0; most = w .1 })
 
-  strengthPart : 0 < sides m → (k : ℕ) → k < ifThere (hasMultipliers c) (pairCount m) * sides m → Between (pos 0) (pos 10000) (multiplier m c (ifThere (hasMultipliers c) (elements m) * 2 + ifThere (hasMultipliers c) (edges m) * 4 + ifThere (hasMultipliers c) (jumps m) * 4 + k))
+  strengthPart : 0 < sides m → (k : ℕ) → k < ifThere (hasMultipliers c) (pairCount m) * sides m → Between (pos 0) (pos (strengthMultiplier (sides m))) (multiplier m c (ifThere (hasMultipliers c) (elements m) * 2 + ifThere (hasMultipliers c) (edges m) * 4 + ifThere (hasMultipliers c) (jumps m) * 4 + k))
   unfolding claimLayout groups elementMultipliers edgeMultipliers jumpMultipliers strengthMultipliers upTo multiplier numbersBefore
   strengthPart p k h =
-      let w = flat-within (claimLayout m) c s 5 (sides m) k (between (pos 0) (pos 10000)) refl p h in
+      let w = flat-within (claimLayout m) c s 5 (sides m) k (between (pos 0) (pos (strengthMultiplier (sides m)))) refl p h in
       let e : numbersBefore (groups (claimLayout m) c) 5 + k ≡ numbersBefore (groups (claimLayout m) c) 2 + (ifThere (hasMultipliers c) (elements m) * 2 + ifThere (hasMultipliers c) (edges m) * 4 + ifThere (hasMultipliers c) (jumps m) * 4 + k) = omega arith in
-      subst (λ (i : ℕ). Between (pos 0) (pos 10000) (at c i)) e (record { least = w .0; most = w .1 })
+      subst (λ (i : ℕ). Between (pos 0) (pos (strengthMultiplier (sides m))) (at c i)) e (record { least = w .0; most = w .1 })
 
   field-is : at c 0 ≡ pos 1 → ifThere (hasField c) (nodes m) ≡ nodes m
   unfolding ifThere hasField
@@ -123,7 +123,7 @@ module _ (m c : List ℤ) (s : LinesSound (claimLayout m) c) where
   unfolding claimLayout groups claimHeader stressLines elementMultipliers edgeMultipliers jumpMultipliers strengthMultipliers numbersBefore numberCount
   size-with f e =
       let k : numbersBefore (groups (claimLayout m) c) 5 + ifThere (hasMultipliers c) (pairCount m) * width (group (groups (claimLayout m) c) 5) ≤ length c =
-      group-there (claimLayout m) c s 5 (omega (arith, part-is e (pairCount m), some-pairs m f)) (omega (arith, length-replicate (sides m) (between (pos 0) (pos 10000)), some-sides (f .counts))) in
+      group-there (claimLayout m) c s 5 (omega (arith, part-is e (pairCount m), some-pairs m f)) (omega (arith, length-replicate (sides m) (between (pos 0) (pos (strengthMultiplier (sides m)))), some-sides (f .counts))) in
       omega (arith, simp length-replicate at k, simp length-replicate at (s .noneLeft))
 
   size-without : MeshFacts m → ¬ (at c 1 ≡ pos 1) → Size
@@ -177,7 +177,7 @@ module _ (m c : List ℤ) (s : LinesSound (claimLayout m) c) where
           subst (λ (i : ℕ). Between (negℤ (pos 100000)) (pos 100000) (multiplier m c i)) (omega (arith, part-is e (elements m), part-is e (edges m)))
           (jumpPart (k - (elements m * 2 + edges m * 4)) (omega (arith, part-is e (jumps m))))
 
-      strength : at c 1 ≡ pos 1 → (k : ℕ) → k < pairCount m * sides m → Between (pos 0) (pos 10000) (multiplier m c (equalityCount m + k))
+      strength : at c 1 ≡ pos 1 → (k : ℕ) → k < pairCount m * sides m → Between (pos 0) (pos (strengthMultiplier (sides m))) (multiplier m c (equalityCount m + k))
       strength e k h =
-          subst (λ (i : ℕ). Between (pos 0) (pos 10000) (multiplier m c i)) (omega (arith, part-is e (elements m), part-is e (edges m), part-is e (jumps m)))
+          subst (λ (i : ℕ). Between (pos 0) (pos (strengthMultiplier (sides m))) (multiplier m c i)) (omega (arith, part-is e (elements m), part-is e (edges m), part-is e (jumps m)))
           (strengthPart (some-sides (f .counts)) k (subst (λ (i : ℕ). k < i * sides m) (sym (part-is e (pairCount m))) h))

@@ -16,7 +16,7 @@ use Rattle.scope.specs.declared.Verdict.{Verdict}
 use Rattle.scope.specs.declared.Verdict.the-variants.{Accepted, Refused}
 use Rattle.scope.specs.Answer.{numberOf}
 use Rattle.scope.specs.Checks.{_then_}
-use Rattle.scope.specs.Columns.{Rule, rightAngle, naming, parts, hasField, hasMultipliers, n, l}
+use Rattle.scope.specs.Columns.{Rule, rightAngle, naming, parts, atMost, hasField, hasMultipliers, n, l}
 use Rattle.scope.specs.Layout.{Layout, numbersAt, groupAt}
 use Rattle.scope.specs.Mesh.{meshLayout, nodes}
 use Rattle.scope.specs.Claim.{claimLayout, ifThere, stress, multiplier}
@@ -108,6 +108,7 @@ rule-number [] line c h = absurd h
 rule-number (rightAngle ∷ rs) line c (inl h) = omega (arith, h .1)
 rule-number (naming cs ∷ rs) line c (inl h) = omega (arith, h .1)
 rule-number (parts ∷ rs) line c (inl h) = omega (arith, h .1)
+rule-number (atMost a k d z ∷ rs) line c (inl h) = omega (arith, h .1)
 rule-number (r ∷ rs) line c (inr h) = rule-number rs line c (h .1)
 
 step-number : (f : Layout) (ns : List ℤ) (k c : ℕ) → OfLines (f .formNumber) → OfLines (f .limitNumber) → FirstFails (lineSteps f (groupAt f ns k) (numbersAt f ns k)) c → OfLines c

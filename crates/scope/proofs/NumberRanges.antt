@@ -1,17 +1,20 @@
 -- Sound lines say what each number of a mesh is: each group's lines, by the law of a layout's lines.
-use mathlib.Core.Path.{_≡_, ap, subst, subst₃}
-use mathlib.Core.Logic.{_⊎_, inl, inr}
-use mathlib.Core.List.{List, [], _∷_}
+use mathlib.Core.Path.{_≡_, ap, subst, subst₂, subst₃}
+use mathlib.Core.Logic.{inl, inr}
+use mathlib.Core.Bool.{Bool, true, false, cond}
+use mathlib.Core.List.{List}
 use Prim.Native.Nat.{ℕ, zero, suc, _+_, _*_, _-_, _≤_, _<_}
 use native.Mathlib.Decide.{decLt}
 use native.Mathlib.Omega.{arith}
 use lib.IntN.{ℤ, pos, negsuc, _+ℤ_, _*ℤ_, negℤ}
 use lib.Signed.{_≤ℤ_}
 use lib.ListN.{length, getD}
+use lib.Dec.{T, eqb, eqb→eq}
 use Rattle.integer.proofs.Order.{≤ℤ-pos}
 use Rattle.scope.specs.Columns.{oneOf, free, upTo, rightAngle, at}
 use Rattle.scope.specs.Layout.{width, groups, lineCount, numberCount, linesBefore, numbersBefore, count, entry}
-use Rattle.scope.specs.Mesh.{meshHeader, soilLines, nodeLines, elementLines, edgeLines, jumpLines, meshLayout, meshGroups, nodes, elements, soils, edges, sides, jumps, p, q, h, cohesion, soilEntry, x, y, corner, elementSoil, edgeEntry, fromNode, toNode, jumpEntry, jumpFrom, jumpTo, facingFrom, facingTo}
+use Rattle.scope.specs.Polygon.{SidesListed}
+use Rattle.scope.specs.Mesh.{mostNodes, mostSides, listedSides, nodesFor108, nodesWith, meshHeader, soilLines, nodeLines, elementLines, edgeLines, meshLayout, meshGroups, nodes, elements, soils, edges, sides, p, q, h, cohesion, soilEntry, x, y, corner, elementSoil, edgeEntry, fromNode, toNode, jumpLines, jumps, jumpEntry, jumpFrom, jumpTo, facingFrom, facingTo}
 use Rattle.scope.specs.Statements.{Within, LineSound, LinesSound}
 use Rattle.scope.specs.NumberRanges.{Between, Counts, SoilFacts, NodeFacts, ElementFacts, EdgeFacts, JumpFacts, MeshFacts}
 use Rattle.scope.proofs.PolygonRule.{listed-polygon}
@@ -28,11 +31,30 @@ count-range (negsuc k) l h = absurd (l .le)
 named : (z : ℤ) (k : ℕ) → pos 1 ≤ℤ z → z ≤ℤ pos k → count z - 1 < k
 named z k l h = let r : (1 ≤ count z) × (count z ≤ k) = count-range z l h in omega (arith, r .0, r .1)
 
+-- a count above 0 is the number itself
+pub count-is : (z : ℤ) {k : ℕ} → count z ≡ suc k → z ≡ pos (suc k)
+unfolding count
+count-is (pos n) e = ap pos e
+count-is (negsuc n) e = absurd (omega arith)
+
+-- v nodes with z sides
+nodes-fit : (v z : ℤ) → pos 4 ≤ℤ v → v ≤ℤ pos mostNodes → (z ≡ pos mostSides → v ≤ℤ pos nodesFor108) → count v ≤ nodesWith (count z)
+unfolding nodesWith
+nodes-fit v z least most few = by (eqb (count z) mostSides) (eqb→eq (count z) mostSides)
+  where
+    by : (b : Bool) → (T b → count z ≡ mostSides) → count v ≤ cond b nodesFor108 mostNodes
+    by true e = count-range v least (few (count-is z (e tt))) .1
+    by false e = count-range v least most .1
+
 -- a sound header is enough for the counts
 pub header-counts : (m : List ℤ) → LineSound meshLayout m 0 → Counts m
 unfolding meshLayout groups meshHeader entry linesBefore numbersBefore nodes elements soils edges sides jumps count
 header-counts m s =
-    let w = line-facts-of meshLayout m 0 0 s (omega arith) (omega arith) .within in
+    let facts = line-facts-of meshLayout m 0 0 s (omega arith) (omega arith) in
+    let w = facts .within in
+    let few : at m 4 ≡ pos mostSides → at m 0 ≤ℤ pos nodesFor108 =
+    subst₂ (λ (z v : ℤ). z ≡ pos mostSides → v ≤ℤ pos nodesFor108)
+    (at-lineIn (groups meshLayout m) m 0 0 4 (omega arith)) (at-lineIn (groups meshLayout m) m 0 0 0 (omega arith)) (facts .rules .0) in
     let ns : (4 ≤ nodes m) × (nodes m ≤ 100) = count-range (at m 0) (w 0 (omega arith) .0) (w 0 (omega arith) .1) in
     let es : (1 ≤ elements m) × (elements m ≤ 100) = count-range (at m 1) (w 1 (omega arith) .0) (w 1 (omega arith) .1) in
     let ss : (1 ≤ soils m) × (soils m ≤ 16) = count-range (at m 2) (w 2 (omega arith) .0) (w 2 (omega arith) .1) in
@@ -48,15 +70,17 @@ header-counts m s =
       edgesLeast = w 3 (omega arith) .0;
       edgesMost = gs .1;
       sidesListed = listed (at m 4) (w 4 (omega arith));
+      nodesFit = nodes-fit (at m 0) (at m 4) (w 0 (omega arith) .0) (w 0 (omega arith) .1) few;
       jumpsLeast = w 5 (omega arith) .0;
       jumpsMost = js .1;
     }
   where
-    listed : (z : ℤ) → Within (oneOf (pos 12 ∷ pos 20 ∷ pos 36 ∷ [])) z → (count z ≡ 12) ⊎ ((count z ≡ 20) ⊎ (count z ≡ 36))
+    listed : (z : ℤ) → Within (oneOf listedSides) z → SidesListed (count z)
     listed z (inl e) = inl (ap count e)
     listed z (inr (inl e)) = inr (inl (ap count e))
-    listed z (inr (inr (inl e))) = inr (inr (ap count e))
-    listed z (inr (inr (inr e))) = absurd e
+    listed z (inr (inr (inl e))) = inr (inr (inl (ap count e)))
+    listed z (inr (inr (inr (inl e)))) = inr (inr (inr (ap count e)))
+    listed z (inr (inr (inr (inr e)))) = absurd e
 
 -- a polygon has sides
 pub some-sides : {m : List ℤ} → Counts m → 0 < sides m

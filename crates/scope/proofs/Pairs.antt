@@ -14,7 +14,7 @@ use lib.IntN.{ℤ}
 use lib.ListN.{length, getD, length-append, List·getD-append}
 use lib.Seq.{getD-append-add}
 use Rattle.scope.specs.Members.{_∈_}
-use Rattle.scope.specs.Mesh.{mostPairs, nodes, elements, soils, sides, elementSoil}
+use Rattle.scope.specs.Mesh.{pairsWith, nodes, elements, soils, sides, elementSoil}
 use Rattle.scope.specs.Polygon.{polygonOf}
 use Rattle.scope.specs.Rows.{Pair, joined, countFrom, firstWhere, hasCorner, hasSoil, passing, nodePairs, pairsBelow, pairRows, strengthPairs, pairCount, pairAt, strengthRows}
 use Rattle.scope.specs.Statements.{InElement, MeshSound, PairsFit}
@@ -222,36 +222,39 @@ module _ (m : List ℤ) where
       by g (yes f) = f
       by g (no f) = absurd (omega (arith, place-from (nodes m) k a (pairOf 0 0) h (omega arith) l))
 
+  abbrev most : ℕ
+  most = pairsWith (sides m)
+
   -- the nodes below v fit where each of them does
-  before-fits : (v : ℕ) → ((j : ℕ) → j < v → PairsFit m j) → length (pairsBelow m v) ≤ mostPairs
+  before-fits : (v : ℕ) → ((j : ℕ) → j < v → PairsFit m j) → length (pairsBelow m v) ≤ most
   unfolding pairsBelow
   before-fits zero h = omega arith
   before-fits (suc u) h = h u (omega arith)
 
-  brings : (v : ℕ) → LowestFails (nodes m) (PairsFit m) v ↔ ((100 < pairCount m) × (pairAt m 100 .at ≡ v))
+  brings : (v : ℕ) → LowestFails (nodes m) (PairsFit m) v ↔ ((most < pairCount m) × (pairAt m most .at ≡ v))
   unfolding pairCount strengthPairs
   brings v = (to, from)
     where
-      to : LowestFails (nodes m) (PairsFit m) v → (100 < pairCount m) × (pairAt m 100 .at ≡ v)
+      to : LowestFails (nodes m) (PairsFit m) v → (most < pairCount m) × (pairAt m most .at ≡ v)
       to h =
           let there = h .there in
-          let here : ¬ (length (pairsBelow m (suc v)) ≤ 100) = h .fails in
-          let many : 100 < pairCount m = omega (arith, pairs-more (nodes m) (suc v) (omega arith)) in
-          let small = node-of-pair (suc v) 100 (omega arith) many .1 (omega arith) in
-          let large : ¬ (pairAt m 100 .at < v) = λ g. omega (arith, node-of-pair v 100 (omega arith) many .0 g, before-fits v (h .lower)) in
+          let here : ¬ (length (pairsBelow m (suc v)) ≤ most) = h .fails in
+          let many : most < pairCount m = omega (arith, pairs-more (nodes m) (suc v) (omega arith)) in
+          let small = node-of-pair (suc v) most (omega arith) many .1 (omega arith) in
+          let large : ¬ (pairAt m most .at < v) = λ g. omega (arith, node-of-pair v most (omega arith) many .0 g, before-fits v (h .lower)) in
           (many, omega arith)
 
-      from : (100 < pairCount m) × (pairAt m 100 .at ≡ v) → LowestFails (nodes m) (PairsFit m) v
+      from : (most < pairCount m) × (pairAt m most .at ≡ v) → LowestFails (nodes m) (PairsFit m) v
       from (many, e) =
-          let there : v < nodes m = omega (arith, pair-there 100 many .0) in
+          let there : v < nodes m = omega (arith, pair-there most many .0) in
           record {
             there = there;
-            lower = λ j l. fits j l (decLt 100 (length (pairsBelow m (suc j))));
-            fails = λ k. omega (arith, node-of-pair (suc v) 100 (omega arith) many .0 (omega arith));
+            lower = λ j l. fits j l (decLt most (length (pairsBelow m (suc j))));
+            fails = λ k. omega (arith, node-of-pair (suc v) most (omega arith) many .0 (omega arith));
           }
         where
-          fits : (j : ℕ) → j < v → Dec (100 < length (pairsBelow m (suc j))) → PairsFit m j
-          fits j l (yes k) = absurd (omega (arith, pair-there 100 many .0, node-of-pair (suc j) 100 (omega (arith, pair-there 100 many .0)) many .1 k))
+          fits : (j : ℕ) → j < v → Dec (most < length (pairsBelow m (suc j))) → PairsFit m j
+          fits j l (yes k) = absurd (omega (arith, pair-there most many .0, node-of-pair (suc j) most (omega (arith, pair-there most many .0)) many .1 k))
           fits j l (no k) = omega arith
 
   pub pairs : Pairs m
@@ -259,7 +262,7 @@ module _ (m : List ℤ) where
   pairs = record {
     exactly = λ a. (λ k. let h = of-below (nodes m) k in (h .0, h .1 .0, h .1 .1), λ h. in-below (nodes m) (h .0) (h .1, h .2));
     ascending = λ i j h l. sorted-at Before (strengthPairs m) _ i j h l (below-sorted (nodes m));
-    brings-101st = brings;
+    brings-one-more = brings;
   }
 
   -- ---- a mesh whose lines are sound
@@ -286,7 +289,7 @@ module _ (m : List ℤ) where
 
 -- ---- a mesh that passes
 
-pub few-pairs : (m : List ℤ) → MeshSound m → pairCount m ≤ mostPairs
+pub few-pairs : (m : List ℤ) → MeshSound m → pairCount m ≤ pairsWith (sides m)
 unfolding pairCount strengthPairs
 few-pairs m s = before-fits m (nodes m) (s .pairsFit)
 

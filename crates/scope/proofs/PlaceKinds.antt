@@ -12,7 +12,7 @@ use Rattle.scope.specs.declared.Place.the-variants.{Line, Row, Column, N
 use Rattle.scope.specs.declared.Outcome.{Outcome}
 use Rattle.scope.specs.declared.Outcome.the-variants.{Passed, Refused}
 use Rattle.scope.specs.Answer.{placeNumber, placeFor, meshNumberOf, meshPlaceOf}
-use Rattle.scope.specs.Columns.{Rule, rightAngle, naming, parts, hasField, hasMultipliers, n, l}
+use Rattle.scope.specs.Columns.{Rule, rightAngle, naming, parts, atMost, hasField, hasMultipliers, n, l}
 use Rattle.scope.specs.Layout.{Layout, numbersAt, groupAt}
 use Rattle.scope.specs.Mesh.{meshLayout, nodes}
 use Rattle.scope.specs.Claim.{claimLayout, stress, multiplier}
@@ -40,6 +40,7 @@ rule-of-line [] line c h = absurd h
 rule-of-line (rightAngle ∷ rs) line c (inl h) = subst OfLine (h .1) (λ j. refl)
 rule-of-line (naming cs ∷ rs) line c (inl h) = subst OfLine (h .1) (λ j. refl)
 rule-of-line (parts ∷ rs) line c (inl h) = subst OfLine (h .1) (λ j. refl)
+rule-of-line (atMost a k d z ∷ rs) line c (inl h) = subst OfLine (h .1) (λ j. refl)
 rule-of-line (r ∷ rs) line c (inr h) = rule-of-line rs line c (h .1)
 
 step-of-line : (f : Layout) (ns : List ℤ) (k c : ℕ) → OfLine (f .formNumber) → OfLine (f .limitNumber) → FirstFails (lineSteps f (groupAt f ns k) (numbersAt f ns k)) c → OfLine c

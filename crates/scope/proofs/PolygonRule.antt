@@ -1,4 +1,4 @@
--- The three polygons satisfy the rule: one computed test of a table, and one lemma that turns the test into the rule.
+-- The four polygons satisfy the rule: one computed test of a table, and one lemma that turns the test into the rule.
 -- That no point is left out is a walk along the circle's first quadrant: from (0, r) one step right while inside or on the circle, one step down where outside.
 use mathlib.Core.Path.{_≡_, refl, sym, _∙_, ap, ap₂, subst}
 use mathlib.Core.Bool.{Bool, true, false, not, _&&_, _||_}
@@ -19,10 +19,11 @@ use Rattle.integer.proofs.TestLaws.{eqZ-yes}
 use Rattle.integer.proofs.RingLaws.{pos-injective}
 use Rattle.scope.proofs.Lists.{each-nil, each-cons}
 use Rattle.scope.specs.Members.{_∈_}
-use Rattle.scope.specs.Polygon.{Point, point, Polygon, Side, sidesTo, polygonSides, quarterTurn, fourQuadrants, twelve, twenty, thirtySix, polygonOf}
+use Rattle.scope.specs.Polygon.{Point, point, Polygon, Side, sidesTo, polygonSides, quarterTurn, fourQuadrants, twelve, twenty, thirtySix, oneHundredEight, polygonOf, SidesListed}
 use Rattle.scope.specs.Rows.{cross}
-use Rattle.scope.specs.Mesh.{mostSides}
-use Rattle.scope.specs.Bounds.{mostRadius, mostStep, mostCross, weightedStep, weightedCross, mostStrengthRows, strengthMultiplier, pairsWith}
+use Rattle.scope.specs.Mesh.{mostSides, nodesFor108, nodesWith, strengthMultiplier, pairsWith}
+use Rattle.scope.specs.Claim.{stressColumns}
+use Rattle.scope.specs.Bounds.{mostRadius, mostStep, mostCross, weightedStep, weightedCross, mostStrengthRows}
 use Rattle.scope.specs.PolygonRule.{OnCircle, OnceAround, stepSize, crossSize, Largest, PolygonRule, PolygonFits, ListedPolygon}
 
 -- ---- tests
@@ -240,11 +241,11 @@ tested g sides step product t = record {
   largest-cross = largest-yes crossSize (polygonSides g.corners) product (search (and-l, and-r) depth 10);
 }
 
--- ---- the three polygons
+-- ---- the four polygons
 
 -- every definition that a table's test computes with
 shown : Unit {0}
-unfolding polygonTest onCircle turnsLeft largest onceAround fromUpper walk hasSigned isPoint some every twelve twenty thirtySix fourQuadrants quarterTurn polygonSides sidesTo cross polygonOf
+unfolding polygonTest onCircle turnsLeft largest onceAround fromUpper walk hasSigned isPoint some every twelve twenty thirtySix oneHundredEight fourQuadrants quarterTurn polygonSides sidesTo cross polygonOf
 shown = tt
 
 pub twelve-sides : PolygonRule (polygonOf 12) 12 3 15
@@ -259,15 +260,20 @@ pub thirty-six-sides : PolygonRule (polygonOf 36) 36 16 1183
 unfolding shown
 thirty-six-sides = tested thirtySix 36 16 1183 tt
 
+pub one-hundred-eight-sides : PolygonRule (polygonOf 108) 108 153 177735
+unfolding shown
+one-hundred-eight-sides = tested oneHundredEight 108 153 177735 tt
+
 -- whatever the number of sides
 pub polygon-rule : (k : ℕ) → (sides step product : ℕ) × PolygonRule (polygonOf k) sides step product
 unfolding polygonOf
-polygon-rule k = go (eqb k 12) (eqb k 20)
+polygon-rule k = go (eqb k 12) (eqb k 20) (eqb k 36)
   where
-    go : (a b : Bool) → (sides step product : ℕ) × PolygonRule (elim a [ true ↦ twelve | false ↦ elim b [ true ↦ twenty | false ↦ thirtySix ] ]) sides step product
-    go true b = (12, 3, 15, twelve-sides)
-    go false true = (20, 8, 220, twenty-sides)
-    go false false = (36, 16, 1183, thirty-six-sides)
+    go : (a b c : Bool) → (sides step product : ℕ) × PolygonRule (elim a [ true ↦ twelve | false ↦ elim b [ true ↦ twenty | false ↦ elim c [ true ↦ thirtySix | false ↦ oneHundredEight ] ] ]) sides step product
+    go true b c = (12, 3, 15, twelve-sides)
+    go false true c = (20, 8, 220, twenty-sides)
+    go false false true = (36, 16, 1183, thirty-six-sides)
+    go false false false = (108, 153, 177735, one-hundred-eight-sides)
 
 -- ---- a listed number of sides, by cases once: all that rows and sums read of it
 
@@ -281,6 +287,7 @@ boundsTest sides radius step product =
     && leb (strengthMultiplier sides * step) weightedStep
     && leb (strengthMultiplier sides * product) weightedCross
     && leb (pairsWith sides * sides) mostStrengthRows
+    && leb (nodesWith sides * stressColumns + pairsWith sides * sides) (nodesFor108 * stressColumns + mostStrengthRows)
 
 bounded : {g : Polygon} {sides step product : ℕ} (radius : ℕ) → PolygonRule g sides step product → g .radius ≡ pos radius
     → T (boundsTest sides radius step product) → PolygonFits g sides radius step product
@@ -296,10 +303,12 @@ bounded {sides = sides} {step = step} {product = product} radius rule e t = reco
   stepWeighted = leb→le (strengthMultiplier sides * step) weightedStep (search (and-l, and-r) depth 10);
   productWeighted = leb→le (strengthMultiplier sides * product) weightedCross (search (and-l, and-r) depth 10);
   rowsFit = leb→le (pairsWith sides * sides) mostStrengthRows (search (and-l, and-r) depth 10);
+  numbersFit = leb→le (nodesWith sides * stressColumns + pairsWith sides * sides) (nodesFor108 * stressColumns + mostStrengthRows) (search (and-l, and-r) depth 10);
 }
 
-pub listed-polygon : (k : ℕ) → (k ≡ 12) ⊎ ((k ≡ 20) ⊎ (k ≡ 36)) → ListedPolygon k
-unfolding shown boundsTest
+pub listed-polygon : (k : ℕ) → SidesListed k → ListedPolygon k
+unfolding shown boundsTest nodesWith strengthMultiplier pairsWith
 listed-polygon k (inl e) = subst ListedPolygon (sym e) (record { radius = 5; step = 3; product = 15; fits = bounded 5 twelve-sides refl tt })
 listed-polygon k (inr (inl e)) = subst ListedPolygon (sym e) (record { radius = 25; step = 8; product = 220; fits = bounded 25 twenty-sides refl tt })
-listed-polygon k (inr (inr e)) = subst ListedPolygon (sym e) (record { radius = 65; step = 16; product = 1183; fits = bounded 65 thirty-six-sides refl tt })
+listed-polygon k (inr (inr (inl e))) = subst ListedPolygon (sym e) (record { radius = 65; step = 16; product = 1183; fits = bounded 65 thirty-six-sides refl tt })
+listed-polygon k (inr (inr (inr e))) = subst ListedPolygon (sym e) (record { radius = 1105; step = 153; product = 177735; fits = bounded 1105 one-hundred-eight-sides refl tt })

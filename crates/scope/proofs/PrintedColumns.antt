@@ -11,9 +11,9 @@ use lib.IntN.{ℤ, pos, negsuc, _+ℤ_, _-ℤ_, _*ℤ_, negℤ, +ℤ-assoc, +ℤ
 use lib.ListN.{length}
 use Rattle.integer.proofs.Ring.{ring, terms}
 use Rattle.integer.specs.Tests.{eqZ}
-use Rattle.scope.specs.Mesh.{nodes, elements, edges, sides, jumps, edgeEntry, fromNode, toNode, jumpFrom, jumpTo, facingFrom, facingTo}
-use Rattle.scope.specs.Polygon.{polygonOf}
-use Rattle.scope.specs.Rows.{asked, unfixed, strength, Row, sx, sy, t, pairCount, pairAt, balanceX, balanceY, normalRow, shearRow, fixedIf, agreeRow, jumpNormal, jumpShear, equalityRows, rowsOf}
+use Rattle.scope.specs.Mesh.{nodes, elements, edges, sides, edgeEntry, fromNode, toNode, jumps, jumpFrom, jumpTo, facingFrom, facingTo}
+use Rattle.scope.specs.Polygon.{polygonOf, SidesListed}
+use Rattle.scope.specs.Rows.{asked, unfixed, strength, Row, sx, sy, t, pairCount, pairAt, balanceX, balanceY, normalRow, shearRow, fixedIf, equalityRows, rowsOf, agreeRow, jumpNormal, jumpShear}
 use Rattle.scope.specs.Sums.{weightedSum, leftSide, rightSide, weighed, unit, coefficient, columnSum, liveSum, limitSum}
 use Rattle.scope.specs.Statements.{NoneOnUnfixed}
 use Rattle.scope.specs.RowNumbers.{sideAt}
@@ -71,7 +71,7 @@ by-number f w (r ∷ rs) =
 
 -- ---- the rows of a mesh
 
-module _ (m : List ℤ) (listed : (sides m ≡ 12) ⊎ ((sides m ≡ 20) ⊎ (sides m ≡ 36))) (w : ℕ → ℤ) (s : ℕ → ℤ) (l n : ℤ) where
+module _ (m : List ℤ) (listed : SidesListed (sides m)) (w : ℕ → ℤ) (s : ℕ → ℤ) (l n : ℤ) where
   less : Row → ℤ
   less r = leftSide s l r -ℤ rightSide n r
 
@@ -143,7 +143,7 @@ module _ (m : List ℤ) (listed : (sides m ≡ 12) ⊎ ((sides m ≡ 20) ⊎ (si
 
 -- ---- the three sums
 
-module _ (m : List ℤ) (listed : (sides m ≡ 12) ⊎ ((sides m ≡ 20) ⊎ (sides m ≡ 36))) (w : ℕ → ℤ) where
+module _ (m : List ℤ) (listed : SidesListed (sides m)) (w : ℕ → ℤ) where
   pub columns-printed : ColumnsPrinted m w
   unfolding columnSum coefficient liveSum limitSum leftSide rightSide
   columns-printed = record {
@@ -257,7 +257,7 @@ module _ (m : List ℤ) (w : ℕ → ℤ) where
 
 -- ---- accepted multipliers
 
-module _ (m : List ℤ) (listed : (sides m ≡ 12) ⊎ ((sides m ≡ 20) ⊎ (sides m ≡ 36))) (w : ℕ → ℤ) where
+module _ (m : List ℤ) (listed : SidesListed (sides m)) (w : ℕ → ℤ) where
   sums : ColumnsPrinted m w
   sums = columns-printed m listed w
 

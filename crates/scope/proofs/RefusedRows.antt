@@ -9,8 +9,8 @@ use lib.IntN.{ℤ}
 use Rattle.scope.specs.declared.Place.{Place}
 use Rattle.scope.specs.declared.Place.the-variants.{Row, Node}
 use Rattle.scope.specs.Answer.{placeNumber}
-use Rattle.scope.specs.Columns.{Rule, rightAngle, naming, parts, n, l}
-use Rattle.scope.specs.Mesh.{meshLayout, elements, edges, sides, fromNode, toNode, jumpFrom, jumpTo, facingFrom, facingTo}
+use Rattle.scope.specs.Columns.{Rule, rightAngle, naming, parts, atMost, n, l}
+use Rattle.scope.specs.Mesh.{meshLayout, elements, sides, fromNode, toNode, edges, jumpFrom, jumpTo, facingFrom, facingTo}
 use Rattle.scope.specs.Polygon.{polygonOf}
 use Rattle.scope.specs.Claim.{claimLayout, stress}
 use Rattle.scope.specs.Rows as R
@@ -104,6 +104,7 @@ unfolding ruleNumber
 no-rule rightAngle e = omega arith
 no-rule (naming cs) e = omega arith
 no-rule parts e = omega arith
+no-rule (atMost c k d z) e = omega arith
 
 module _ (m c : List ℤ) where
   of-mesh-row : {k : ℕ} {p : Place} → MeshRow m k p → k ≡ 42 → PairsFail m (placeNumber p)
@@ -114,7 +115,7 @@ module _ (m c : List ℤ) where
   of-mesh-row (seven v l a b h) e = absurd (omega arith)
   of-mesh-row (eight g l a b d h) e = absurd (omega arith)
   of-mesh-row (forty-four j l a b d g h) e = absurd (omega arith)
-  of-mesh-row (forty-two v l a b d g i h) e = let (many, at) = pairs m .brings-101st v .0 h in record { many = many; node = ap suc (sym at) }
+  of-mesh-row (forty-two v l a b d g i h) e = let (many, at) = pairs m .brings-one-more v .0 h in record { many = many; node = ap suc (sym at) }
 
   of-table-row : {k : ℕ} {p : Place} → TableRow m c k p → k ≡ 42 → PairsFail m (placeNumber p)
   unfolding claimLayout

@@ -1,6 +1,5 @@
 -- How many rows there are and of which kind: a joined list has as many as its pieces have, by induction on the pieces.
 use mathlib.Core.Path.{_≡_, refl, sym, _∙_, ap, ap₂, subst}
-use mathlib.Core.Logic.{_⊎_, inl, inr}
 use mathlib.Core.Bool.{Bool, true, false, cond, _||_}
 use mathlib.Core.List.{List, [], _∷_, _++_, List·Memᴰ·head, List·Memᴰ·tail}
 use Prim.Native.Nat.{ℕ, suc, _+_, _*_}
@@ -10,9 +9,9 @@ use lib.IntN.{ℤ, pos}
 use lib.ListN.{length, length-append, length-map}
 use Rattle.integer.specs.Tests.{eqZ}
 use Rattle.scope.specs.Members.{_∈_}
-use Rattle.scope.specs.Mesh.{elements, edges, sides, jumps, edgeEntry, equalityCount}
-use Rattle.scope.specs.Polygon.{Point, sidesTo, polygonSides, polygonOf}
-use Rattle.scope.specs.Rows.{Kind, asked, unfixed, strength, Row, countFrom, joined, balanceX, balanceY, balanceRows, fixedIf, normalRow, shearRow, sideRows, agreeRow, jumpNormal, jumpShear, jumpRows, strengthPairs, pairCount, strengthRow, pairRows, strengthRows, equalityRows}
+use Rattle.scope.specs.Mesh.{elements, edges, sides, edgeEntry, equalityCount, jumps}
+use Rattle.scope.specs.Polygon.{Point, sidesTo, polygonSides, polygonOf, SidesListed}
+use Rattle.scope.specs.Rows.{Kind, asked, unfixed, strength, Row, countFrom, joined, balanceX, balanceY, balanceRows, fixedIf, normalRow, shearRow, sideRows, strengthPairs, pairCount, strengthRow, pairRows, strengthRows, equalityRows, agreeRow, jumpNormal, jumpShear, jumpRows}
 use Rattle.scope.proofs.Lists.{count-length, each-nil, each-cons, each-++, each-map, each-joined}
 use Rattle.scope.proofs.PolygonRule.{listed-polygon}
 
@@ -95,10 +94,10 @@ side-of-each [] = refl
 side-of-each (v ∷ vs) = sides-to v v vs
 
 -- a listed polygon has as many sides as it says
-pub polygon-sides : (k : ℕ) → (k ≡ 12) ⊎ ((k ≡ 20) ⊎ (k ≡ 36)) → length (polygonSides (polygonOf k .corners)) ≡ k
+pub polygon-sides : (k : ℕ) → SidesListed k → length (polygonSides (polygonOf k .corners)) ≡ k
 polygon-sides k h = side-of-each (polygonOf k .corners) ∙ listed-polygon k h .fits .rule .count
 
-pub strength-count : (m : List ℤ) → (sides m ≡ 12) ⊎ ((sides m ≡ 20) ⊎ (sides m ≡ 36)) → length (strengthRows m) ≡ pairCount m * sides m
+pub strength-count : (m : List ℤ) → SidesListed (sides m) → length (strengthRows m) ≡ pairCount m * sides m
 unfolding strengthRows pairRows pairCount
 strength-count m h =
     length-joined (pairRows (polygonOf (sides m)) m) (sides m) (strengthPairs m) (λ a i. length-map (polygonSides (polygonOf (sides m) .corners)) _ ∙ polygon-sides (sides m) h)

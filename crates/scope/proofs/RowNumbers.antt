@@ -1,6 +1,5 @@
 -- The rows by their number: pieces of equal length joined, row j of piece i has the place i times that length plus j.
 use mathlib.Core.Path.{_≡_, refl, sym, _∙_, ap, ap₂}
-use mathlib.Core.Logic.{_⊎_}
 use mathlib.Core.List.{List, [], _∷_, _++_}
 use Prim.Native.Nat.{ℕ, zero, suc, _+_, _*_, _-_, _<_}
 use native.Mathlib.Nat.{zero-add, zero-mul, suc-mul}
@@ -8,9 +7,9 @@ use native.Mathlib.Omega.{arith}
 use lib.IntN.{ℤ}
 use lib.ListN.{length, getD, length-append, length-map, List·getD-append}
 use lib.Seq.{getD-append-add}
-use Rattle.scope.specs.Mesh.{elements, edges, sides, jumps, fromNode, toNode, jumpFrom, jumpTo, facingFrom, facingTo}
-use Rattle.scope.specs.Polygon.{polygonSides, polygonOf}
-use Rattle.scope.specs.Rows.{Row, Pair, countFrom, joined, balanceX, balanceY, balanceRows, normalRow, shearRow, sideRows, jumpNormal, jumpShear, jumpRows, strengthPairs, pairCount, pairAt, pairRows, strengthRows, equalityRows, rowsOf}
+use Rattle.scope.specs.Mesh.{elements, edges, sides, fromNode, toNode, jumps, jumpFrom, jumpTo, facingFrom, facingTo}
+use Rattle.scope.specs.Polygon.{polygonSides, polygonOf, SidesListed}
+use Rattle.scope.specs.Rows.{Row, Pair, countFrom, joined, balanceX, balanceY, balanceRows, normalRow, shearRow, sideRows, strengthPairs, pairCount, pairAt, pairRows, strengthRows, equalityRows, rowsOf, jumpNormal, jumpShear, jumpRows}
 use Rattle.scope.specs.RowNumbers.{sideAt, pairRow, RowNumbers}
 use Rattle.scope.proofs.RowCounts.{balance-count, side-count, jump-count, equality-count, polygon-sides, strength-count}
 use Rattle.scope.proofs.Lists.{count-length, at-count, at-map}
@@ -97,7 +96,7 @@ module _ (m : List ℤ) where
 
 -- ---- strength rows
 
-module _ (m : List ℤ) (listed : (sides m ≡ 12) ⊎ ((sides m ≡ 20) ⊎ (sides m ≡ 36))) where
+module _ (m : List ℤ) (listed : SidesListed (sides m)) where
   length-pair : (a : Pair) → length (pairRows (polygonOf (sides m)) m a) ≡ sides m
   unfolding pairRows
   length-pair a = length-map (polygonSides (polygonOf (sides m) .corners)) _ ∙ polygon-sides (sides m) listed

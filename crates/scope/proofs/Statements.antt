@@ -9,8 +9,8 @@ use lib.IntN.{ℤ, pos, _+ℤ_, _*ℤ_}
 use Rattle.integer.specs.Tests.{eqZ}
 use Rattle.scope.specs.declared.Place.the-variants.{Row}
 use Rattle.scope.specs.Checks.{someBelow}
-use Rattle.scope.specs.Columns.{Limit, between, oneOf, free, isOneOf, within, allWithin, Rule, rightAngle, naming, parts, names, allNamed, at, hasField, hasMultipliers, n, l, ruleTest}
-use Rattle.scope.specs.Mesh.{elements, edges, x, y, corner, cornerCount, around, elementSoil, fromNode, toNode, jumpFrom, jumpTo, facingFrom, facingTo}
+use Rattle.scope.specs.Columns.{Limit, between, oneOf, free, isOneOf, within, allWithin, Rule, rightAngle, naming, parts, atMost, names, allNamed, at, hasField, hasMultipliers, n, l, ruleTest}
+use Rattle.scope.specs.Mesh.{elements, corner, cornerCount, around, elementSoil, fromNode, toNode, edges, x, y, jumpFrom, jumpTo, facingFrom, facingTo}
 use Rattle.scope.specs.Rows as R
 use Rattle.scope.specs.Rows.{hasCorner, hasSoil}
 use Rattle.scope.specs.Sums.{rowHolds, zeroIfUnfixed}
@@ -68,6 +68,8 @@ unfolding ruleTest
 rule-says rightAngle line = equalℤ (at line 0 *ℤ at line 0 +ℤ at line 1 *ℤ at line 1) (at line 2 *ℤ at line 2)
 rule-says (naming cs) line = all-named cs line
 rule-says parts line = parts-fit line
+rule-says (atMost c k d z) line =
+    said-as (choice (equalℤ (at line d) (pos z)) (at-mostℤ (at line c) (pos k)) always) (λ h. h .0) (λ h. (h, λ g. tt))
 
 -- ---- the mesh
 

@@ -14,10 +14,10 @@ use Rattle.integer.proofs.Ring.{ring, terms}
 use Rattle.integer.specs.Sum.{sumOf}
 use Rattle.integer.proofs.SumLaws.{sumOf-++}
 use Rattle.scope.specs.Members.{_∈_}
-use Rattle.scope.specs.Mesh.{nodes, elements, edges, sides, jumps, deadX, deadY, soilEntry, x, y, corner, elementSoil, edgeEntry, fromNode, toNode, equalityCount}
+use Rattle.scope.specs.Mesh.{strengthMultiplier, nodes, elements, edges, sides, deadX, deadY, soilEntry, x, y, corner, elementSoil, edgeEntry, fromNode, toNode, equalityCount, jumps}
 use Rattle.scope.specs.Polygon.{Side, polygonSides, polygonOf}
-use Rattle.scope.specs.Rows.{Row, countFrom, node, crossAt, riseAcross, runAcross, twiceArea, balanceX, balanceY, balanceRows, stepX, stepY, stepSquare, normalRow, shearRow, sideRows, agreeRow, jumpNormal, jumpShear, jumpRows, strengthPairs, cross, strengthRow, pairRows, strengthRows, equalityRows, rowsOf}
-use Rattle.scope.specs.Bounds.{mostCoordinate, mostForce, mostTraction, mostMultiplier, strengthMultiplier, mostArea, balanceRight, mostBalanceRows, mostSquare, sideRight, mostSideRows, jumpRight, mostJumpRows, weightedCross, twiceStrength, strengthSum, mostStrengthRows}
+use Rattle.scope.specs.Rows.{Row, countFrom, node, crossAt, riseAcross, runAcross, twiceArea, balanceX, balanceY, balanceRows, stepX, stepY, stepSquare, normalRow, shearRow, sideRows, strengthPairs, cross, strengthRow, pairRows, strengthRows, equalityRows, rowsOf, agreeRow, jumpNormal, jumpShear, jumpRows}
+use Rattle.scope.specs.Bounds.{mostCoordinate, mostForce, mostTraction, mostMultiplier, mostArea, balanceRight, mostBalanceRows, mostSquare, sideRight, mostSideRows, weightedCross, twiceStrength, strengthSum, mostStrengthRows, jumpRight, mostJumpRows}
 use Rattle.scope.specs.PolygonRule.{ListedPolygon}
 use Rattle.scope.specs.Sums.{weightedSum, weighed, limitSum}
 use Rattle.scope.specs.Claim.{multiplier}

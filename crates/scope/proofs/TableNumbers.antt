@@ -1,6 +1,6 @@
 -- The numbers of document 01's table: a number of a line tells its step, since no two steps of a file have one number; and phase by phase each number is in the table.
 use mathlib.Core.Path.{_≡_, refl, sym, _∙_, ap, subst}
-use mathlib.Core.Logic.{_↔_, _⊎_, inl, inr}
+use mathlib.Core.Logic.{_↔_, _⊎_, inl, inr, ⊎-elim}
 use mathlib.Core.Bool.{Bool, false, _||_}
 use mathlib.Core.List.{List, [], _∷_, _++_, List·Memᴰ·head, List·Memᴰ·tail}
 use Prim.Native.Nat.{ℕ, zero, suc, _*_, _≤_, _<_}
@@ -14,7 +14,7 @@ use Rattle.scope.specs.declared.Place.the-variants.{Line}
 use Rattle.scope.specs.Answer.{placeNumber}
 use Rattle.scope.specs.Members.{_∈_}
 use Rattle.scope.specs.Phases.{Below, FirstFails, HoldsAt, Everywhere, RefusedBy}
-use Rattle.scope.specs.Columns.{Rule, rightAngle, naming, parts, hasField, hasMultipliers, n, l}
+use Rattle.scope.specs.Columns.{Rule, rightAngle, naming, parts, atMost, hasField, hasMultipliers, n, l}
 use Rattle.scope.specs.Layout.{Group, Layout, Placed, groups, lineCount, numberCount, lineOf, groupAt, numbersAt}
 use Rattle.scope.specs.Mesh.{meshLayout, nodes}
 use Rattle.scope.specs.Claim.{claimHeader, stressLines, elementMultipliers, edgeMultipliers, jumpMultipliers, strengthMultipliers, claimLayout, stress, multiplier}
@@ -136,32 +136,43 @@ module _ (f : Layout) (ns : List ℤ) where
       of (inr (inl h)) = absurd (limit (h .1))
       of (inr (inr h)) = h
 
-no-rule : (a : ℕ) → ¬ (3 ≡ a) → ¬ (4 ≡ a) → ¬ (13 ≡ a) → (r : Rule) → ¬ (ruleNumber r ≡ a)
+no-rule : (a : ℕ) → ¬ (2 ≡ a) → ¬ (3 ≡ a) → ¬ (4 ≡ a) → ¬ (13 ≡ a) → (r : Rule) → ¬ (ruleNumber r ≡ a)
 unfolding ruleNumber
-no-rule a x y z rightAngle = x
-no-rule a x y z (naming cs) = y
-no-rule a x y z parts = z
+no-rule a w x y z rightAngle = x
+no-rule a w x y z (naming cs) = y
+no-rule a w x y z parts = z
+no-rule a w x y z (atMost c k d e) = w
 
 -- ---- the two files
 
 pub mesh-line-numbers : (m : List ℤ) → MeshLineNumbers m
 unfolding meshLayout ruleNumber
 mesh-line-numbers m = record {
-  one = form-is meshLayout m refl (λ e. omega arith) (no-rule 1 (λ e. omega arith) (λ e. omega arith) (λ e. omega arith));
-  two = limit-is meshLayout m refl (λ e. omega arith) (no-rule 2 (λ e. omega arith) (λ e. omega arith) (λ e. omega arith));
+  one = form-is meshLayout m refl (λ e. omega arith) (no-rule 1 (λ e. omega arith) (λ e. omega arith) (λ e. omega arith) (λ e. omega arith));
+  two = λ k. (λ r. limits k (cause meshLayout m k 2 r), ⊎-elim (limit-refused meshLayout m k) (λ h. rule-refused meshLayout m (atMost (h .0) (h .1) (h .2) (h .3)) k (h .4)));
   three = λ k. (λ r. angle k (rule-is meshLayout m (λ e. omega arith) (λ e. omega arith) k r), λ h. rule-refused meshLayout m rightAngle k h);
   four = λ k. (λ r. names k (rule-is meshLayout m (λ e. omega arith) (λ e. omega arith) k r), λ h. rule-refused meshLayout m (naming (h .0)) k (h .1));
 }
   where
+    limits : (k : ℕ) → Cause meshLayout m k 2 → LimitFails meshLayout m k ⊎ ((c n d z : ℕ) × RuleFails meshLayout m (atMost c n d z) k)
+    limits k (inl h) = absurd (omega (arith, h .1))
+    limits k (inr (inl h)) = inl (h .0)
+    limits k (inr (inr (rightAngle, h))) = absurd (omega (arith, h .1))
+    limits k (inr (inr (naming cs, h))) = absurd (omega (arith, h .1))
+    limits k (inr (inr (parts, h))) = absurd (omega (arith, h .1))
+    limits k (inr (inr (atMost c n d z, h))) = inr (c, n, d, z, h .0)
+
     angle : (k : ℕ) → ((r : Rule) × (RuleFails meshLayout m r k × (ruleNumber r ≡ 3))) → RuleFails meshLayout m rightAngle k
     angle k (rightAngle, h) = h .0
     angle k (naming cs, h) = absurd (omega (arith, h .1))
     angle k (parts, h) = absurd (omega (arith, h .1))
+    angle k (atMost c n d z, h) = absurd (omega (arith, h .1))
 
     names : (k : ℕ) → ((r : Rule) × (RuleFails meshLayout m r k × (ruleNumber r ≡ 4))) → (cs : List (ℕ × ℕ)) × RuleFails meshLayout m (naming cs) k
     names k (rightAngle, h) = absurd (omega (arith, h .1))
     names k (naming cs, h) = (cs, h .0)
     names k (parts, h) = absurd (omega (arith, h .1))
+    names k (atMost c n d z, h) = absurd (omega (arith, h .1))
 
 -- only the header of a claim has a rule
 abbrev NoRules : List Group → Type 0
@@ -189,8 +200,8 @@ parts-first m c (suc k) h =
 pub claim-line-numbers : (m c : List ℤ) → ClaimLineNumbers m c
 unfolding claimLayout ruleNumber
 claim-line-numbers m c = record {
-  eleven = form-is (claimLayout m) c refl (λ e. omega arith) (no-rule 11 (λ e. omega arith) (λ e. omega arith) (λ e. omega arith));
-  twelve = limit-is (claimLayout m) c refl (λ e. omega arith) (no-rule 12 (λ e. omega arith) (λ e. omega arith) (λ e. omega arith));
+  eleven = form-is (claimLayout m) c refl (λ e. omega arith) (no-rule 11 (λ e. omega arith) (λ e. omega arith) (λ e. omega arith) (λ e. omega arith));
+  twelve = limit-is (claimLayout m) c refl (λ e. omega arith) (no-rule 12 (λ e. omega arith) (λ e. omega arith) (λ e. omega arith) (λ e. omega arith));
   thirteen = λ k. (λ r. fit k (rule-is (claimLayout m) c (λ e. omega arith) (λ e. omega arith) k r), λ h. rule-refused (claimLayout m) c parts k h);
   line-1-only = λ k r. parts-first m c k (fit k (rule-is (claimLayout m) c (λ e. omega arith) (λ e. omega arith) k r));
 }
@@ -199,6 +210,7 @@ claim-line-numbers m c = record {
     fit k (rightAngle, h) = absurd (omega (arith, h .1))
     fit k (naming cs, h) = absurd (omega (arith, h .1))
     fit k (parts, h) = h .0
+    fit k (atMost a n d z, h) = absurd (omega (arith, h .1))
 
 -- ---- all numbers
 
@@ -226,6 +238,7 @@ unfolding ruleNumber isIn
 rule-listed rightAngle = listed 3 tt
 rule-listed (naming cs) = listed 4 tt
 rule-listed parts = listed 13 tt
+rule-listed (atMost c k d z) = listed 2 tt
 
 step-listed : (f : Layout) (ns : List ℤ) (k c : ℕ) → f .formNumber ∈ tableNumbers → f .limitNumber ∈ tableNumbers → FirstFails (lineSteps f (groupAt f ns k) (numbersAt f ns k)) c → c ∈ tableNumbers
 step-listed f ns k c a b (inl h) = subst (λ i. i ∈ tableNumbers) (h .1) a

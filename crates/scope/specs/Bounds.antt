@@ -1,9 +1,8 @@
 -- How large the numbers of rows and of sums can be: one name for each limit of the two files, and each bound as an
 -- expression over them, by kind of row.
--- The largest radius, step and cross product leave room for document 02, N9: "all whole-number points on the circle of
--- radius 1105", "at most 40 nodes and 40 node-and-soil pairs", "its strength multipliers are at most 300".
+-- The largest radius, step and cross product are those of 108 sides (document 02, N9).
 use Prim.Native.Nat.{ℕ, _+_, _*_, _^_}
-use Rattle.scope.specs.Mesh.{mostPairs, mostElements, mostEdges, mostSides, mostJumps, elementRows, edgeRows, rowsPerJump, mostEqualityRows}
+use Rattle.scope.specs.Mesh.{mostPairs, mostElements, mostEdges, mostSides, mostStrength, pairsFor108, strengthFor108, elementRows, edgeRows, mostEqualityRows, mostJumps, rowsPerJump}
 
 -- ---- limits (document 01, 'The two files')
 
@@ -35,16 +34,9 @@ mostLoad = 100000000
 abbrev pub mostStress : ℕ
 mostStress = 1000000000
 
--- of an equality row, and of a strength row of a mesh with so many sides
+-- of an equality row
 abbrev pub mostMultiplier : ℕ
 mostMultiplier = 100000
-
-abbrev pub strengthMultiplier : ℕ → ℕ
-strengthMultiplier sides = 10000
-
--- the most pairs of a node and a soil of a mesh with so many sides
-abbrev pub pairsWith : ℕ → ℕ
-pairsWith sides = mostPairs
 
 -- ---- polygons: the largest radius, step (c - a or d - b) and cross product (ad - bc)
 
@@ -60,14 +52,14 @@ mostCross = 177735
 -- a step and a cross product times the multiplier of its row, which is smaller where they are larger: the largest step
 -- of 36 sides is 16
 abbrev pub weightedStep : ℕ
-weightedStep = 10000 * 16
+weightedStep = mostStrength * 16
 
 abbrev pub weightedCross : ℕ
-weightedCross = 300 * mostCross
+weightedCross = strengthFor108 * mostCross
 
 -- strength rows: 36 for each of 100 pairs, or 108 for each of 40
 abbrev pub mostStrengthRows : ℕ
-mostStrengthRows = 40 * 108
+mostStrengthRows = pairsFor108 * mostSides
 
 -- ---- balance rows: differences of coordinates, twice an area, and that times a body force
 

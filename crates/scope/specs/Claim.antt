@@ -6,7 +6,7 @@ use lib.IntN.{ℤ, pos}
 use lib.ListN.{replicate}
 use Rattle.scope.specs.Columns.{between, upTo, parts, at, hasField, hasMultipliers}
 use Rattle.scope.specs.Layout.{Group, Layout, groups, numbersBefore}
-use Rattle.scope.specs.Mesh.{nodes, elements, edges, sides, jumps, elementRows, edgeRows, rowsPerJump}
+use Rattle.scope.specs.Mesh.{strengthMultiplier, nodes, elements, edges, sides, elementRows, edgeRows, jumps, rowsPerJump}
 use Rattle.scope.specs.Rows.{pairCount}
 
 -- "Header: field there (0 or 1), multipliers there (0 or 1), n 0 to 100,000, l within ±100,000,000"
@@ -38,7 +38,7 @@ unfoldable pub stressLines : ℕ → Group
 stressLines k = record { lines = k; limits = replicate stressColumns (upTo 1000000000); rules = [] }
 
 -- "With multipliers: for each element 2, for each edge 4, within ±100,000; then for each node a line of as many as
--- there are sides, 0 to 10,000"
+-- there are sides, 0 to 10,000"; with 108 sides "at most 300" (document 02, N9)
 -- "multiplier lines are numbered by node-and-soil pairs" (document 02, N2): a line for each pair
 -- "for each jump a line of four multipliers, within ±100,000, after the edge lines" (document 02, N6)
 unfoldable pub elementMultipliers : ℕ → Group
@@ -51,7 +51,8 @@ unfoldable pub jumpMultipliers : ℕ → Group
 jumpMultipliers k = record { lines = k; limits = replicate rowsPerJump (upTo 100000); rules = [] }
 
 unfoldable pub strengthMultipliers : ℕ → ℕ → Group
-strengthMultipliers k s = record { lines = k; limits = replicate s (between (pos 0) (pos 10000)); rules = [] }
+strengthMultipliers k s =
+    record { lines = k; limits = replicate s (between (pos 0) (pos (strengthMultiplier s))); rules = [] }
 
 -- the lines after the header, on a mesh of so many things, by the parts that are there
 abbrev pub claimLines : ℕ → ℕ → ℕ → ℕ → ℕ → ℕ → Bool → Bool → List Group

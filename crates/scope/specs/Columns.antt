@@ -43,11 +43,13 @@ upTo k = between (negℤ (pos k)) (pos k)
 -- ---- rules
 
 -- p² + q² = h² in the first three columns (3); each listed column c names one of k things, numbered from 1 (4); a
--- claim's parts are there and fit n and l (13)
+-- claim's parts are there and fit n and l (13); where column d is z, column c is at most k (2, a limit that looks at
+-- another column)
 pub data Rule : Type 0 where
   rightAngle : Rule
   naming : List (ℕ × ℕ) → Rule
   parts : Rule
+  atMost : (c k d z : ℕ) → Rule
 
 -- "Things are numbered from 1": z names one of k things
 unfoldable pub names : ℕ → ℤ → Bool
@@ -77,3 +79,4 @@ ruleTest (naming cs) line = allNamed cs line
 ruleTest parts line =
     (hasField line || hasMultipliers line)
     && cond (hasField line) (not (eqZ (n line) (pos 0))) (eqZ (n line) (pos 0) && eqZ (l line) (pos 0))
+ruleTest (atMost c k d z) line = cond (eqZ (at line d) (pos z)) (leZ (at line c) (pos k)) true

@@ -6,7 +6,7 @@ use Prim.Native.Nat.{ℕ, _+_, _-_, _*_, _%_}
 use lib.IntN.{ℤ, pos}
 use lib.Dec.{eqb}
 use lib.ListN.{replicate}
-use Rattle.scope.specs.Columns.{between, oneOf, free, upTo, rightAngle, naming, at}
+use Rattle.scope.specs.Columns.{between, oneOf, free, upTo, rightAngle, naming, atMost, at}
 use Rattle.scope.specs.Layout.{Group, Layout, groups, linesBefore, count, entry}
 
 -- the limits that bounds are made of: the most nodes, pairs of a node and a soil ("Pairs are at most 100", document
@@ -27,13 +27,41 @@ abbrev pub mostEdges : ℕ
 mostEdges = 60
 
 abbrev pub mostSides : ℕ
-mostSides = 36
+mostSides = 108
 
 abbrev pub mostJumps : ℕ
 mostJumps = 60
 
+-- "sides 12, 20 or 36"; "Sides may also be 108" (document 02, N9)
+abbrev pub listedSides : List ℤ
+listedSides = pos 12 ∷ pos 20 ∷ pos 36 ∷ pos mostSides ∷ []
+
+-- the largest multiplier of a strength row, "0 to 10,000"; "Such a mesh has at most 40 nodes and 40 node-and-soil
+-- pairs, and its strength multipliers are at most 300" (document 02, N9), of a mesh with 108 sides
+abbrev pub mostStrength : ℕ
+mostStrength = 10000
+
+abbrev pub nodesFor108 : ℕ
+nodesFor108 = 40
+
+abbrev pub pairsFor108 : ℕ
+pairsFor108 = 40
+
+abbrev pub strengthFor108 : ℕ
+strengthFor108 = 300
+
+-- the most nodes, the most pairs and the largest multiplier of a strength row, of a mesh with so many sides
+unfoldable pub nodesWith : ℕ → ℕ
+nodesWith k = cond (eqb k mostSides) nodesFor108 mostNodes
+
+unfoldable pub pairsWith : ℕ → ℕ
+pairsWith k = cond (eqb k mostSides) pairsFor108 mostPairs
+
+unfoldable pub strengthMultiplier : ℕ → ℕ
+strengthMultiplier k = cond (eqb k mostSides) strengthFor108 mostStrength
+
 -- "Header: nodes 4 to 100, elements 1 to 100, soils 1 to 16, edges 0 to 60, sides 12, 20 or 36"; "The mesh header gains
--- a sixth column, jumps 0 to 60" (document 02, N6)
+-- a sixth column, jumps 0 to 60" (document 02, N6), with N9
 unfoldable pub meshHeader : Group
 meshHeader = record {
   lines = 1;
@@ -42,10 +70,10 @@ meshHeader = record {
       ∷ between (pos 1) (pos mostElements)
       ∷ between (pos 1) (pos mostSoils)
       ∷ between (pos 0) (pos mostEdges)
-      ∷ oneOf (pos 12 ∷ pos 20 ∷ pos mostSides ∷ [])
+      ∷ oneOf listedSides
       ∷ between (pos 0) (pos mostJumps)
       ∷ [];
-  rules = [];
+  rules = atMost 0 nodesFor108 4 mostSides ∷ [];
 }
 
 -- how many columns each line has: of the header, of a soil, of a node, of an element, of an edge, of a jump

@@ -12,15 +12,16 @@ use Rattle.scope.specs.Layout.{entry}
 use Rattle.scope.specs.Claim.{claimHeaderColumns, stressColumns, ifThere, stress, multiplier}
 use Rattle.scope.specs.Rows.{pairCount}
 use Rattle.scope.specs.Statements.{PartsFit}
-use Rattle.scope.specs.Mesh.{mostNodes, mostElements, mostSoils, mostEdges, mostSides, mostJumps, meshHeaderColumns, soilColumns, nodeColumns, elementColumns, edgeColumns, jumpColumns, elementRows, edgeRows, rowsPerJump, meshGroups, nodes, elements, soils, edges, sides, jumps, p, q, h, cohesion, soilEntry, x, y, corner, elementSoil, edgeEntry, fromNode, toNode, jumpEntry, jumpFrom, jumpTo, facingFrom, facingTo, equalityCount}
+use Rattle.scope.specs.Polygon.{SidesListed}
+use Rattle.scope.specs.Mesh.{mostNodes, mostElements, mostSoils, mostEdges, nodesWith, strengthMultiplier, meshHeaderColumns, soilColumns, nodeColumns, elementColumns, edgeColumns, elementRows, edgeRows, meshGroups, nodes, elements, soils, edges, sides, p, q, h, cohesion, soilEntry, x, y, corner, elementSoil, edgeEntry, fromNode, toNode, equalityCount, mostJumps, jumpColumns, rowsPerJump, jumps, jumpEntry, jumpFrom, jumpTo, facingFrom, facingTo}
 
 -- z is from lo to hi
 pub record Between (lo hi z : ℤ) : Type 0 where
   pub least : lo ≤ℤ z
   pub most : z ≤ℤ hi
 
--- "nodes 4 to 100, elements 1 to 100, soils 1 to 16, edges 0 to 60, sides 12, 20 or 36", "jumps 0 to 60"; a count of
--- edges or of jumps below 0 would be read as 0, so the number itself is bounded
+-- "nodes 4 to 100, elements 1 to 100, soils 1 to 16, edges 0 to 60, sides 12, 20 or 36", or 108 (document 02, N9),
+-- "jumps 0 to 60"; a count of edges or of jumps below 0 would be read as 0, so the number itself is bounded
 pub record Counts (m : List ℤ) : Type 0 where
   pub nodesLeast : 4 ≤ nodes m
   pub nodesMost : nodes m ≤ mostNodes
@@ -30,7 +31,8 @@ pub record Counts (m : List ℤ) : Type 0 where
   pub soilsMost : soils m ≤ mostSoils
   pub edgesLeast : pos 0 ≤ℤ at m 3
   pub edgesMost : edges m ≤ mostEdges
-  pub sidesListed : (sides m ≡ 12) ⊎ ((sides m ≡ 20) ⊎ (sides m ≡ mostSides))
+  pub sidesListed : SidesListed (sides m)
+  pub nodesFit : nodes m ≤ nodesWith (sides m)
   pub jumpsLeast : pos 0 ≤ℤ at m 5
   pub jumpsMost : jumps m ≤ mostJumps
 
@@ -102,4 +104,4 @@ pub record ClaimFacts (m c : List ℤ) : Type 0 where
   pub equalityRange : at c 1 ≡ pos 1 → (k : ℕ) → k < equalityCount m
       → Between (negℤ (pos 100000)) (pos 100000) (multiplier m c k)
   pub strengthRange : at c 1 ≡ pos 1 → (k : ℕ) → k < pairCount m * sides m
-      → Between (pos 0) (pos 10000) (multiplier m c (equalityCount m + k))
+      → Between (pos 0) (pos (strengthMultiplier (sides m))) (multiplier m c (equalityCount m + k))

@@ -6,7 +6,7 @@ use mathlib.Core.List.{List, map}
 use Prim.Native.Nat.{ℕ, _<_, _≤_}
 use lib.IntN.{ℤ}
 use Rattle.scope.specs.Members.{_∈_}
-use Rattle.scope.specs.Mesh.{nodes, elements, soils, sides, corner, elementSoil}
+use Rattle.scope.specs.Mesh.{pairsWith, nodes, elements, soils, sides, corner, elementSoil}
 use Rattle.scope.specs.Polygon.{polygonOf}
 use Rattle.scope.specs.Rows.{Row, Pair, joined, countFrom, firstWhere, hasCorner, pairRows, strengthPairs, pairCount, pairAt, strengthRows}
 use Rattle.scope.specs.Statements.{PairsFit}
@@ -32,8 +32,10 @@ pub record Pairs (m : List ℤ) : Type 0 where
       → (a ∈ strengthPairs m) ↔ ((a .at < nodes m) × (a .soil < soils m) × SoilAround m (a .at) (a .soil))
   -- "soils ascending", "in that order": strictly, so that no pair is listed twice
   pub ascending : (i j : ℕ) → i < j → j < pairCount m → Before (pairAt m i) (pairAt m j)
-  -- 42 is "with the node that brings the 101st pair"
-  pub brings-101st : (v : ℕ) → LowestFails (nodes m) (PairsFit m) v ↔ ((100 < pairCount m) × (pairAt m 100 .at ≡ v))
+  -- 42 is "with the node that brings the 101st pair", the 41st with 108 sides (document 02, N9): the first beyond the
+  -- most
+  pub brings-one-more : (v : ℕ) → LowestFails (nodes m) (PairsFit m) v
+      ↔ ((pairsWith (sides m) < pairCount m) × (pairAt m (pairsWith (sides m)) .at ≡ v))
 
 -- ---- document 01's strength rows
 
@@ -51,11 +53,12 @@ rowsBefore m =
 abbrev pub OneSoilEach : List ℤ → Type 0
 OneSoilEach m = (v s k : ℕ) → SoilAround m v s → SoilAround m v k → s ≡ k
 
--- ---- a mesh that passes: the pairs are the soils around nodes, each node has one, and there are at most 100
+-- ---- a mesh that passes: the pairs are the soils around nodes, each node has one, and there are at most 100, or 40
+-- with 108 sides
 
 pub record SoundPairs (m : List ℤ) : Type 0 where
   pub exactly : (a : Pair) → (a ∈ strengthPairs m) ↔ SoilAround m (a .at) (a .soil)
   pub each-node : (v : ℕ) → v < nodes m → (s : ℕ) × (record { at = v; soil = s } ∈ strengthPairs m)
-  pub most : pairCount m ≤ 100
+  pub most : pairCount m ≤ pairsWith (sides m)
   -- where each node has one soil, the rows are document 01's
   pub as-before : OneSoilEach m → strengthRows m ≡ rowsBefore m

@@ -1,5 +1,8 @@
 -- The polygons (document 01, 'Rows', Strength): "Polygon corners are all whole-number points on the circle of radius r
--- = 5, 25 or 65 (12, 20 or 36 sides), counterclockwise from (r, 0)".
+-- = 5, 25 or 65 (12, 20 or 36 sides), counterclockwise from (r, 0)". "Sides may also be 108: all whole-number points
+-- on the circle of radius 1105, in the same turning order" (document 02, N9).
+use mathlib.Core.Path.{_≡_}
+use mathlib.Core.Logic.{_⊎_}
 use mathlib.Core.Bool.{true, false}
 use mathlib.Core.List.{List, [], _∷_, _++_, map}
 use Prim.Native.Nat.{ℕ}
@@ -35,7 +38,7 @@ unfoldable pub polygonSides : List Point → List Side
 polygonSides [] = []
 polygonSides (v ∷ rest) = sidesTo v (v ∷ rest)
 
--- ---- the three polygons
+-- ---- the four polygons
 
 -- a quarter turn counterclockwise
 unfoldable pub quarterTurn : Point → Point
@@ -85,6 +88,53 @@ thirtySix = record {
       ∷ []);
 }
 
--- the polygon of a mesh with this number of sides: 12, 20, or else 36
+unfoldable pub oneHundredEight : Polygon
+oneHundredEight = record {
+  radius = pos 1105;
+  corners =
+      fourQuadrants
+      (point (pos 1105) (pos 0)
+      ∷ point (pos 1104) (pos 47)
+      ∷ point (pos 1100) (pos 105)
+      ∷ point (pos 1092) (pos 169)
+      ∷ point (pos 1073) (pos 264)
+      ∷ point (pos 1071) (pos 272)
+      ∷ point (pos 1020) (pos 425)
+      ∷ point (pos 1001) (pos 468)
+      ∷ point (pos 975) (pos 520)
+      ∷ point (pos 952) (pos 561)
+      ∷ point (pos 943) (pos 576)
+      ∷ point (pos 884) (pos 663)
+      ∷ point (pos 855) (pos 700)
+      ∷ point (pos 817) (pos 744)
+      ∷ point (pos 744) (pos 817)
+      ∷ point (pos 700) (pos 855)
+      ∷ point (pos 663) (pos 884)
+      ∷ point (pos 576) (pos 943)
+      ∷ point (pos 561) (pos 952)
+      ∷ point (pos 520) (pos 975)
+      ∷ point (pos 468) (pos 1001)
+      ∷ point (pos 425) (pos 1020)
+      ∷ point (pos 272) (pos 1071)
+      ∷ point (pos 264) (pos 1073)
+      ∷ point (pos 169) (pos 1092)
+      ∷ point (pos 105) (pos 1100)
+      ∷ point (pos 47) (pos 1104)
+      ∷ []);
+}
+
+-- the polygon of a mesh with this number of sides: 12, 20, 36, or else 108
 unfoldable pub polygonOf : ℕ → Polygon
-polygonOf k = elim (eqb k 12) [ true ↦ twelve | false ↦ elim (eqb k 20) [ true ↦ twenty | false ↦ thirtySix ] ]
+polygonOf k =
+    elim (eqb k 12) [
+      | true ↦ twelve
+      | false ↦
+          elim (eqb k 20) [
+            | true ↦ twenty
+            | false ↦ elim (eqb k 36) [ true ↦ thirtySix | false ↦ oneHundredEight ]
+          ]
+    ]
+
+-- a listed number of sides
+abbrev pub SidesListed : ℕ → Type 0
+SidesListed k = (k ≡ 12) ⊎ ((k ≡ 20) ⊎ ((k ≡ 36) ⊎ (k ≡ 108)))

@@ -2,15 +2,16 @@
 -- of radius r .., counterclockwise from (r, 0)".
 use mathlib.Core.Path.{_≡_}
 use mathlib.Core.List.{List, _∷_, _++_}
-use Prim.Native.Nat.{ℕ, _*_, _≤_, _<_, max}
+use Prim.Native.Nat.{ℕ, _+_, _*_, _≤_, _<_, max}
 use lib.IntN.{ℤ, pos, _+ℤ_, _-ℤ_, _*ℤ_, negℤ, natAbs}
 use lib.Signed.{_<ℤ_}
 use lib.ListN.{length}
 use Rattle.scope.specs.Members.{_∈_}
 use Rattle.scope.specs.Polygon.{Point, point, Polygon, Side, polygonSides, polygonOf}
 use Rattle.scope.specs.Rows.{cross}
-use Rattle.scope.specs.Mesh.{mostSides}
-use Rattle.scope.specs.Bounds.{mostRadius, mostStep, mostCross, weightedStep, weightedCross, mostStrengthRows, strengthMultiplier, pairsWith}
+use Rattle.scope.specs.Mesh.{mostSides, nodesFor108, nodesWith, strengthMultiplier, pairsWith}
+use Rattle.scope.specs.Claim.{stressColumns}
+use Rattle.scope.specs.Bounds.{mostRadius, mostStep, mostCross, weightedStep, weightedCross, mostStrengthRows}
 
 abbrev pub OnCircle : ℤ → Point → Type 0
 OnCircle r v = v .px *ℤ v .px +ℤ v .py *ℤ v .py ≡ r *ℤ r
@@ -47,7 +48,8 @@ pub record PolygonRule (g : Polygon) (sides step product : ℕ) : Type 0 where
   pub largest-cross : Largest crossSize (polygonSides (g .corners)) product
 
 -- a polygon whose numbers are within the bounds of all polygons: its step and its cross product also with the largest
--- multiplier of a row, and its rows with the most pairs
+-- multiplier of a row, its rows with the most pairs, and these with the stresses of the most nodes: with 108 sides a
+-- claim has the most numbers
 pub record PolygonFits (g : Polygon) (sides radius step product : ℕ) : Type 0 where
   pub rule : PolygonRule g sides step product
   pub radiusIs : g .radius ≡ pos radius
@@ -59,6 +61,8 @@ pub record PolygonFits (g : Polygon) (sides radius step product : ℕ) : Type 0 
   pub stepWeighted : strengthMultiplier sides * step ≤ weightedStep
   pub productWeighted : strengthMultiplier sides * product ≤ weightedCross
   pub rowsFit : pairsWith sides * sides ≤ mostStrengthRows
+  pub numbersFit : nodesWith sides * stressColumns + pairsWith sides * sides
+      ≤ nodesFor108 * stressColumns + mostStrengthRows
 
 -- the polygon of a mesh with a listed number of sides
 pub record ListedPolygon (sides : ℕ) : Type 0 where

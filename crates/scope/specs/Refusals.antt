@@ -15,7 +15,7 @@ use Rattle.scope.specs.declared.Place.{Place}
 use Rattle.scope.specs.declared.Place.the-variants.{Line, Row, Column, Node, Element}
 use Rattle.scope.specs.Members.{_∈_}
 use Rattle.scope.specs.Phases.{Step, Phase, step, phase, ifPart, RefusedBy}
-use Rattle.scope.specs.Columns.{allWithin, Rule, rightAngle, naming, parts, ruleTest, hasField, hasMultipliers, n, l}
+use Rattle.scope.specs.Columns.{allWithin, Rule, rightAngle, naming, parts, atMost, ruleTest, hasField, hasMultipliers, n, l}
 use Rattle.scope.specs.Layout.{Group, Layout, width, groups, lineCount, numberCount, groupAt, numbersAt}
 use Rattle.scope.specs.Mesh.{meshLayout, nodes, elements, edges, jumps, edgeLine, jumpLine}
 use Rattle.scope.specs.Claim.{claimLayout, stress, multiplier}
@@ -29,11 +29,12 @@ use Rattle.scope.specs.Statements.{AllWithin, Says, AllSay, Complete, In
 -- ---- lines: 1 to 4 of a mesh, 11 to 13 of a claim (which is which is said at the end, number by number)
 
 -- the number of the refusal where a rule fails: 3 "p² + q² is not h²", 4 "names a node or soil that isn't there",
--- 13 "both parts absent; field with n = 0; no field and n or l not 0"
+-- 13 "both parts absent; field with n = 0; no field and n or l not 0", 2 "mesh number outside its limits"
 unfoldable pub ruleNumber : Rule → ℕ
 ruleNumber rightAngle = 3
 ruleNumber (naming cs) = 4
 ruleNumber parts = 13
+ruleNumber (atMost c k d z) = 2
 
 -- the rules of a line, in order
 abbrev pub ruleSteps : List Rule → List ℤ → List Step
@@ -88,7 +89,7 @@ edgesPhase m = phase 8 (edges m) (OuterEdge m) (outerEdge m) (λ g. Line (suc (e
 abbrev pub jointsPhase : List ℤ → Phase
 jointsPhase m = phase 44 (jumps m) (Joint m) (isJoint m) (λ j. Line (suc (jumpLine m j)))
 
--- 42 (document 02, N2): "with the node that brings the 101st pair"
+-- 42 (document 02, N2): "with the node that brings the 101st pair", the 41st with 108 sides
 abbrev pub pairsPhase : List ℤ → Phase
 pairsPhase m = phase 42 (nodes m) (PairsFit m) (pairsFit m) (λ v. Node (suc v))
 
@@ -208,11 +209,12 @@ module _ (f : Layout) (ns : List ℤ) where
     pub hold : AllSay earlier (numbersAt f ns k)
     pub fails : ¬ Says r (numbersAt f ns k)
 
--- 1 "mesh form: .. bytes missing or left over", 2 "mesh number outside its limits", 3 "p² + q² is not h²", 4 "names a
--- node or soil that isn't there"
+-- 1 "mesh form: .. bytes missing or left over", 2 "mesh number outside its limits", one that looks at
+-- another column among them, 3 "p² + q² is not h²", 4 "names a node or soil that isn't there"
 pub record MeshLineNumbers (m : List ℤ) : Type 0 where
   pub one : (k : ℕ) → LineRefusal meshLayout m 1 (Line (suc k)) ↔ CountFails meshLayout m k
-  pub two : (k : ℕ) → LineRefusal meshLayout m 2 (Line (suc k)) ↔ LimitFails meshLayout m k
+  pub two : (k : ℕ) → LineRefusal meshLayout m 2 (Line (suc k))
+      ↔ (LimitFails meshLayout m k ⊎ ((c n d z : ℕ) × RuleFails meshLayout m (atMost c n d z) k))
   pub three : (k : ℕ) → LineRefusal meshLayout m 3 (Line (suc k)) ↔ RuleFails meshLayout m rightAngle k
   pub four : (k : ℕ)
       → LineRefusal meshLayout m 4 (Line (suc k)) ↔ ((cs : List (ℕ × ℕ)) × RuleFails meshLayout m (naming cs) k)

@@ -7,7 +7,7 @@ use lib.IntN.{ℤ}
 use Rattle.scope.specs.declared.Place.{Place}
 use Rattle.scope.specs.declared.Place.the-variants.{Row}
 use Rattle.scope.specs.Columns.{n, l}
-use Rattle.scope.specs.Mesh.{elements, edges, sides, jumps, fromNode, toNode, jumpFrom, jumpTo, facingFrom, facingTo}
+use Rattle.scope.specs.Mesh.{pairsWith, elements, edges, sides, fromNode, toNode, jumps, jumpFrom, jumpTo, facingFrom, facingTo}
 use Rattle.scope.specs.Polygon.{polygonOf}
 use Rattle.scope.specs.Claim.{stress}
 use Rattle.scope.specs.Rows.{pairCount, pairAt}
@@ -43,7 +43,7 @@ module _ (m c : List ℤ) (place : ℕ) where
         → ¬ StrengthAt m (stress m c) (l c) (n c) (polygonOf (sides m) .radius) (pairAt m a)
         (sideNumbered (polygonOf (sides m)) (suc k))
 
--- refusal 42: "with the node that brings the 101st pair"
+-- refusal 42: "with the node that brings the 101st pair", the 41st with 108 sides
 pub record PairsFail (m : List ℤ) (place : ℕ) : Type 0 where
-  pub many : 100 < pairCount m
-  pub node : place ≡ suc (pairAt m 100 .at)
+  pub many : pairsWith (sides m) < pairCount m
+  pub node : place ≡ suc (pairAt m (pairsWith (sides m)) .at)

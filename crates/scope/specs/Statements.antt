@@ -7,9 +7,9 @@ use Prim.Native.Nat.{ℕ, suc, _+_, _-_, _*_, _≤_, _<_}
 use lib.IntN.{ℤ, pos, _+ℤ_, _*ℤ_}
 use lib.Signed.{_≤ℤ_, _<ℤ_}
 use lib.ListN.{length}
-use Rattle.scope.specs.Columns.{Limit, between, oneOf, free, Rule, rightAngle, naming, parts, at, n, l}
+use Rattle.scope.specs.Columns.{Limit, between, oneOf, free, Rule, rightAngle, naming, parts, atMost, at, n, l}
 use Rattle.scope.specs.Layout.{Layout, width, groups, lineCount, numberCount, groupAt, numbersAt}
-use Rattle.scope.specs.Mesh.{mostPairs, meshLayout, nodes, elements, edges, jumps, x, y, corner, cornerCount, around, fromNode, toNode, jumpFrom, jumpTo, facingFrom, facingTo}
+use Rattle.scope.specs.Mesh.{pairsWith, meshLayout, nodes, elements, edges, sides, corner, cornerCount, around, fromNode, toNode, jumps, x, y, jumpFrom, jumpTo, facingFrom, facingTo}
 use Rattle.scope.specs.Rows as R
 use Rattle.scope.specs.Rows.{pairsBelow, equalityRows, rowsOf}
 use Rattle.scope.specs.Sums.{columnSum, liveSum}
@@ -51,6 +51,7 @@ abbrev pub Says : Rule → List ℤ → Type 0
 Says rightAngle line = at line 0 *ℤ at line 0 +ℤ at line 1 *ℤ at line 1 ≡ at line 2 *ℤ at line 2
 Says (naming cs) line = AllNamed cs line
 Says parts line = PartsFit line
+Says (atMost c k d z) line = at line d ≡ pos z → at line c ≤ℤ pos k
 
 abbrev pub AllSay : List Rule → List ℤ → Type 0
 AllSay [] line = Unit {0}
@@ -144,9 +145,9 @@ pub record Joint (m : List ℤ) (j : ℕ) : Type 0 where
   pub atFrom : SamePoint m (jumpFrom m j) (facingFrom m j)
   pub atTo : SamePoint m (jumpTo m j) (facingTo m j)
 
--- "Pairs are at most 100": the nodes up to v have no more
+-- "Pairs are at most 100", and 40 with 108 sides: the nodes up to v have no more
 abbrev pub PairsFit : List ℤ → ℕ → Type 0
-PairsFit m v = length (pairsBelow m (suc v)) ≤ mostPairs
+PairsFit m v = length (pairsBelow m (suc v)) ≤ pairsWith (sides m)
 
 -- a mesh that passes 1 to 8, 44 and 42
 pub record MeshSound (m : List ℤ) : Type 0 where

@@ -9,7 +9,7 @@ use lib.Dec.{eqb, leb}
 use lib.ListN.{length, getD}
 use Rattle.integer.specs.Tests.{eqZ}
 use Rattle.scope.specs.Checks.{someBelow, allBelow}
-use Rattle.scope.specs.Mesh.{mostPairs, elements, edges, x, y, cornerCount, around, fromNode, toNode, jumpFrom, jumpTo, facingFrom, facingTo}
+use Rattle.scope.specs.Mesh.{pairsWith, elements, sides, x, y, cornerCount, around, fromNode, toNode, edges, jumpFrom, jumpTo, facingFrom, facingTo}
 use Rattle.scope.specs.Rows as R
 use Rattle.scope.specs.Rows.{hasCorner, pairsBelow}
 
@@ -75,9 +75,9 @@ isJoint m j =
     && samePoint m (jumpFrom m j) (facingFrom m j)
     && samePoint m (jumpTo m j) (facingTo m j)
 
--- refusal 42 (document 02, N2): "Pairs are at most 100", counted to node v
+-- refusal 42 (document 02, N2): "Pairs are at most 100", and 40 with 108 sides (N9), counted to node v
 unfoldable pub pairsFit : List ℤ → ℕ → Bool
-pairsFit m v = leb (length (pairsBelow m (suc v))) mostPairs
+pairsFit m v = leb (length (pairsBelow m (suc v))) (pairsWith (sides m))
 
 -- row k of a list of rows
 unfoldable pub rowAt : List R.Row → ℕ → R.Row

@@ -11,19 +11,20 @@ use lib.Dec.{ltb}
 use lib.ListN.{length, getD, set, replicate, length-append, length-set, length-replicate, List·getD-append, List·getD-eq-default, getD-replicate}
 use lib.Seq.{getD-set-same, getD-set-other, getD-at}
 use native.Mathlib.Decide.{decLt}
-use borrow.Author.Tests.{ltb-true, ltb-false, le-leb, lt-leb}
+use borrow.Author.Tests.{ltb-true, ltb-false, le-leb, lt-leb, ne-eqb}
 use Rattle.scope.specs.declared.Place.{Place}
 use Rattle.scope.specs.declared.Place.the-variants.{Node}
 use Rattle.scope.specs.declared.Outcome.{Outcome}
 use Rattle.scope.specs.declared.Outcome.the-variants.{Passed, Refused}
 use Rattle.scope.specs.Checks.{allBelow}
-use Rattle.scope.specs.Mesh.{mostPairs, nodes, elements, soils}
+use Rattle.scope.specs.Mesh.{mostSides, mostPairs, pairsFor108, pairsWith, nodes, elements, soils, sides}
 use Rattle.scope.specs.Rows.{Pair, hasSoil, passing, nodePairs, pairsBelow, strengthPairs}
 use Rattle.scope.specs.Phases.{checkPhase}
 use Rattle.scope.specs.Refusals.{pairsPhase}
 use Rattle.scope.specs.Tests.{pairsFit}
 use Rattle.scope.specs.NumberRanges.{MeshFacts}
 use Rattle.scope.proofs.Pairs.{pairOf}
+use Rattle.scope.proofs.SideLimits.{few-most}
 use Rattle.lines.proofs.Loops.{all-more, each-below, phase-at, phase-all}
 use Rattle.shape.specs.declared.pairs.Paired.{Paired}
 use Rattle.shape.specs.ShapeContracts.{MarkTable, isMarked, PairBytes, putPair, pairWhere, Added, markedPairs, pairsIf, PairedAs}
@@ -179,14 +180,27 @@ passing-cong f g zero h = refl
 passing-cong f g (suc n) h =
     ap₂ _++_ (passing-cong f g n (λ k l. h k (omega arith))) (ap (λ (b : Bool). cond b (n ∷ []) []) (h n (omega arith)))
 
+-- ---- the most pairs, by whether there are 108 sides
+
+pub pairs-108 : {k : ℕ} → k ≡ mostSides → pairsFor108 ≡ pairsWith k
+unfolding pairsWith
+pairs-108 e = rw e
+
+pub pairs-fewer : {k : ℕ} → ¬ (k ≡ mostSides) → mostPairs ≡ pairsWith k
+unfolding pairsWith
+pairs-fewer {k} f = rw (ne-eqb k mostSides f)
+
 -- ---- the pairs of the nodes below v, all of which fit
 
 module _ (m : List ℤ) where
   pub record Collected (v count : ℕ) (t : List ℕ) : Type 0 where
     pub are : count ≡ length (pairsBelow m v)
-    pub few : count ≤ mostPairs
+    pub few : count ≤ pairsWith (sides m)
     pub bytes : PairBytes (pairsBelow m v) t
     pub fit : allBelow (pairsFit m) v ≡ true
+
+  pub collected-few : {v count : ℕ} {t : List ℕ} → Collected v count t → count ≤ mostPairs
+  collected-few c = few-most (sides m) (c .few)
 
   pub none-collected : Collected 0 0 (replicate (2 * mostPairs) 0)
   unfolding pairsBelow allBelow
@@ -212,16 +226,16 @@ module _ (m : List ℤ) where
     }
 
     -- they fit, or this is the node of 42
-    pub more-collected : r ≤ mostPairs → Collected (v + 1) r u
+    pub more-collected : r ≤ pairsWith (sides m) → Collected (v + 1) r u
     unfolding pairsFit
     more-collected few =
         subst (λ (i : ℕ). Collected i r u) (sym (add-one v))
-        (record { are = next-node .are; few = few; bytes = next-node .bytes; fit = subst (λ (i : ℕ). allBelow (pairsFit m) i ≡ true) (add-one v) (all-more (pairsFit m) (c .fit) (le-leb (length (pairsBelow m (suc v))) mostPairs (omega (arith, next-node .are)))) })
+        (record { are = next-node .are; few = few; bytes = next-node .bytes; fit = subst (λ (i : ℕ). allBelow (pairsFit m) i ≡ true) (add-one v) (all-more (pairsFit m) (c .fit) (le-leb (length (pairsBelow m (suc v))) (pairsWith (sides m)) (omega (arith, next-node .are)))) })
 
-    pub brings-101st : mostPairs < r → Refused 42 (Node (v + 1)) ≡ checkPhase (pairsPhase m)
+    pub brings-one-more : pairsWith (sides m) < r → Refused 42 (Node (v + 1)) ≡ checkPhase (pairsPhase m)
     unfolding checkPhase pairsFit
-    brings-101st many =
-        phase-at (pairsFit m) 42 (λ v. Node (suc v)) (nodes m) (each-below (pairsFit m) v (c .fit)) l (lt-leb (length (pairsBelow m (suc v))) mostPairs (omega (arith, next-node .are))) (ap Node (add-one v))
+    brings-one-more many =
+        phase-at (pairsFit m) 42 (λ v. Node (suc v)) (nodes m) (each-below (pairsFit m) v (c .fit)) l (lt-leb (length (pairsBelow m (suc v))) (pairsWith (sides m)) (omega (arith, next-node .are))) (ap Node (add-one v))
 
   pub paired-as : {o p : Outcome} {r : Paired} → PairedAs o m r → o ≡ p → PairedAs p m r
   paired-as {r = r} h e = subst (λ (o : Outcome). PairedAs o m r) e h

@@ -1,7 +1,9 @@
-// 42 (document 02, N2): the pairs of a node and a soil around it are at most MOST_PAIRS.
+// 42 (document 02, N2 and N9): the pairs of a node and a soil around it are at most 100, and 40 with 108 sides.
 // They are collected from the marks, nodes ascending and at a node soils ascending, two bytes for each: its node, then
 // its soil.
 use mesh::sizes::MOST_PAIRS;
+use mesh::sizes::MOST_SIDES;
+use mesh::sizes::PAIRS_FOR_108;
 use mesh::sizes::Sizes;
 use scope::Outcome;
 use scope::Place;
@@ -9,7 +11,7 @@ ghost use mathlib.Core.Path.{_≡_};
 ghost use mathlib.Core.List.{List};
 ghost use Prim.Native.Nat.{_+_, _<_, _≤_};
 ghost use lib.IntN.{ℤ};
-ghost use Rattle.scope.specs.Mesh.{mostNodes, mostSoils, mostPairs, elements};
+ghost use Rattle.scope.specs.Mesh.{mostNodes, mostSoils, mostPairs, pairsWith, elements};
 ghost use Rattle.scope.specs.Phases.{checkPhase};
 ghost use Rattle.scope.specs.Refusals.{pairsPhase};
 ghost use Rattle.mesh.specs.MeshContracts.{Sized};
@@ -93,18 +95,29 @@ fn node_pairs(
     k
 }
 
+// The most pairs of a mesh with so many sides.
+fn most_pairs(sides: usize) -> usize
+    ensures { λ r. ⌜ r ≡ pairsWith sides ⌝ }
+{
+    if sides == MOST_SIDES {
+        return PAIRS_FOR_108;
+    }
+    MOST_PAIRS
+}
+
 pub fn pairs_check(m: &[i64], s: Sizes, marks: &[u8; MARKS]) -> Paired
     requires { ⌜ Sized (now m) s × MarkTable (now m) (elements (now m)) (now marks) ⌝ }
     ensures { λ r. ⌜ PairedAs (checkPhase (pairsPhase (now (m .entry)))) (now (m .entry)) r ⌝ }
 {
     let nodes = s.nodes;
     let soils = s.soils;
+    let most = most_pairs(s.sides);
     let mut pairs = [0u8; PAIR_BYTES];
     let mut count: usize = 0;
     let mut v: usize = 0;
     while v < nodes {
         count = node_pairs(marks, soils, v, count, &mut pairs);
-        if MOST_PAIRS < count {
+        if most < count {
             return no_pairs(42, Place::Node(v as u32 + 1));
         }
         v += 1;

@@ -10,7 +10,7 @@ use Rattle.scope.specs.declared.Outcome.{Outcome}
 use Rattle.scope.specs.declared.Outcome.the-variants.{Passed, Refused as Fails}
 use Rattle.scope.specs.declared.Verdict.{Verdict}
 use Rattle.scope.specs.declared.Verdict.the-variants.{Accepted, Refused}
-use Rattle.scope.specs.Mesh.{mostPairs, meshLayout}
+use Rattle.scope.specs.Mesh.{mostPairs, meshLayout, sides}
 use Rattle.scope.specs.Claim.{claimLayout}
 use Rattle.scope.specs.Rows.{strengthPairs, pairCount, pairAt}
 use Rattle.scope.specs.NumberRanges.{MeshFacts}
@@ -21,6 +21,7 @@ use Rattle.scope.specs.Verdict.{linesCheck, meshCheck, openCount, lowerLoad, up
 use Rattle.scope.proofs.NumberRanges.{mesh-facts}
 use Rattle.scope.proofs.ClaimNumberRanges.{claim-facts}
 use Rattle.scope.proofs.Pairs.{few-pairs}
+use Rattle.scope.proofs.SideLimits.{few-most}
 use Rattle.scope.proofs.Refusals.{lines-passed, mesh-checked, mesh-passed, claim-checked}
 use Rattle.verdict.specs.declared.MeshAnswer.{MeshAnswer}
 use Rattle.mesh.specs.declared.sizes.Sizes.{Sizes}
@@ -58,7 +59,7 @@ module _ {m : List ℤ} {r : MeshAnswer} where
   sound-mesh a e =
       let passes : meshCheck m ≡ Passed = sym (a .outcome) ∙ e in
       let known = mesh-known passes in
-      let few : pairCount m ≤ mostPairs = few-pairs m (known .sound) in
+      let few : pairCount m ≤ mostPairs = few-most (sides m) (few-pairs m (known .sound)) in
       let are : r .sizes ≡ sizesIf Passed m = a .sizes ∙ ap (λ (o : Outcome). sizesIf o m) passes in
       let bytes : PairBytes (strengthPairs m) (r .pairs) = subst (λ (o : Outcome). PairBytes (pairsIf o m) (r .pairs)) passes (a .pairs) in
       record {
@@ -89,18 +90,18 @@ few-counted {m} {p} e h f =
     let shape : checkPhases (shapePhases m) ≡ Passed = sym (h .outcome) ∙ f in
     let passes : Passed ≡ meshCheck m = then-goes-on e (sym shape) ∙ sym (mesh-checked m) in
     let count : p .count ≡ pairCount m = h .count ∙ ap (λ (o : Outcome). length (pairsIf o m)) shape in
-    omega (arith, few-pairs m (mesh-known (sym passes) .sound))
+    omega (arith, few-most (sides m) (few-pairs m (mesh-known (sym passes) .sound)))
 
 -- ---- the verdict by its stages
 
 pub counted : {m : List ℤ} {s : Sizes} {t : List ℕ} → SoundMesh m s t → Counted m s
-counted h = record { sizes = as-sizes (h .sized); pairsAre = h .pairsAre }
+counted {m} h = record { sizes = as-sizes (h .sized); pairsAre = h .pairsAre; few = record { within = few-pairs m (mesh-known (h .passes) .sound) } }
 
 pub judged : {m c : List ℤ} {s : Sizes} {t : List ℕ} → SoundMesh m s t → linesCheck (claimLayout m) c ≡ Passed → Judged m c s t
 judged {m} {c} h f = record {
   sized = h .sized;
   pairsAre = h .pairsAre;
-  few = few-pairs m (mesh-known (h .passes) .sound);
+  few = counted h .few;
   claim = claim-facts m c (lines-passed (claimLayout m) c .says f) (h .sized .facts);
   pairTable = h .table;
 }

@@ -2,7 +2,8 @@
 use native.Mathlib.Omega.{arith}
 use denote.Ref.{now}
 use borrow.Author.Needs.{needs}
-use Rattle.judge.proofs.FilesJudged.{claim-by-length, claim-fits, sound-counted}
+use Rattle.verdict.proofs.VerdictLaws.{counted}
+use Rattle.judge.proofs.FilesJudged.{claim-by-length, claim-fits}
 use Rattle.judge.proofs.judge_claim_file.Statement.{statement}
 use Rattle.judge.proofs.judge_claim_file.Tie as tie
 
@@ -39,7 +40,7 @@ slice-aggregate-judge-claim-in-3 c = search needs
 judge-claim-in-requires-3 : tie.Need-judge-claim-in-requires-3
 judge-claim-in-requires-3 c κs =
     let a = c .before .before .before .before .before .before in
-    (a .pre, omega (arith, claim-fits (sound-counted (a .pre)) (now (a .args .claim))))
+    (a .pre, omega (arith, claim-fits (counted (a .pre)) (now (a .args .claim))))
 
 returns-3 : tie.Need-returns-3
 returns-3 c = c .before .judge-claim-in3 .ensures

@@ -4,7 +4,8 @@ use denote.Ref.{now}
 use borrow.Author.Needs.{needs}
 use Rattle.scope.specs.Verdict.{claimVerdict}
 use Rattle.judge.specs.Judge.{claimNumbers}
-use Rattle.judge.proofs.FilesJudged.{front, fits, as-many, sound-counted, claim-listed}
+use Rattle.verdict.proofs.VerdictLaws.{counted}
+use Rattle.judge.proofs.FilesJudged.{front, fits, as-many, claim-listed}
 use Rattle.judge.proofs.judge_claim_in.Statement.{statement}
 use Rattle.judge.proofs.judge_claim_in.Tie as tie
 
@@ -12,7 +13,7 @@ read-claim-requires : tie.Need-read-claim-requires
 unfolding claimNumbers
 read-claim-requires c κs =
     let p = c .before .before .before .pre in
-    record { mesh = _; counted = sound-counted (p .0); fits = p .1 }
+    record { mesh = _; counted = counted (p .0); fits = p .1 }
 
 slice-reshare-prefix-judge-claim : tie.Need-slice-reshare-prefix-judge-claim
 slice-reshare-prefix-judge-claim c =

@@ -34,13 +34,25 @@ slice-aggregate-steps-from-3 c = search needs
 
 steps-from-requires-3 : tie.Need-steps-from-requires-3
 unfolding shown
-steps-from-requires-3 c κs = table-of (listed-polygon 36 (inr (inr refl)))
+steps-from-requires-3 c κs = table-of (listed-polygon 36 (inr (inr (inl refl))))
 
 returns-3 : tie.Need-returns-3
 unfolding shown
-returns-3 c =
-    let start = c .before .before .before .before in
-    steps-of _ (listed-polygon 36 (inr (inr refl))) (last-listed (start .pre) (c .before .before .before .if1 .left) (c .before .before .if2 .left)) _ (c .steps-from3 .ensures)
+returns-3 c = steps-of _ (listed-polygon 36 (inr (inr (inl refl)))) (c .before .before .if3 .taken) _ (c .steps-from3 .ensures)
+
+slice-aggregate-steps-from-4 : tie.Need-slice-aggregate-steps-from-4
+slice-aggregate-steps-from-4 c = search needs
+
+steps-from-requires-4 : tie.Need-steps-from-requires-4
+unfolding shown
+steps-from-requires-4 c κs = table-of (listed-polygon 108 (inr (inr (inr refl))))
+
+returns-4 : tie.Need-returns-4
+unfolding shown
+returns-4 c =
+    let start = c .before .before .before .before .before in
+    let last = last-listed (start .pre) (c .before .before .before .before .if1 .left) (c .before .before .before .if2 .left) (c .before .before .if3 .left) in
+    steps-of _ (listed-polygon 108 (inr (inr (inr refl)))) last _ (c .steps-from4 .ensures)
 
 pub steps-of-spec : {M : Type 1} → statement M
 steps-of-spec =
@@ -54,4 +66,7 @@ steps-of-spec =
     returns-2
     slice-aggregate-steps-from-3
     steps-from-requires-3
-    returns-3)
+    returns-3
+    slice-aggregate-steps-from-4
+    steps-from-requires-4
+    returns-4)

@@ -7,6 +7,7 @@ use Rattle.scope.specs.Columns.{n}
 use Rattle.scope.specs.Polygon.{polygonOf}
 use Rattle.criterion.proofs.ClaimLaws.{claim-within, rest-within, stress-of, scale-within, field-long}
 use Rattle.criterion.proofs.StrengthLaws.{being, node-read, soil-read, soil-fits, pair-stated, sides-listed}
+use Rattle.mesh.proofs.Places.{most-pairs}
 use borrow.Author.Needs.{needs}
 use Rattle.criterion.proofs.strength_rows.pair_state.Statement.{statement}
 use Rattle.criterion.proofs.strength_rows.pair_state.Tie as tie
@@ -14,12 +15,12 @@ use Rattle.criterion.proofs.strength_rows.pair_state.Tie as tie
 pair-node-requires : tie.Need-pair-node-requires
 pair-node-requires c κs =
     let pre = c .before .pre in
-    (omega (arith, pre .1, pre .0 .0 .few), pre .0 .0 .pairTable .size)
+    (omega (arith, pre .1, most-pairs (pre .0 .0 .few)), pre .0 .0 .pairTable .size)
 
 pair-soil-requires : tie.Need-pair-soil-requires
 pair-soil-requires c κs =
     let pre = c .before .before .pre in
-    (omega (arith, pre .1, pre .0 .0 .few), pre .0 .0 .pairTable .size)
+    (omega (arith, pre .1, most-pairs (pre .0 .0 .few)), pre .0 .0 .pairTable .size)
 
 radius-of-requires : tie.Need-radius-of-requires
 radius-of-requires c κs = sides-listed (c .before .before .before .pre .0 .0 .sized)

@@ -20,10 +20,17 @@ returns-2 c =
     rw e
 
 returns-3 : tie.Need-returns-3
+unfolding isOneOf
 returns-3 c =
-    let f = apart (c .before .if1 .left) (search (machine, unbounded) depth 30) (omega arith) in
-    let g = apart (c .if2 .left) (search (machine, unbounded) depth 30) (omega arith) in
-    decides (search (machine, unbounded) depth 30) (omega arith) ∙ last-sides f g
+    let e = told (c .if3 .taken) (search (machine, unbounded) depth 30) (omega arith) in
+    rw e
+
+returns-4 : tie.Need-returns-4
+returns-4 c =
+    let f = apart (c .before .before .if1 .left) (search (machine, unbounded) depth 30) (omega arith) in
+    let g = apart (c .before .if2 .left) (search (machine, unbounded) depth 30) (omega arith) in
+    let h = apart (c .if3 .left) (search (machine, unbounded) depth 30) (omega arith) in
+    decides (search (machine, unbounded) depth 30) (omega arith) ∙ last-sides f g h
 
 pub is-sides-spec : {M : Type 1} → statement M
-is-sides-spec = tie.close (tie.spec returns returns-2 returns-3)
+is-sides-spec = tie.close (tie.spec returns returns-2 returns-3 returns-4)

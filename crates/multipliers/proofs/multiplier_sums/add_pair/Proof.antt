@@ -5,6 +5,7 @@ use native.Mathlib.Omega.{arith}
 use Rattle.integer.proofs.Machine.{machine, fits, exact}
 use Rattle.criterion.proofs.StrengthLaws.{node-read}
 use Rattle.multipliers.proofs.PairLaws.{pair-room, one-pair-summed}
+use Rattle.mesh.proofs.Places.{most-pairs}
 use borrow.Author.Needs.{needs}
 use Rattle.multipliers.proofs.multiplier_sums.add_pair.Statement.{statement}
 use Rattle.multipliers.proofs.multiplier_sums.add_pair.Tie as tie
@@ -15,7 +16,7 @@ pair-part-requires c κs = search needs
 pair-node-requires : tie.Need-pair-node-requires
 pair-node-requires c κs =
     let pre = c .before .before .before .pre in
-    (omega (arith, pre .1 .0, pre .0 .few), pre .0 .pairTable .size)
+    (omega (arith, pre .1 .0, most-pairs (pre .0 .few)), pre .0 .pairTable .size)
 
 mul-add-columns : tie.Need-mul-add-columns
 mul-add-columns c =

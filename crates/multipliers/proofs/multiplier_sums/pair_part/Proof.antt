@@ -2,7 +2,7 @@
 use mathlib.Core.Path.{_∙_, ap}
 use Prim.Native.Nat.{_*_}
 use native.Mathlib.Omega.{arith}
-use Rattle.mesh.proofs.Places.{few-things}
+use Rattle.mesh.proofs.Places.{most-pairs, few-things}
 use Rattle.integer.proofs.Machine.{Is-read, Is-Within}
 use Rattle.scope.specs.Polygon.{polygonOf}
 use Rattle.multipliers.specs.MultiplierContracts.{pairFirst}
@@ -18,13 +18,13 @@ equality-count-requires c κs = few-things (c .before .pre .0 .sized)
 mul-first : tie.Need-mul-first
 mul-first c =
     let pre = c .before .before .pre in
-    let first = first-row {a = c .before .before .args .a} (pre .1) (pre .0 .few) (pre .0 .sidesGiven .most) in
+    let first = first-row {a = c .before .before .args .a} (pre .1) (most-pairs (pre .0 .few)) (pre .0 .sidesGiven .most) in
     omega (arith, ap (λ k. c .before .before .args .a * k) (pre .0 .sized .sidesAre))
 
 add-first : tie.Need-add-first
 add-first c =
     let pre = c .before .before .pre in
-    let first = first-row {a = c .before .before .args .a} (pre .1) (pre .0 .few) (pre .0 .sidesGiven .most) in
+    let first = first-row {a = c .before .before .args .a} (pre .1) (most-pairs (pre .0 .few)) (pre .0 .sidesGiven .most) in
     omega (arith, ap (λ k. c .before .before .args .a * k) (pre .0 .sized .sidesAre), c .equality-count .ensures .1)
 
 side-sums-requires : tie.Need-side-sums-requires
@@ -35,7 +35,7 @@ side-sums-requires c κs =
 pair-soil-requires : tie.Need-pair-soil-requires
 pair-soil-requires c κs =
     let pre = c .before .before .before .pre in
-    (omega (arith, pre .1, pre .0 .few), pre .0 .pairTable .size)
+    (omega (arith, pre .1, most-pairs (pre .0 .few)), pre .0 .pairTable .size)
 
 radius-of-requires : tie.Need-radius-of-requires
 radius-of-requires c κs = sides-listed (c .before .before .before .before .pre .0 .sized)

@@ -2,7 +2,7 @@
 use mathlib.Core.Path.{_≡_, sym, ap}
 use Prim.Native.Nat.{_*_, _-_, _≤_}
 use native.Mathlib.Omega.{arith}
-use Rattle.mesh.proofs.Places.{few-things}
+use Rattle.mesh.proofs.Places.{most-pairs, few-things}
 use Rattle.multipliers.specs.MultiplierContracts.{countBelow}
 use Rattle.multipliers.specs.MultiplierContracts.{pairFirst}
 use Rattle.criterion.proofs.StrengthLaws.{pair-fits, steps-fit, steps-as, first-row}
@@ -35,7 +35,7 @@ mul-pair-open c =
     let pre = c .before .before .before .before .before .before .pre in
     let sized = pre .0 .0 .sized in
     let steps = steps-as (sym (sized .sidesAre)) (pre .1 .0) in
-    let first = first-row {a = c .before .before .before .loop .a} (c .before .before .loop-test .taken) (omega (arith, pre .0 .0 .pairsAre, pre .0 .0 .few)) (steps .most) in
+    let first = first-row {a = c .before .before .before .loop .a} (c .before .before .loop-test .taken) (omega (arith, pre .0 .0 .pairsAre, most-pairs (pre .0 .0 .few))) (steps .most) in
     omega arith
 
 add-pair-open : tie.Need-add-pair-open Inv-loop μ-loop
@@ -43,7 +43,7 @@ add-pair-open c =
     let pre = c .before .before .before .before .before .before .pre in
     let sized = pre .0 .0 .sized in
     let steps = steps-as (sym (sized .sidesAre)) (pre .1 .0) in
-    let first = first-row {a = c .before .before .before .loop .a} (c .before .before .loop-test .taken) (omega (arith, pre .0 .0 .pairsAre, pre .0 .0 .few)) (steps .most) in
+    let first = first-row {a = c .before .before .before .loop .a} (c .before .before .loop-test .taken) (omega (arith, pre .0 .0 .pairsAre, most-pairs (pre .0 .0 .few))) (steps .most) in
     omega (arith, c .before .before .before .before .equality-count .ensures .1)
 
 pair-open-requires : tie.Need-pair-open-requires Inv-loop μ-loop

@@ -10,6 +10,7 @@ use Rattle.lines.specs.SearchContracts.{firstFailing}
 use Rattle.lines.proofs.Loops.{search-more, search-stops}
 use Rattle.criterion.specs.StrengthContracts.{pairHolds}
 use Rattle.criterion.proofs.StrengthLaws.{steps-as, steps-fit, pair-fits, strengths-refused, strengths-passed}
+use Rattle.mesh.proofs.Places.{most-pairs}
 use borrow.Author.Needs.{needs}
 use Rattle.verdict.proofs.field_checks.strengths_check.Statement.{statement}
 use Rattle.verdict.proofs.field_checks.strengths_check.Tie as tie
@@ -50,7 +51,7 @@ strength-number-requires c κs =
     let pre = b .before .before .before .pre in
     let sized = pre .0 .0 .sized in
     let steps = steps-as (sym (sized .sidesAre)) (pre .1) in
-    (omega (arith, b .loop-test .taken, pre .0 .0 .pairsAre, pre .0 .0 .few), steps .most, omega (arith, steps .most, c .first-side .ensures .1))
+    (omega (arith, b .loop-test .taken, pre .0 .0 .pairsAre, most-pairs (pre .0 .0 .few)), steps .most, omega (arith, steps .most, c .first-side .ensures .1))
 
 returns : tie.Need-returns Inv-loop μ-loop
 returns c =
