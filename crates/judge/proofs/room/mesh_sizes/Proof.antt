@@ -2,9 +2,9 @@
 use mathlib.Core.Path.{_∙_, ap}
 use borrow.Author.Needs.{needs}
 use Rattle.mesh.proofs.Places.{few-things}
-use Rattle.verdict.proofs.VerdictLaws.{sound-mesh}
+use Rattle.verdict.proofs.VerdictLaws.{sound-mesh, counted}
 use Rattle.judge.specs.Room.{noSizes}
-use Rattle.judge.proofs.FilesJudged.{mesh-fits, sound-counted}
+use Rattle.judge.proofs.FilesJudged.{mesh-fits}
 use Rattle.judge.proofs.RoomLaws.{sizes-refused, sizes-passed}
 use Rattle.judge.proofs.room.mesh_sizes.Statement.{statement}
 use Rattle.judge.proofs.room.mesh_sizes.Tie as tie
@@ -43,7 +43,7 @@ returns-2 c =
     let told = c .before in
     let judged = told .before .before .before .before .judge-mesh-file .ensures .answer in
     let passed = told .enum-told .given .1 in
-    sizes-passed judged passed (c .sizes-for .ensures _ (sound-counted (sound-mesh judged passed)))
+    sizes-passed judged passed (c .sizes-for .ensures _ (counted (sound-mesh judged passed)))
 
 pub mesh-sizes-spec : {M : Type 1} → statement M
 mesh-sizes-spec =
