@@ -60,7 +60,7 @@ module _ (r : List ℤ) (k : ℕ) (a b d : ℤ) where
       ∙ getD-set-other (set r (3 * k) a) (3 * k + 1) j b (pos 0) (λ e. omega arith)
       ∙ getD-set-other r (3 * k) j a (pos 0) (λ e. omega arith)
 
-  module _ (size : length r ≡ 3 * mostSides) (l : k < mostSides) where
+  module _ (there : 3 * k + 2 < length r) where
     first : getD stored (3 * k) (pos 0) ≡ a
     first =
         getD-set-other (set (set r (3 * k) a) (3 * k + 1) b) (3 * k + 2) (3 * k) d (pos 0) (λ e. omega arith)
@@ -75,18 +75,21 @@ module _ (r : List ℤ) (k : ℕ) (a b d : ℤ) where
     third : getD stored (3 * k + 2) (pos 0) ≡ d
     third = getD-set-same (set (set r (3 * k) a) (3 * k + 1) b) (3 * k + 2) d (pos 0) (simp length-set (omega arith))
 
-pub no-steps : (t : List ℤ) (n : ℕ) → StepsUpTo 0 (replicate (3 * mostSides) (pos 0)) t n
-no-steps t n = record { size = length-replicate (3 * mostSides) (pos 0); run = λ i h. absurd (omega arith); rise = λ i h. absurd (omega arith); cross = λ i h. absurd (omega arith) }
+pub no-steps : (t : List ℤ) (n : ℕ) (r : List ℤ) → 3 * n ≤ length r → StepsUpTo 0 r t n
+no-steps t n r size = record { size = size; run = λ i h. absurd (omega arith); rise = λ i h. absurd (omega arith); cross = λ i h. absurd (omega arith) }
 
-pub one-step-more : (t : List ℤ) (n k : ℕ) (r : List ℤ) {a b d : ℤ} → n ≤ mostSides → k < n → StepsUpTo k r t n
+pub one-step-more : (t : List ℤ) (n k : ℕ) (r : List ℤ) {a b d : ℤ} → k < n → StepsUpTo k r t n
     → a ≡ tableRun t n k → b ≡ tableRise t n k → d ≡ tableCross t n k → StepsUpTo (k + 1) (stored r k a b d) t n
-one-step-more t n k r {a} {b} {d} most l h ea eb ed = record {
+one-step-more t n k r {a} {b} {d} l h ea eb ed = record {
   size = simp length-set (h .size);
-  run = λ i j. pick (tableRun t n) (λ i. 3 * i) (λ i g. omega arith) (h .run) (first r k a b d (h .size) (omega arith) ∙ ea) i (below-suc (subst (λ x. i < x) (add-one k) j));
-  rise = λ i j. pick (tableRise t n) (λ i. 3 * i + 1) (λ i g. omega arith) (h .rise) (second r k a b d (h .size) (omega arith) ∙ eb) i (below-suc (subst (λ x. i < x) (add-one k) j));
-  cross = λ i j. pick (tableCross t n) (λ i. 3 * i + 2) (λ i g. omega arith) (h .cross) (third r k a b d (h .size) (omega arith) ∙ ed) i (below-suc (subst (λ x. i < x) (add-one k) j));
+  run = λ i j. pick (tableRun t n) (λ i. 3 * i) (λ i g. omega arith) (h .run) (first r k a b d there ∙ ea) i (below-suc (subst (λ x. i < x) (add-one k) j));
+  rise = λ i j. pick (tableRise t n) (λ i. 3 * i + 1) (λ i g. omega arith) (h .rise) (second r k a b d there ∙ eb) i (below-suc (subst (λ x. i < x) (add-one k) j));
+  cross = λ i j. pick (tableCross t n) (λ i. 3 * i + 2) (λ i g. omega arith) (h .cross) (third r k a b d there ∙ ed) i (below-suc (subst (λ x. i < x) (add-one k) j));
 }
   where
+    there : 3 * k + 2 < length r
+    there = omega (arith, h .size)
+
     pick : (f : ℕ → ℤ) (place : ℕ → ℕ) → ((i : ℕ) → i < k → place i < 3 * k) → ((i : ℕ) → i < k → getD r (place i) (pos 0) ≡ f i)
         → getD (stored r k a b d) (place k) (pos 0) ≡ f k → (i : ℕ) → (i < k) ⊎ (i ≡ k) → getD (stored r k a b d) (place i) (pos 0) ≡ f i
     pick f place low old new i (inl g) = before r k a b d (place i) (low i g) ∙ old i g

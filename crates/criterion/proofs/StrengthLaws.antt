@@ -163,7 +163,7 @@ unfolding at
 steps-fit h = record {
   most = h .most;
   each = λ k l. record {
-    size = h .size;
+    there = omega (arith, h .size);
     below = omega (arith, h .most);
     run = Is-Within (h .run k l) (le-refl _);
     rise = Is-Within (h .rise k l) (le-refl _);

@@ -80,7 +80,7 @@ pub record StepIs (r : Step) (t : List ℤ) (n k : ℕ) : Type 0 where
 
 -- the first k sides of a table of n corners, three numbers each
 pub record StepsUpTo (k : ℕ) (r t : List ℤ) (n : ℕ) : Type 0 where
-  pub size : length r ≡ 3 * mostSides
+  pub size : 3 * n ≤ length r
   pub run : (i : ℕ) → i < k → getD r (3 * i) (pos 0) ≡ tableRun t n i
   pub rise : (i : ℕ) → i < k → getD r (3 * i + 1) (pos 0) ≡ tableRise t n i
   pub cross : (i : ℕ) → i < k → getD r (3 * i + 2) (pos 0) ≡ tableCross t n i
@@ -100,7 +100,7 @@ crossOf s = cross (s .from) (s .to)
 
 -- the n sides of a polygon, three numbers each
 pub record Steps (g : Polygon) (n : ℕ) (t : List ℤ) : Type 0 where
-  pub size : length t ≡ 3 * mostSides
+  pub size : 3 * n ≤ length t
   pub most : n ≤ mostSides
   pub run : (k : ℕ) → k < n → Is (getD t (3 * k) (pos 0)) (runOf (sideAt g k)) mostStep
   pub rise : (k : ℕ) → k < n → Is (getD t (3 * k + 1) (pos 0)) (riseOf (sideAt g k)) mostStep
@@ -150,7 +150,7 @@ pub record PairFits (d : List ℤ) : Type 0 where
 
 -- the numbers of side k
 pub record StepFits (t : List ℤ) (k : ℕ) : Type 0 where
-  pub size : length t ≡ 3 * mostSides
+  pub there : 3 * k + 2 < length t
   pub below : k < mostSides
   pub run : Within mostStep (at t (3 * k))
   pub rise : Within mostStep (at t (3 * k + 1))

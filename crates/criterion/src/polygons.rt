@@ -1,13 +1,12 @@
 // The polygons: their corners as constant tables, and what a strength row reads of each side.
 ghost use mathlib.Core.Path.{_≡_};
-ghost use Prim.Native.Nat.{_+_, _*_, _<_};
+ghost use Prim.Native.Nat.{_+_, _*_, _<_, _≤_};
 ghost use lib.ListN.{length};
 ghost use Rattle.integer.specs.Bounds.{Within, AllWithin, Is};
 ghost use Rattle.scope.specs.Polygon.{polygonOf};
 ghost use Rattle.scope.specs.Bounds.{mostRadius};
 ghost use Rattle.criterion.specs.StrengthContracts.{Listed, next, Table, CornerIs, SideIs, StepIs, StepsFrom, Steps};
 use crate::polygon_108::ONE_HUNDRED_EIGHT;
-use mesh::sizes::MOST_SIDES;
 use mesh::sizes::number_at;
 
 // "counterclockwise from (r, 0)": x, y, x, y, ..
@@ -156,9 +155,6 @@ const THIRTY_SIX: [i64; 72] = [
     -16,
 ];
 
-// Three numbers for each side of the largest polygon.
-const STEP_NUMBERS: usize = 3 * MOST_SIDES;
-
 // A corner of a polygon.
 struct Corner {
     x: i64,
@@ -216,12 +212,12 @@ fn step_of(table: &[i64], sides: usize, k: usize) -> Step
     side_from(from.x, from.y, to.x, to.y)
 }
 
-// All sides of the polygon whose corners stand in a table: run, rise and cross product of side k from place 3k on.
-fn steps_from(table: &[i64], sides: usize) -> [i64; STEP_NUMBERS]
-    requires { ⌜ Table (now table) sides ⌝ }
-    ensures { λ r. ⌜ StepsFrom r (now (table .entry)) sides ⌝ }
+// All sides of the polygon whose corners stand in a table, into the list that is lent: run, rise and cross product of
+// side k from place 3k on.
+fn steps_from(table: &[i64], sides: usize, steps: &mut [i64])
+    requires { ⌜ Table (now table) sides ⌝ ∗ ⌜ 3 * sides ≤ length (now steps) ⌝ }
+    ensures { λ _. ⌜ StepsFrom (now (steps .exit)) (now (table .entry)) sides ⌝ }
 {
-    let mut steps = [0i64; STEP_NUMBERS];
     let mut k: usize = 0;
     while k < sides {
         let step = step_of(table, sides, k);
@@ -233,24 +229,23 @@ fn steps_from(table: &[i64], sides: usize) -> [i64; STEP_NUMBERS]
         steps[3 * k + 2] = cross;
         k += 1;
     }
-    steps
 }
 
 // The sides of the polygon of a mesh with this many sides.
-pub fn steps_of(sides: usize) -> [i64; STEP_NUMBERS]
-    requires { ⌜ Listed sides ⌝ }
-    ensures { λ r. ⌜ Steps (polygonOf sides) sides r ⌝ }
+pub fn steps_of(sides: usize, steps: &mut [i64])
+    requires { ⌜ Listed sides ⌝ ∗ ⌜ 3 * sides ≤ length (now steps) ⌝ }
+    ensures { λ _. ⌜ Steps (polygonOf sides) sides (now (steps .exit)) ⌝ }
 {
     if sides == 12 {
-        return steps_from(&TWELVE, 12);
+        return steps_from(&TWELVE, 12, steps);
     }
     if sides == 20 {
-        return steps_from(&TWENTY, 20);
+        return steps_from(&TWENTY, 20, steps);
     }
     if sides == 36 {
-        return steps_from(&THIRTY_SIX, 36);
+        return steps_from(&THIRTY_SIX, 36, steps);
     }
-    steps_from(&ONE_HUNDRED_EIGHT, 108)
+    steps_from(&ONE_HUNDRED_EIGHT, 108, steps)
 }
 
 // The radius of the circle around that polygon.

@@ -9,6 +9,7 @@ ghost use Rattle.scope.specs.Verdict.{openCount, lowerLoad, upperLoad, answer};
 ghost use Rattle.criterion.specs.StrengthContracts.{Judged, MeshSteps};
 use crate::field_checks::field_check;
 use criterion::polygons::steps_of;
+use mesh::sizes::MOST_SIDES;
 use mesh::sizes::Sizes;
 use mesh::sizes::number_at;
 use multipliers::multiplier_checks::Limit;
@@ -44,20 +45,19 @@ fn claim_field(m: &[i64], c: &[i64], s: Sizes, pairs: &[u8], steps: &[i64]) -> O
     Outcome::Passed
 }
 
-// The verdict by the parts. For speed the polygon's sides are made once and lent to each part.
-pub fn parts_verdict(m: &[i64], c: &[i64], s: Sizes, pairs: &[u8]) -> Verdict
-    requires { ⌜ Judged (now m) (now c) s (now pairs) ⌝ }
+// The verdict by the parts, which are lent the polygon's sides.
+fn verdict_by(m: &[i64], c: &[i64], s: Sizes, pairs: &[u8], steps: &[i64]) -> Verdict
+    requires { ⌜ Judged (now m) (now c) s (now pairs) ⌝ ∗ ⌜ MeshSteps (now m) (now steps) ⌝ }
     ensures { λ r. ⌜ r
         ≡ answer (checkPhases (partPhases (now (m .entry)) (now (c .entry))))
         (Verdict.Accepted (openCount (now (m .entry)) (now (c .entry))) (lowerLoad (now (c .entry)))
         (upperLoad (now (m .entry)) (now (c .entry)))) ⌝ }
 {
-    let steps = steps_of(s.sides);
-    let field = claim_field(m, c, s, pairs, &steps);
+    let field = claim_field(m, c, s, pairs, steps);
     if let Outcome::Refused { number, place } = field {
         return Verdict::Refused { number, place };
     }
-    let limit = claim_limit(m, c, s, pairs, &steps);
+    let limit = claim_limit(m, c, s, pairs, steps);
     match limit {
         Limit::Refused { number, place } => Verdict::Refused { number, place },
         Limit::Absent => Verdict::Accepted {
@@ -66,9 +66,35 @@ pub fn parts_verdict(m: &[i64], c: &[i64], s: Sizes, pairs: &[u8]) -> Verdict
             upper: Load::Absent,
         },
         Limit::Exact { w, m: den } => Verdict::Accepted {
-            open_rows: open_rows(m, c, s, pairs, &steps),
+            open_rows: open_rows(m, c, s, pairs, steps),
             lower: lower_load(c),
             upper: Load::Exact { num: w, den },
         },
     }
+}
+
+// Rooms for the numbers of a polygon's sides, three each. An array is filled before it is used, so the room goes by
+// the number of sides.
+const FEW_SIDES: usize = 36;
+
+const FEW_STEPS: usize = 3 * FEW_SIDES;
+
+const MOST_STEPS: usize = 3 * MOST_SIDES;
+
+// The verdict by the parts. For speed the polygon's sides are made once.
+pub fn parts_verdict(m: &[i64], c: &[i64], s: Sizes, pairs: &[u8]) -> Verdict
+    requires { ⌜ Judged (now m) (now c) s (now pairs) ⌝ }
+    ensures { λ r. ⌜ r
+        ≡ answer (checkPhases (partPhases (now (m .entry)) (now (c .entry))))
+        (Verdict.Accepted (openCount (now (m .entry)) (now (c .entry))) (lowerLoad (now (c .entry)))
+        (upperLoad (now (m .entry)) (now (c .entry)))) ⌝ }
+{
+    if s.sides <= FEW_SIDES {
+        let mut few = [0i64; FEW_STEPS];
+        steps_of(s.sides, &mut few);
+        return verdict_by(m, c, s, pairs, &few);
+    }
+    let mut most = [0i64; MOST_STEPS];
+    steps_of(s.sides, &mut most);
+    verdict_by(m, c, s, pairs, &most)
 }
