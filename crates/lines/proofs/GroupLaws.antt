@@ -19,13 +19,17 @@ use Rattle.scope.specs.declared.Outcome.{Outcome}
 use Rattle.scope.specs.declared.Outcome.the-variants.{Passed, Refused}
 use Rattle.mesh.specs.declared.sizes.Sizes.{Sizes}
 use Rattle.lines.specs.declared.layout.Rule.{Rule}
-use Rattle.lines.specs.declared.layout.Rule.the-variants.{Soil, Element, Edge, Jump}
+use Rattle.lines.specs.declared.layout.Rule.the-variants.{Soil, Element, Tabled, Edge, Jump, Layer}
 use Rattle.scope.specs.Checks.{demand, _then_, lowest}
 use Rattle.scope.specs.Columns.{hasField, hasMultipliers}
 use Rattle.scope.specs.Layout.{Group, Layout, Placed, width, groups, lineCount, numberCount, lineOf, lineNumbers}
 use Rattle.scope.specs.Verdict.{lineCheck, lineAt, linesCheck}
-use Rattle.scope.specs.Mesh.{meshHeaderColumns, meshHeader, meshLayout, soilLines, elementLines, edgeLines, jumpLines}
+use Rattle.scope.specs.Mesh.{meshHeaderColumns, meshHeader, meshLayout, layoutWith, soils, soilLines, elementLines, edgeLines, jumpLines}
 use Rattle.scope.specs.Claim.{claimHeaderColumns, claimHeader, claimLayout, ifThere}
+use Rattle.scope.specs.Layers.{layerColumns}
+use Rattle.scope.specs.Phases.{checkSteps, checkPhase, checkPhases}
+use Rattle.scope.specs.Refusals.{lineSteps}
+use Rattle.scope.specs.Table.{layerLines, tableLines, tableLayout, tableLinePhases}
 use Rattle.mesh.specs.MeshContracts.{SizesAre, Counted, HeaderThere}
 use Rattle.lines.specs.Table.{ruledLines, meshBody, claimBody}
 use Rattle.lines.specs.LineContracts.{lineStep, groupCheck, groupsCheck, numbered, NumberedFrom}
@@ -53,25 +57,29 @@ module _ (f : Layout) (g : Group) (s : List ℤ) (k : ℕ) (p : Place) {w from :
 
 -- the lines with rules of their own: how many there are matters neither to their columns nor to the check of one
 pub ruled-width : (rule : Rule) (z : Sizes) (n : ℕ) → width (ruledLines rule z n) ≡ width (ruledLines rule z 0)
-unfolding ruledLines soilLines elementLines edgeLines jumpLines
+unfolding ruledLines soilLines elementLines edgeLines jumpLines layerLines
 ruled-width Soil z n = refl
 ruled-width Element z n = refl
+ruled-width Tabled z n = refl
 ruled-width Edge z n = refl
 ruled-width Jump z n = refl
+ruled-width Layer z n = refl
 
 module _ (rule : Rule) (z : Sizes) (f : Layout) (s : List ℤ) (line : ℕ) where
   abbrev ruledStep : ℕ → Outcome
   ruledStep k = lineStep f (ruledLines rule z 0) s line k
 
   ruled-group : (n : ℕ) → lowest ruledStep n ≡ groupCheck f (ruledLines rule z n) s line
-  unfolding ruledLines groupCheck lineCheck soilLines elementLines edgeLines jumpLines
+  unfolding ruledLines groupCheck lineCheck soilLines elementLines edgeLines jumpLines layerLines
   ruled-group n = of rule
     where
       of : (rule : Rule) → lowest (lineStep f (ruledLines rule z 0) s line) n ≡ groupCheck f (ruledLines rule z n) s line
       of Soil = refl
       of Element = refl
+      of Tabled = refl
       of Edge = refl
       of Jump = refl
+      of Layer = refl
 
   -- the lines before line k have passed
   module _ (k : ℕ) (h : lowest ruledStep k ≡ Passed) {o : Outcome} (e : o ≡ ruledStep k) where
@@ -199,18 +207,18 @@ unfolding numbered
 numbered-from form = record { formIs = refl; limitIs = refl }
 
 -- the groups that the definitions tell, by the sizes that the code is handed
-pub mesh-body : {m : List ℤ} {s : Sizes} → SizesAre m s → meshBody s ≡ meshLayout .body m
-unfolding meshLayout meshBody
-mesh-body k = rw (k .nodesAre, k .elementsAre, k .soilsAre, k .edgesAre, k .jumpsAre)
+pub mesh-body : {m : List ℤ} {s : Sizes} (tabled : Bool) → SizesAre m s → meshBody s tabled ≡ layoutWith tabled .body m
+unfolding layoutWith meshBody
+mesh-body tabled k = rw (k .nodesAre, k .elementsAre, k .soilsAre, k .edgesAre, k .jumpsAre)
 
 pub claim-body : {m : List ℤ} {s : Sizes} → Counted m s → (c : List ℤ) → claimBody s (hasField c) (hasMultipliers c) ≡ claimLayout m .body c
 unfolding claimLayout claimBody
 claim-body k c = rw (k .sizes .nodesAre, k .sizes .elementsAre, k .sizes .edgesAre, k .sizes .jumpsAre, k .sizes .sidesAre, k .pairsAre)
 
 -- only the numbers of its refusals matter of a file
-pub mesh-starts : (m : List ℤ) → Reached (linesCheck meshLayout m) (numbered 1) (meshHeader ∷ meshLayout .body m) m 1
-unfolding groups groupsCheck groupCheck lineCheck meshLayout numbered
-mesh-starts m = record { same = lines-by-groups meshLayout m }
+pub mesh-starts : (tabled : Bool) (m : List ℤ) → Reached (linesCheck (layoutWith tabled) m) (numbered 1) (meshHeader ∷ layoutWith tabled .body m) m 1
+unfolding groups groupsCheck groupCheck lineCheck layoutWith numbered
+mesh-starts tabled m = record { same = lines-by-groups (layoutWith tabled) m }
 
 pub mesh-header-group : (m : List ℤ) → lineAt meshLayout m 0 ≡ groupCheck (numbered 1) meshHeader m 1
 unfolding groupCheck lowest lineAt lineOf lineCheck groups lineNumbers meshLayout meshHeader numbered
@@ -223,6 +231,37 @@ claim-starts m c = record { same = lines-by-groups (claimLayout m) c }
 pub claim-header-group : (c : List ℤ) → lineCheck (claimLayout []) claimHeader (take claimHeaderColumns c) (Line 1) ≡ groupCheck (numbered 11) claimHeader c 1
 unfolding groupCheck lowest lineCheck claimHeader claimLayout numbered
 claim-header-group c = refl
+
+-- ---- a table
+
+-- line k of a table stands in its one group
+layer-line : (t m : List ℤ) (k : ℕ) → k < tableLines t → lineOf 0 (groups (tableLayout m) t) k ≡ record { group = layerLines (tableLines t) (soils m); first = 0 + 0 * layerColumns + (k - 0) * layerColumns }
+unfolding tableLayout groups layerLines
+layer-line t m k l =
+    line-after (layerLines 0 (soils m)) (layerLines (tableLines t) (soils m) ∷ []) 0 k (omega arith)
+    ∙ line-here (layerLines (tableLines t) (soils m)) [] (0 + 0 * layerColumns) (k - 0) (omega arith)
+
+-- the lines of a table are those of the group, and then what is left over
+pub table-check : (t m : List ℤ) (s : Sizes) → soils m ≡ s .soils → checkPhases (tableLinePhases t m) ≡ groupCheck (numbered 1) (ruledLines Layer s (tableLines t)) t 1001 then demand (leb (length t) (tableLines t * layerColumns)) 1 (Line (1001 + tableLines t))
+unfolding checkPhases checkPhase tableLayout groups lineCount numberCount layerLines lowest groupCheck ruledLines lineNumbers lineCheck numbered
+table-check t m s e =
+    let lines : lineCount (groups (tableLayout m) t) ≡ tableLines t = omega arith in
+    let numbers : numberCount (groups (tableLayout m) t) ≡ tableLines t * layerColumns = omega arith in
+    let after : 1000 + suc (lineCount (groups (tableLayout m) t)) ≡ 1001 + tableLines t = omega arith in
+    ap₂ _then_
+    (ap (lowest (λ k. above k (lineOf 0 (groups (tableLayout m) t) k))) lines
+    ∙ lowest-cong _ _ (tableLines t) (λ k l. ap (above k) (layer-line t m k l) ∙ step k))
+    (ap₂ (λ (a b : ℕ). demand (leb (length t) a) 1 (Line b)) numbers after)
+  where
+    above : ℕ → Placed → Outcome
+    above k l = checkSteps (lineSteps (tableLayout m) (l .group) (lineNumbers t l)) (Line (1000 + suc k))
+
+    step : (k : ℕ) → above k (record { group = layerLines (tableLines t) (soils m); first = 0 + 0 * layerColumns + (k - 0) * layerColumns }) ≡ lineStep (numbered 1) (ruledLines Layer s (tableLines t)) t 1001 k
+    step k =
+        let first : 0 + 0 * layerColumns + (k - 0) * layerColumns ≡ k * layerColumns = omega arith in
+        let place : 1000 + suc k ≡ 1001 + k = omega arith in
+        ap₂ (λ (a p : ℕ). checkSteps (lineSteps (tableLayout m) (layerLines (tableLines t) (soils m)) (take layerColumns (drop a t))) (Line p)) first place
+        ∙ ap (λ (ss : ℕ). lineCheck (numbered 1) (layerLines (tableLines t) ss) (take layerColumns (drop (k * layerColumns) t)) (Line (1001 + k))) e
 
 -- ---- what a header says where it has passed
 

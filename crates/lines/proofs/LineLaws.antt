@@ -29,6 +29,8 @@ use Rattle.scope.specs.Claim.{claimHeaderColumns}
 use Rattle.scope.specs.Layout.{Group, Layout, width, groups, lineOf, lineNumbers}
 use Rattle.scope.specs.Verdict.{lineCheck, lineAt, rulesHold}
 use Rattle.scope.specs.Mesh.{mostNodes, mostElements, mostSoils, mostEdges, mostSides, mostStrength, listedSides, nodesFor108, strengthFor108, strengthMultiplier, meshHeaderColumns, soilColumns, elementColumns, edgeColumns, meshLayout, meshHeader, soilLines, edgeLines, mostJumps, jumpColumns}
+use Rattle.scope.specs.Layers.{layerColumns}
+use Rattle.scope.specs.Table.{layerLines}
 use Rattle.lines.specs.LineContracts.{ranges, AsMany}
 use Rattle.scope.proofs.Statements.{all-within}
 use Rattle.scope.proofs.Refusals.{line-check-passed}
@@ -175,16 +177,16 @@ cast-count : (n : ℕ) → n ≤ mostNodes → toZ w64 n ≡ pos n
 cast-count n h = toZ-pos w64 (omega arith)
 
 -- numbers that name things are within limits of their own
-pub element-names : (ns ss : ℕ) → ns ≤ mostNodes → ss ≤ mostSoils → (s : List ℤ) → elementColumns ≤ length s → ruleTest (naming ((0, ns) ∷ (1, ns) ∷ (2, ns) ∷ (3, ns) ∷ (4, ss) ∷ [])) (take elementColumns s) ≡ allWithin (ranges (replicate elementColumns (pos 1)) (toZ w64 ns ∷ toZ w64 ns ∷ toZ w64 ns ∷ toZ w64 ns ∷ toZ w64 ss ∷ [])) (take elementColumns s)
+pub element-names : (ns least ss : ℕ) → ns ≤ mostNodes → least ≤ 1 → ss ≤ mostSoils → (s : List ℤ) → elementColumns ≤ length s → ruleTest (naming ((0, 1, ns) ∷ (1, 1, ns) ∷ (2, 1, ns) ∷ (3, 1, ns) ∷ (4, least, ss) ∷ [])) (take elementColumns s) ≡ allWithin (ranges (pos 1 ∷ pos 1 ∷ pos 1 ∷ pos 1 ∷ toZ w64 least ∷ []) (toZ w64 ns ∷ toZ w64 ns ∷ toZ w64 ns ∷ toZ w64 ns ∷ toZ w64 ss ∷ [])) (take elementColumns s)
 unfolding ruleTest allNamed names at allWithin within ranges
-element-names ns ss f g [] l = absurd (omega arith)
-element-names ns ss f g (a ∷ []) l = absurd (omega arith)
-element-names ns ss f g (a ∷ b ∷ []) l = absurd (omega arith)
-element-names ns ss f g (a ∷ b ∷ d ∷ []) l = absurd (omega arith)
-element-names ns ss f g (a ∷ b ∷ d ∷ e ∷ []) l = absurd (omega arith)
-element-names ns ss f g (a ∷ b ∷ d ∷ e ∷ z ∷ s) l = rw (cast-count ns f, cast-count ss (omega arith))
+element-names ns least ss f k g [] l = absurd (omega arith)
+element-names ns least ss f k g (a ∷ []) l = absurd (omega arith)
+element-names ns least ss f k g (a ∷ b ∷ []) l = absurd (omega arith)
+element-names ns least ss f k g (a ∷ b ∷ d ∷ []) l = absurd (omega arith)
+element-names ns least ss f k g (a ∷ b ∷ d ∷ e ∷ []) l = absurd (omega arith)
+element-names ns least ss f k g (a ∷ b ∷ d ∷ e ∷ z ∷ s) l = rw (cast-count ns f, cast-count least (omega arith), cast-count ss (omega arith))
 
-pub jump-names : (ns : ℕ) → ns ≤ mostNodes → (s : List ℤ) → jumpColumns ≤ length s → ruleTest (naming ((0, ns) ∷ (1, ns) ∷ (2, ns) ∷ (3, ns) ∷ [])) (take jumpColumns s) ≡ allWithin (ranges (replicate jumpColumns (pos 1)) (replicate jumpColumns (toZ w64 ns))) (take jumpColumns s)
+pub jump-names : (ns : ℕ) → ns ≤ mostNodes → (s : List ℤ) → jumpColumns ≤ length s → ruleTest (naming ((0, 1, ns) ∷ (1, 1, ns) ∷ (2, 1, ns) ∷ (3, 1, ns) ∷ [])) (take jumpColumns s) ≡ allWithin (ranges (replicate jumpColumns (pos 1)) (replicate jumpColumns (toZ w64 ns))) (take jumpColumns s)
 unfolding ruleTest allNamed names at allWithin within ranges
 jump-names ns f [] l = absurd (omega arith)
 jump-names ns f (a ∷ []) l = absurd (omega arith)
@@ -192,7 +194,7 @@ jump-names ns f (a ∷ b ∷ []) l = absurd (omega arith)
 jump-names ns f (a ∷ b ∷ d ∷ []) l = absurd (omega arith)
 jump-names ns f (a ∷ b ∷ d ∷ e ∷ s) l = rw (cast-count ns f)
 
-pub edge-names : (ns : ℕ) → ns ≤ mostNodes → (s : List ℤ) → edgeColumns ≤ length s → ruleTest (naming ((0, ns) ∷ (1, ns) ∷ [])) (take edgeColumns s) ≡ allWithin (ranges (replicate 2 (pos 1)) (replicate 2 (toZ w64 ns))) (take 2 s)
+pub edge-names : (ns : ℕ) → ns ≤ mostNodes → (s : List ℤ) → edgeColumns ≤ length s → ruleTest (naming ((0, 1, ns) ∷ (1, 1, ns) ∷ [])) (take edgeColumns s) ≡ allWithin (ranges (replicate 2 (pos 1)) (replicate 2 (toZ w64 ns))) (take 2 s)
 unfolding ruleTest allNamed names at allWithin within ranges
 edge-names ns f [] l = absurd (omega arith)
 edge-names ns f (a ∷ []) l = absurd (omega arith)
@@ -203,6 +205,21 @@ unfolding edgeLines allWithin within
 edge-limits ns [] l = absurd (omega arith)
 edge-limits ns (a ∷ []) l = absurd (omega arith)
 edge-limits ns (a ∷ b ∷ s) l = refl
+
+-- a layer: two limits, and the name of its soil
+pub layer-limits : (ss : ℕ) (s : List ℤ) → layerColumns ≤ length s → allWithin (layerLines 0 ss .limits) (take layerColumns s) ≡ allWithin (take 2 (layerLines 0 ss .limits)) (take 2 s)
+unfolding layerLines allWithin within
+layer-limits ss [] l = absurd (omega arith)
+layer-limits ss (a ∷ []) l = absurd (omega arith)
+layer-limits ss (a ∷ b ∷ []) l = absurd (omega arith)
+layer-limits ss (a ∷ b ∷ d ∷ s) l = refl
+
+pub layer-names : (ss : ℕ) → ss ≤ mostSoils → (s : List ℤ) → layerColumns ≤ length s → ruleTest (naming ((2, 1, ss) ∷ [])) (take layerColumns s) ≡ allWithin (ranges (pos 1 ∷ []) (toZ w64 ss ∷ [])) (take 1 (drop 2 s))
+unfolding ruleTest allNamed names at allWithin within ranges
+layer-names ss f [] l = absurd (omega arith)
+layer-names ss f (a ∷ []) l = absurd (omega arith)
+layer-names ss f (a ∷ b ∷ []) l = absurd (omega arith)
+layer-names ss f (a ∷ b ∷ d ∷ s) l = rw (cast-count ss (omega arith))
 
 -- ---- the header of a mesh
 

@@ -8,7 +8,8 @@ use native.Mathlib.Omega.{arith}
 use lib.ListN.{length, getD, drop}
 use lib.Seq.{drop-cons}
 use Rattle.mesh.specs.declared.sizes.Sizes.{Sizes}
-use Rattle.lines.specs.declared.layout.Rule.the-variants.{Soil, Element, Edge, Jump}
+use Rattle.scope.specs.Table.{layerLines}
+use Rattle.lines.specs.declared.layout.Rule.the-variants.{Soil, Element, Tabled, Edge, Jump, Layer}
 use Rattle.lines.specs.declared.layout.Kind.{Kind}
 use Rattle.lines.specs.declared.layout.Kind.the-variants.{Ruled, Even}
 use Rattle.lines.specs.declared.layout.Group as Code
@@ -32,12 +33,14 @@ few-in h = mul-le-mul {n₂ = mostLines} {m₂ = mostColumns} (h .fewLines) (h .
 
 -- its lines as the definitions have them
 pub lines-meant : (s : Sizes) (g : Code.Group) → meant s g .lines ≡ g .lines
-unfolding kindLines ruledLines evenLines soilLines elementLines edgeLines jumpLines
+unfolding kindLines ruledLines evenLines soilLines elementLines edgeLines jumpLines layerLines
 lines-meant s g = of (g .kind)
   where
     of : (k : Kind) → kindLines k s (g .lines) (g .columns) .lines ≡ g .lines
     of (Ruled Soil) = refl
     of (Ruled Element) = refl
+    of (Ruled Tabled) = refl
     of (Ruled Edge) = refl
     of (Ruled Jump) = refl
+    of (Ruled Layer) = refl
     of (Even lo hi) = refl

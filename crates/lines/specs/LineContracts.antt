@@ -57,9 +57,9 @@ pub record NumberedFrom (f : Layout) (form : ℕ) : Type 0 where
 abbrev pub mostForm : ℕ
 mostForm = 11
 
--- the line after the last, where each group has as many lines as it can
+-- the line after the last, where each group has as many lines as it can; a table's lines are numbered from 1,001
 abbrev pub mostLine : ℕ
-mostLine = 2 + groupCount * mostLines
+mostLine = 1001 + groupCount * mostLines
 
 -- counts and line numbers are small, so that no sum of them overflows
 pub record FewColumns (count columns form line : ℕ) : Type 0 where

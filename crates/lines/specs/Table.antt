@@ -1,18 +1,19 @@
 -- The table of a file's groups as the code keeps it, and the groups of the definitions that it stands for.
 use mathlib.Core.Path.{_≡_}
-use mathlib.Core.Bool.{Bool}
+use mathlib.Core.Bool.{Bool, cond}
 use mathlib.Core.List.{List, [], _∷_, _++_, map}
 use Prim.Native.Nat.{ℕ, _≤_, _<_}
 use lib.ListN.{length, replicate}
 use Rattle.mesh.specs.declared.sizes.Sizes.{Sizes}
 use Rattle.lines.specs.declared.layout.Rule.{Rule}
-use Rattle.lines.specs.declared.layout.Rule.the-variants.{Soil, Element, Edge, Jump}
+use Rattle.lines.specs.declared.layout.Rule.the-variants.{Soil, Element, Tabled as TabledElement, Edge, Jump, Layer}
 use Rattle.lines.specs.declared.layout.Kind.{Kind}
 use Rattle.lines.specs.declared.layout.Kind.the-variants.{Ruled, Even}
 use Rattle.lines.specs.declared.layout.Group as Code
 use Rattle.scope.specs.Columns.{Limit, between}
 use Rattle.scope.specs.Layout.{Group, width}
 use Rattle.scope.specs.Mesh.{mostNodes, mostSides, soilLines, elementLines, edgeLines, jumpLines, meshLines}
+use Rattle.scope.specs.Table.{layerLines}
 use Rattle.scope.specs.Claim.{claimLines}
 
 -- how many groups a file has after its header; the most lines of a group, which are a node's, an element's or a
@@ -30,12 +31,14 @@ mostColumns = mostSides
 unfoldable pub evenLines : ℕ → ℕ → Limit → Group
 evenLines count columns a = record { lines = count; limits = replicate columns a; rules = [] }
 
--- lines that have rules of their own: an element names nodes and soils, an edge and a jump nodes
+-- lines that have rules of their own: an element names nodes and soils, an edge and a jump nodes, a layer soils
 unfoldable pub ruledLines : Rule → Sizes → ℕ → Group
 ruledLines Soil s count = soilLines count
-ruledLines Element s count = elementLines count (s .nodes) (s .soils)
+ruledLines Element s count = elementLines count (s .nodes) 1 (s .soils)
+ruledLines TabledElement s count = elementLines count (s .nodes) 0 (s .soils)
 ruledLines Edge s count = edgeLines count (s .nodes)
 ruledLines Jump s count = jumpLines count (s .nodes)
+ruledLines Layer s count = layerLines count (s .soils)
 
 unfoldable pub kindLines : Kind → Sizes → ℕ → ℕ → Group
 kindLines (Ruled r) s count columns = ruledLines r s count
@@ -73,8 +76,8 @@ pub record Tabled (s : Sizes) (gs : List Code.Group) (body : List Group) : Type 
 
 -- ---- the groups after the header, on a mesh with these sizes
 
-unfoldable pub meshBody : Sizes → List Group
-meshBody s = meshLines (s .nodes) (s .elements) (s .soils) (s .edges) (s .jumps)
+unfoldable pub meshBody : Sizes → Bool → List Group
+meshBody s tabled = meshLines (cond tabled 0 1) (s .nodes) (s .elements) (s .soils) (s .edges) (s .jumps)
 
 unfoldable pub claimBody : Sizes → Bool → Bool → List Group
 claimBody s = claimLines (s .nodes) (s .elements) (s .edges) (s .jumps) (s .pairs) (s .sides)

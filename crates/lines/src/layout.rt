@@ -1,4 +1,4 @@
-// The lines of a mesh and of a claim, as one table: the limits of the headers, then groups of lines, and of each its
+// The lines of a mesh, of a claim and of a borehole table, as one table: the limits of the headers, then groups of lines, and of each its
 // kind, how many lines it has and how many columns each.
 // Whatever goes through a file's lines goes through this table: the reader, the checks of lines, the bytes of a claim.
 use mesh::sizes::EDGE_COLUMNS;
@@ -7,6 +7,7 @@ use mesh::sizes::ELEMENT_COLUMNS;
 use mesh::sizes::ELEMENT_ROWS;
 use mesh::sizes::JUMP_COLUMNS;
 use mesh::sizes::JUMP_ROWS;
+use mesh::sizes::LAYER_COLUMNS;
 use mesh::sizes::MESH_HEADER;
 use mesh::sizes::MOST_EDGES;
 use mesh::sizes::MOST_ELEMENTS;
@@ -19,6 +20,7 @@ use mesh::sizes::NODES_FOR_108;
 use mesh::sizes::SOIL_COLUMNS;
 use mesh::sizes::Sizes;
 ghost use mathlib.Core.Path.{_≡_};
+ghost use mathlib.Core.Bool.{cond};
 ghost use lib.IntN.{pos};
 ghost use Rattle.integer.specs.Bounds.{Is};
 ghost use Rattle.integer.specs.Tests.{eqZ};
@@ -83,13 +85,26 @@ pub const EDGE_LEAST: [i64; EDGE_LIMITS] = [1, -10000, -10000, -10000, -10000];
 
 pub const EDGE_MOST: [i64; EDGE_LIMITS] = [3, 10000, 10000, 10000, 10000];
 
+// The limits of a layer's columns before its soil.
+pub const LAYER_LIMITS: usize = LAYER_COLUMNS - 1;
+
+pub const LAYER_LEAST: [i64; LAYER_LIMITS] = [-1000, -1000];
+
+pub const LAYER_MOST: [i64; LAYER_LIMITS] = [2000, 2000];
+
+// "its lines are numbered from 1,001" (document 02, N8).
+pub const FIRST_LAYER: usize = 1001;
+
 // The lines that have rules of their own: a soil its limits and a right angle, an element the names of its nodes and
-// its soil, an edge its limits and the names of its nodes, a jump the names of its nodes.
+// its soil, and so where there is a table but that the soil may be 0, an edge its limits and the names of its nodes, a
+// jump the names of its nodes, a layer its limits and the name of its soil.
 pub enum Rule {
     Soil,
     Element,
+    Tabled,
     Edge,
     Jump,
+    Layer,
 }
 
 // What is asked of a line: rules of its own, or that each of its numbers is from lo to hi.
@@ -105,11 +120,22 @@ pub struct Group {
     pub columns: usize,
 }
 
-// The groups of a mesh with these sizes.
-pub fn mesh_groups(s: Sizes) -> [Group; GROUPS]
-    requires { ⌜ FewThings s ⌝ }
-    ensures { λ r. ⌜ Tabled s r (meshBody s) ⌝ }
+// The lines of elements, where there is a table and where there is none.
+fn element_rule(tabled: bool) -> Rule
+    ensures { λ r. ⌜ r ≡ cond tabled Rule.Tabled Rule.Element ⌝ }
 {
+    if tabled {
+        return Rule::Tabled;
+    }
+    Rule::Element
+}
+
+// The groups of a mesh with these sizes, that has a table or has none.
+pub fn mesh_groups(s: Sizes, tabled: bool) -> [Group; GROUPS]
+    requires { ⌜ FewThings s ⌝ }
+    ensures { λ r. ⌜ Tabled s r (meshBody s tabled) ⌝ }
+{
+    let element = element_rule(tabled);
     [
         Group {
             kind: Kind::Ruled(Rule::Soil),
@@ -122,7 +148,7 @@ pub fn mesh_groups(s: Sizes) -> [Group; GROUPS]
             columns: NODE_COLUMNS,
         },
         Group {
-            kind: Kind::Ruled(Rule::Element),
+            kind: Kind::Ruled(element),
             lines: s.elements,
             columns: ELEMENT_COLUMNS,
         },

@@ -1,9 +1,10 @@
-// The checks of the lines of a mesh and of a claim: refusals 1 to 4, and 11 to 13. They take any numbers, and any
+// The checks of the lines of a mesh, of a table and of a claim: refusals 1 to 4, and 11 to 13. They take any numbers, and any
 // count of them.
 use crate::layout::CLAIM_HEADER;
 use crate::layout::CLAIM_LEAST;
 use crate::layout::CLAIM_MOST;
 use crate::layout::COUNTS;
+use crate::layout::FIRST_LAYER;
 use crate::layout::GROUPS;
 use crate::layout::Group;
 use crate::layout::JUMPS_AT;
@@ -21,7 +22,9 @@ use crate::line_tests::is_within;
 use crate::line_tests::limits_hold;
 use crate::line_tests::line_at;
 use crate::line_tests::refused;
+use mesh::sizes::LAYER_COLUMNS;
 use mesh::sizes::MESH_HEADER;
+use mesh::sizes::MOST_LAYERS;
 use mesh::sizes::Sizes;
 use mesh::sizes::header_sizes;
 use scope::Outcome;
@@ -29,7 +32,7 @@ use scope::Place;
 ghost use mathlib.Core.Path.{_≡_};
 ghost use mathlib.Core.Bool.{true, cond, _&&_};
 ghost use mathlib.Core.List.{List, [], _∷_, map};
-ghost use Prim.Native.Nat.{min, _/_, _<_, _≤_};
+ghost use Prim.Native.Nat.{min, _+_, _/_, _<_, _≤_};
 ghost use lib.ListN.{length, take, drop};
 ghost use lib.IntN.{ℤ, pos};
 ghost use lib.Signed.{leZ};
@@ -38,7 +41,10 @@ ghost use Rattle.scope.specs.Checks.{allBelow};
 ghost use Rattle.scope.specs.Columns.{at, between, within, isOneOf, parts, ruleTest};
 ghost use Rattle.scope.specs.Layout.{width};
 ghost use Rattle.scope.specs.Verdict.{lineCheck, lineAt, linesCheck};
-ghost use Rattle.scope.specs.Mesh.{mostSides, listedSides, nodesFor108, meshLayout, mostJumps};
+ghost use Rattle.scope.specs.Mesh.{mostSides, listedSides, nodesFor108, meshLayout, mostJumps, layoutWith, soils};
+ghost use Rattle.scope.specs.Layers.{mostLayers, layerColumns};
+ghost use Rattle.scope.specs.Phases.{checkPhases};
+ghost use Rattle.scope.specs.Table.{tableLinePhases};
 ghost use Rattle.scope.specs.Claim.{claimHeaderColumns, claimHeader, claimLayout};
 ghost use Rattle.mesh.specs.MeshContracts.{FewThings, Counted};
 ghost use Rattle.lines.specs.Table.{evenLines, ruledLines, meant, Good, Table};
@@ -279,16 +285,42 @@ fn groups_check(s: &[i64], groups: [Group; GROUPS], sizes: Sizes, form: u32) -> 
     Outcome::Passed
 }
 
-// The lines of a mesh: refusals 1 to 4.
-pub fn mesh_lines(m: &[i64]) -> Outcome
-    ensures { λ r. ⌜ r ≡ linesCheck meshLayout (now (m .entry)) ⌝ }
+// The lines of a mesh that has a table or has none: refusals 1 to 4.
+pub fn mesh_lines(m: &[i64], tabled: bool) -> Outcome
+    ensures { λ r. ⌜ r ≡ linesCheck (layoutWith tabled) (now (m .entry)) ⌝ }
 {
     let header = mesh_header(m);
     if let Outcome::Refused { .. } = header {
         return header;
     }
     let s = header_sizes(m);
-    groups_check(rest(m, MESH_HEADER), mesh_groups(s), s, 1)
+    groups_check(rest(m, MESH_HEADER), mesh_groups(s, tabled), s, 1)
+}
+
+// "1 to 32 lines": how many lines of a table so many numbers begin, and no more than 32.
+pub fn table_count(numbers: usize) -> usize
+    ensures { λ r. ⌜ r ≡ min ((numbers + 2) / layerColumns) mostLayers ⌝ }
+{
+    if numbers >= MOST_LAYERS * LAYER_COLUMNS {
+        return MOST_LAYERS;
+    }
+    (numbers + LAYER_COLUMNS - 1) / LAYER_COLUMNS
+}
+
+// The lines of a table for a mesh with these sizes: refusals 1, 2 and 4.
+pub fn table_lines(t: &[i64], s: Sizes) -> Outcome
+    requires { ⌜ FewThings s ⌝ }
+    ensures { λ r. ⌜ ((m : List ℤ) → soils m ≡ s .soils → r ≡ checkPhases (tableLinePhases (now (t .entry)) m)) ⌝ }
+{
+    let count = table_count(t.len());
+    let outcome = ruled_check(Rule::Layer, t, count, LAYER_COLUMNS, s, 1, FIRST_LAYER);
+    if let Outcome::Refused { .. } = outcome {
+        return outcome;
+    }
+    if count * LAYER_COLUMNS < t.len() {
+        return refused(1, FIRST_LAYER + count);
+    }
+    Outcome::Passed
 }
 
 // The lines of a claim on a mesh with these sizes, whose pairs are counted: refusals 11 to 13.

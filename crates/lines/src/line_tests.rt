@@ -2,12 +2,16 @@
 use crate::layout::EDGE_ENDS;
 use crate::layout::EDGE_LEAST;
 use crate::layout::EDGE_MOST;
+use crate::layout::LAYER_LEAST;
+use crate::layout::LAYER_LIMITS;
+use crate::layout::LAYER_MOST;
 use crate::layout::Rule;
 use crate::layout::SOIL_LEAST;
 use crate::layout::SOIL_MOST;
 use mesh::sizes::EDGE_COLUMNS;
 use mesh::sizes::ELEMENT_COLUMNS;
 use mesh::sizes::JUMP_COLUMNS;
+use mesh::sizes::LAYER_COLUMNS;
 use mesh::sizes::SOIL_COLUMNS;
 use mesh::sizes::Sizes;
 use scope::Outcome;
@@ -31,6 +35,8 @@ ghost use Rattle.scope.specs.Mesh.{
   edgeLines,
   jumpLines,
 };
+ghost use Rattle.scope.specs.Layers.{layerColumns};
+ghost use Rattle.scope.specs.Table.{layerLines};
 ghost use Rattle.mesh.specs.MeshContracts.{FewThings};
 ghost use Rattle.lines.specs.Table.{ruledLines};
 ghost use Rattle.lines.specs.LineContracts.{ranges, AsMany, numbered, lineStep, mostForm, FewLines};
@@ -97,11 +103,11 @@ fn check_soil(s: &[i64], form: u32, line: usize) -> Outcome
     Outcome::Passed
 }
 
-// The element that stands at the front of a list.
-fn check_element(s: &[i64], sizes: Sizes, form: u32, line: usize) -> Outcome
-    requires { ⌜ FewThings sizes ⌝ ∗ ⌜ line < 2 ^ 32 ⌝ }
+// The element that stands at the front of a list; its soil is `least` or more.
+fn check_element(s: &[i64], sizes: Sizes, least: usize, form: u32, line: usize) -> Outcome
+    requires { ⌜ FewThings sizes ⌝ ∗ ⌜ least ≤ 1 ⌝ ∗ ⌜ line < 2 ^ 32 ⌝ }
     ensures { λ r. ⌜ r
-        ≡ lineCheck (numbered form) (elementLines 0 (sizes .nodes) (sizes .soils))
+        ≡ lineCheck (numbered form) (elementLines 0 (sizes .nodes) least (sizes .soils))
         (take elementColumns (now (s .entry))) (Place.Line line) ⌝ }
 {
     if s.len() < ELEMENT_COLUMNS {
@@ -109,8 +115,9 @@ fn check_element(s: &[i64], sizes: Sizes, form: u32, line: usize) -> Outcome
     }
     let n = sizes.nodes as i64;
     let soils = sizes.soils as i64;
+    let lo = [1, 1, 1, 1, least as i64];
     let most = [n, n, n, n, soils];
-    if !limits_hold(&s[0..ELEMENT_COLUMNS], &[1; ELEMENT_COLUMNS], &most) {
+    if !limits_hold(&s[0..ELEMENT_COLUMNS], &lo, &most) {
         return refused(4, line);
     }
     Outcome::Passed
@@ -153,6 +160,26 @@ fn check_jump(s: &[i64], sizes: Sizes, form: u32, line: usize) -> Outcome
     Outcome::Passed
 }
 
+// The layer that stands at the front of a list.
+fn check_layer(s: &[i64], sizes: Sizes, form: u32, line: usize) -> Outcome
+    requires { ⌜ FewThings sizes ⌝ ∗ ⌜ line < 2 ^ 32 ⌝ ∗ ⌜ form ≤ mostForm ⌝ }
+    ensures { λ r. ⌜ r
+        ≡ lineCheck (numbered form) (layerLines 0 (sizes .soils)) (take layerColumns (now (s .entry)))
+        (Place.Line line) ⌝ }
+{
+    if s.len() < LAYER_COLUMNS {
+        return refused(form, line);
+    }
+    if !limits_hold(&s[0..LAYER_LIMITS], &LAYER_LEAST, &LAYER_MOST) {
+        return refused(form + 1, line);
+    }
+    let soils = sizes.soils as i64;
+    if !limits_hold(&s[LAYER_LIMITS..LAYER_COLUMNS], &[1], &[soils]) {
+        return refused(4, line);
+    }
+    Outcome::Passed
+}
+
 // The line that stands at the front of a list.
 fn line_check(rule: Rule, s: &[i64], sizes: Sizes, form: u32, line: usize) -> Outcome
     requires { ⌜ FewThings sizes ⌝ ∗ ⌜ line < 2 ^ 32 ⌝ ∗ ⌜ form ≤ mostForm ⌝ }
@@ -162,9 +189,11 @@ fn line_check(rule: Rule, s: &[i64], sizes: Sizes, form: u32, line: usize) -> Ou
 {
     match rule {
         Rule::Soil => check_soil(s, form, line),
-        Rule::Element => check_element(s, sizes, form, line),
+        Rule::Element => check_element(s, sizes, 1, form, line),
+        Rule::Tabled => check_element(s, sizes, 0, form, line),
         Rule::Edge => check_edge(s, sizes, form, line),
         Rule::Jump => check_jump(s, sizes, form, line),
+        Rule::Layer => check_layer(s, sizes, form, line),
     }
 }
 

@@ -14,6 +14,7 @@ use Rattle.mesh.specs.declared.sizes.Sizes.{Sizes}
 use Rattle.scope.specs.Columns.{at}
 use Rattle.scope.specs.Layout.{groups, numbersBefore, count, entry}
 use Rattle.scope.specs.Mesh.{mostPairs, meshHeaderColumns, soilColumns, nodeColumns, elementColumns, edgeColumns, meshHeader, soilLines, nodeLines, elementLines, edgeLines, meshLayout, meshGroups, nodes, elements, soils, edges, sides, p, q, h, cohesion, soilEntry, x, y, corner, elementSoil, edgeEntry, fromNode, toNode, jumpColumns, jumpLines, jumps, jumpEntry, jumpFrom, jumpTo, facingFrom, facingTo}
+use Rattle.scope.specs.Filled.{soilPlace}
 use Rattle.scope.specs.NumberRanges.{Between, MeshFacts, SoilFacts, EdgeFacts, JumpFacts}
 use Rattle.scope.proofs.NumberRanges.{some-sides}
 use Rattle.scope.proofs.PolygonRule.{listed-polygon}
@@ -213,6 +214,11 @@ module _ {m : List ℤ} {s : Sizes} (k : Sized m s) where
   jump-read {r} {j = j} {c = c} l i b d =
       let same : r ≡ jumpNode m j c = rw (jump-at b j c) d in
       record { same = same; there = omega (arith, same, jump-node (k .facts .jump j l) c i); few = k .facts .counts .nodesMost }
+
+-- where an element's soil stands
+pub soil-place-is : {s : Sizes} {r from : ℕ} (e : ℕ) → from ≡ elementsFrom s → r ≡ from + e * elementColumns + 4 → (m : List ℤ) → SizesAre m s → r ≡ soilPlace m e
+unfolding soilPlace numbersBefore meshGroups groups meshLayout meshHeader soilLines nodeLines elementLines edgeLines jumpLines
+soil-place-is e b d m k = omega (arith, b, d, k .soilsAre, k .nodesAre)
 
 -- ---- differences of coordinates
 

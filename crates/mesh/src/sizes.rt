@@ -10,8 +10,10 @@ ghost use lib.ListN.{length};
 ghost use Rattle.integer.specs.Bounds.{Is};
 ghost use Rattle.scope.specs.Columns.{at};
 ghost use Rattle.scope.specs.Layout.{count};
+ghost use Rattle.scope.specs.Filled.{soilPlace};
 ghost use Rattle.scope.specs.Mesh.{
   mostPairs,
+  mostElements,
   soilColumns,
   edgeColumns,
   jumpColumns,
@@ -80,6 +82,11 @@ pub const ELEMENT_COLUMNS: usize = 5;
 pub const EDGE_COLUMNS: usize = 7;
 
 pub const JUMP_COLUMNS: usize = 4;
+
+// "1 to 32 lines", "bottom, top .., soil" (document 02, N8): the lines of a borehole table and their columns.
+pub const MOST_LAYERS: usize = 32;
+
+pub const LAYER_COLUMNS: usize = 3;
 
 // The equality rows of an element, of an edge, and of a jump.
 pub const ELEMENT_ROWS: usize = 2;
@@ -223,7 +230,7 @@ fn node_x(m: &[i64], s: Sizes, v: usize) -> i64
     number_in(m, nodes_from(s), v, NODE_COLUMNS, 0)
 }
 
-fn node_y(m: &[i64], s: Sizes, v: usize) -> i64
+pub fn node_y(m: &[i64], s: Sizes, v: usize) -> i64
     requires { ⌜ Sized (now m) s × (v < nodes (now m)) ⌝ }
     ensures { λ r. ⌜ Is r (y (now (m .entry)) v) 1000 ⌝ }
 {
@@ -258,6 +265,14 @@ pub fn element_soil(m: &[i64], s: Sizes, e: usize) -> usize
     ensures { λ r. ⌜ r ≡ elementSoil (now (m .entry)) e ⌝ }
 {
     thing_in(m, elements_from(s), e, ELEMENT_COLUMNS, 4)
+}
+
+// Where the soil of element e stands among the numbers of a mesh with these sizes.
+pub fn soil_place(s: Sizes, e: usize) -> usize
+    requires { ⌜ FewThings s × (e < mostElements) ⌝ }
+    ensures { λ r. ⌜ ((m : List ℤ) → SizesAre m s → r ≡ soilPlace m e) ⌝ }
+{
+    elements_from(s) + e * ELEMENT_COLUMNS + 4
 }
 
 // Column c of a soil: p, q, h, cohesion, dead force x and y, live force x and y.

@@ -86,7 +86,7 @@ unfolding groups meshLayout meshHeader soilLines nodeLines elementLines edgeLine
 mesh-rules m k =
     let two : RulesInPlace (atMost 0 nodesFor108 4 mostSides ∷ []) (Line (suc k)) = (plain 2 (Line (suc k)) (λ e. omega arith) (λ e. omega arith), tt) in
     let three : RulesInPlace (rightAngle ∷ []) (Line (suc k)) = (plain 3 (Line (suc k)) (λ e. omega arith) (λ e. omega arith), tt) in
-    let four : (cs : List (ℕ × ℕ)) → RulesInPlace (naming cs ∷ []) (Line (suc k)) = λ cs. (plain 4 (Line (suc k)) (λ e. omega arith) (λ e. omega arith), tt) in
+    let four : (cs : List (ℕ × ℕ × ℕ)) → RulesInPlace (naming cs ∷ []) (Line (suc k)) = λ cs. (plain 4 (Line (suc k)) (λ e. omega arith) (λ e. omega arith), tt) in
     each-line (λ rs. RulesInPlace rs (Line (suc k))) (groups meshLayout m) tt (two, (three, (tt, (four [], (four [], (four [], tt)))))) 0 k
 
 claim-rules : (m c : List ℤ) (k : ℕ) → RulesInPlace (groupAt (claimLayout m) c k .rules) (Line (suc k))

@@ -30,7 +30,7 @@ use Rattle.scope.proofs.PolygonRule.{listed-polygon}
 use Rattle.scope.proofs.RowCounts.{equality-count, strength-count}
 
 -- the lines of a mesh whose header has passed
-mesh-lines : (m : List ℤ) → Counts m → lineCount (groups meshLayout m) ≤ 337
+pub mesh-lines : (m : List ℤ) → Counts m → lineCount (groups meshLayout m) ≤ 337
 unfolding meshLayout groups meshHeader soilLines nodeLines elementLines edgeLines jumpLines lineCount
 mesh-lines m c = omega (arith, c)
 
@@ -49,7 +49,7 @@ claim-lines m c s =
     )
 
 -- a place among lines whose number is bounded once the first line is sound
-line-places : {f : Layout} {ns : List ℤ} {B most : ℕ} → 0 < B → suc B ≤ most → (LineSound f ns 0 → lineCount (groups f ns) ≤ B) → EachIn (λ c p. placeNumber p ≤ most) (linePhases f ns)
+pub line-places : {f : Layout} {ns : List ℤ} {B most : ℕ} → 0 < B → suc B ≤ most → (LineSound f ns 0 → lineCount (groups f ns) ≤ B) → EachIn (λ c p. placeNumber p ≤ most) (linePhases f ns)
 line-places {f} {ns} {B} {most} z top few = (
   λ k c h b r. at k h b,
   λ e. (λ k c h b r. end e (decLt 0 (lineCount (groups f ns))), λ i. tt),

@@ -1,5 +1,5 @@
 -- A test decides a statement: it passes exactly when the statement holds. One law for each way of building a test.
-use mathlib.Core.Path.{_≡_, subst}
+use mathlib.Core.Path.{_≡_, refl, sym, subst}
 use mathlib.Core.Logic.{_⊎_, inl, inr, ⊎-elim}
 use mathlib.Core.Bool.{Bool, true, false, cond, not, _&&_, _||_}
 use Prim.Native.Nat.{ℕ, zero, suc, _<_, _≤_, zero-le}
@@ -44,6 +44,21 @@ opposite {a} d = record { holds = λ t h. T-not a t (d .passes h); passes = λ f
 -- the same statement in other words
 pub said-as : {a : Bool} {A B : Type 0} → Decides a A → (A → B) → (B → A) → Decides a B
 said-as d f g = record { holds = λ t. f (d .holds t); passes = λ h. d .passes (g h) }
+
+-- a test's answer, as an equation
+pub is-yes : {a : Bool} {A : Type 0} → Decides a A → A → a ≡ true
+is-yes {a = true} d h = refl
+is-yes {a = false} d h = absurd (d .passes h)
+
+pub is-no : {a : Bool} {A : Type 0} → Decides a A → ¬ A → a ≡ false
+is-no {a = true} d f = absurd (f (d .holds tt))
+is-no {a = false} d f = refl
+
+pub yes-is : {a : Bool} {A : Type 0} → Decides a A → a ≡ true → A
+yes-is d e = d .holds (subst T (sym e) tt)
+
+pub no-is : {a : Bool} {A : Type 0} → Decides a A → a ≡ false → ¬ A
+no-is d e h = subst T e (d .passes h)
 
 -- ---- numbers
 

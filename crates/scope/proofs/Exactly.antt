@@ -38,7 +38,7 @@ never-both : {X : Type 0} {k : ℕ} {p : Place} {o : OpenRows} {a b : Load} → 
 never-both e = let z : _≡_ {A = ℕ} 0 1 = cc in absurd (omega arith)
 
 -- refused by the one, or by the other where the one has passed
-answer-refused : (a b : Outcome) (o : OpenRows) (lower upper : Load) {k : ℕ} {p : Place} → (answer a (answer b (Accepted o lower upper)) ≡ Refused k p) ↔ (a then b ≡ Fails k p)
+pub answer-refused : (a b : Outcome) (o : OpenRows) (lower upper : Load) {k : ℕ} {p : Place} → (answer a (answer b (Accepted o lower upper)) ≡ Refused k p) ↔ (a then b ≡ Fails k p)
 unfolding answer
 answer-refused Passed Passed o lower upper = (λ e. never-both (sym e), λ e. passed-is-not-refused e)
 answer-refused Passed (Fails c q) o lower upper = (λ e. cc, λ e. cc)

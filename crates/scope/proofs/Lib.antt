@@ -40,4 +40,12 @@ pub mod AcceptedFractions
 pub mod InOrder
 pub mod SumBounds
 pub mod AnswerBounds
+pub mod Layers
+pub mod LayerOrder
+pub mod Filled
+pub mod SoilAllowed
+pub mod GivenLines
+pub mod Table
+pub mod TableVerdict
+pub mod TableApplied
 pub mod Applied

@@ -22,7 +22,7 @@ use Rattle.scope.proofs.Lines.{group, lineIn, LineFacts, line-facts-of,
 
 -- ---- counts
 
-count-range : (z : ℤ) {a b : ℕ} → pos a ≤ℤ z → z ≤ℤ pos b → (a ≤ count z) × (count z ≤ b)
+pub count-range : (z : ℤ) {a b : ℕ} → pos a ≤ℤ z → z ≤ℤ pos b → (a ≤ count z) × (count z ≤ b)
 unfolding count
 count-range (pos k) l h = (≤ℤ-pos l, ≤ℤ-pos h)
 count-range (negsuc k) l h = absurd (l .le)

@@ -8,7 +8,7 @@ use native.Mathlib.Omega.{arith}
 use lib.Dec.{eqb}
 use lib.IntN.{ℤ}
 use Rattle.scope.specs.declared.Place.{Place}
-use Rattle.scope.specs.declared.Place.the-variants.{Line, Row, Column, Node, Element}
+use Rattle.scope.specs.declared.Place.the-variants.{Line, Row, Column, Node, Element, Height}
 use Rattle.scope.specs.declared.Outcome.{Outcome}
 use Rattle.scope.specs.declared.Outcome.the-variants.{Passed, Refused}
 use Rattle.scope.specs.Answer.{placeNumber, placeFor, meshNumberOf, meshPlaceOf}
@@ -28,10 +28,10 @@ use Rattle.scope.proofs.Refusals.{mesh-exact}
 use Rattle.scope.proofs.Exactly.{OfMesh, mesh-numbers}
 
 -- the place is the one for this number
-abbrev Kind : ℕ → Place → Type 0
+abbrev pub Kind : ℕ → Place → Type 0
 Kind k p = p ≡ placeFor k (placeNumber p)
 
-abbrev OfLine : ℕ → Type 0
+abbrev pub OfLine : ℕ → Type 0
 OfLine k = (j : ℕ) → Line j ≡ placeFor k j
 
 rule-of-line : (rs : List Rule) (line : List ℤ) (c : ℕ) → FirstFails (ruleSteps rs line) c → OfLine c
@@ -43,19 +43,19 @@ rule-of-line (parts ∷ rs) line c (inl h) = subst OfLine (h .1) (λ j. refl)
 rule-of-line (atMost a k d z ∷ rs) line c (inl h) = subst OfLine (h .1) (λ j. refl)
 rule-of-line (r ∷ rs) line c (inr h) = rule-of-line rs line c (h .1)
 
-step-of-line : (f : Layout) (ns : List ℤ) (k c : ℕ) → OfLine (f .formNumber) → OfLine (f .limitNumber) → FirstFails (lineSteps f (groupAt f ns k) (numbersAt f ns k)) c → OfLine c
+pub step-of-line : (f : Layout) (ns : List ℤ) (k c : ℕ) → OfLine (f .formNumber) → OfLine (f .limitNumber) → FirstFails (lineSteps f (groupAt f ns k) (numbersAt f ns k)) c → OfLine c
 step-of-line f ns k c a b (inl h) = subst OfLine (h .1) a
 step-of-line f ns k c a b (inr (x, inl h)) = subst OfLine (h .1) b
 step-of-line f ns k c a b (inr (x, inr (y, h))) = rule-of-line (groupAt f ns k .rules) (numbersAt f ns k) c h
 
-line-kinds : (f : Layout) (ns : List ℤ) → OfLine (f .formNumber) → OfLine (f .limitNumber) → EachIn Kind (linePhases f ns)
+pub line-kinds : (f : Layout) (ns : List ℤ) → OfLine (f .formNumber) → OfLine (f .limitNumber) → EachIn Kind (linePhases f ns)
 line-kinds f ns a b = (
   λ k c h l r. step-of-line f ns k c a b r (suc k),
   λ e. (λ k c h l r. subst OfLine (own-number refl r) a _, λ i. tt),
 )
 
 -- a phase of one step, whose places are those for its number
-one-kind : {number c : ℕ} {p : Place} {H : Type 0} → Kind number p → ((¬ H) × (number ≡ c)) ⊎ (H × ⊥) → Kind c p
+pub one-kind : {number c : ℕ} {p : Place} {H : Type 0} → Kind number p → ((¬ H) × (number ≡ c)) ⊎ (H × ⊥) → Kind c p
 one-kind {p} k r = subst (λ i. Kind i p) (own-number refl r) k
 
 pub mesh-kinds : (m : List ℤ) → EachIn Kind (meshPhases m)
@@ -89,14 +89,15 @@ mesh-place-kind {m} r = each-refusal Kind (meshPhases m) (mesh-kinds m) (r .by)
 
 pub place-number : (k j : ℕ) → placeNumber (placeFor k j) ≡ j
 unfolding placeFor
-place-number k j = by (eqb k 5 || eqb k 6) (eqb k 7 || eqb k 42) (eqb k 21 || eqb k 22 || eqb k 31) (eqb k 32 || eqb k 33)
+place-number k j = by (eqb k 5 || eqb k 6) (eqb k 7 || eqb k 42) (eqb k 21 || eqb k 22 || eqb k 31) (eqb k 32 || eqb k 33) (eqb k 45)
   where
-    by : (a b c d : Bool) → placeNumber (cond a (Element j) (cond b (Node j) (cond c (Row j) (cond d (Column j) (Line j))))) ≡ j
-    by true b c d = refl
-    by false true c d = refl
-    by false false true d = refl
-    by false false false true = refl
-    by false false false false = refl
+    by : (a b c d e : Bool) → placeNumber (cond a (Element j) (cond b (Node j) (cond c (Row j) (cond d (Column j) (cond e (Height j) (Line j)))))) ≡ j
+    by true b c d e = refl
+    by false true c d e = refl
+    by false false true d e = refl
+    by false false false true e = refl
+    by false false false false true = refl
+    by false false false false false = refl
 
 -- ---- a mesh alone
 

@@ -19,15 +19,15 @@ use Rattle.scope.proofs.Phases.{EachIn, each-refusal, each-join, each-a
 use Rattle.scope.proofs.Refusals.{lines-sound, sound-lines, mesh-sound, sound-mesh, field-there, multipliers-there, field-part-sound, sound-field-part}
 
 -- a phase of one step, with its number and its place
-row : {number c : ℕ} {p : Place} {H : Type 0} (Q : ℕ → Place → Type 0) → ((¬ H) × (number ≡ c)) ⊎ (H × ⊥) → ((¬ H) → Q number p) → Q c p
+pub row : {number c : ℕ} {p : Place} {H : Type 0} (Q : ℕ → Place → Type 0) → ((¬ H) × (number ≡ c)) ⊎ (H × ⊥) → ((¬ H) → Q number p) → Q c p
 row {p = p} Q (inl h) f = subst (λ i. Q i p) (h .1) (f (h .0))
 row Q (inr h) f = absurd (h .1)
 
 -- one step at each place
-alone : {P : ℕ → Type 0} {k : ℕ} → ((j : ℕ) → j < k → P j × Unit {0}) → (j : ℕ) → j < k → P j
+pub alone : {P : ℕ → Type 0} {k : ℕ} → ((j : ℕ) → j < k → P j × Unit {0}) → (j : ℕ) → j < k → P j
 alone h j i = h j i .0
 
-lowest-fails : {count k : ℕ} {P : ℕ → Type 0} → k < count → ((j : ℕ) → j < k → P j × Unit {0}) → ¬ P k → LowestFails count P k
+pub lowest-fails : {count k : ℕ} {P : ℕ → Type 0} → k < count → ((j : ℕ) → j < k → P j × Unit {0}) → ¬ P k → LowestFails count P k
 lowest-fails h l x = record { there = h; lower = alone l; fails = x }
 
 -- the lines of a file
@@ -103,7 +103,7 @@ module _ (m c : List ℤ) where
 
 -- ---- and back
 
-held : {P : ℕ → Type 0} {k : ℕ} → ((j : ℕ) → j < k → P j) → (j : ℕ) → j < k → P j × Unit {0}
+pub held : {P : ℕ → Type 0} {k : ℕ} → ((j : ℕ) → j < k → P j) → (j : ℕ) → j < k → P j × Unit {0}
 held h j i = (h j i, tt)
 
 shape-refusal : (m : List ℤ) {k : ℕ} {p : Place} → LinesSound meshLayout m → RefusedBy (shapePhases m) k p → RefusedBy (meshPhases m) k p

@@ -71,7 +71,7 @@ module _ (f : Layout) (ns : List ℤ) where
   unfolding linesCheck lineAt lineCheck checkPhases checkPhase lowest
   lines-checked = refl
 
-  lines-decided : Decided (linePhases f ns)
+  pub lines-decided : Decided (linePhases f ns)
   lines-decided = (
     λ k h b. line-decided f (groupAt f ns k) (numbersAt f ns k),
     λ e. (λ k h b. one-step (at-most (length ns) (numberCount (groups f ns))), λ i. tt),
@@ -107,7 +107,7 @@ module _ (f : Layout) (ns : List ℤ) where
 
 module _ (m : List ℤ) where
   -- each test decides its statement, given the phases before it
-  shape-decided : Decided (shapePhases m)
+  pub shape-decided : Decided (shapePhases m)
   shape-decided = (
     λ e h b. one-step (left-turns m e),
     λ turns. (
@@ -246,7 +246,7 @@ module _ (m c : List ℤ) where
   sound-multiplier-part met =
       passes-part (multiplierPhases (equalityRows m) (rowsOf m) (3 * nodes m) (multiplier m c)) multipliers-there (λ h. sound-multipliers (equalityRows m) (rowsOf m) (3 * nodes m) (multiplier m c) (met h))
 
-  claim-decided : Decided (claimPhases m c)
+  pub claim-decided : Decided (claimPhases m c)
   claim-decided =
       decided-join (linePhases (claimLayout m) c) (partPhases m c) (lines-decided (claimLayout m) c) (λ lines.
       decided-join (fieldPart m c) (multiplierPart m c)

@@ -43,11 +43,11 @@ all-within [] zs = always
 all-within (a ∷ rest) [] = always
 all-within (a ∷ rest) (z ∷ zs) = both (within-limit a z) (all-within rest zs)
 
-all-named : (cs : List (ℕ × ℕ)) (line : List ℤ) → Decides (allNamed cs line) (AllNamed cs line)
+all-named : (cs : List (ℕ × ℕ × ℕ)) (line : List ℤ) → Decides (allNamed cs line) (AllNamed cs line)
 unfolding allNamed names
 all-named [] line = always
 all-named (c ∷ cs) line =
-    both (both (at-mostℤ (pos 1) (at line (c .0))) (at-mostℤ (at line (c .0)) (pos (c .1)))) (all-named cs line)
+    both (both (at-mostℤ (pos (c .1)) (at line (c .0))) (at-mostℤ (at line (c .0)) (pos (c .2)))) (all-named cs line)
 
 choice : {a b c : Bool} {A B C : Type 0} → Decides a A → Decides b B → Decides c C → Decides (cond a b c) ((A → B) × (¬ A → C))
 choice {a = true} d e f = record { holds = λ t. (λ h. e .holds t, λ g. absurd (g (d .holds tt))); passes = λ h. e .passes (h .0 (d .holds tt)) }

@@ -168,7 +168,7 @@ mesh-line-numbers m = record {
     angle k (parts, h) = absurd (omega (arith, h .1))
     angle k (atMost c n d z, h) = absurd (omega (arith, h .1))
 
-    names : (k : ℕ) → ((r : Rule) × (RuleFails meshLayout m r k × (ruleNumber r ≡ 4))) → (cs : List (ℕ × ℕ)) × RuleFails meshLayout m (naming cs) k
+    names : (k : ℕ) → ((r : Rule) × (RuleFails meshLayout m r k × (ruleNumber r ≡ 4))) → (cs : List (ℕ × ℕ × ℕ)) × RuleFails meshLayout m (naming cs) k
     names k (rightAngle, h) = absurd (omega (arith, h .1))
     names k (naming cs, h) = (cs, h .0)
     names k (parts, h) = absurd (omega (arith, h .1))

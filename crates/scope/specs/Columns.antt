@@ -42,22 +42,22 @@ upTo k = between (negℤ (pos k)) (pos k)
 
 -- ---- rules
 
--- p² + q² = h² in the first three columns (3); each listed column c names one of k things, numbered from 1 (4); a
--- claim's parts are there and fit n and l (13); where column d is z, column c is at most k (2, a limit that looks at
--- another column)
+-- p² + q² = h² in the first three columns (3); each listed column c names one of k things, numbered from 1, or, where
+-- it may name none, from 0 (4): c, the least number and k; a claim's parts are there and fit n and l (13); where column
+-- d is z, column c is at most k (2, a limit that looks at another column)
 pub data Rule : Type 0 where
   rightAngle : Rule
-  naming : List (ℕ × ℕ) → Rule
+  naming : List (ℕ × ℕ × ℕ) → Rule
   parts : Rule
   atMost : (c k d z : ℕ) → Rule
 
--- "Things are numbered from 1": z names one of k things
-unfoldable pub names : ℕ → ℤ → Bool
-names k z = leZ (pos 1) z && leZ z (pos k)
+-- "Things are numbered from 1": z names one of k things, from the least number on
+unfoldable pub names : ℕ → ℕ → ℤ → Bool
+names least k z = leZ (pos least) z && leZ z (pos k)
 
-unfoldable pub allNamed : List (ℕ × ℕ) → List ℤ → Bool
+unfoldable pub allNamed : List (ℕ × ℕ × ℕ) → List ℤ → Bool
 allNamed [] line = true
-allNamed (c ∷ cs) line = names (c .1) (at line (c .0)) && allNamed cs line
+allNamed (c ∷ cs) line = names (c .1) (c .2) (at line (c .0)) && allNamed cs line
 
 -- a claim's header: "field there (0 or 1), multipliers there (0 or 1), n .., l .."
 unfoldable pub hasField : List ℤ → Bool

@@ -27,6 +27,11 @@ pub mod Accepted
 pub mod AnsweredClaim
 pub mod NumberRanges
 pub mod Bounds
+pub mod Layers
+pub mod Filled
+pub mod LayerRows
+pub mod Table
+pub mod TableVerdict
 pub mod PolygonRule
 pub mod RowNumbers
 pub mod Printed
@@ -45,3 +50,4 @@ pub mod Parts
 pub mod AcceptedMultipliers
 pub mod AcceptedFractions
 pub mod Worked
+pub mod WorkedTable

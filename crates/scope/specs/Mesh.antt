@@ -1,6 +1,6 @@
 -- A mesh (document 01, 'The two files', "Mesh, in this order"): its lines, and what its numbers are.
 -- Soils, nodes, elements, edges and jumps are counted from 0 here; the file counts from 1.
-use mathlib.Core.Bool.{cond}
+use mathlib.Core.Bool.{Bool, cond}
 use mathlib.Core.List.{List, [], _∷_}
 use Prim.Native.Nat.{ℕ, _+_, _-_, _*_, _%_}
 use lib.IntN.{ℤ, pos}
@@ -132,12 +132,12 @@ soilLines n = record {
 unfoldable pub nodeLines : ℕ → Group
 nodeLines n = record { lines = n; limits = replicate nodeColumns (between (pos 0) (pos 1000)); rules = [] }
 
--- "Each element: four nodes, counterclockwise; a soil"
-unfoldable pub elementLines : ℕ → ℕ → ℕ → Group
-elementLines n ns ss = record {
+-- "Each element: four nodes, counterclockwise; a soil", whose least number is given
+unfoldable pub elementLines : ℕ → ℕ → ℕ → ℕ → Group
+elementLines n ns least ss = record {
   lines = n;
   limits = replicate elementColumns free;
-  rules = naming ((0, ns) ∷ (1, ns) ∷ (2, ns) ∷ (3, ns) ∷ (4, ss) ∷ []) ∷ [];
+  rules = naming ((0, 1, ns) ∷ (1, 1, ns) ∷ (2, 1, ns) ∷ (3, 1, ns) ∷ (4, least, ss) ∷ []) ∷ [];
 }
 
 -- "Each edge: from-node, to-node, what is fixed (1 normal, 2 shear, 3 both), dead normal, dead shear, live normal,
@@ -146,7 +146,7 @@ unfoldable pub edgeLines : ℕ → ℕ → Group
 edgeLines n ns = record {
   lines = n;
   limits = free ∷ free ∷ between (pos 1) (pos 3) ∷ replicate 4 (upTo 10000);
-  rules = naming ((0, ns) ∷ (1, ns) ∷ []) ∷ [];
+  rules = naming ((0, 1, ns) ∷ (1, 1, ns) ∷ []) ∷ [];
 }
 
 -- "a line each after the edges: from and to on one side, then the two facing nodes in the same order" (document 02,
@@ -155,15 +155,15 @@ unfoldable pub jumpLines : ℕ → ℕ → Group
 jumpLines n ns = record {
   lines = n;
   limits = replicate jumpColumns free;
-  rules = naming ((0, ns) ∷ (1, ns) ∷ (2, ns) ∷ (3, ns) ∷ []) ∷ [];
+  rules = naming ((0, 1, ns) ∷ (1, 1, ns) ∷ (2, 1, ns) ∷ (3, 1, ns) ∷ []) ∷ [];
 }
 
--- the lines after the header, in a mesh of so many things
-abbrev pub meshLines : ℕ → ℕ → ℕ → ℕ → ℕ → List Group
-meshLines nodeCount elementCount soilCount edgeCount jumpCount =
+-- the lines after the header, in a mesh of so many things whose elements name soils from the least number on
+abbrev pub meshLines : ℕ → ℕ → ℕ → ℕ → ℕ → ℕ → List Group
+meshLines least nodeCount elementCount soilCount edgeCount jumpCount =
     soilLines soilCount
     ∷ nodeLines nodeCount
-    ∷ elementLines elementCount nodeCount soilCount
+    ∷ elementLines elementCount nodeCount least soilCount
     ∷ edgeLines edgeCount nodeCount
     ∷ jumpLines jumpCount nodeCount
     ∷ []
@@ -174,7 +174,16 @@ meshLayout = record {
   formNumber = 1;
   limitNumber = 2;
   header = meshHeader;
-  body = λ m. meshLines (nodes m) (elements m) (soils m) (edges m) (jumps m);
+  body = λ m. meshLines 1 (nodes m) (elements m) (soils m) (edges m) (jumps m);
+}
+
+-- "Without a table, soil 0 still gets 4" (document 02, N8): the lines of a mesh that has a table, or has none
+unfoldable pub layoutWith : Bool → Layout
+layoutWith tabled = record {
+  formNumber = 1;
+  limitNumber = 2;
+  header = meshHeader;
+  body = λ m. meshLines (cond tabled 0 1) (nodes m) (elements m) (soils m) (edges m) (jumps m);
 }
 
 unfoldable pub meshGroups : List ℤ → List Group

@@ -217,7 +217,7 @@ pub record MeshLineNumbers (m : List ℤ) : Type 0 where
       ↔ (LimitFails meshLayout m k ⊎ ((c n d z : ℕ) × RuleFails meshLayout m (atMost c n d z) k))
   pub three : (k : ℕ) → LineRefusal meshLayout m 3 (Line (suc k)) ↔ RuleFails meshLayout m rightAngle k
   pub four : (k : ℕ)
-      → LineRefusal meshLayout m 4 (Line (suc k)) ↔ ((cs : List (ℕ × ℕ)) × RuleFails meshLayout m (naming cs) k)
+      → LineRefusal meshLayout m 4 (Line (suc k)) ↔ ((cs : List (ℕ × ℕ × ℕ)) × RuleFails meshLayout m (naming cs) k)
 
 -- 11 "claim form", 12 "claim number outside its limits", 13 "both parts absent; field with n = 0; no field and n or l
 -- not 0", "13, line 1"

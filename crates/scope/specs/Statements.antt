@@ -35,10 +35,10 @@ AllWithin [] zs = Unit {0}
 AllWithin (a ∷ limits) [] = Unit {0}
 AllWithin (a ∷ limits) (z ∷ zs) = Within a z × AllWithin limits zs
 
--- each listed column names one of its things, numbered from 1
-abbrev pub AllNamed : List (ℕ × ℕ) → List ℤ → Type 0
+-- each listed column names one of its things, from the least number on
+abbrev pub AllNamed : List (ℕ × ℕ × ℕ) → List ℤ → Type 0
 AllNamed [] line = Unit {0}
-AllNamed (c ∷ cs) line = ((pos 1 ≤ℤ at line (c .0)) × (at line (c .0) ≤ℤ pos (c .1))) × AllNamed cs line
+AllNamed (c ∷ cs) line = ((pos (c .1) ≤ℤ at line (c .0)) × (at line (c .0) ≤ℤ pos (c .2))) × AllNamed cs line
 
 -- a claim's header: a part is there; "field with n = 0" and "no field and n or l not 0" are not so
 pub record PartsFit (line : List ℤ) : Type 0 where

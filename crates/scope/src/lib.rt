@@ -4,13 +4,15 @@
 ghost use mathlib.Core.Path.{_≡_};
 ghost use Rattle.scope.specs.Answer.{placeNumber};
 
-// "A place is a line, a row, a column, a node or an element", each counted from 1.
+// "A place is a line, a row, a column, a node or an element", each counted from 1; "counted in quarters, a sixth kind of
+// place" (document 02, N8), a height, counted from 0.
 pub enum Place {
     Line(u32),
     Row(u32),
     Column(u32),
     Node(u32),
     Element(u32),
+    Height(u32),
 }
 
 // The number that is printed and returned for a place.
@@ -23,6 +25,7 @@ pub fn place_number(place: Place) -> u32
         Place::Column(k) => k,
         Place::Node(k) => k,
         Place::Element(k) => k,
+        Place::Height(k) => k,
     }
 }
 

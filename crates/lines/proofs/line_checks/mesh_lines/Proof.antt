@@ -23,7 +23,7 @@ enum-told c = search needs
 returns : tie.Need-returns
 returns c =
     let m = now (c .before .before .before .args .m) in
-    stop-here (mesh-starts m) (c .before .before .mesh-header .ensures ∙ mesh-header-group m) (c .enum-told .given .1)
+    stop-here (mesh-starts _ m) (c .before .before .mesh-header .ensures ∙ mesh-header-group m) (c .enum-told .given .1)
 
 enum-told-2 : tie.Need-enum-told-2
 enum-told-2 c = search needs
@@ -46,7 +46,7 @@ returns-2 c =
     let r = c .before .before in
     let told = r .before .before in
     let m = now (told .before .before .before .args .m) in
-    go-on (mesh-starts m) (told .before .before .mesh-header .ensures ∙ mesh-header-group m) (told .enum-told2 .given .1) (r .rest .ensures) _ (c .before .mesh-groups .ensures .same ∙ mesh-body (r .before .header-sizes .ensures)) (c .groups-check .ensures)
+    go-on (mesh-starts _ m) (told .before .before .mesh-header .ensures ∙ mesh-header-group m) (told .enum-told2 .given .1) (r .rest .ensures) _ (c .before .mesh-groups .ensures .same ∙ mesh-body _ (r .before .header-sizes .ensures)) (c .groups-check .ensures)
 
 pub mesh-lines-spec : {M : Type 1} → statement M
 mesh-lines-spec =

@@ -18,13 +18,16 @@ returns : tie.Need-returns
 unfolding elementLines numbered
 returns c =
     let a = c .before .before .args in
-    c .refused .ensures ∙ line-short (numbered _) (elementLines 0 _ _) (now (a .s)) _ (c .before .if1 .taken)
+    c .refused .ensures ∙ line-short (numbered _) (elementLines 0 _ _ _) (now (a .s)) _ (c .before .if1 .taken)
 
 cast-n : tie.Need-cast-n
 cast-n c = search needs
 
 cast-soils : tie.Need-cast-soils
 cast-soils c = search needs
+
+cast-t12 : tie.Need-cast-t12
+cast-t12 c = search needs
 
 sub-limits-hold : tie.Need-sub-limits-hold
 sub-limits-hold c = search needs
@@ -51,18 +54,18 @@ returns-2 : tie.Need-returns-2
 unfolding elementLines numbered ranges ruleNumber
 returns-2 c =
     let a = c .before .before .before .before .before .before .before .before .before .args in
-    let names = element-names (a .sizes .nodes) (a .sizes .soils) (omega arith) (omega arith) (now (a .s)) (omega arith) in
+    let names = element-names (a .sizes .nodes) (a .least) (a .sizes .soils) (omega arith) (omega arith) (omega arith) (now (a .s)) (omega arith) in
     c .refused2 .ensures
     ∙ one-rule-fails _ _ _ (names ∙ not-so (c .before .before .limits-hold .ensures) (c .before .if2 .taken))
-    ∙ line-by-rules (numbered _) (elementLines 0 (a .sizes .nodes) (a .sizes .soils)) (now (a .s)) _ (omega arith) (all-free elementColumns (take elementColumns (now (a .s))))
+    ∙ line-by-rules (numbered _) (elementLines 0 (a .sizes .nodes) (a .least) (a .sizes .soils)) (now (a .s)) _ (omega arith) (all-free elementColumns (take elementColumns (now (a .s))))
 
 returns-3 : tie.Need-returns-3
 unfolding elementLines numbered ranges
 returns-3 c =
     let a = c .before .before .before .before .before .before .before .before .args in
-    let names = element-names (a .sizes .nodes) (a .sizes .soils) (omega arith) (omega arith) (now (a .s)) (omega arith) in
+    let names = element-names (a .sizes .nodes) (a .least) (a .sizes .soils) (omega arith) (omega arith) (omega arith) (now (a .s)) (omega arith) in
     one-rule-holds _ _ _ (names ∙ so (c .before .limits-hold .ensures) (c .if2 .left))
-    ∙ line-by-rules (numbered _) (elementLines 0 (a .sizes .nodes) (a .sizes .soils)) (now (a .s)) _ (omega arith) (all-free elementColumns (take elementColumns (now (a .s))))
+    ∙ line-by-rules (numbered _) (elementLines 0 (a .sizes .nodes) (a .least) (a .sizes .soils)) (now (a .s)) _ (omega arith) (all-free elementColumns (take elementColumns (now (a .s))))
 
 pub check-element-spec : {M : Type 1} → statement M
 check-element-spec =
@@ -72,6 +75,7 @@ check-element-spec =
     returns
     cast-n
     cast-soils
+    cast-t12
     sub-limits-hold
     part-limits-hold-start
     part-limits-hold-end
