@@ -1,9 +1,8 @@
 -- What stands in a mesh whose elements with soil 0 were given soils: at the place of such a soil the one that was given, and everywhere else what stood there. So all that sound lines say stays, and each element's height is in one layer.
 use mathlib.Core.Path.{_≡_, refl, sym, _∙_, ap, ap₂, subst, subst₃}
-use mathlib.Core.Logic.{_⊎_}
 use mathlib.Core.Bool.{Bool, true, false, cond, _&&_, and-false}
 use mathlib.Core.List.{List}
-use Prim.Native.Nat.{ℕ, zero, suc, _+_, _*_, _-_, _≤_, _<_}
+use Prim.Native.Nat.{ℕ, _+_, _*_, _-_, _≤_, _<_}
 use native.Mathlib.Decide.{decLt, ℕ-discrete}
 use native.Mathlib.Omega.{arith}
 use lib.Dec.{T, eqb, ltb}
@@ -15,8 +14,9 @@ use borrow.Author.Tests.{lt-ltb, le-ltb}
 use Rattle.integer.specs.Tests.{eqZ}
 use Rattle.scope.specs.Columns.{at}
 use Rattle.scope.specs.Layout.{Group, width, groups, numbersBefore, count, entry}
-use Rattle.scope.specs.Mesh.{mostSides, meshHeaderColumns, soilColumns, elementColumns, meshHeader, soilLines, nodeLines, elementLines, edgeLines, jumpLines, meshLayout, meshGroups, nodes, elements, soils, edges, sides, jumps, p, q, h, cohesion, soilEntry, x, y, corner, elementSoil, edgeEntry, fromNode, toNode, jumpEntry, jumpFrom, jumpTo, facingFrom, facingTo}
-use Rattle.scope.specs.Rows.{countFrom, firstWhere}
+use Rattle.scope.specs.Mesh.{nodesWith, meshHeaderColumns, soilColumns, elementColumns, meshHeader, soilLines, nodeLines, elementLines, edgeLines, jumpLines, meshLayout, meshGroups, nodes, elements, soils, edges, sides, jumps, p, q, h, cohesion, soilEntry, x, y, corner, elementSoil, edgeEntry, fromNode, toNode, jumpEntry, jumpFrom, jumpTo, facingFrom, facingTo}
+use Rattle.scope.specs.Rows.{countFrom}
+use Rattle.scope.specs.Polygon.{SidesListed}
 use Rattle.scope.specs.NumberRanges.{Between, Counts, SoilFacts, NodeFacts, ElementFacts, EdgeFacts, JumpFacts, MeshFacts}
 use Rattle.scope.specs.Bounds.{mostCoordinate}
 use Rattle.scope.specs.Layers.{layers, soil, soilAt, lowest, highest}
@@ -344,7 +344,8 @@ module _ (f : ℕ → ℤ) (m : List ℤ) (k : MeshFacts (given f m)) where
           soilsMost = omega (arith, c .soilsMost, soils-kept f m, soils-kept g m);
           edgesLeast = subst (λ (z : ℤ). pos 0 ≤ℤ z) (header-kept f m 3 (omega arith) ∙ sym (header-kept g m 3 (omega arith))) (c .edgesLeast);
           edgesMost = omega (arith, c .edgesMost, edges-kept f m, edges-kept g m);
-          sidesListed = subst (λ (n : ℕ). (n ≡ 12) ⊎ ((n ≡ 20) ⊎ (n ≡ mostSides))) (sides-kept f m ∙ sym (sides-kept g m)) (c .sidesListed);
+          sidesListed = subst SidesListed (sides-kept f m ∙ sym (sides-kept g m)) (c .sidesListed);
+          nodesFit = subst (λ (n : ℕ). nodes (given g m) ≤ nodesWith n) (sides-kept f m ∙ sym (sides-kept g m)) (omega (arith, c .nodesFit, nodes-kept f m, nodes-kept g m));
           jumpsLeast = subst (λ (z : ℤ). pos 0 ≤ℤ z) (header-kept f m 5 (omega arith) ∙ sym (header-kept g m 5 (omega arith))) (c .jumpsLeast);
           jumpsMost = omega (arith, c .jumpsMost, jumps-kept f m, jumps-kept g m);
         }

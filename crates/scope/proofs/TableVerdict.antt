@@ -201,7 +201,7 @@ four = (omega arith, omega arith)
 
 tabled-small : (m : List ℤ) → AllSmall (groups (layoutWith true) m)
 unfolding layoutWith groups meshHeader soilLines nodeLines elementLines edgeLines jumpLines ruleNumber
-tabled-small m = (tt, (((omega arith, omega arith), tt), (tt, ((four, tt), ((four, tt), ((four, tt), tt))))))
+tabled-small m = (((omega arith, omega arith), tt), (((omega arith, omega arith), tt), (tt, ((four, tt), ((four, tt), ((four, tt), tt))))))
 
 table-small : (t m : List ℤ) → AllSmall (groups (tableLayout m) t)
 unfolding tableLayout groups layerLines ruleNumber
