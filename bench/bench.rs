@@ -19,6 +19,7 @@ const CLAIMS: usize = 50;
 struct Sheet {
     name: String,
     mesh: Vec<u8>,
+    table: Vec<u8>,
     claim: Vec<u8>,
     /// The claim fifty times.
     claims: Vec<u8>,
@@ -27,13 +28,13 @@ struct Sheet {
 #[no_mangle]
 #[inline(never)]
 extern "C" fn archive_check(sheet: &Sheet, line: &mut [u8; LINE]) -> Answer {
-    archive::check(&sheet.mesh, &sheet.claim, 6, line)
+    archive::check(&sheet.mesh, &sheet.table, &sheet.claim, 6, line)
 }
 
 #[no_mangle]
 #[inline(never)]
 extern "C" fn independent_check(sheet: &Sheet, line: &mut [u8; LINE]) -> Answer {
-    independent::check(&sheet.mesh, &sheet.claim, 6, line)
+    independent::check(&sheet.mesh, &sheet.table, &sheet.claim, 6, line)
 }
 
 /// Nanoseconds a call: the best of nine rounds, each of a twentieth of a second or more.
@@ -58,6 +59,7 @@ fn read(name: &str) -> Sheet {
     Sheet {
         name: name.to_string(),
         mesh: part("mesh"),
+        table: std::fs::read(format!("{name}.table")).unwrap_or_default(),
         claims: claim.repeat(CLAIMS),
         claim,
     }
@@ -67,7 +69,7 @@ fn time(sheet: &Sheet) {
     let mut line = [0; LINE];
     let proved = nanoseconds(|| archive_check(black_box(sheet), &mut line));
     let independent = nanoseconds(|| independent_check(black_box(sheet), &mut line));
-    let bytes = sheet.mesh.len() + sheet.claim.len();
+    let bytes = sheet.mesh.len() + sheet.table.len() + sheet.claim.len();
     let ratio = proved / independent;
     println!(
         "{:<28} {bytes:>7} {proved:>12.0} {independent:>12.0} {ratio:>7.2}",
@@ -79,9 +81,9 @@ fn time(sheet: &Sheet) {
 /// of the independent.
 fn time_run(sheet: &Sheet) {
     let mut lines = [0; CLAIMS * LINE];
-    let (mesh, claims) = (&sheet.mesh, &sheet.claims);
-    let proved = nanoseconds(|| archive::check_run(mesh, claims, &mut lines));
-    let independent = nanoseconds(|| independent::check_run(mesh, claims, &mut lines));
+    let (mesh, table, claims) = (&sheet.mesh, &sheet.table, &sheet.claims);
+    let proved = nanoseconds(|| archive::check_run(mesh, table, claims, &mut lines));
+    let independent = nanoseconds(|| independent::check_run(mesh, table, claims, &mut lines));
     let mut line = [0; LINE];
     let fifty = |call: extern "C" fn(&Sheet, &mut [u8; LINE]) -> Answer, line: &mut [u8; LINE]| {
         CLAIMS as f64 * nanoseconds(|| call(black_box(sheet), line))

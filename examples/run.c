@@ -1,4 +1,5 @@
-/* Prints the reports of claims for one mesh that stand one after another in a file. From the repository's root:
+/* Prints the reports of claims for one mesh without a table that stand one after another in a file. From the
+   repository's root:
 
      rt staticlib pechuvo
      cc -Iinclude examples/run.c target/staticlib/libpechuvo.a -o target/run
@@ -36,7 +37,7 @@ int main(int count, char **words) {
     return 2;
   }
   struct pechuvo_run run =
-      pechuvo_check_run(mesh, mesh_length, claims, claims_length, reports, sizeof reports);
+      pechuvo_check_run(mesh, mesh_length, NULL, 0, claims, claims_length, reports, sizeof reports);
   fwrite(reports, PECHUVO_REPORT, run.reports, stdout);
   return run.bytes != claims_length;
 }

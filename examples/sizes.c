@@ -1,4 +1,4 @@
-/* Prints what a mesh asks room for, before there is any claim. From the repository's root:
+/* Prints what a mesh without a table asks room for, before there is any claim. From the repository's root:
 
      rt staticlib pechuvo
      cc -Iinclude examples/sizes.c target/staticlib/libpechuvo.a -o target/sizes
@@ -22,7 +22,7 @@ int main(int count, char **words) {
   }
   size_t length = fread(mesh, 1, sizeof mesh, file);
   fclose(file);
-  struct pechuvo_sizes sizes = pechuvo_mesh_sizes(mesh, length);
+  struct pechuvo_sizes sizes = pechuvo_mesh_sizes(mesh, length, NULL, 0);
   if (sizes.number != 0) {
     printf("refused: %" PRIu32 ", place %" PRIu32 "\n", sizes.number, sizes.place);
     return 1;

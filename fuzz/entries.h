@@ -26,15 +26,17 @@ struct sizes {
   uint64_t field_bytes, multipliers_bytes, both_bytes;
 };
 
+/* A file or a list of numbers: where it begins and how long it is. */
+#define FILE_OF(name) const uint8_t *name, size_t name##_len
+#define LIST_OF(name) const int64_t *name, size_t name##_len
+#define BUFFER(name) uint8_t *name, size_t name##_len
+
 #define ENTRIES(make)                                                                              \
-  struct answer make##_check(const uint8_t *mesh, size_t mesh_len, const uint8_t *claim,           \
-                             size_t claim_len, int64_t decimals, uint8_t *report,                  \
-                             size_t report_len);                                                   \
-  struct numbers make##_check_numbers(const int64_t *mesh, size_t mesh_len, const int64_t *claim,  \
-                                      size_t claim_len);                                           \
-  struct run make##_check_run(const uint8_t *mesh, size_t mesh_len, const uint8_t *claims,         \
-                              size_t claims_len, uint8_t *reports, size_t reports_len);            \
-  struct sizes make##_mesh_sizes(const uint8_t *mesh, size_t mesh_len);
+  struct answer make##_check(FILE_OF(mesh), FILE_OF(table), FILE_OF(claim), int64_t decimals,      \
+                             BUFFER(report));                                                      \
+  struct numbers make##_check_numbers(LIST_OF(mesh), LIST_OF(table), LIST_OF(claim));              \
+  struct run make##_check_run(FILE_OF(mesh), FILE_OF(table), FILE_OF(claims), BUFFER(reports));    \
+  struct sizes make##_mesh_sizes(FILE_OF(mesh), FILE_OF(table));
 
 ENTRIES(pechuvo)
 ENTRIES(independent)

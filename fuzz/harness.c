@@ -1,5 +1,6 @@
 /* libFuzzer harness: the archive against the independent implementation, every entry of both.
-   An input is a mesh file, a byte 0 and a claim file, or several claims one after another. */
+   An input is a mesh file, a claim file, or several claims one after another, and a table, with a byte
+   0 between. */
 #include <stdint.h>
 #include <stdio.h>
 #include <stdlib.h>
@@ -12,13 +13,18 @@ enum { LINE = 113, ROOM = 3 * LINE + 7, COLUMN = 12, MOST = 8192 };
 
 size_t LLVMFuzzerMutate(uint8_t *data, size_t size, size_t largest);
 
+struct file {
+  const uint8_t *bytes;
+  size_t length;
+};
+
 /* The files of one input. */
 struct input {
-  const uint8_t *mesh;
-  size_t mesh_len;
-  const uint8_t *claim;
-  size_t claim_len;
+  struct file mesh, table, claim;
 };
+
+/* A file or a block as a call's two arguments. */
+#define GIVEN(file) (file).bytes, (file).length
 
 static void must(int good, const char *what) {
   if (!good) {
@@ -30,89 +36,113 @@ static void must(int good, const char *what) {
 /* What is lent to the archive for one call. It has no counters and no sanitizer of its own, so each
    block ends, or begins, at a closed page: a byte read or written outside is a crash. */
 struct lent {
-  struct block mesh, claim, report;
+  struct block mesh, table, claim, report;
 };
 
 static struct lent lend_all(struct input in, const uint8_t *report, size_t room) {
-  enum lending how = (in.mesh_len + in.claim_len) % 4 == 0 ? AT_START : AT_END;
-  struct lent all = {lend(in.mesh, in.mesh_len, how), lend(in.claim, in.claim_len, how),
+  enum lending how = (in.mesh.length + in.claim.length) % 4 == 0 ? AT_START : AT_END;
+  struct lent all = {lend(GIVEN(in.mesh), how), lend(GIVEN(in.table), how), lend(GIVEN(in.claim), how),
                      lend(report, room, how)};
   close_for_writing(all.mesh);
+  close_for_writing(all.table);
   close_for_writing(all.claim);
   return all;
 }
 
 static void give_all_back(struct lent all) {
   give_back(all.mesh);
+  give_back(all.table);
   give_back(all.claim);
   give_back(all.report);
 }
 
 static void compare_files(struct input in, int64_t decimals, size_t room) {
-  uint8_t independent[ROOM];
-  memset(independent, 0xA5, sizeof independent);
-  struct lent on = lend_all(in, independent, room);
-  struct answer a = pechuvo_check(on.mesh.bytes, in.mesh_len, on.claim.bytes, in.claim_len, decimals,
-                                  on.report.bytes, room);
-  struct answer b = independent_check(in.mesh, in.mesh_len, in.claim, in.claim_len, decimals, independent, room);
+  uint8_t report[ROOM];
+  memset(report, 0xA5, sizeof report);
+  struct lent on = lend_all(in, report, room);
+  struct answer a = pechuvo_check(GIVEN(on.mesh), GIVEN(on.table), GIVEN(on.claim), decimals, GIVEN(on.report));
+  struct answer b = independent_check(GIVEN(in.mesh), GIVEN(in.table), GIVEN(in.claim), decimals, report, room);
   must(a.number == b.number && a.place == b.place, "the answer");
-  must(memcmp(on.report.bytes, independent, room) == 0, "the buffer");
+  must(memcmp(on.report.bytes, report, room) == 0, "the buffer");
   give_all_back(on);
 }
 
 static void compare_run(struct input in, size_t room) {
-  uint8_t independent[ROOM];
-  memset(independent, 0xA5, sizeof independent);
-  struct lent on = lend_all(in, independent, room);
-  struct run a = pechuvo_check_run(on.mesh.bytes, in.mesh_len, on.claim.bytes, in.claim_len, on.report.bytes, room);
-  struct run b = independent_check_run(in.mesh, in.mesh_len, in.claim, in.claim_len, independent, room);
+  uint8_t reports[ROOM];
+  memset(reports, 0xA5, sizeof reports);
+  struct lent on = lend_all(in, reports, room);
+  struct run a = pechuvo_check_run(GIVEN(on.mesh), GIVEN(on.table), GIVEN(on.claim), GIVEN(on.report));
+  struct run b = independent_check_run(GIVEN(in.mesh), GIVEN(in.table), GIVEN(in.claim), reports, room);
   must(a.reports == b.reports && a.bytes == b.bytes, "the run");
-  must(memcmp(on.report.bytes, independent, room) == 0, "the reports");
+  must(memcmp(on.report.bytes, reports, room) == 0, "the reports");
   give_all_back(on);
 }
 
 static void compare_sizes(struct input in) {
-  struct block mesh = lend(in.mesh, in.mesh_len, AT_END);
-  struct sizes a = pechuvo_mesh_sizes(mesh.bytes, in.mesh_len);
-  struct sizes b = independent_mesh_sizes(in.mesh, in.mesh_len);
+  struct lent on = lend_all(in, NULL, 0);
+  struct sizes a = pechuvo_mesh_sizes(GIVEN(on.mesh), GIVEN(on.table));
+  struct sizes b = independent_mesh_sizes(GIVEN(in.mesh), GIVEN(in.table));
   must(memcmp(&a, &b, sizeof a) == 0, "the sizes");
-  give_back(mesh);
+  give_all_back(on);
 }
 
 /* The numbers of a file as far as its columns go; what is no number counts as strtoll says. */
-static size_t numbers_of(const uint8_t *file, size_t length, int64_t *numbers) {
+static size_t numbers_of(struct file file, int64_t *numbers) {
   size_t count = 0, at = 0;
-  while (at + COLUMN <= length && count < MOST) {
+  while (at + COLUMN <= file.length && count < MOST) {
     char column[COLUMN + 1] = {0};
-    memcpy(column, file + at, COLUMN);
+    memcpy(column, file.bytes + at, COLUMN);
     numbers[count++] = strtoll(column, NULL, 10);
     at += COLUMN;
-    at += at < length && file[at] == '\n';
+    at += at < file.length && file.bytes[at] == '\n';
   }
   return count;
 }
 
+/* A list that ends at a closed page. */
+struct list {
+  const int64_t *bytes;
+  size_t length;
+  struct block block;
+};
+
+static struct list lend_list(const int64_t *numbers, size_t length) {
+  struct block block = lend(numbers, length * sizeof numbers[0], AT_END);
+  struct list list = {(const int64_t *)(void *)block.bytes, length, block};
+  return list;
+}
+
 static void compare_numbers(struct input in) {
-  static int64_t m[MOST], c[MOST];
-  size_t m_len = numbers_of(in.mesh, in.mesh_len, m), c_len = numbers_of(in.claim, in.claim_len, c);
-  struct block mesh_end = lend(m, m_len * sizeof m[0], AT_END);
-  struct block claim_end = lend(c, c_len * sizeof c[0], AT_END);
-  struct numbers a = pechuvo_check_numbers((const int64_t *)(void *)mesh_end.bytes, m_len,
-                                           (const int64_t *)(void *)claim_end.bytes, c_len);
-  give_back(mesh_end);
-  give_back(claim_end);
-  struct numbers b = independent_check_numbers(m, m_len, c, c_len);
+  static int64_t m[MOST], t[MOST], c[MOST];
+  size_t m_len = numbers_of(in.mesh, m), t_len = numbers_of(in.table, t), c_len = numbers_of(in.claim, c);
+  struct list mesh = lend_list(m, m_len), table = lend_list(t, t_len), claim = lend_list(c, c_len);
+  struct numbers a = pechuvo_check_numbers(GIVEN(mesh), GIVEN(table), GIVEN(claim));
+  give_back(mesh.block);
+  give_back(table.block);
+  give_back(claim.block);
+  struct numbers b = independent_check_numbers(m, m_len, t, t_len, c, c_len);
   must(a.number == b.number && a.place == b.place, "the answer on numbers");
   must(a.field == b.field && a.multipliers == b.multipliers, "the parts");
   must(a.l == b.l && a.n == b.n && a.w == b.w && a.m == b.m, "the loads");
   must(a.open_rows == b.open_rows, "the open rows");
 }
 
-/* The input up to its first byte 0, and what follows. */
+/* The next file of what is left, up to a byte 0. */
+static struct file next_file(struct file *left) {
+  const uint8_t *end = left->length ? memchr(left->bytes, 0, left->length) : NULL;
+  struct file file = {left->bytes, end ? (size_t)(end - left->bytes) : left->length};
+  size_t taken = file.length + (end != NULL);
+  left->bytes += taken;
+  left->length -= taken;
+  return file;
+}
+
 static struct input cut(const uint8_t *data, size_t size) {
-  const uint8_t *end = size ? memchr(data, 0, size) : NULL;
-  size_t mesh_len = end ? (size_t)(end - data) : size;
-  struct input in = {data, mesh_len, end ? end + 1 : data + size, end ? size - mesh_len - 1 : 0};
+  struct file left = {data, size};
+  struct input in;
+  in.mesh = next_file(&left);
+  in.claim = next_file(&left);
+  in.table = next_file(&left);
   return in;
 }
 

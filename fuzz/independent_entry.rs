@@ -16,6 +16,8 @@ unsafe fn slice<'a, T>(start: *const T, length: usize) -> &'a [T] {
 unsafe extern "C" fn independent_check(
     mesh: *const u8,
     mesh_len: usize,
+    table: *const u8,
+    table_len: usize,
     claim: *const u8,
     claim_len: usize,
     decimals: i64,
@@ -27,6 +29,7 @@ unsafe extern "C" fn independent_check(
         let report = std::slice::from_raw_parts_mut(report, report_len);
         independent::check(
             slice(mesh, mesh_len),
+            slice(table, table_len),
             slice(claim, claim_len),
             decimals,
             report,
@@ -38,17 +41,27 @@ unsafe extern "C" fn independent_check(
 unsafe extern "C" fn independent_check_numbers(
     mesh: *const i64,
     mesh_len: usize,
+    table: *const i64,
+    table_len: usize,
     claim: *const i64,
     claim_len: usize,
 ) -> Numbers {
     // SAFETY: as above.
-    unsafe { independent::check_numbers(slice(mesh, mesh_len), slice(claim, claim_len)) }
+    unsafe {
+        independent::check_numbers(
+            slice(mesh, mesh_len),
+            slice(table, table_len),
+            slice(claim, claim_len),
+        )
+    }
 }
 
 #[no_mangle]
 unsafe extern "C" fn independent_check_run(
     mesh: *const u8,
     mesh_len: usize,
+    table: *const u8,
+    table_len: usize,
     claims: *const u8,
     claims_len: usize,
     reports: *mut u8,
@@ -57,12 +70,22 @@ unsafe extern "C" fn independent_check_run(
     // SAFETY: as above.
     unsafe {
         let reports = std::slice::from_raw_parts_mut(reports, reports_len);
-        independent::check_run(slice(mesh, mesh_len), slice(claims, claims_len), reports)
+        independent::check_run(
+            slice(mesh, mesh_len),
+            slice(table, table_len),
+            slice(claims, claims_len),
+            reports,
+        )
     }
 }
 
 #[no_mangle]
-unsafe extern "C" fn independent_mesh_sizes(mesh: *const u8, mesh_len: usize) -> Sizes {
+unsafe extern "C" fn independent_mesh_sizes(
+    mesh: *const u8,
+    mesh_len: usize,
+    table: *const u8,
+    table_len: usize,
+) -> Sizes {
     // SAFETY: as above.
-    unsafe { independent::mesh_sizes(slice(mesh, mesh_len)) }
+    unsafe { independent::mesh_sizes(slice(mesh, mesh_len), slice(table, table_len)) }
 }

@@ -10,17 +10,20 @@
    - Each pointer goes with the length of what it points to, in elements. A length of 0 goes with
      any pointer; nothing is read or written through it.
    - Numbers are aligned as int64_t is.
-   - The report buffer overlaps neither input, and nothing else writes to the inputs or touches the
-     buffer during the call. The two inputs may overlap.
+   - The report buffer overlaps no input, and nothing else writes to the inputs or touches the buffer
+     during the call. The inputs may overlap.
 
    What is returned as number and place:
 
      number  place     when
       0      0         accepted: each part that the claim has passes its checks
-      1      line      mesh form: length, character, spelling, bytes missing or left over
-      2      line      mesh number outside its limits
+      1      line      mesh or table form: length, character, spelling, bytes missing or left over
+      2      line      mesh or table number outside its limits
       3      line      p^2 + q^2 is not h^2
       4      line      names a node or soil that isn't there
+     46      line      table: the first whose top isn't above its bottom; if there is none, the first
+                       that shares a height of the mesh with an earlier one
+     45      height    table: the lowest height of the mesh in no layer, in quarters of a unit
       5      element   not a left turn at all corners: four, or three of a triangle
       6      element   a directed side that a lower element has
       7      node      in no element
@@ -40,9 +43,10 @@
      43      0         number of decimals other than 0 to 7; pechuvo_check only
 
    The first that applies is returned, in this order: 43; 41; the mesh's lines front to back, in
-   each line 1, 2, 3, 4; then 5, 6, 7, 8, 44 and 42, each over the whole mesh; the claim's lines front to
-   back, in each line 11, 12, and 13 straight after line 1; then 21, 22, 31, 32 and 33. Of one
-   number the lowest place comes first. Lines, elements, nodes, rows and columns are counted from 1.
+   each line 1, 2, 3, 4; the table's lines front to back, in each line 1, 2, 4; then 46 and 45; then
+   5, 6, 7, 8, 44 and 42, each over the whole mesh; the claim's lines front to back, in each line 11,
+   12, and 13 straight after line 1; then 21, 22, 31, 32 and 33. Of one number the lowest place comes
+   first. Lines, elements, nodes, rows and columns are counted from 1, the table's lines from 1,001.
 
    A node makes a pair with each soil of the elements around it. Pairs are numbered from 1, nodes
    ascending and at a node soils ascending; a mesh has at most 100. A claim's strength multipliers
@@ -51,7 +55,15 @@
    The mesh's header has six columns, the sixth its number of jumps, 0 to 60; a line for each
    follows the edges: from and to on one side of a joint, then the two facing nodes in the same
    order. Its four rows follow those of the edges, in an edge's order, and so does its line of four
-   multipliers. */
+   multipliers.
+
+   Every call that takes a mesh takes a borehole table right after it: 1 to 32 lines, each a layer's
+   bottom and top (-1,000 to 2,000) and its soil. An empty one, of length 0, is no table. Where there
+   is a table, an element whose soil is 0 has the soil of the layer with bottom <= height < top, its
+   height being the mean of its four corners' y, a repeated corner counted twice. The heights of a
+   mesh are the quarters of a unit from its lowest node to its highest, both counted; a height's place
+   is counted in quarters from 0. Layers that overlap or leave a gap outside of these heights pass. A
+   table is judged even where no element has soil 0. */
 #ifndef PECHUVO_H
 #define PECHUVO_H
 
@@ -70,13 +82,14 @@ struct pechuvo_answer {
   uint32_t place;
 };
 
-/* Checks a mesh file and a claim file. The first 113 bytes of the report buffer become the report:
+/* Checks a mesh file, a table file and a claim file. The first 113 bytes of the report buffer become the report:
    four columns of 28 bytes, right-justified in spaces, and byte 10; no other byte of it is written.
    Accepted: 0, the open rows, the load l/n rounded down, the limit W/m rounded up, each with as
    many decimals as are asked for, 0 to 7, and no point at 0; each is off by less than one in its
    last place; `none` for what the claim lacks. Refused: number, place, none, none. With another
    number of decimals, or under 113 bytes, the buffer is left untouched. */
 struct pechuvo_answer pechuvo_check(const uint8_t *mesh, size_t mesh_length,
+                                    const uint8_t *table, size_t table_length,
                                     const uint8_t *claim, size_t claim_length,
                                     int64_t decimals,
                                     uint8_t *report, size_t report_length);
@@ -86,24 +99,25 @@ struct pechuvo_run {
   uint64_t bytes;   /* claim bytes taken */
 };
 
-/* Checks claims for one mesh, written one after another with nothing between, and writes their
+/* Checks claims for one mesh and its table, written one after another with nothing between, and writes their
    reports in turn, each as pechuvo_check writes it with six decimals: report i stands at byte
-   113 * i of the buffer, and no byte after the last is written. The mesh is read and judged once. A
-   claim has as many bytes as its header and the mesh say; where fewer are left it is judged on
-   those.
+   113 * i of the buffer, and no byte after the last is written. Mesh and table are read and judged
+   once. A claim has as many bytes as its header and the mesh say; where fewer are left it is judged
+   on those.
    At each step, in this order:
    - The buffer lacks 113 bytes for the next report: the run ends. There is no 41.
-   - The mesh is refused: its report is written once, no claim is taken, and the run ends.
+   - The mesh or its table is refused: the report is written once, no claim is taken, and the run ends.
    - No claim byte is left: the run ends.
    - Else the next claim is judged and its report written. Refused with 11, 12 or 13 it ends the
      run, and its bytes are not taken; else they are, and the run goes on. */
 struct pechuvo_run pechuvo_check_run(const uint8_t *mesh, size_t mesh_length,
+                                     const uint8_t *table, size_t table_length,
                                      const uint8_t *claims, size_t claims_length,
                                      uint8_t *reports, size_t reports_length);
 
 /* What a mesh asks room for. All sizes are 0 where number is not 0. */
 struct pechuvo_sizes {
-  uint32_t number; /* 0, or the mesh's refusal with its place */
+  uint32_t number; /* 0, or the refusal of the mesh or its table with its place */
   uint32_t place;
   uint64_t balance_rows; /* rows of each kind, unfixed ones counted */
   uint64_t side_rows;
@@ -115,9 +129,10 @@ struct pechuvo_sizes {
   uint64_t both_bytes;        /* with both */
 };
 
-/* The sizes of a mesh file, from the mesh alone, for a caller who lends buffers. Every claim file that
-   passes 11, 12 and 13 has exactly the length said for its kind. */
-struct pechuvo_sizes pechuvo_mesh_sizes(const uint8_t *mesh, size_t mesh_length);
+/* The sizes of a mesh file with a table, from these alone, for a caller who lends buffers. Every claim
+   file that passes 11, 12 and 13 has exactly the length said for its kind. */
+struct pechuvo_sizes pechuvo_mesh_sizes(const uint8_t *mesh, size_t mesh_length,
+                                        const uint8_t *table, size_t table_length);
 
 /* The loads of an accepted claim as exact fractions, l/n and w/m, as they stand and not reduced. */
 struct pechuvo_numbers {
@@ -132,10 +147,11 @@ struct pechuvo_numbers {
   uint64_t open_rows;   /* 0 unless both are 1 */
 };
 
-/* Checks the numbers of a mesh and of a claim, each list in the order of the file. They get the
-   refusals that files of them would get: 1 and 11 come from a list that is too short or too long,
-   at the line where that shows. */
+/* Checks the numbers of a mesh, of a table and of a claim, each list in the order of the file; an
+   empty list is no table. They get the refusals that files of them would get: 1 and 11 come from a
+   list that is too short or too long, at the line where that shows. */
 struct pechuvo_numbers pechuvo_check_numbers(const int64_t *mesh, size_t mesh_count,
+                                             const int64_t *table, size_t table_count,
                                              const int64_t *claim, size_t claim_count);
 
 #ifdef __cplusplus

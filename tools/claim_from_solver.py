@@ -50,10 +50,10 @@ def limit(rows, multipliers):
     return Fraction(exact.right_sum(rows, multipliers), exact.load_sum(rows, multipliers))
 
 
-def make_claim(text, part="both", margin=0.0, spread=0.0):
-    """The lines of a claim for a mesh file's bytes, and a word on how each part was made."""
+def make_claim(mesh_text, table, part="both", margin=0.0, spread=0.0):
+    """The lines of a claim for a mesh file's and a table's bytes, and a word on how each part was made."""
     try:
-        mesh, rows = exact.judged_mesh(exact.FileLines(text, 1))
+        mesh, rows = exact.judged_mesh(*exact.mesh_files(mesh_text, table))
     except exact.Refused as refusal:
         raise SystemExit(f"the mesh is refused: {refusal}") from None
     n, l, stresses, multipliers, notes = 0, 0, None, None, []
@@ -70,11 +70,13 @@ def main():
     parser = argparse.ArgumentParser(description=__doc__)
     parser.add_argument("mesh")
     parser.add_argument("claim")
+    parser.add_argument("--table", default="", help="the borehole table, where there is one")
     parser.add_argument("--part", choices=("field", "multipliers", "both"), default="both")
     parser.add_argument("--margin", type=float, default=0.0, help="tighten the field's strength rows by this fraction")
     parser.add_argument("--spread", type=float, default=0.0, help="add this much to every strength multiplier")
     words = parser.parse_args()
-    lines, note = make_claim(exact.read(words.mesh), words.part, words.margin, words.spread)
+    mesh, table = exact.read(words.mesh), exact.read(words.table)
+    lines, note = make_claim(mesh, table, words.part, words.margin, words.spread)
     with open(words.claim, "wb") as file:
         file.write(exact.text_of(lines))
     print(note)

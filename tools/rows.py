@@ -1,4 +1,4 @@
-"""Documents 01 and 02 in exact whole numbers: both files and their refusals, the rows, the verdict and the
+"""Documents 01 and 02 in exact whole numbers: the files and their refusals, the rows, the verdict and the
 report line. Written from the papers' words alone, for the tools and for sheets/expected; the check has no
 part in it. In here things are numbered from 0, in files and places from 1."""
 
@@ -28,6 +28,9 @@ NODE_LINE = [COORDINATE] * 2
 ELEMENT_LINE = [*[NODE] * 4, SOIL]
 EDGE_LINE = [NODE, NODE, range(1, 4), *[TRACTION] * 4]
 JUMP_LINE = [NODE] * 4
+LAYER_LINE = [range(-1_000, 2_001), range(-1_000, 2_001), SOIL]
+MOST_LAYERS = 32
+FIRST_LAYER_LINE = 1_001
 
 CLAIM_HEADER = [range(2), range(2), range(100_001), range(-100_000_000, 100_000_001)]
 STRESS = range(-1_000_000_000, 1_000_000_001)
@@ -39,6 +42,7 @@ Soil = namedtuple("Soil", "p q h cohesion dead live")
 Element = namedtuple("Element", "nodes soil")
 Edge = namedtuple("Edge", "start end fixed dead live")  # loads are (normal, shear)
 Jump = namedtuple("Jump", "start end facing_start facing_end")
+Layer = namedtuple("Layer", "bottom top soil")
 Mesh = namedtuple("Mesh", "sides soils nodes elements edges jumps")
 # stresses: sx, sy, t of node after node, or None; multipliers: in the order of the rows, or None.
 Claim = namedtuple("Claim", "n l stresses multipliers")
@@ -97,15 +101,14 @@ class NumberLines(FileLines):
         return list(piece)
 
 
-def take_line(lines, columns, refusal, counts=None):
+def take_line(lines, columns, refusal, there=None):
     """The next line's numbers, held to their limits and to the nodes and soils there are."""
     numbers = lines.take(len(columns))
     line = lines.line - 1
     if any(number not in limits for number, limits in zip(numbers, columns) if not isinstance(limits, str)):
         raise Refused(refusal, line, "line")
-    for number, thing in zip(numbers, columns):
-        if isinstance(thing, str) and not 1 <= number <= counts[thing]:
-            raise Refused(4, line, "line")
+    if any(number not in there[thing] for number, thing in zip(numbers, columns) if isinstance(thing, str)):
+        raise Refused(4, line, "line")
     return numbers
 
 
@@ -117,23 +120,68 @@ def soil_of(lines):
     return Soil(*numbers[:4], tuple(numbers[4:6]), tuple(numbers[6:8]))
 
 
-def mesh_of(lines):
-    """The mesh that lines hold, in document 01's order: 1 to 4 line by line."""
+def layers_of(lines, there):
+    """The table's layers: 1, 2 and 4 line by line."""
+    layers = []
+    while lines.data and len(layers) < MOST_LAYERS:
+        bottom, top, soil = take_line(lines, LAYER_LINE, 2, there)
+        layers.append(Layer(bottom, top, soil - 1))
+    lines.end()
+    return layers
+
+
+def judge_layers(layers, heights):
+    """46, then 45, over heights in quarters."""
+    for number, layer in enumerate(layers):
+        if layer.top <= layer.bottom:
+            raise Refused(46, FIRST_LAYER_LINE + number, "line")
+    taken = set()
+    for number, layer in enumerate(layers):
+        within = {height for height in heights if 4 * layer.bottom <= height < 4 * layer.top}
+        if taken & within:
+            raise Refused(46, FIRST_LAYER_LINE + number, "line")
+        taken |= within
+    for height in heights:
+        if height not in taken:
+            raise Refused(45, height, "height")
+
+
+def filled(mesh, layers):
+    """The mesh with each soil 0 replaced by its layer's, at the height of the element's four corners (document 02,
+    N8); the four heights' sum is the height in quarters."""
+    elements = []
+    for element in mesh.elements:
+        height = sum(mesh.nodes[node][1] for node in element.nodes)
+        own = [layer.soil for layer in layers if 4 * layer.bottom <= height < 4 * layer.top]
+        elements.append(element._replace(soil=own[0]) if element.soil < 0 else element)
+    return mesh._replace(elements=elements)
+
+
+def mesh_of(lines, table):
+    """The mesh that lines hold, in document 01's order: 1 to 4 line by line; then the table, an empty one being
+    none."""
     nodes, elements, soils, edges, sides, jumps = take_line(lines, HEADER, 2)
-    counts = {NODE: nodes, SOIL: soils}
+    there = {NODE: range(1, nodes + 1), SOIL: range(1, soils + 1)}
+    there_or_0 = {**there, SOIL: range(soils + 1)} if table.data else there
     all_soils = [soil_of(lines) for _ in range(soils)]
     all_nodes = [tuple(take_line(lines, NODE_LINE, 2)) for _ in range(nodes)]
     all_elements = []
     for _ in range(elements):
-        *corner, soil = take_line(lines, ELEMENT_LINE, 2, counts)
+        *corner, soil = take_line(lines, ELEMENT_LINE, 2, there_or_0)
         all_elements.append(Element(tuple(node - 1 for node in corner), soil - 1))
     all_edges = []
     for _ in range(edges):
-        start, end, fixed, *loads = take_line(lines, EDGE_LINE, 2, counts)
+        start, end, fixed, *loads = take_line(lines, EDGE_LINE, 2, there)
         all_edges.append(Edge(start - 1, end - 1, fixed, tuple(loads[:2]), tuple(loads[2:])))
-    all_jumps = [Jump(*(node - 1 for node in take_line(lines, JUMP_LINE, 2, counts))) for _ in range(jumps)]
+    all_jumps = [Jump(*(node - 1 for node in take_line(lines, JUMP_LINE, 2, there))) for _ in range(jumps)]
     lines.end()
-    return Mesh(sides, all_soils, all_nodes, all_elements, all_edges, all_jumps)
+    mesh = Mesh(sides, all_soils, all_nodes, all_elements, all_edges, all_jumps)
+    if not table.data:
+        return mesh
+    layers = layers_of(table, there)
+    heights = [y for _, y in all_nodes]
+    judge_layers(layers, range(4 * min(heights), 4 * max(heights) + 1))
+    return filled(mesh, layers)
 
 
 def edge_line(mesh, edge):
@@ -478,17 +526,17 @@ def sizes(mesh):
     return [*counts, 3 * len(mesh.nodes), *claims]
 
 
-def judged_mesh(mesh_lines):
+def judged_mesh(mesh_lines, table_lines):
     """The mesh of lines that pass, and its rows; Refused where they don't."""
-    mesh = mesh_of(mesh_lines)
+    mesh = mesh_of(mesh_lines, table_lines)
     judge_mesh(mesh)
     return mesh, rows_of(mesh)
 
 
-def mesh_sizes(mesh):
-    """The sizes of a mesh file: number, place and kind of place, then its sizes, or - where it is refused."""
+def mesh_sizes(mesh, table):
+    """The sizes of a mesh file and a table: number, place and kind of place, then its sizes, or - where it is refused."""
     try:
-        return [0, 0, "none", *sizes(judged_mesh(FileLines(mesh, 1))[0])]
+        return [0, 0, "none", *sizes(judged_mesh(*mesh_files(mesh, table))[0])]
     except Refused as refusal:
         return [refusal.number, refusal.place, refusal.kind, "-"]
 
@@ -497,27 +545,31 @@ def refused(refusal):
     return Verdict(refusal.number, refusal.place, refusal.kind)
 
 
-def verdict_of(mesh_lines, claim_lines):
+def verdict_of(mesh_lines, table_lines, claim_lines):
     try:
-        mesh, rows = judged_mesh(mesh_lines)
+        mesh, rows = judged_mesh(mesh_lines, table_lines)
         return judge_claim(mesh, rows, claim_of(claim_lines, mesh))
     except Refused as refusal:
         return refused(refusal)
 
 
-def check_numbers(mesh, claim):
-    """Numbers handed over: two lists, the verdict."""
-    return verdict_of(NumberLines(mesh, 1), NumberLines(claim, 11))
+def mesh_files(mesh, table):
+    return FileLines(mesh, 1), FileLines(table, 1, FIRST_LAYER_LINE)
 
 
-def check(mesh, claim, decimals=6, room=REPORT):
-    """Two byte strings, the decimals of both loads and the room of the report buffer: the verdict, and the report
+def check_numbers(mesh, table, claim):
+    """Numbers handed over: three lists, the verdict."""
+    return verdict_of(NumberLines(mesh, 1), NumberLines(table, 1, FIRST_LAYER_LINE), NumberLines(claim, 11))
+
+
+def check(mesh, table, claim, decimals=6, room=REPORT):
+    """Three byte strings, the decimals of both loads and the room of the report buffer: the verdict, and the report
     or None."""
     if decimals not in DECIMALS:
         return Verdict(43, 0, "none"), None
     if room < REPORT:
         return Verdict(41, 0, "none"), None
-    verdict = verdict_of(FileLines(mesh, 1), FileLines(claim, 11))
+    verdict = verdict_of(*mesh_files(mesh, table), FileLines(claim, 11))
     return verdict, report(verdict, decimals)
 
 
@@ -531,11 +583,11 @@ def next_claim(mesh, claims):
     return claims[: claim_bytes(mesh, field, multipliers)]
 
 
-def check_run(mesh_text, claims, room):
+def check_run(mesh_text, table, claims, room):
     """Claims written one after another (document 02, N3): all that is written, the reports and the bytes taken."""
     written, taken = b"", 0
     try:
-        mesh, rows = judged_mesh(FileLines(mesh_text, 1))
+        mesh, rows = judged_mesh(*mesh_files(mesh_text, table))
     except Refused as refusal:
         written = report(refused(refusal)) if room >= REPORT else b""
         return written, len(written) // REPORT, taken

@@ -17,22 +17,26 @@ def lines_of(*path):
         return file.read().splitlines()
 
 
-def sheet_line(folder, name):
-    mesh, claim = (rows.read(os.path.join(folder, name + end)) for end in (".mesh", ".claim"))
-    return name + " " + rows.check(mesh, claim)[1].decode("ascii").rstrip("\n")
+def files_of(folder, name, *ends):
+    """The bytes of the files with these ends; a table that isn't there is empty."""
+    return [rows.read(os.path.join(folder, name + end)) for end in ends]
+
+
+def sheet(folder, name):
+    return files_of(folder, name, ".mesh", ".table", ".claim")
 
 
 def differing_sheets(folder):
     for line in lines_of(folder, "expected"):
-        if sheet_line(folder, line.split()[0]) != line:
-            yield line.split()[0]
+        name = line.split()[0]
+        if name + " " + rows.told(rows.check(*sheet(folder, name))[1]) != line:
+            yield name
 
 
 def differing_files(folder):
     for line in lines_of(folder, "expected"):
         name, number, place, text, kind, room, decimals = line.split("\t")[:7]
-        mesh, claim = (rows.read(os.path.join(folder, name + end)) for end in (".mesh", ".claim"))
-        verdict, written = rows.check(mesh, claim, int(decimals), int(room))
+        verdict, written = rows.check(*sheet(folder, name), int(decimals), int(room))
         told = rows.told(written)
         if [str(verdict.number), str(verdict.place), told, verdict.kind] != [number, place, text, kind]:
             yield f"{name}: {verdict}, expected {line}"
@@ -41,8 +45,7 @@ def differing_files(folder):
 def differing_decimals(folder):
     for line in lines_of(folder, "decimals"):
         name, decimals, *expected = line.split("\t")
-        mesh, claim = (rows.read(os.path.join(folder, name + end)) for end in (".mesh", ".claim"))
-        verdict, written = rows.check(mesh, claim, int(decimals))
+        verdict, written = rows.check(*sheet(folder, name), int(decimals))
         if [str(verdict.number), str(verdict.place), rows.told(written)] != expected:
             yield f"{name} with {decimals} decimals"
 
@@ -50,8 +53,8 @@ def differing_decimals(folder):
 def differing_numbers(folder):
     for line in lines_of(folder, "expected"):
         name, *expected = line.split("\t")
-        mesh, claim = ([int(n) for n in text.split()] for text in lines_of(folder, name + ".txt")[:2])
-        verdict = rows.check_numbers(mesh, claim)
+        mesh, claim, table = ([int(n) for n in text.split()] for text in lines_of(folder, name + ".txt"))
+        verdict = rows.check_numbers(mesh, table, claim)
         if ["-" if part is None else str(part) for part in verdict] != expected:
             yield f"{name}: {verdict}, expected {line}"
 
@@ -59,15 +62,16 @@ def differing_numbers(folder):
 def differing_runs(folder):
     for line in lines_of(folder, "expected"):
         name, room, reports, taken = line.split("\t")
-        mesh, claims, out = (rows.read(os.path.join(folder, name + end)) for end in (".mesh", ".claims", ".out"))
-        if rows.check_run(mesh, claims, int(room)) != (out, int(reports), int(taken)):
-            yield f"{name}: {rows.check_run(mesh, claims, int(room))[1:]}, expected {line}"
+        *files, out = files_of(folder, name, ".mesh", ".table", ".claims", ".out")
+        written, *counts = rows.check_run(*files, int(room))
+        if [written, *counts] != [out, int(reports), int(taken)]:
+            yield f"{name}: {counts}, expected {line}"
 
 
 def differing_sizes(folder):
     for line in lines_of(folder, "sizes"):
         name, *expected = line.split("\t")
-        told = rows.mesh_sizes(rows.read(os.path.join(folder, name + ".mesh")))
+        told = rows.mesh_sizes(*files_of(folder, name, ".mesh", ".table"))
         if list(map(str, told)) != expected:
             yield f"{name}: {told}, expected {line}"
 

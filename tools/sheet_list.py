@@ -3,7 +3,7 @@
 from collections import namedtuple
 
 # claim: None, or the lines themselves; line: None, or the report's four columns.
-Sheet = namedtuple("Sheet", "name mesh part margin spread claim line", defaults=("both", 0.0, 0.0, None, None))
+Sheet = namedtuple("Sheet", "name mesh part margin spread claim line table", defaults=("both", 0.0, 0.0, None, None, ()))
 
 # Claims one after another: each a part and a margin for the solver, or the lines themselves; the report buffer
 # has `room` bytes, and the last claim ends `short` bytes too early.
@@ -106,7 +106,7 @@ def cut(columns, rows, size, column, row, soils, sides, soil_of=one_soil, surcha
     return mesh_lines(cells, scaled(size), soil_of, edge, soils, sides)
 
 
-def slope(columns, rows, size, run, soils, sides, fixed=3):
+def slope(columns, rows, size, run, soils, sides, fixed=3, soil_of=one_soil):
     """A bank on a rigid floor, its columns leaning so that its right face steps `run` to the left
     in each layer: top and face are free, floor and left side may carry anything."""
 
@@ -118,7 +118,7 @@ def slope(columns, rows, size, run, soils, sides, fixed=3):
             return fixed, 0, 0, 0, 0
         return None
 
-    return mesh_lines(block_cells(columns, rows), at, one_soil, edge, soils, sides)
+    return mesh_lines(block_cells(columns, rows), at, soil_of, edge, soils, sides)
 
 
 def wall(columns, rows, size, soils, sides, push, fixed=1):
@@ -134,8 +134,8 @@ def wall(columns, rows, size, soils, sides, push, fixed=1):
     return mesh_lines(block_cells(columns, rows), scaled(size), one_soil, edge, soils, sides)
 
 
-def pieces(soils, sides, edged):
-    """Twenty-five separate squares, soils in turn; the first `edged` of them carry the load."""
+def pieces(soils, sides, edged, soil=None):
+    """Twenty-five separate squares, soils in turn or all the one; the first `edged` of them carry the load."""
     cells = [(2 * i, 2 * j) for j in range(5) for i in range(5)]
     loaded = set(cells[:edged])
 
@@ -147,7 +147,7 @@ def pieces(soils, sides, edged):
             return 3, 0, 0, -1, 0
         return FREE if a[0] == b[0] == cell[0] + 1 else SMOOTH
 
-    soil_of = lambda i, j: (5 * (j // 2) + i // 2) % len(soils) + 1
+    soil_of = lambda i, j: (5 * (j // 2) + i // 2) % len(soils) + 1 if soil is None else soil
     return mesh_lines(cells, scaled(13), soil_of, edge, soils, sides)
 
 
@@ -209,10 +209,11 @@ def plate_edge(width, height, confining=0):
     return edge
 
 
-def triangle_block(size, soils, sides, confining=0):
+def triangle_block(size, soils, sides, confining=0, soil=1):
     """A block between smooth plates, cut into two triangles that repeat one node."""
     a, b, c, d = (0, 0), (size, 0), (size, size), (0, size)
-    return polygon_mesh([([a, b, c], 1), ([d, a, c], 1)], scaled(1), plate_edge(size, size, confining), soils, sides)
+    polygons = [([a, b, c], soil), ([d, a, c], soil)]
+    return polygon_mesh(polygons, scaled(1), plate_edge(size, size, confining), soils, sides)
 
 
 def fan_footing_polygons(right, deep):
@@ -239,9 +240,9 @@ def fan_footing(size, right, deep, soils, sides):
     return polygon_mesh(fan_footing_polygons(right, deep), scaled(size), edge, soils, sides)
 
 
-def seam(size, fill, soft, sides):
+def seam(size, fill, soft, sides, soils=(1, 1, 2)):
     """A seam of soft clay between two layers of fill, which come first, between smooth plates."""
-    polygons = [(outline(0, j), soil) for j, soil in ((0, 1), (2, 1), (1, 2))]
+    polygons = [(outline(0, j), soil) for j, soil in zip((0, 2, 1), soils)]
     return polygon_mesh(polygons, scaled(size), plate_edge(1, 3), [fill, soft], sides)
 
 
@@ -546,8 +547,33 @@ def jump_sheets():
     ]
 
 
+def table_sheets():
+    """Soils from a borehole table (document 02, N8)."""
+    soils = [clay(cohesion, live=(0, -1)) for cohesion in (60, 40, 90)]
+    none, face = lambda i, j: 0, lambda i, j: 2 if i == 2 else 0
+    layers = printed("20 40 2 / -5 10 3 / 10 20 1")
+    bank = lambda soil_of: slope(3, 3, 10, 10, soils, 20, soil_of=soil_of)
+    between = seam(10, clay(30), clay(10), 12, (0, 0, 0))
+    flat, worked = printed("1 0 1 20" + " / 0 -20 0" * 8), worked_claim(1, 20, -20)
+    refused = lambda number, place: [str(number), str(place), "none", "none"]
+    overlap = printed("20 31 1 / 10 20 2 / 0 11 1")
+    sixteen = [clay(30 + 7 * k % 16) for k in range(16)]
+    thin = [[4 * k, 4 * k + 4, 7 * k % 16 + 1] for k in range(32)]
+    return [
+        Sheet("table_slope", bank(none), table=layers),
+        Sheet("table_slope_mixed", bank(face), table=layers),
+        Sheet("table_slope_written", bank(lambda i, j: (3, 1, 2)[j])),
+        Sheet("table_seam", between, table=printed("20 31 1 / 10 20 2 / 0 10 1")),
+        Sheet("table_triangle", triangle_block(10, [clay(10), clay(5)], 12, soil=0), table=printed("0 4 2 / 4 11 1")),
+        Sheet("table_overlap", between, claim=flat, line=refused(46, 1003), table=overlap),
+        Sheet("table_gap", worked_mesh(), claim=worked, line=refused(45, 4), table=printed("0 1 1")),
+        Sheet("table_pieces", pieces(sixteen, 36, 15, 0), table=thin),
+        Sheet("table_worked", worked_mesh(), claim=worked, table=printed("0 2 1")),
+    ]
+
+
 SHEETS = paper_sheets() + known_sheets() + other_sheets() + load_sheets() + corner_sheets() + triangle_sheets()
-SHEETS += pair_sheets() + jump_sheets()
+SHEETS += pair_sheets() + jump_sheets() + table_sheets()
 
 
 def runs():
@@ -570,5 +596,6 @@ DECIMALS = [(name, decimals) for name in ("third_below_zero", "two_thirds") for 
 DECIMALS += [("widest_limit", 0), ("widest_limit", 7), ("lowest_limit", 7), ("one_in_three_million", 7)]
 DECIMALS += [("worked_above", 3), ("worked", -1), ("worked", 8)]
 
-# Meshes whose sizes are told (document 02, N7): triangles, two soils, jumps, the largest.
+# Meshes whose sizes are told (document 02, N7): triangles, two soils, jumps, the largest, and soils from a table.
 SIZES = ["worked", "triangle_block", "seam", "joint_blocks", "joint_grid", "footing_36", "largest"]
+SIZES += ["table_slope", "table_seam", "table_gap"]

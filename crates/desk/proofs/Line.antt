@@ -5,19 +5,16 @@ use Prim.Native.Nat.{ℕ}
 use native.Mathlib.Omega.{arith}
 use lib.IntN.{pos}
 use lib.ListN.{length, drop-of-length-le}
-use Rattle.reader.specs.File.{fileWidth}
-use Rattle.judge.specs.Judge.{filesVerdict}
+use Rattle.scope.specs.declared.Verdict.{Verdict}
 use Rattle.report.specs.Report.{reportBytes, reportLine, isDecimals, usualDecimals}
-use Rattle.pechuvo.specs.Check.{check}
-use Rattle.pechuvo.specs.Answers.{Answers}
+use Rattle.pechuvo.specs.Check.{answered}
+use Rattle.pechuvo.specs.Answers.{AnswersFor}
 
-pub whole-line : {mesh claim before after : List ℕ} {number place : ℕ} → length before ≡ reportBytes
-    → Answers mesh claim (pos 6) before number place after
-    → after ≡ reportLine usualDecimals (filesVerdict fileWidth mesh claim)
-unfolding check isDecimals usualDecimals
-whole-line {mesh} {claim} {before} {after} l a =
-    let line = reportLine usualDecimals (filesVerdict fileWidth mesh claim) in
-    let b : after ≡ check mesh claim (pos 6) before .buffer = a .bufferIs in
-    (rw (l, check) at b)
-    ∙ ap (λ (rest : List ℕ). line ++ rest) (drop-of-length-le before {i = reportBytes} (omega arith))
-    ∙ append-nil line
+pub whole-line : {v : Verdict} {before after : List ℕ} {number place : ℕ} → length before ≡ reportBytes → AnswersFor v (pos 6) before number place after
+    → after ≡ reportLine usualDecimals v
+unfolding answered isDecimals usualDecimals
+whole-line {v} {before} {after} l a =
+    let b : after ≡ answered v (pos 6) before .buffer = a .bufferIs in
+    (rw (l, answered) at b)
+    ∙ ap (λ (rest : List ℕ). reportLine usualDecimals v ++ rest) (drop-of-length-le before {i = reportBytes} (omega arith))
+    ∙ append-nil (reportLine usualDecimals v)

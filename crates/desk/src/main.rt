@@ -1,4 +1,5 @@
-// The desk program: writes the report line of the mesh file and the claim file that its two arguments name.
+// The desk program: writes the report line of the mesh file and the claim file that its first two arguments name, with
+// the table file that a third one names.
 
 use libc::STDOUT_FILENO;
 use pechuvo::pechuvo_check;
@@ -26,12 +27,14 @@ fn read_argument(i: usize, bytes: &mut [u8]) -> usize
     count
 }
 
-// The report line of two files: "The desk program and N3's runs go on with six".
-fn report_line(mesh: &[u8], claim: &[u8]) -> [u8; LINE]
-    ensures { λ r. ⌜ r ≡ reportLine usualDecimals (filesVerdict fileWidth (now (mesh .entry)) (now (claim .entry))) ⌝ }
+// The report line of three files: "The desk program and N3's runs go on with six". A table of no bytes is none.
+fn report_line(mesh: &[u8], table: &[u8], claim: &[u8]) -> [u8; LINE]
+    ensures { λ r. ⌜ r
+        ≡ reportLine usualDecimals
+        (filesVerdict fileWidth (now (mesh .entry)) (now (table .entry)) (now (claim .entry))) ⌝ }
 {
     let mut line = [0u8; LINE];
-    pechuvo_check(mesh, claim, USUAL_DECIMALS, &mut line);
+    pechuvo_check(mesh, table, claim, USUAL_DECIMALS, &mut line);
     line
 }
 
@@ -40,6 +43,12 @@ fn main() {
     let mesh_count = read_argument(1, &mut mesh);
     let mut claim = io::large_buffer();
     let claim_count = read_argument(2, &mut claim);
-    let line = report_line(&mesh[..mesh_count], &claim[..claim_count]);
+    let mut table = io::buffer();
+    let table_count = read_argument(3, &mut table);
+    let line = report_line(
+        &mesh[..mesh_count],
+        &table[..table_count],
+        &claim[..claim_count],
+    );
     io::write_all(STDOUT_FILENO, &line);
 }

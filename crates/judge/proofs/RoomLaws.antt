@@ -16,8 +16,10 @@ use Rattle.scope.proofs.RowCounts.{balance-count, side-count, jump-count, stren
 use Rattle.mesh.specs.declared.sizes.Sizes.{Sizes}
 use Rattle.mesh.specs.MeshContracts.{Counted}
 use Rattle.verdict.specs.declared.MeshAnswer.{MeshAnswer}
-use Rattle.verdict.specs.JudgeContracts.{MeshAnswered}
+use Rattle.verdict.specs.JudgeContracts.{AnsweredAs}
 use Rattle.judge.specs.declared.room.MeshSizes.{MeshSizes}
+use Rattle.reader.specs.File.{fileWidth}
+use Rattle.judge.specs.Judge.{meshFrom, meshOutcome}
 use Rattle.judge.specs.ClaimBytes.{claimBytes}
 use Rattle.judge.specs.Room.{withField, withMultipliers, withBoth, noSizes, sizesFor, meshSizes}
 
@@ -50,11 +52,11 @@ unfolding claimBytes claimLayout
 by-parts m c d f g = rw (f, g)
 
 -- a judged mesh
-module _ {m : List ℤ} {a : MeshAnswer} (j : MeshAnswered m a) where
-  pub sizes-refused : {k : ℕ} {p : Place} → a .outcome ≡ Refused k p → noSizes k (placeNumber p) ≡ meshSizes m
+module _ (mesh table : List ℕ) {a : MeshAnswer} (j : AnsweredAs (meshOutcome fileWidth mesh table) (meshFrom fileWidth mesh table) a) where
+  pub sizes-refused : {k : ℕ} {p : Place} → a .outcome ≡ Refused k p → noSizes k (placeNumber p) ≡ meshSizes mesh table
   unfolding meshSizes sizesFor
   sizes-refused e = rw (sym (j .outcome) ∙ e)
 
-  pub sizes-passed : {r : MeshSizes} → a .outcome ≡ Passed → r ≡ sizesFor Passed m → r ≡ meshSizes m
+  pub sizes-passed : {r : MeshSizes} → a .outcome ≡ Passed → r ≡ sizesFor Passed (meshFrom fileWidth mesh table) → r ≡ meshSizes mesh table
   unfolding meshSizes
   sizes-passed e h = rw (sym (j .outcome) ∙ e) h

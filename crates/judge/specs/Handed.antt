@@ -6,20 +6,22 @@ use lib.IntN.{ℤ}
 use Rattle.scope.specs.Accepted.{FieldAccepted, MultipliersAccepted}
 use Rattle.scope.specs.Parts.{SameRows, PartsBracket}
 use Rattle.reader.specs.File.{fileWidth}
-use Rattle.judge.specs.Judge.{meshNumbers, claimNumbers}
+use Rattle.scope.specs.Table.{meshRead}
+use Rattle.judge.specs.Judge.{meshFrom, claimNumbers}
 
--- a mesh and a claim: two files, or two lists of numbers
+-- a mesh, a table and a claim: three files, or three lists of numbers; an empty table is none
 pub data Handed : Type 0 where
-  files : List ℕ → List ℕ → Handed
-  numbers : List ℤ → List ℤ → Handed
+  files : List ℕ → List ℕ → List ℕ → Handed
+  numbers : List ℤ → List ℤ → List ℤ → Handed
 
+-- the mesh as all after its lines reads it
 unfoldable pub meshOf : Handed → List ℤ
-meshOf (files mesh claim) = meshNumbers fileWidth mesh
-meshOf (numbers m c) = m
+meshOf (files mesh table claim) = meshFrom fileWidth mesh table
+meshOf (numbers m t c) = meshRead t m
 
 unfoldable pub claimOf : Handed → List ℤ
-claimOf (files mesh claim) = claimNumbers fileWidth (meshNumbers fileWidth mesh) claim
-claimOf (numbers m c) = c
+claimOf (files mesh table claim) = claimNumbers fileWidth (meshFrom fileWidth mesh table) claim
+claimOf (numbers m t c) = c
 
 abbrev pub HasAcceptedField : Handed → Type 0
 HasAcceptedField a = FieldAccepted (meshOf a) (claimOf a)

@@ -1,17 +1,20 @@
--- What judging a mesh file answers and leaves in the list that is lent.
+-- What judging a mesh file and a table file answers and leaves in the list that is lent.
 use mathlib.Core.Path.{_≡_}
-use mathlib.Core.List.{List, _++_}
+use mathlib.Core.List.{List}
 use Prim.Native.Nat.{ℕ}
 use lib.IntN.{ℤ}
-use lib.ListN.{length, drop}
-use Rattle.verdict.specs.JudgeContracts.{MeshAnswered}
+use lib.ListN.{length, take, drop}
+use Rattle.scope.specs.declared.Outcome.the-variants.{Passed}
+use Rattle.verdict.specs.JudgeContracts.{AnsweredAs}
 use Rattle.judge.specs.declared.JudgedMesh.{JudgedMesh}
-use Rattle.judge.specs.Judge.{meshNumbers}
+use Rattle.judge.specs.Judge.{meshNumbers, meshFrom, meshOutcome}
 use Rattle.reader.specs.File.{fileWidth}
 
--- the numbers of the mesh file stand at the front of the list `before`, which makes it `after`, nothing else is
--- touched, and r has their count and what is said of them
-pub record MeshJudged (mesh : List ℕ) (before : List ℤ) (r : JudgedMesh) (after : List ℤ) : Type 0 where
+-- as many numbers as the mesh file has stand at the front of the list `before`, which makes it `after`; where the mesh
+-- and its table pass they are the mesh as all after its lines reads it; nothing behind them is touched
+pub record MeshJudged (mesh table : List ℕ) (before : List ℤ) (r : JudgedMesh) (after : List ℤ) : Type 0 where
   pub count : r .count ≡ length (meshNumbers fileWidth mesh)
-  pub numbers : after ≡ meshNumbers fileWidth mesh ++ drop (r .count) before
-  pub answer : MeshAnswered (meshNumbers fileWidth mesh) (r .answer)
+  pub size : length after ≡ length before
+  pub behind : drop (r .count) after ≡ drop (r .count) before
+  pub answer : AnsweredAs (meshOutcome fileWidth mesh table) (meshFrom fileWidth mesh table) (r .answer)
+  pub numbers : meshOutcome fileWidth mesh table ≡ Passed → take (r .count) after ≡ meshFrom fileWidth mesh table

@@ -9,7 +9,8 @@ use Rattle.scope.specs.declared.Outcome.the-variants.{Passed, Refused}
 use Rattle.scope.specs.Answer.{placeNumber}
 use Rattle.scope.specs.Mesh.{nodes}
 use Rattle.scope.specs.Rows.{balanceRows, sideRows, jumpRows, strengthRows}
-use Rattle.scope.specs.Verdict.{meshCheck}
+use Rattle.reader.specs.File.{fileWidth}
+use Rattle.judge.specs.Judge.{meshFrom, meshOutcome}
 use Rattle.judge.specs.declared.room.MeshSizes.{MeshSizes}
 use Rattle.judge.specs.ClaimBytes.{claimBytes}
 
@@ -55,6 +56,6 @@ sizesFor Passed m = record {
 }
 sizesFor (Refused k p) m = noSizes k (placeNumber p)
 
--- the sizes of the mesh with the numbers m
-unfoldable pub meshSizes : List ℤ → MeshSizes
-meshSizes m = sizesFor (meshCheck m) m
+-- the sizes of a mesh file and its table
+unfoldable pub meshSizes : List ℕ → List ℕ → MeshSizes
+meshSizes mesh table = sizesFor (meshOutcome fileWidth mesh table) (meshFrom fileWidth mesh table)

@@ -18,8 +18,6 @@ ghost use lib.IntN.{ℤ};
 ghost use Rattle.scope.specs.declared.Outcome.the-variants.{Passed};
 ghost use Rattle.scope.specs.Mesh.{mostPairs, mostSides};
 ghost use Rattle.mesh.specs.MeshContracts.{FewThings, Counted};
-ghost use Rattle.reader.specs.File.{fileWidth};
-ghost use Rattle.judge.specs.Judge.{meshNumbers};
 ghost use Rattle.judge.specs.Room.{noSizes, sizesFor, meshSizes};
 
 // What a mesh asks room for, as C reads it: its refusal, or the rows of each kind, the columns, and the bytes of a
@@ -86,12 +84,12 @@ fn sizes_for(s: Sizes) -> MeshSizes
     }
 }
 
-// The sizes of a mesh file.
-pub fn mesh_sizes(mesh: &[u8]) -> MeshSizes
-    ensures { λ r. ⌜ r ≡ meshSizes (meshNumbers fileWidth (now (mesh .entry))) ⌝ }
+// The sizes of a mesh file, with a table file beside it.
+pub fn mesh_sizes(mesh: &[u8], table: &[u8]) -> MeshSizes
+    ensures { λ r. ⌜ r ≡ meshSizes (now (mesh .entry)) (now (table .entry)) ⌝ }
 {
     let mut numbers = [0i64; MESH_ROOM];
-    let judged = judge_mesh_file(mesh, &mut numbers);
+    let judged = judge_mesh_file(mesh, table, &mut numbers);
     let answer = judged.answer;
     let outcome = answer.outcome;
     match outcome {

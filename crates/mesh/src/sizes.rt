@@ -83,6 +83,14 @@ pub const EDGE_COLUMNS: usize = 7;
 
 pub const JUMP_COLUMNS: usize = 4;
 
+// The most numbers that a mesh has.
+pub const MESH_NUMBERS: usize = MESH_HEADER
+    + MOST_SOILS * SOIL_COLUMNS
+    + MOST_NODES * NODE_COLUMNS
+    + MOST_ELEMENTS * ELEMENT_COLUMNS
+    + MOST_EDGES * EDGE_COLUMNS
+    + MOST_JUMPS * JUMP_COLUMNS;
+
 // "1 to 32 lines", "bottom, top .., soil" (document 02, N8): the lines of a borehole table and their columns.
 pub const MOST_LAYERS: usize = 32;
 

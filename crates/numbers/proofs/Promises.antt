@@ -71,7 +71,7 @@ returned {m} {c} e = let b = by (verdict m c) e in record { numberIs = b .0; pla
 abbrev VerdictCases : List ℤ → List ℤ → Type 0
 VerdictCases m c = ((k : ℕ) × (p : Place) × (verdict m c ≡ Refused k p)) ⊎ (verdict m c ≡ Accepted (openCount m c) (lowerLoad c) (upperLoad m c))
 
-refused-not-zero : (m c : List ℤ) {k : ℕ} {p : Place} → verdict m c ≡ Refused k p → k ≢ 0
+pub refused-not-zero : (m c : List ℤ) {k : ℕ} {p : Place} → verdict m c ≡ Refused k p → k ≢ 0
 refused-not-zero m c e z =
     let a = accepted-exactly m c .1 (returns-zero m c .0 (ap numberOf e ∙ z)) in
     let y : _≡_ {A = ℕ} 0 1 = cc in

@@ -1,10 +1,9 @@
--- The promises of the check of two files hold of every call: the theorems about the definitions, read off what is returned and written.
+-- The promises of a verdict that is answered, and of a claim on a mesh as it is read, hold of every call: the theorems about the definitions, read off what is returned and written.
 use mathlib.Core.Path.{_≡_, refl, sym, _∙_, ap, subst}
-use mathlib.Core.Logic.{Iff·symm, Iff·trans, _⊎_, inl, inr, _≢_}
-use mathlib.Core.Bool.{true, false}
-use mathlib.Core.List.{List, _∷_, _++_, map, append-nil, List·Memᴰ·head, List·Memᴰ·tail}
+use mathlib.Core.Logic.{_≢_}
+use mathlib.Core.List.{List, _++_}
 use mathlib.Core.Option.{some}
-use Prim.Native.Nat.{ℕ, suc, _^_, _≤_, _<_}
+use Prim.Native.Nat.{ℕ, _^_, _≤_, _<_}
 use native.Mathlib.Omega.{arith}
 use lib.Dec.{ltb}
 use lib.IntN.{ℤ, pos, natAbs, _+ℤ_, _-ℤ_}
@@ -18,27 +17,21 @@ use Rattle.integer.specs.Fraction.{_over_, _≤ᶠ_, _<ᶠ_}
 use Rattle.integer.specs.Round.{Floor, Ceil}
 use Rattle.integer.specs.Tests.{eqZ}
 use Rattle.integer.proofs.TestLaws.{yes-eqZ}
-use Rattle.scope.specs.declared.Place.{Place}
-use Rattle.scope.specs.declared.Place.the-variants.{Line}
 use Rattle.scope.specs.declared.Load.{Load}
 use Rattle.scope.specs.declared.Load.the-variants.{Exact}
 use Rattle.scope.specs.declared.OpenRows.{OpenRows}
 use Rattle.scope.specs.declared.Verdict.{Verdict}
-use Rattle.scope.specs.declared.Verdict.the-variants.{Accepted, Refused}
-use Rattle.scope.specs.Answer.{placeFor, numberOf, placeOf}
-use Rattle.scope.specs.Members.{_∈_}
+use Rattle.scope.specs.declared.Verdict.the-variants.{Accepted}
+use Rattle.scope.specs.Answer.{numberOf, placeOf}
 use Rattle.scope.specs.Columns.{at, hasField, hasMultipliers, n, l}
-use Rattle.scope.specs.Mesh.{meshLayout}
 use Rattle.scope.specs.Rows.{rowsOf}
 use Rattle.scope.specs.Sums.{openRows, liveSum, limitSum}
-use Rattle.scope.specs.Claim.{claimLayout, stress, multiplier}
+use Rattle.scope.specs.Claim.{stress, multiplier}
 use Rattle.scope.specs.Verdict.{verdict, lowerLoad, upperLoad, openCount}
 use Rattle.scope.specs.Statements.{HasField, HasMultipliers}
-use Rattle.scope.specs.Refusals.{meshPhases, claimPhases}
-use Rattle.scope.specs.Accepted.{FieldAccepted, MultipliersAccepted, ClaimAccepted}
+use Rattle.scope.specs.Accepted.{ClaimAccepted}
 use Rattle.scope.specs.Parts.{carried, allowed}
-use Rattle.scope.proofs.Exactly.{accepted-exactly, refused-exactly, verdict-cases, returns-zero, claim-by-parts, each-number}
-use Rattle.scope.proofs.Phases.{EachIn, each-refusal, own-number}
+use Rattle.scope.proofs.Exactly.{accepted-exactly, returns-zero, claim-by-parts}
 use Rattle.scope.proofs.Parts.{field-n, open-rows-count}
 use Rattle.scope.proofs.Refusals.{lines-passed}
 use Rattle.numbers.specs.declared.numbers_answer.NumbersAnswer.{NumbersAnswer}
@@ -47,36 +40,21 @@ use Rattle.numbers.specs.Promises as Handed-over
 use Rattle.numbers.specs.Promises.{Returned, TellsField}
 use Rattle.numbers.proofs.Promises.{returned, returns-zero-exactly, refuses-exactly, numbers-listed, rows-refused, field-exactly, multipliers-exactly, pairs-asked, sides-asked, criterion-for-each-pair, jumps-asked, tractions-on-joints, fractions-allowed}
 use Rattle.report.specs.Text.{Said, number as shows, said}
-use Rattle.report.specs.Report.{reportBytes, reportLine, mostDecimals, Decimals, isDecimals, usualDecimals}
-use Rattle.report.specs.Says.{columnOf, LoadSays, no-load, rounded, Says, says-accepted, says-refused, LineSays}
+use Rattle.report.specs.Report.{reportBytes, reportLine, mostDecimals, Decimals, isDecimals}
+use Rattle.report.specs.Says.{LoadSays, no-load, rounded, Says, says-accepted, says-refused, LineSays}
 use Rattle.report.proofs.Text.{minus-said}
 use Rattle.report.proofs.Line.{line-says, lower-within, upper-within, lower-room, upper-room}
-use Rattle.report.proofs.BufferLaws.{these-decimals, decimals-told, other-told, decimals-small}
-use Rattle.reader.specs.File.{fileWidth}
-use Rattle.judge.specs.Judge.{meshNumbers, claimNumbers, filesVerdict}
-use Rattle.reader.proofs.Regular.{mesh-regular, claim-regular}
-use Rattle.reader.proofs.WrittenBack.{written-back}
-use Rattle.judge.specs.Handed.{Handed, meshOf, claimOf}
-use Rattle.judge.proofs.Numbers.{some-side, numbers-verdict, width-there}
-use Rattle.judge.proofs.Form as Form
-use Rattle.judge.proofs.Handed.{handed-bracket}
-use Rattle.pechuvo.specs.Check.{Answered, check}
-use Rattle.pechuvo.specs.Sheets.{Sheet, printedWith, printed, starred}
-use Rattle.pechuvo.specs.Answers.{Answers}
-use Rattle.pechuvo.specs.Promises.{meshIn, claimIn, Room, AnyCall, LongFiles, OnFiles, FormExactly, MinusBelowZero, LowerPrinted, UpperPrinted, Millionths, TextsFit, Prints, OpenRowsPrinted, Call, on-files, on-numbers, AcceptedFiles, TwoCalls, CallAndMultipliers, FractionsAndCall, AsAFile, Written}
-use Rattle.pechuvo.proofs.Check.{check-cut, longer-refused}
-use Rattle.pechuvo.proofs.VerdictFits.{held, lower-held, upper-held}
+use Rattle.report.proofs.BufferLaws.{decimals-told, other-told, decimals-small}
+use Rattle.pechuvo.specs.Check.{answered}
+use Rattle.pechuvo.specs.Answers.{AnswersFor, AnswersOn}
+use Rattle.pechuvo.specs.Promises.{claimIn, Room, AnyCall, OnMesh, MinusBelowZero, LowerPrinted, UpperPrinted, Millionths, TextsFit, Prints, OpenRowsPrinted}
+use Rattle.pechuvo.proofs.VerdictFits.{held, lower-held, upper-held, Sayable, sayable}
 use Rattle.pechuvo.proofs.Words.{lower-word, upper-word, rows-word}
 use Rattle.pechuvo.proofs.OpenColumn.{open-column}
-use Rattle.pechuvo.proofs.Sheets.{starred-sheets}
 
 -- ---- the three cases of a call
 
--- the verdict on the numbers of two files
-abbrev fileVerdict : List ℕ → List ℕ → Verdict
-fileVerdict mesh claim = verdict (meshIn mesh) (claimIn mesh claim)
-
-module _ (mesh claim : List ℕ) (z : ℤ) (before : List ℕ) (number place : ℕ) (after : List ℕ) where
+module _ (v : Verdict) (z : ℤ) (before : List ℕ) (number place : ℕ) (after : List ℕ) where
   -- nothing is written, and k is returned
   pub record Untouched (k : ℕ) : Type 0 where
     pub number-is : number ≡ k
@@ -84,61 +62,39 @@ module _ (mesh claim : List ℕ) (z : ℤ) (before : List ℕ) (number place : �
     pub untouched : after ≡ before
 
   pub record LineWritten : Type 0 where
-    pub returns : Returned (meshIn mesh) (claimIn mesh claim) number place
-    pub writes : after ≡ reportLine (natAbs z) (fileVerdict mesh claim) ++ drop reportBytes before
+    pub returns : (number ≡ numberOf v) × (place ≡ placeOf v)
+    pub writes : after ≡ reportLine (natAbs z) v ++ drop reportBytes before
 
   pub data Cases : Type 0 where
     other : ¬ Decimals z → Untouched 43 → Cases
     short : Decimals z → length before < reportBytes → Untouched 41 → Cases
     line : Room z before → LineWritten → Cases
 
-  by-cases : Answers mesh claim z before number place after → Cases
-  unfolding check filesVerdict
+  pub by-cases : AnswersFor v z before number place after → Cases
+  unfolding answered
   by-cases h =
       cases (isDecimals z)
       (λ s.
       cases (ltb (length before) reportBytes)
-      (λ t. short (decimals-told z s) (ltb-true (length before) reportBytes t) (untouched 41 (rw (s, t, check))))
-      (λ t. line (record { decimals = decimals-told z s; bytes = ltb-false (length before) reportBytes t }) (written (rw (s, t, check)))))
-      (λ s. other (other-told z s) (untouched 43 (rw (s, check))))
+      (λ t. short (decimals-told z s) (ltb-true (length before) reportBytes t) (untouched 41 (rw (s, t, answered))))
+      (λ t. line (record { decimals = decimals-told z s; bytes = ltb-false (length before) reportBytes t }) (written (rw (s, t, answered)))))
+      (λ s. other (other-told z s) (untouched 43 (rw (s, answered))))
     where
-      untouched : (k : ℕ) → check mesh claim z before ≡ record { number = k; place = 0; buffer = before } → Untouched k
+      untouched : (k : ℕ) → answered v z before ≡ record { number = k; place = 0; buffer = before } → Untouched k
       untouched k e = record {
         number-is = h .numberIs ∙ ap (λ x. x .number) e;
         place-0 = h .placeIs ∙ ap (λ x. x .place) e;
         untouched = h .bufferIs ∙ ap (λ x. x .buffer) e;
       }
 
-      written : check mesh claim z before ≡ record { number = numberOf (fileVerdict mesh claim); place = placeOf (fileVerdict mesh claim); buffer = reportLine (natAbs z) (fileVerdict mesh claim) ++ drop reportBytes before } → LineWritten
+      written : answered v z before ≡ record { number = numberOf v; place = placeOf v; buffer = reportLine (natAbs z) v ++ drop reportBytes before } → LineWritten
       written e = record {
-        returns = record { numberIs = h .numberIs ∙ ap (λ x. x .number) e; placeIs = h .placeIs ∙ ap (λ x. x .place) e };
+        returns = (h .numberIs ∙ ap (λ x. x .number) e, h .placeIs ∙ ap (λ x. x .place) e);
         writes = h .bufferIs ∙ ap (λ x. x .buffer) e;
       }
 
--- no verdict has a number above 33 but 42 and 44, so none has 41 or 43
-not-of-a-verdict : (x : ℕ) → 33 < x → x ≢ 42 → x ≢ 44 → (m c : List ℤ) → numberOf (verdict m c) ≢ x
-not-of-a-verdict x above not-42 not-44 m c = by (verdict-cases m c)
-  where
-    of-mesh : {k : ℕ} → (k ≤ 13) ⊎ ((k ≡ 42) ⊎ (k ≡ 44)) → k ≢ x
-    of-mesh (inl h) e = omega (arith, above)
-    of-mesh (inr (inl h)) e = not-42 (sym e ∙ h)
-    of-mesh (inr (inr h)) e = not-44 (sym e ∙ h)
-
-    each : EachIn (λ k p. k ≢ x) (meshPhases m ++ claimPhases m c)
-    each =
-        each-number (λ k p. k ≢ x) m c (λ k p h. of-mesh (h .1))
-        (λ k n h l r e. omega (arith, above, own-number {k = 21} refl r), λ i. (λ k n h l r e. omega (arith, above, own-number {k = 22} refl r), λ i. tt))
-        (λ a b d. (
-          λ k n h l r e. omega (arith, above, own-number {k = 31} refl r),
-          λ i. (λ k n h l r e. omega (arith, above, own-number {k = 32} refl r), λ i. (λ k n h l r e. omega (arith, above, own-number {k = 33} refl r), λ i. tt)),
-        ))
-
-    by : ((k : ℕ) × (p : Place) × (verdict m c ≡ Refused k p)) ⊎ (verdict m c ≡ Accepted (openCount m c) (lowerLoad c) (upperLoad m c)) → numberOf (verdict m c) ≢ x
-    by (inl (k, p, e)) = rw e (each-refusal (λ k p. k ≢ x) (meshPhases m ++ claimPhases m c) each (refused-exactly m c k p .0 e .by))
-    by (inr e) = rw e (λ y. omega (arith, above))
-
 -- the line that is printed
-pub says-line : (d : ℕ) → d ≤ mostDecimals → (m c : List ℤ) → LineSays d (verdict m c) (reportLine d (verdict m c))
+says-line : (d : ℕ) → d ≤ mostDecimals → (m c : List ℤ) → LineSays d (verdict m c) (reportLine d (verdict m c))
 says-line d h m c = line-says d (verdict m c) h (held m c)
 
 -- in a text that reads as a number, a minus stands before a number below 0 only
@@ -239,26 +195,25 @@ millionths p = record {
 
 -- ==== Demand 1
 
-module _ (mesh claim : List ℕ) (z : ℤ) (before : List ℕ) (number place : ℕ) (after : List ℕ) (h : Answers mesh claim z before number place after) where
-  came : Cases mesh claim z before number place after
-  came = by-cases mesh claim z before number place after h
+module _ (v : Verdict) (ok : Sayable v) (z : ℤ) (before : List ℕ) (number place : ℕ) (after : List ℕ) (h : AnswersFor v z before number place after) where
+  came : Cases v z before number place after
+  came = by-cases v z before number place after h
 
-  written : Room z before → LineWritten mesh claim z before number place after
+  pub written : Room z before → LineWritten v z before number place after
   written b = by came
     where
-      by : Cases mesh claim z before number place after → LineWritten mesh claim z before number place after
+      by : Cases v z before number place after → LineWritten v z before number place after
       by (other n u) = absurd (n (b .decimals))
       by (short d l u) = absurd (omega (arith, l, b .bytes))
       by (line r w) = w
 
-  line-bytes : Decimals z → length (reportLine (natAbs z) (fileVerdict mesh claim)) ≡ reportBytes
-  line-bytes d = says-line (natAbs z) (decimals-small z d) (meshIn mesh) (claimIn mesh claim) .bytes
+  line-bytes : Decimals z → length (reportLine (natAbs z) v) ≡ reportBytes
+  line-bytes d = line-says (natAbs z) v (decimals-small z d) (ok .held) .bytes
 
-  line-is : Room z before → take reportBytes after ≡ reportLine (natAbs z) (fileVerdict mesh claim)
-  line-is b = ap (take reportBytes) (written b .writes) ∙ take-at (reportLine (natAbs z) (fileVerdict mesh claim)) (drop reportBytes before) reportBytes (line-bytes (b .decimals))
+  pub line-is : Room z before → take reportBytes after ≡ reportLine (natAbs z) v
+  line-is b = ap (take reportBytes) (written b .writes) ∙ take-at (reportLine (natAbs z) v) (drop reportBytes before) reportBytes (line-bytes (b .decimals))
 
-  pub any-call : AnyCall mesh claim z before number place after
-  unfolding filesVerdict
+  pub any-call : AnyCall v z before number place after
   any-call = record {
     other-decimals = λ n. forty-three n came;
     only-others = λ e. then-others e came;
@@ -266,160 +221,76 @@ module _ (mesh claim : List ℕ) (z : ℤ) (before : List ℕ) (number place : �
     only-then = λ e. then-short e came;
     returns = λ b. written b .returns;
     line = line-is;
-    says = λ b. rw (line-is b) (says-line (natAbs z) (decimals-small z (b .decimals)) (meshIn mesh) (claimIn mesh claim));
+    says = λ b. rw (line-is b) (line-says (natAbs z) v (decimals-small z (b .decimals)) (ok .held));
     rest = beyond came;
     size = as-long came;
   }
     where
-      of-the-call : (x : ℕ) → 33 < x → x ≢ 42 → x ≢ 44 → number ≡ x → LineWritten mesh claim z before number place after → ⊥
-      of-the-call x a o q e w = not-of-a-verdict x a o q (meshIn mesh) (claimIn mesh claim) (sym (w .returns .numberIs) ∙ e)
-
-      forty-three : ¬ Decimals z → Cases mesh claim z before number place after → (number ≡ 43) × (place ≡ 0) × (after ≡ before)
+      forty-three : ¬ Decimals z → Cases v z before number place after → (number ≡ 43) × (place ≡ 0) × (after ≡ before)
       forty-three n (other o u) = (u .number-is, u .place-0, u .untouched)
       forty-three n (short d l u) = absurd (n d)
       forty-three n (line r w) = absurd (n (r .decimals))
 
-      then-others : number ≡ 43 → Cases mesh claim z before number place after → ¬ Decimals z
+      then-others : number ≡ 43 → Cases v z before number place after → ¬ Decimals z
       then-others e (other o u) = o
       then-others e (short d l u) = absurd (omega (arith, u .number-is))
-      then-others e (line r w) = absurd (of-the-call 43 (omega arith) (λ x. omega arith) (λ x. omega arith) e w)
+      then-others e (line r w) = absurd (ok .not-43 (sym (w .returns .0) ∙ e))
 
-      forty-one : Decimals z → length before < reportBytes → Cases mesh claim z before number place after → (number ≡ 41) × (place ≡ 0) × (after ≡ before)
+      forty-one : Decimals z → length before < reportBytes → Cases v z before number place after → (number ≡ 41) × (place ≡ 0) × (after ≡ before)
       forty-one d l (other o u) = absurd (o d)
       forty-one d l (short e k u) = (u .number-is, u .place-0, u .untouched)
       forty-one d l (line r w) = absurd (omega (arith, r .bytes))
 
-      then-short : number ≡ 41 → Cases mesh claim z before number place after → Decimals z × (length before < reportBytes)
+      then-short : number ≡ 41 → Cases v z before number place after → Decimals z × (length before < reportBytes)
       then-short e (other o u) = absurd (omega (arith, u .number-is))
       then-short e (short d l u) = (d, l)
-      then-short e (line r w) = absurd (of-the-call 41 (omega arith) (λ x. omega arith) (λ x. omega arith) e w)
+      then-short e (line r w) = absurd (ok .not-41 (sym (w .returns .0) ∙ e))
 
-      beyond : Cases mesh claim z before number place after → drop reportBytes after ≡ drop reportBytes before
+      beyond : Cases v z before number place after → drop reportBytes after ≡ drop reportBytes before
       beyond (other o u) = ap (drop reportBytes) (u .untouched)
       beyond (short d l u) = ap (drop reportBytes) (u .untouched)
-      beyond (line r w) = ap (drop reportBytes) (w .writes) ∙ drop-at (reportLine (natAbs z) (fileVerdict mesh claim)) (drop reportBytes before) reportBytes (line-bytes (r .decimals))
+      beyond (line r w) = ap (drop reportBytes) (w .writes) ∙ drop-at (reportLine (natAbs z) v) (drop reportBytes before) reportBytes (line-bytes (r .decimals))
 
-      as-long : Cases mesh claim z before number place after → length after ≡ length before
+      as-long : Cases v z before number place after → length after ≡ length before
       as-long (other o u) = ap length (u .untouched)
       as-long (short d l u) = ap length (u .untouched)
-      as-long (line r w) = omega (arith, ap length (w .writes), length-append (reportLine (natAbs z) (fileVerdict mesh claim)) (drop reportBytes before), line-bytes (r .decimals), length-drop reportBytes before, r .bytes)
+      as-long (line r w) = omega (arith, ap length (w .writes), length-append (reportLine (natAbs z) v) (drop reportBytes before), line-bytes (r .decimals), length-drop reportBytes before, r .bytes)
 
-  pub long-files : LongFiles mesh claim z before number place after
-  long-files = record {
-    cut = record {
-      numberIs = h .numberIs ∙ ap (λ x. x .number) (check-cut mesh claim z before);
-      placeIs = h .placeIs ∙ ap (λ x. x .place) (check-cut mesh claim z before);
-      bufferIs = h .bufferIs ∙ ap (λ x. x .buffer) (check-cut mesh claim z before);
-    };
-    never-accepted = λ b e. longer-refused mesh claim z before b (sym (h .numberIs) ∙ e);
-  }
+-- ==== Demand 2
 
-  -- ==== Demand 2
+-- a claim file on a mesh as it is read
+module _ (m : List ℤ) (claim : List ℕ) (z : ℤ) (before : List ℕ) (number place : ℕ) (after : List ℕ) (h : AnswersOn m claim z before number place after) where
+  abbrev c : List ℤ
+  c = claimIn m claim
 
-  pub on-numbers-read : Room z before → OnFiles mesh claim number place
-  on-numbers-read b =
-      let r : Returned (meshIn mesh) (claimIn mesh claim) number place = written b .returns in
+  returned-on : Room z before → Returned m c number place
+  returned-on b = let w = written (verdict m c) (sayable m c) z before number place after h b .returns in record { numberIs = w .0; placeIs = w .1 }
+
+  pub on-mesh : Room z before → OnMesh m c number place
+  on-mesh b =
+      let r : Returned m c number place = returned-on b in
       record {
-        returns-zero = returns-zero-exactly (meshIn mesh) (claimIn mesh claim) number place r;
-        refuses = refuses-exactly (meshIn mesh) (claimIn mesh claim) number place r;
-        listed = numbers-listed (meshIn mesh) (claimIn mesh claim) number place r;
-        rows = rows-refused (meshIn mesh) (claimIn mesh claim) number place r;
-        field = field-exactly (meshIn mesh) (claimIn mesh claim) number place r;
-        multipliers = multipliers-exactly (meshIn mesh) (claimIn mesh claim) number place r;
-        pairs = pairs-asked (meshIn mesh) (claimIn mesh claim) number place r;
-        sides = sides-asked (meshIn mesh) (claimIn mesh claim) number place r;
-        criterion = criterion-for-each-pair (meshIn mesh) (claimIn mesh claim) number place r;
-        jumps = jumps-asked (meshIn mesh);
-        tractions = tractions-on-joints (meshIn mesh) (claimIn mesh claim) number place r;
+        returns-zero = returns-zero-exactly m c number place r;
+        refuses = refuses-exactly m c number place r;
+        listed = numbers-listed m c number place r;
+        rows = rows-refused m c number place r;
+        field = field-exactly m c number place r;
+        multipliers = multipliers-exactly m c number place r;
+        pairs = pairs-asked m c number place r;
+        sides = sides-asked m c number place r;
+        criterion = criterion-for-each-pair m c number place r;
+        jumps = jumps-asked m;
+        tractions = tractions-on-joints m c number place r;
       }
 
-  pub form-exactly : Room z before → FormExactly mesh claim number place
-  unfolding placeFor filesVerdict
-  form-exactly b =
-      let refuses = on-numbers-read b .refuses .exactly in
-      record {
-        mesh-form = λ j. Iff·trans (refuses 1 (suc j) (λ e. omega arith)) (Iff·trans (Iff·symm (refused-exactly (meshIn mesh) (claimIn mesh claim) 1 (Line (suc j)))) (Form.mesh-form fileWidth mesh claim j));
-        claim-form = λ j. Iff·trans (refuses 11 (suc j) (λ e. omega arith)) (Iff·trans (Iff·symm (refused-exactly (meshIn mesh) (claimIn mesh claim) 11 (Line (suc j)))) (Form.claim-form fileWidth mesh claim j));
-      }
+  line-on : Room z before → take reportBytes after ≡ reportLine (natAbs z) (verdict m c)
+  line-on b = line-is (verdict m c) (sayable m c) z before number place after h b
 
-  -- what is accepted passes the checks of its lines, so its bytes are those of its numbers
-  pub accepted-files : Room z before → AcceptedFiles mesh claim number
-  unfolding meshNumbers claimNumbers
-  accepted-files b =
-      let accepted : number ≡ 0 → ClaimAccepted (meshIn mesh) (claimIn mesh claim) = on-numbers-read b .returns-zero .exactly .0 in
-      record {
-        mesh-file = λ e. written-back fileWidth meshLayout mesh-regular mesh (lines-passed meshLayout (meshIn mesh) .passed (accepted e .mesh .lines));
-        claim-file = λ e.
-            let mesh-lines = lines-passed meshLayout (meshIn mesh) .passed (accepted e .mesh .lines) in
-            written-back fileWidth (claimLayout (meshIn mesh)) (claim-regular (meshIn mesh) (some-side (meshIn mesh) mesh-lines)) claim (lines-passed (claimLayout (meshIn mesh)) (claimIn mesh claim) .passed (accepted e .lines));
-      }
-
-  pub prints-columns : Room z before
-      → Prints (natAbs z) (meshIn mesh) (claimIn mesh claim) number place (take reportBytes after)
-  prints-columns b = let r = written b .returns in rw (r .numberIs, r .placeIs, line-is b) (prints (meshIn mesh) (claimIn mesh claim) (natAbs z) (decimals-small z (b .decimals)))
+  pub prints-columns : Room z before → Prints (natAbs z) m c number place (take reportBytes after)
+  prints-columns b = let r = returned-on b in rw (r .numberIs, r .placeIs, line-on b) (prints m c (natAbs z) (decimals-small z (b .decimals)))
 
   -- ==== Demand 3
 
-  pub prints-open-rows : Room z before → number ≡ 0 → HasField (claimIn mesh claim)
-      → HasMultipliers (claimIn mesh claim)
-      → OpenRowsPrinted (meshIn mesh) (claimIn mesh claim) (take reportBytes after)
-  prints-open-rows b e f w = rw (line-is b) (prints-open (meshIn mesh) (claimIn mesh claim) (natAbs z) (decimals-small z (b .decimals)) (sym (written b .returns .numberIs) ∙ e) f w)
-
--- an accepted field, and accepted multipliers, of a call on files or on numbers
-call-field : {a : Handed} {i : ℕ} → Call a i → TellsField (claimOf a) i → FieldAccepted (meshOf a) (claimOf a)
-unfolding meshOf claimOf
-call-field (on-files mesh claim z before number place after h) t = by (by-cases mesh claim z before number place after h)
-  where
-    not-above : (k : ℕ) → 33 < k → Untouched mesh claim z before number place after k → (number ≡ 0) ⊎ ((31 ≤ number) × (number ≤ 33)) → ⊥
-    not-above k a u (inl e) = omega (arith, a, u .number-is)
-    not-above k a u (inr e) = omega (arith, a, u .number-is, e .1)
-
-    by : Cases mesh claim z before number place after → FieldAccepted (meshIn mesh) (claimIn mesh claim)
-    by (other o u) = absurd (not-above 43 (omega arith) u (t .1))
-    by (short d l u) = absurd (not-above 41 (omega arith) u (t .1))
-    by (line r w) = field-exactly (meshIn mesh) (claimIn mesh claim) number place (w .returns) .told .1 t
-call-field (on-numbers m c r h) t = field-exactly m c (r .number) (r .place) (returned h) .told .1 t
-
-call-multipliers : {a : Handed} {i : ℕ} → Call a i → HasMultipliers (claimOf a) → i ≡ 0 → MultipliersAccepted (meshOf a) (claimOf a)
-unfolding meshOf claimOf
-call-multipliers (on-files mesh claim z before number place after h) t e = by (by-cases mesh claim z before number place after h)
-  where
-    by : Cases mesh claim z before number place after → MultipliersAccepted (meshIn mesh) (claimIn mesh claim)
-    by (other o u) = absurd (omega (arith, u .number-is))
-    by (short d l u) = absurd (omega (arith, u .number-is))
-    by (line r w) = multipliers-exactly (meshIn mesh) (claimIn mesh claim) number place (w .returns) .told .0 (t, e) .0
-call-multipliers (on-numbers m c r h) t z = multipliers-exactly m c (r .number) (r .place) (returned h) .told .0 (t, z) .0
-
--- the field of one call and the multipliers of another or of the same, each on files or on numbers, on meshes with the same rows
-pub calls-bracket : {a b : Handed} {i j : ℕ} → TwoCalls a b i j
-calls-bracket {a} {b} p q same t w z = handed-bracket a b same (call-field p t) (call-multipliers q w z)
-
--- against accepted multipliers of any claim, one that is refused for its field too
-pub accepted-parts : {a : Handed} {i : ℕ} → CallAndMultipliers a i
-accepted-parts {a} p b same t w = handed-bracket a b same (call-field p t) w
-
--- a field in fractions against the multipliers of a call
-pub fractions-bracket : {b : Handed} {j : ℕ} → FractionsAndCall b j
-fractions-bracket {b} q w z m sound same = fractions-allowed m (meshOf b) (claimOf b) sound same (call-multipliers q w z)
-
--- numbers handed over as a file of them
-pub as-a-file : {m c : List ℤ} {r : NumbersAnswer} → Handed-over.Answers m c r → AsAFile m c r
-as-a-file {m} {c} h = record { some-width = width-there m c; every-width = λ w x y. h ∙ ap answerOf (sym (numbers-verdict w m c x y)) }
-
--- ---- the sheets
-
-same-at : {A B : Type 0} (f g : A → B) (xs : List A) → map f xs ≡ map g xs → (x : A) → x ∈ xs → f x ≡ g x
-same-at f g (a ∷ xs) e x (List·Memᴰ·head p) = let h : f a ≡ g a = cc in rw p h
-same-at f g (a ∷ xs) e x (List·Memᴰ·tail t) = let h : map f xs ≡ map g xs = cc in same-at f g xs h x t
-
-printed-line : (s : Sheet) → printed s ≡ reportLine usualDecimals (fileVerdict (s .mesh) (s .claim))
-unfolding printed printedWith check filesVerdict isDecimals usualDecimals
-printed-line s = append-nil (reportLine 6 (fileVerdict (s .mesh) (s .claim)))
-
--- the starred sheets, as one table
-pub starred-written : (s : Sheet) → s ∈ starred → Written s
-unfolding usualDecimals
-starred-written s i before after number place h b =
-    line-is (s .mesh) (s .claim) (pos usualDecimals) before number place after h (record { decimals = these-decimals (omega arith); bytes = b })
-    ∙ sym (printed-line s)
-    ∙ same-at printed (λ s. s .line) starred starred-sheets s i
+  pub prints-open-rows : Room z before → number ≡ 0 → HasField c → HasMultipliers c
+      → OpenRowsPrinted m c (take reportBytes after)
+  prints-open-rows b e f w = rw (line-on b) (prints-open m c (natAbs z) (decimals-small z (b .decimals)) (sym (returned-on b .numberIs) ∙ e) f w)

@@ -10,53 +10,74 @@ use lib.Seq.{drop-at}
 use Rattle.scope.specs.declared.Place.{Place}
 use Rattle.scope.specs.declared.Outcome.{Outcome}
 use Rattle.scope.specs.declared.Outcome.the-variants.{Passed, Refused as Fails}
-use Rattle.scope.specs.Statements.{MeshSound}
-use Rattle.scope.specs.Verdict.{meshCheck}
+use Rattle.scope.specs.Verdict.{answer}
+use Rattle.scope.specs.TableVerdict.{tabledVerdict}
 use Rattle.scope.proofs.Refusals.{mesh-passed}
-use Rattle.verdict.proofs.VerdictLaws.{mesh-refused}
 use Rattle.reader.specs.File.{fileWidth}
 use Rattle.report.specs.Report.{reportBytes, reportLine, mostDecimals, usualDecimals}
+use Rattle.report.proofs.Line.{line-says}
 use Rattle.report.proofs.BufferLaws.{these-decimals}
-use Rattle.judge.specs.Judge.{claimNumbers, filesVerdict}
+use Rattle.judge.specs.Judge.{meshFrom, meshOutcome, filesVerdict}
 use Rattle.run.specs.declared.RunAnswer.{RunAnswer}
-use Rattle.run.specs.Run.{verdictOn, lineOf, takenOf, claimsJudged, ran, run, RunAnswers}
+use Rattle.run.specs.Run.{verdictOn, lineOf, takenOf, claimsJudged, ran, run}
 use Rattle.run.specs.InTurn.{claimAt, InTurn}
 use Rattle.run.proofs.RunLaws.{judged-refused, no-room, one-room, flat-at, flat-length, none-taken}
 use Rattle.run.proofs.InTurn.{in-turn, few-judged}
-use Rattle.pechuvo.specs.Promises.{meshIn, reportAt, SingleCall, judgedIn, RunCall}
-use Rattle.pechuvo.proofs.Promises.{any-call, says-line}
+use Rattle.pechuvo.specs.Promises.{meshWith, MeshAccepted, RunAsked, reportAt, SingleCall, judgedIn, RunCall}
+use Rattle.pechuvo.proofs.Promises.{line-is}
+use Rattle.pechuvo.proofs.TablePromises.{files-sayable, accepted-mesh, mesh-accepted}
 
 few-decimals : usualDecimals ≤ mostDecimals
 unfolding usualDecimals
 few-decimals = omega arith
 
--- a single call writes the line of its claim
-single : (mesh claim line : List ℕ) → line ≡ lineOf (meshIn mesh) claim → SingleCall mesh claim line
-unfolding lineOf verdictOn filesVerdict
-single mesh claim line e before after number place h b =
-    any-call mesh claim (pos usualDecimals) before number place after h .line (record { decimals = these-decimals few-decimals; bytes = b }) ∙ sym e
+module _ (mesh table : List ℕ) where
+  abbrev o : Outcome
+  o = meshOutcome fileWidth mesh table
 
--- every claim on a refused mesh has the mesh's line
-same-line : (m : List ℤ) (k : ℕ) (p : Place) → meshCheck m ≡ Fails k p → (a b : List ℕ) → lineOf m a ≡ lineOf m b
-unfolding lineOf verdictOn
-same-line m k p e a b = ap (reportLine usualDecimals) (sym (mesh-refused m (claimNumbers fileWidth m a) e) ∙ mesh-refused m (claimNumbers fileWidth m b) e)
+  abbrev m : List ℤ
+  m = meshWith mesh table
 
-line-long : (m : List ℤ) (claim : List ℕ) → length (lineOf m claim) ≡ reportBytes
-unfolding lineOf verdictOn
-line-long m claim = says-line usualDecimals few-decimals m (claimNumbers fileWidth m claim) .bytes
+  -- the verdict of a run is that of a single call
+  on-files : (claim : List ℕ) → verdictOn o m claim ≡ filesVerdict fileWidth mesh table claim
+  unfolding verdictOn filesVerdict tabledVerdict meshOutcome meshFrom
+  on-files claim = refl
 
-module _ (mesh claims before : List ℕ) (r : RunAnswer) (after : List ℕ) (h : RunAnswers (meshIn mesh) claims before r after) where
+  line-files : (claim : List ℕ) → lineOf o m claim ≡ reportLine usualDecimals (filesVerdict fileWidth mesh table claim)
+  unfolding lineOf
+  line-files claim = ap (reportLine usualDecimals) (on-files claim)
+
+  -- a single call writes the line of its claim
+  single : (claim line : List ℕ) → line ≡ lineOf o m claim → SingleCall mesh table claim line
+  single claim line e before after number place h b =
+      line-is (filesVerdict fileWidth mesh table claim) (files-sayable mesh table claim) (pos usualDecimals) before number place after h (record { decimals = these-decimals few-decimals; bytes = b })
+      ∙ sym (e ∙ line-files claim)
+
+  -- every claim on a refused mesh has the mesh's line
+  same-line : (k : ℕ) (p : Place) → o ≡ Fails k p → (a b : List ℕ) → lineOf o m a ≡ lineOf o m b
+  unfolding lineOf verdictOn answer
+  same-line k p e a b = rw e
+
+  line-long : (claim : List ℕ) → length (lineOf o m claim) ≡ reportBytes
+  line-long claim =
+      ap length (line-files claim)
+      ∙ line-says usualDecimals (filesVerdict fileWidth mesh table claim) few-decimals (files-sayable mesh table claim .held) .bytes
+
+module _ (mesh table claims before : List ℕ) (r : RunAnswer) (after : List ℕ) (h : RunAsked mesh table claims before r after) where
   abbrev judged : List (List ℕ)
-  judged = judgedIn mesh claims before
+  judged = judgedIn mesh table claims before
+
+  abbrev lineIn : List ℕ → List ℕ
+  lineIn = lineOf (o mesh table) (m mesh table)
 
   abbrev lines : List ℕ
-  lines = flatMap (lineOf (meshIn mesh)) judged
+  lines = flatMap lineIn judged
 
   count : r .reports ≡ length judged
   unfolding run ran
   count = h .reportsAre
 
-  taken : r .bytes ≡ length (flatMap (takenOf (meshIn mesh)) judged)
+  taken : r .bytes ≡ length (flatMap (takenOf (o mesh table) (m mesh table)) judged)
   unfolding run ran
   taken = h .bytesAre
 
@@ -65,42 +86,42 @@ module _ (mesh claims before : List ℕ) (r : RunAnswer) (after : List ℕ) (h :
   written = h .bufferIs
 
   lines-long : length lines ≡ r .reports * reportBytes
-  lines-long = flat-length (lineOf (meshIn mesh)) reportBytes (line-long (meshIn mesh)) judged ∙ ap (λ (n : ℕ). n * reportBytes) (sym count)
+  lines-long = flat-length lineIn reportBytes (line-long mesh table) judged ∙ ap (λ (n : ℕ). n * reportBytes) (sym count)
 
   room-there : r .reports * reportBytes ≤ length before
-  room-there = le-div-iff-mul-le {k = reportBytes} {x = r .reports} {y = length before} (omega arith) .0 (omega (arith, count, few-judged (meshIn mesh) (length before / reportBytes) claims))
+  room-there = le-div-iff-mul-le {k = reportBytes} {x = r .reports} {y = length before} (omega arith) .0 (omega (arith, count, few-judged (o mesh table) (m mesh table) (length before / reportBytes) claims))
 
-  report-is : (i : ℕ) → i < r .reports → reportAt i after ≡ lineOf (meshIn mesh) (claimAt judged i)
+  report-is : (i : ℕ) → i < r .reports → reportAt i after ≡ lineIn (claimAt judged i)
   report-is i l =
       ap (reportAt i) written
-      ∙ flat-at (lineOf (meshIn mesh)) reportBytes (line-long (meshIn mesh)) judged (drop (length lines) before) i (omega (arith, count))
+      ∙ flat-at lineIn reportBytes (line-long mesh table) judged (drop (length lines) before) i (omega (arith, count))
 
-  refused : (o : Outcome) → meshCheck (meshIn mesh) ≡ o → (¬ MeshSound (meshIn mesh)) → reportBytes ≤ length before → (r .reports ≡ 1) × (r .bytes ≡ 0) × ((claim : List ℕ) → SingleCall mesh claim (reportAt 0 after))
-  refused Passed e n b = absurd (n (mesh-passed (meshIn mesh) .says e))
+  refused : (q : Outcome) → o mesh table ≡ q → (¬ MeshAccepted mesh table) → reportBytes ≤ length before → (r .reports ≡ 1) × (r .bytes ≡ 0) × ((claim : List ℕ) → SingleCall mesh table claim (reportAt 0 after))
+  refused Passed e n b = absurd (n (accepted-mesh mesh table e))
   refused (Fails k p) e n b =
-      let one : judged ≡ [] ∷ [] = ap (λ (n : ℕ). claimsJudged n (meshIn mesh) claims) (one-room (length before) b) ∙ judged-refused (meshIn mesh) claims ((length before - reportBytes) / reportBytes) k p e in
+      let one : judged ≡ [] ∷ [] = ap (λ (n : ℕ). claimsJudged n (o mesh table) (m mesh table) claims) (one-room (length before) b) ∙ judged-refused (o mesh table) k p e ((length before - reportBytes) / reportBytes) (m mesh table) claims in
       let once : r .reports ≡ 1 = count ∙ ap length one in (
         once,
-        taken ∙ ap (λ (cs : List (List ℕ)). length (flatMap (takenOf (meshIn mesh)) cs)) one ∙ none-taken (meshIn mesh),
-        λ claim. single mesh claim (reportAt 0 after) (report-is 0 (omega (arith, once)) ∙ same-line (meshIn mesh) k p e (claimAt judged 0) claim),
+        taken ∙ ap (λ (cs : List (List ℕ)). length (flatMap (takenOf (o mesh table) (m mesh table)) cs)) one ∙ none-taken (o mesh table) (m mesh table),
+        λ claim. single mesh table claim (reportAt 0 after) (report-is 0 (omega (arith, once)) ∙ same-line mesh table k p e (claimAt judged 0) claim),
       )
 
   unwritten : length before < reportBytes → (r .reports ≡ 0) × (r .bytes ≡ 0) × (after ≡ before)
   unfolding claimsJudged flatMap
   unwritten l =
-      let none : judged ≡ [] = ap (λ (n : ℕ). claimsJudged n (meshIn mesh) claims) (no-room (length before) l) in (
+      let none : judged ≡ [] = ap (λ (n : ℕ). claimsJudged n (o mesh table) (m mesh table) claims) (no-room (length before) l) in (
         count ∙ ap length none,
-        taken ∙ ap (λ (cs : List (List ℕ)). length (flatMap (takenOf (meshIn mesh)) cs)) none,
-        written ∙ ap (λ (cs : List (List ℕ)). flatMap (lineOf (meshIn mesh)) cs ++ drop (length (flatMap (lineOf (meshIn mesh)) cs)) before) none,
+        taken ∙ ap (λ (cs : List (List ℕ)). length (flatMap (takenOf (o mesh table) (m mesh table)) cs)) none,
+        written ∙ ap (λ (cs : List (List ℕ)). flatMap lineIn cs ++ drop (length (flatMap lineIn cs)) before) none,
       )
 
-  pub run-call : RunCall mesh claims before judged (r .reports) (r .bytes) after
+  pub run-call : RunCall mesh table claims before judged (r .reports) (r .bytes) after
   run-call = record {
     count = count;
-    single-calls = λ i l. single mesh (claimAt judged i) (reportAt i after) (report-is i l);
+    single-calls = λ i l. single mesh table (claimAt judged i) (reportAt i after) (report-is i l);
     rest = ap (drop (r .reports * reportBytes)) written ∙ drop-at lines (drop (length lines) before) (r .reports * reportBytes) lines-long ∙ ap (λ (n : ℕ). drop n before) lines-long;
     size = ap length written ∙ omega (arith, length-append lines (drop (length lines) before), length-drop (length lines) before, lines-long, room-there);
-    in-turn = λ s. subst (InTurn (meshIn mesh) (length before / reportBytes) claims judged) (sym taken) (in-turn (meshIn mesh) (mesh-passed (meshIn mesh) .passed s) (length before / reportBytes) claims);
-    mesh-refused = refused (meshCheck (meshIn mesh)) refl;
+    in-turn = λ s. subst (InTurn (m mesh table) (length before / reportBytes) claims judged) (sym taken) (in-turn (o mesh table) (m mesh table) (mesh-accepted mesh table s) (mesh-passed (m mesh table) .passed (s .sound)) (length before / reportBytes) claims);
+    mesh-refused = refused (o mesh table) refl;
     no-room = unwritten;
   }

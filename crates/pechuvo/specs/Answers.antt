@@ -3,11 +3,26 @@ use mathlib.Core.Path.{_≡_}
 use mathlib.Core.List.{List}
 use Prim.Native.Nat.{ℕ}
 use lib.IntN.{ℤ}
-use Rattle.pechuvo.specs.Check.{check}
+use Rattle.scope.specs.declared.Verdict.{Verdict}
+use Rattle.scope.specs.Verdict.{verdict}
+use Rattle.reader.specs.File.{fileWidth}
+use Rattle.judge.specs.Judge.{claimNumbers, filesVerdict}
+use Rattle.pechuvo.specs.Check.{answered}
 
--- the check of two files, with z decimals asked for, answers a number and a place, and makes the bytes `before` of the
+-- a verdict, with z decimals asked for, is answered with a number and a place, and makes the bytes `before` of the
 -- buffer `after`
-pub record Answers (mesh claim : List ℕ) (z : ℤ) (before : List ℕ) (number place : ℕ) (after : List ℕ) : Type 0 where
-  pub numberIs : number ≡ check mesh claim z before .number
-  pub placeIs : place ≡ check mesh claim z before .place
-  pub bufferIs : after ≡ check mesh claim z before .buffer
+pub record AnswersFor (v : Verdict) (z : ℤ) (before : List ℕ) (number place : ℕ) (after : List ℕ) : Type 0 where
+  pub numberIs : number ≡ answered v z before .number
+  pub placeIs : place ≡ answered v z before .place
+  pub bufferIs : after ≡ answered v z before .buffer
+
+-- the check of three files answers: the contract of `pechuvo_check`
+abbrev pub Answers : (mesh table claim : List ℕ) (z : ℤ) (before : List ℕ) (number place : ℕ) (after : List ℕ) → Type 0
+Answers mesh table claim z before number place after =
+    AnswersFor (filesVerdict fileWidth mesh table claim) z before number place after
+
+-- what a claim file is answered on the mesh with the numbers m, as it is read
+abbrev pub AnswersOn : (m : List ℤ) (claim : List ℕ) (z : ℤ) (before : List ℕ) (number place : ℕ) (after : List ℕ)
+    → Type 0
+AnswersOn m claim z before number place after =
+    AnswersFor (verdict m (claimNumbers fileWidth m claim)) z before number place after

@@ -1,54 +1,77 @@
 -- What a caller of `pechuvo_check` may rely on: demands 1, 2 and 3 of document 01, with the decimals of document 02,
--- N5, each promise a plain statement about the number and the place that are returned and about the bytes of the
--- buffer; and callers of `pechuvo_check_run` (document 02, N3) and `pechuvo_mesh_sizes` (N7).
--- Each is proved of every call (`proofs/Promises.antt`, `RunPromises.antt`, `SizesPromises.antt`) and applied to
--- document 01's sheet (`proofs/PromisesApplied.antt`, `RunApplied.antt`, `SizesApplied.antt`). What number and place
--- say of the two files' numbers is said as for numbers handed over (`numbers/specs/Promises.antt`).
+-- N5, and the table of N8, each promise a plain statement about the number and the place that are returned and about
+-- the bytes of the buffer; and callers of `pechuvo_check_run` (N3) and `pechuvo_mesh_sizes` (N7).
+-- Each is proved of every call (`proofs/Promises.antt`, `TablePromises.antt`, `FilePromises.antt`, `RunPromises.antt`,
+-- `SizesPromises.antt`) and applied to document 01's sheet (`proofs/PromisesApplied.antt`, `TableApplied.antt`,
+-- `RunApplied.antt`, `SizesApplied.antt`). What number and place say of the files' numbers is said as for numbers handed
+-- over (`numbers/specs/Promises.antt`, `TablePromises.antt`).
+-- A table is refused before 5 with its own numbers; where it fits, and without one, a call is one on the mesh as it is
+-- read (`AsRead`), and what the promises say of a mesh with the numbers m they say of that one.
 use mathlib.Core.Path.{_≡_}
 use mathlib.Core.Logic.{_↔_, _⊎_, _≢_}
-use mathlib.Core.List.{List, _∷_, _++_}
+use mathlib.Core.List.{List, [], _∷_, _++_}
 use mathlib.Core.Option.{some}
 use Prim.Native.Nat.{ℕ, suc, _+_, _*_, _/_, _^_, _≤_, _<_}
 use lib.IntN.{ℤ, pos, natAbs, _+ℤ_, _-ℤ_}
 use lib.Signed.{_<ℤ_}
 use lib.ListN.{length, take, drop, replicate}
 use Rattle.integer.specs.Fraction.{_over_, _≈ᶠ_, _≤ᶠ_, _<ᶠ_}
-use Rattle.scope.specs.Columns.{n, l}
+use Rattle.scope.specs.Columns.{at, n, l}
+use Rattle.scope.specs.declared.Verdict.{Verdict}
+use Rattle.scope.specs.Members.{_∈_}
 use Rattle.scope.specs.Mesh.{meshLayout, nodes, elements, edges, sides, jumps}
-use Rattle.scope.specs.Answer.{placeFor}
+use Rattle.scope.specs.Answer.{placeFor, numberOf, placeOf}
 use Rattle.scope.specs.Rows.{Row, pairCount, balanceRows, sideRows, jumpRows, strengthRows, rowsOf}
 use Rattle.scope.specs.Claim.{claimHeaderColumns, claimLayout, stress, multiplier}
 use Rattle.scope.specs.Statements.{LinesSound, MeshSound, HasField, HasMultipliers}
-use Rattle.scope.specs.Refusals.{MeshRefusal}
+use Rattle.scope.specs.Phases.{RefusedBy}
+use Rattle.scope.specs.Filled.{soilPlace}
+use Rattle.scope.specs.Table.{meshRead, tabledPhases}
+use Rattle.scope.specs.TableVerdict.{TablePasses, TableFits}
 use Rattle.scope.specs.Bracket.{Open}
 use Rattle.scope.specs.Parts.{carried, allowed, SameRows, NumberOf}
 use Rattle.scope.specs.Tests.{rowAt}
-use Rattle.scope.specs.Verdict.{lowerLoad, upperLoad}
+use Rattle.scope.specs.Verdict.{meshCheck, verdict, lowerLoad, upperLoad}
 use Rattle.numbers.specs.declared.numbers_answer.NumbersAnswer.{NumbersAnswer}
 use Rattle.numbers.specs.Promises as Handed-over
-use Rattle.numbers.specs.Promises.{Returned, ReturnsZero, RefusesExactly, NumbersListed, TellsField, RowsRefused, FieldExactly, MultipliersExactly, CriterionForEachPair, PairsAsked, SidesAsked, JumpsAsked, TractionsOnJoints, FractionsBracket}
+use Rattle.numbers.specs.Promises.{Returned, ReturnsZero, RefusesExactly, NumbersListed, TellsField, RowsRefused, FieldExactly, MultipliersExactly, CriterionForEachPair, PairsAsked, SidesAsked, JumpsAsked, TractionsOnJoints, FractionsBracket, returnedNumbers}
 use Rattle.numbers.specs.NumbersAnswer.{answerOf}
-use Rattle.reader.specs.File.{fileOf, fileWidth, lineBytes}
+use Rattle.numbers.specs.TablePromises.{TableAnswers, TableExactly, FilledMesh}
+use Rattle.reader.specs.File.{fileOf, tableOf, tableNumbersOf, fileWidth, lineBytes}
 use Rattle.reader.specs.WellFormed.{Fit, FormFails}
 use Rattle.report.specs.Text.{word, number as shows, said}
 use Rattle.report.specs.Report.{columnBytes, reportBytes, lowerText, upperText, reportLine, Decimals, usualDecimals}
 use Rattle.report.specs.Says.{columnOf, LineSays}
-use Rattle.judge.specs.Judge.{meshNumbers, claimNumbers, filesVerdict}
+use Rattle.judge.specs.Judge.{meshNumbers, meshFrom, meshOutcome, claimNumbers, filesVerdict}
+use Rattle.judge.specs.Form.{MeshFormFails}
 use Rattle.judge.specs.declared.room.MeshSizes.{MeshSizes}
 use Rattle.judge.specs.Room.{noSizes, meshSizes}
 use Rattle.judge.specs.Handed.{Handed, files, numbers, meshOf, claimOf, HasAcceptedMultipliers, OnTheSameMesh, HandedBracket}
-use Rattle.run.specs.Run.{claimsJudged}
+use Rattle.run.specs.declared.RunAnswer.{RunAnswer}
+use Rattle.run.specs.Run.{claimsJudged, RunAnswers}
 use Rattle.run.specs.InTurn.{claimAt, InTurn}
 use Rattle.pechuvo.specs.Check.{mostFileBytes}
-use Rattle.pechuvo.specs.Answers.{Answers}
+use Rattle.pechuvo.specs.Answers.{Answers, AnswersOn}
 use Rattle.pechuvo.specs.Sheets.{Sheet}
 
--- the numbers of the mesh file, and those of the claim file
+-- the numbers of a mesh file and of a table file, the mesh as all after its lines reads it, and the numbers of a claim
+-- file on the mesh with the numbers m
 abbrev pub meshIn : List ℕ → List ℤ
 meshIn mesh = meshNumbers fileWidth mesh
 
-abbrev pub claimIn : List ℕ → List ℕ → List ℤ
-claimIn mesh claim = claimNumbers fileWidth (meshIn mesh) claim
+abbrev pub tableIn : List ℕ → List ℤ
+tableIn table = tableNumbersOf fileWidth table
+
+abbrev pub meshWith : List ℕ → List ℕ → List ℤ
+meshWith mesh table = meshFrom fileWidth mesh table
+
+abbrev pub claimIn : List ℤ → List ℕ → List ℤ
+claimIn m claim = claimNumbers fileWidth m claim
+
+-- the table fits the mesh, or there is none, and the mesh that is read passes all before 11
+pub record MeshAccepted (mesh table : List ℕ) : Type 0 where
+  pub fits : TableFits (tableIn table) (meshIn mesh)
+  pub sound : MeshSound (meshWith mesh table)
 
 -- a line is asked for that can be written: with 0 to 7 decimals, in a buffer that has its bytes
 pub record Room (z : ℤ) (before : List ℕ) : Type 0 where
@@ -57,7 +80,8 @@ pub record Room (z : ℤ) (before : List ℕ) : Type 0 where
 
 -- ==== Demand 1: what any call returns and writes
 
-pub record AnyCall (mesh claim : List ℕ) (z : ℤ) (before : List ℕ) (number place : ℕ) (after : List ℕ) : Type 0 where
+-- of a verdict v, which is that on three files
+pub record AnyCall (v : Verdict) (z : ℤ) (before : List ℕ) (number place : ℕ) (after : List ℕ) : Type 0 where
   -- "43, place 0, buffer untouched, for any other number", and 43 in no other case (document 02, N5)
   pub other-decimals : ¬ Decimals z → (number ≡ 43) × (place ≡ 0) × (after ≡ before)
   pub only-others : number ≡ 43 → ¬ Decimals z
@@ -65,48 +89,83 @@ pub record AnyCall (mesh claim : List ℕ) (z : ℤ) (before : List ℕ) (number
   pub too-short : Decimals z → length before < reportBytes → (number ≡ 41) × (place ≡ 0) × (after ≡ before)
   pub only-then : number ≡ 41 → Decimals z × (length before < reportBytes)
   -- else the verdict's number and place, and its line: "four columns of 28, right-justified, and byte 10"
-  pub returns : Room z before → Returned (meshIn mesh) (claimIn mesh claim) number place
-  pub line : Room z before → take reportBytes after ≡ reportLine (natAbs z) (filesVerdict fileWidth mesh claim)
-  pub says : Room z before → LineSays (natAbs z) (filesVerdict fileWidth mesh claim) (take reportBytes after)
+  pub returns : Room z before → (number ≡ numberOf v) × (place ≡ placeOf v)
+  pub line : Room z before → take reportBytes after ≡ reportLine (natAbs z) v
+  pub says : Room z before → LineSays (natAbs z) v (take reportBytes after)
   -- "Bytes beyond 113 are never written"
   pub rest : drop reportBytes after ≡ drop reportBytes before
   pub size : length after ≡ length before
 
 -- "at most 65,536 bytes of each ..; a longer file is too long for any mesh or claim and is refused as its first 65,536
--- bytes are"
-pub record LongFiles (mesh claim : List ℕ) (z : ℤ) (before : List ℕ) (number place : ℕ) (after : List ℕ) : Type 0 where
-  pub cut : Answers (take mostFileBytes mesh) (take mostFileBytes claim) z before number place after
-  pub never-accepted : (mostFileBytes < length mesh) ⊎ (mostFileBytes < length claim) → number ≢ 0
+-- bytes are"; so is a table
+pub record LongFiles (mesh table claim : List ℕ) (z : ℤ) (before : List ℕ) (number place : ℕ) (after : List ℕ)
+    : Type 0 where
+  pub cut : Answers (take mostFileBytes mesh) (take mostFileBytes table) (take mostFileBytes claim) z before number place
+      after
+  pub never-accepted : (mostFileBytes < length mesh) ⊎ ((mostFileBytes < length table) ⊎ (mostFileBytes < length claim))
+      → number ≢ 0
+
+-- ==== Soils from a borehole table (document 02, N8)
+
+-- where the table fits, the call is one on the mesh that is read; with an empty file, on the mesh as it stands; and so
+-- it is where no element has soil 0
+pub record AsRead (mesh table claim : List ℕ) (z : ℤ) (before : List ℕ) (number place : ℕ) (after : List ℕ) : Type 0 where
+  pub fits : TableFits (tableIn table) (meshIn mesh)
+      → AnswersOn (meshWith mesh table) claim z before number place after
+  pub none : table ≡ [] → AnswersOn (meshIn mesh) claim z before number place after
+  pub own-soils : TableFits (tableIn table) (meshIn mesh)
+      → ((e : ℕ) → e < elements (meshIn mesh) → ¬ (at (meshIn mesh) (soilPlace (meshIn mesh) e) ≡ pos 0))
+      → AnswersOn (meshIn mesh) claim z before number place after
+
+-- "an empty one is no table": every call without one is exactly the call on two files, "A file that passed before gives
+-- the same report"
+pub record NoTable (mesh : List ℕ) : Type 0 where
+  pub read : meshWith mesh [] ≡ meshIn mesh
+  pub outcome : meshOutcome fileWidth mesh [] ≡ meshCheck (meshIn mesh)
+  pub verdicts : (claim : List ℕ)
+      → filesVerdict fileWidth mesh [] claim ≡ verdict (meshIn mesh) (claimIn (meshIn mesh) claim)
+  pub calls : (claim : List ℕ) (z : ℤ) (before : List ℕ) (number place : ℕ) (after : List ℕ)
+      → Answers mesh [] claim z before number place after ↔ AnswersOn (meshIn mesh) claim z before number place after
+
+-- 0 exactly when, each refusal with its place exactly when, a table that does not fit with 1 to 4, 45 or 46; no number
+-- but those; and what the filled mesh is
+pub record OnTable (mesh table claim : List ℕ) (number place : ℕ) : Type 0 where
+  pub exactly : TableExactly (tableIn table) (meshIn mesh) (claimIn (meshWith mesh table) claim) number place
+  pub listed : number ∈ 45 ∷ 46 ∷ returnedNumbers
+  pub filled : TablePasses (tableIn table) (meshIn mesh) → FilledMesh (tableIn table) (meshIn mesh)
 
 -- ==== Demand 2: what is accepted, what is refused, what is printed; where a line is written (`Room`)
 
 -- 0 exactly when, each refusal with its place exactly when, no number but those of the table, each part accepted
--- exactly when, the pairs with the criterion for each, the jumps with the tractions on their joints, and what goes by
--- the number of sides
-pub record OnFiles (mesh claim : List ℕ) (number place : ℕ) : Type 0 where
-  pub returns-zero : ReturnsZero (meshIn mesh) (claimIn mesh claim) number place
-  pub refuses : RefusesExactly (meshIn mesh) (claimIn mesh claim) number place
+-- exactly when, the pairs with the criterion for each, the jumps with the tractions on their joints, and what
+-- goes by the number of sides
+pub record OnMesh (m c : List ℤ) (number place : ℕ) : Type 0 where
+  pub returns-zero : ReturnsZero m c number place
+  pub refuses : RefusesExactly m c number place
   pub listed : NumbersListed number place
-  pub rows : RowsRefused (meshIn mesh) (claimIn mesh claim) number place
-  pub field : FieldExactly (meshIn mesh) (claimIn mesh claim) number
-  pub multipliers : MultipliersExactly (meshIn mesh) (claimIn mesh claim) number
-  pub pairs : PairsAsked (meshIn mesh) number place
-  pub sides : SidesAsked (meshIn mesh) number place
-  pub criterion : TellsField (claimIn mesh claim) number → CriterionForEachPair (meshIn mesh) (claimIn mesh claim)
-  pub jumps : JumpsAsked (meshIn mesh)
-  pub tractions : TractionsOnJoints (meshIn mesh) (claimIn mesh claim) number
+  pub rows : RowsRefused m c number place
+  pub field : FieldExactly m c number
+  pub multipliers : MultipliersExactly m c number
+  pub pairs : PairsAsked m number place
+  pub sides : SidesAsked m number place
+  pub criterion : TellsField c number → CriterionForEachPair m c
+  pub jumps : JumpsAsked m
+  pub tractions : TractionsOnJoints m c number
 
--- "mesh form: length, character, spelling, bytes missing or left over", and "claim form", said of the bytes
-pub record FormExactly (mesh claim : List ℕ) (number place : ℕ) : Type 0 where
-  pub mesh-form : (j : ℕ) → ((number ≡ 1) × (place ≡ suc j)) ↔ FormFails fileWidth meshLayout mesh j
+-- "mesh form: length, character, spelling, bytes missing or left over", and "claim form", said of the bytes; the
+-- table's form is told with the mesh's, its lines "numbered from 1,001"
+pub record FormExactly (mesh table claim : List ℕ) (number place : ℕ) : Type 0 where
+  pub mesh-form : (j : ℕ) → ((number ≡ 1) × (place ≡ suc j)) ↔ MeshFormFails fileWidth mesh table j
   pub claim-form : (j : ℕ)
       → ((number ≡ 11) × (place ≡ suc j))
-      ↔ (MeshSound (meshIn mesh) × FormFails fileWidth (claimLayout (meshIn mesh)) claim j)
+      ↔ (MeshAccepted mesh table × FormFails fileWidth (claimLayout (meshWith mesh table)) claim j)
 
 -- an accepted file is the file of its numbers, byte by byte: no other file has them
-pub record AcceptedFiles (mesh claim : List ℕ) (number : ℕ) : Type 0 where
+pub record AcceptedFiles (mesh table claim : List ℕ) (number : ℕ) : Type 0 where
   pub mesh-file : number ≡ 0 → mesh ≡ fileOf fileWidth meshLayout (meshIn mesh)
-  pub claim-file : number ≡ 0 → claim ≡ fileOf fileWidth (claimLayout (meshIn mesh)) (claimIn mesh claim)
+  pub table-file : number ≡ 0 → table ≡ tableOf fileWidth (tableIn table)
+  pub claim-file : number ≡ 0
+      → claim ≡ fileOf fileWidth (claimLayout (meshWith mesh table)) (claimIn (meshWith mesh table) claim)
 
 -- a printed text of this number: "a zero has no minus", so where the text has one, the number is below 0
 abbrev pub MinusBelowZero : ℤ → List ℕ → Type 0
@@ -166,11 +225,11 @@ pub record OpenRowsPrinted (m c : List ℤ) (line : List ℕ) : Type 0 where
       (length (rowsOf m)) number
   pub closed : (number ≡ 0) ↔ (carried c ≈ᶠ allowed m c)
 
--- a call that was made, on two files or on numbers, and the number that it returned
+-- a call that was made, on three files or on numbers, and the number that it returned
 pub data Call : Handed → ℕ → Type 0 where
-  on-files : (mesh claim : List ℕ) (z : ℤ) (before : List ℕ) (number place : ℕ) (after : List ℕ)
-      → Answers mesh claim z before number place after → Call (files mesh claim) number
-  on-numbers : (m c : List ℤ) (r : NumbersAnswer) → Handed-over.Answers m c r → Call (numbers m c) (r .number)
+  on-files : (mesh table claim : List ℕ) (z : ℤ) (before : List ℕ) (number place : ℕ) (after : List ℕ)
+      → Answers mesh table claim z before number place after → Call (files mesh table claim) number
+  on-numbers : (m t c : List ℤ) (r : NumbersAnswer) → TableAnswers t m c r → Call (numbers m t c) (r .number)
 
 -- "Parts are on the same mesh when they are judged against the same rows": the field of one call and the multipliers
 -- of another or of the same, each on files or on numbers
@@ -189,88 +248,94 @@ FractionsAndCall b j = Call b j → HasMultipliers (claimOf b) → j ≡ 0 → (
     → SameRows m (meshOf b) → FractionsBracket m (meshOf b) (claimOf b) (allowed (meshOf b) (claimOf b))
 
 -- "Numbers handed to it get the refusals that a file of them, with columns as wide as needed, would get"
-pub record AsAFile (m c : List ℤ) (r : NumbersAnswer) : Type 0 where
-  pub some-width : (w : ℕ) × Fit w m × Fit w c
-  pub every-width : (w : ℕ) → Fit w m → Fit w c
-      → r ≡ answerOf (filesVerdict w (fileOf w meshLayout m) (fileOf w (claimLayout m) c))
+pub record AsAFile (t m c : List ℤ) (r : NumbersAnswer) : Type 0 where
+  pub some-width : (w : ℕ) × Fit w t × Fit w m × Fit w c
+  pub every-width : (w : ℕ) → Fit w t → Fit w m → Fit w c
+      → r ≡ answerOf (filesVerdict w (fileOf w meshLayout m) (tableOf w t) (fileOf w (claimLayout (meshRead t m)) c))
 
 -- ==== The sheets
 
 -- each sheet's line, which has six decimals, stands at the front of the buffer
 abbrev pub Written : Sheet → Type 0
 Written s = (before after : List ℕ) (number place : ℕ)
-    → Answers (s .mesh) (s .claim) (pos usualDecimals) before number place after → reportBytes ≤ length before
-    → take reportBytes after ≡ s .line
+    → Answers (s .mesh) (s .table) (s .claim) (pos usualDecimals) before number place after
+    → reportBytes ≤ length before → take reportBytes after ≡ s .line
 
 -- ==== A solver's run handed over whole (document 02, N3)
+
+-- a run of claims on a mesh and a table that was answered: the contract of `pechuvo_check_run`
+abbrev pub RunAsked : (mesh table claims before : List ℕ) (r : RunAnswer) (after : List ℕ) → Type 0
+RunAsked mesh table claims before r after =
+    RunAnswers (meshOutcome fileWidth mesh table) (meshWith mesh table) claims before r after
 
 -- report i of a run
 abbrev pub reportAt : ℕ → List ℕ → List ℕ
 reportAt i buffer = take reportBytes (drop (i * reportBytes) buffer)
 
--- a line is what each single call on this mesh and this claim writes with six decimals
-abbrev pub SingleCall : (mesh claim line : List ℕ) → Type 0
-SingleCall mesh claim line = (before after : List ℕ) (number place : ℕ)
-    → Answers mesh claim (pos usualDecimals) before number place after → reportBytes ≤ length before
+-- a line is what each single call on this mesh, this table and this claim writes with six decimals
+abbrev pub SingleCall : (mesh table claim line : List ℕ) → Type 0
+SingleCall mesh table claim line = (before after : List ℕ) (number place : ℕ)
+    → Answers mesh table claim (pos usualDecimals) before number place after → reportBytes ≤ length before
     → take reportBytes after ≡ line
 
 -- the claims that have a report, each by its own bytes
-abbrev pub judgedIn : (mesh claims before : List ℕ) → List (List ℕ)
-judgedIn mesh claims before = claimsJudged (length before / reportBytes) (meshIn mesh) claims
+abbrev pub judgedIn : (mesh table claims before : List ℕ) → List (List ℕ)
+judgedIn mesh table claims before =
+    claimsJudged (length before / reportBytes) (meshOutcome fileWidth mesh table) (meshWith mesh table) claims
 
 -- "The answer counts reports written and claim bytes taken"
-pub record RunCall (mesh claims before : List ℕ) (judged : List (List ℕ)) (reports bytes : ℕ) (after : List ℕ)
+pub record RunCall (mesh table claims before : List ℕ) (judged : List (List ℕ)) (reports bytes : ℕ) (after : List ℕ)
     : Type 0 where
   pub count : reports ≡ length judged
   -- "the reports equal those of single calls", and no other byte is written
-  pub single-calls : (i : ℕ) → i < reports → SingleCall mesh (claimAt judged i) (reportAt i after)
+  pub single-calls : (i : ℕ) → i < reports → SingleCall mesh table (claimAt judged i) (reportAt i after)
   pub rest : drop (reports * reportBytes) after ≡ drop (reports * reportBytes) before
   pub size : length after ≡ length before
   -- on an accepted mesh: which claims, how many bytes, and where it ends
-  pub in-turn : MeshSound (meshIn mesh) → InTurn (meshIn mesh) (length before / reportBytes) claims judged bytes
-  -- "A refused mesh writes its report once, even with no claim byte, and takes no claim"
-  pub mesh-refused : (¬ MeshSound (meshIn mesh)) → reportBytes ≤ length before
-      → (reports ≡ 1) × (bytes ≡ 0) × ((claim : List ℕ) → SingleCall mesh claim (reportAt 0 after))
+  pub in-turn : MeshAccepted mesh table
+      → InTurn (meshWith mesh table) (length before / reportBytes) claims judged bytes
+  -- "A refused mesh writes its report once, even with no claim byte, and takes no claim"; so does a refused table
+  pub mesh-refused : (¬ MeshAccepted mesh table) → reportBytes ≤ length before
+      → (reports ≡ 1) × (bytes ≡ 0) × ((claim : List ℕ) → SingleCall mesh table claim (reportAt 0 after))
   -- "A run ends first of all when the buffer lacks 113 bytes for the next report, without 41"
   pub no-room : length before < reportBytes → (reports ≡ 0) × (bytes ≡ 0) × (after ≡ before)
 
 -- ==== Room worked out beforehand (document 02, N7)
 
--- a call on the mesh that told these sizes
-abbrev pub SizesAsked : (mesh : List ℕ) (r : MeshSizes) → Type 0
-SizesAsked mesh r = r ≡ meshSizes (meshIn mesh)
+-- a call on the mesh and the table that told these sizes
+abbrev pub SizesAsked : (mesh table : List ℕ) (r : MeshSizes) → Type 0
+SizesAsked mesh table r = r ≡ meshSizes mesh table
 
 -- so many rows as the definition lists, and as a reader counts them
 abbrev pub Counts : (k : ℕ) (rows : List Row) (counted : ℕ) → Type 0
 Counts k rows counted = (k ≡ length rows) × (k ≡ counted)
 
 -- "Every claim that passes 11, 12 and 13 has exactly the length said for its kind"
-pub record ClaimLengths (mesh : List ℕ) (r : MeshSizes) (claim : List ℕ) : Type 0 where
-  pub field : HasField (claimIn mesh claim) → (¬ HasMultipliers (claimIn mesh claim)) → length claim ≡ r .«field_bytes»
-  pub multipliers : (¬ HasField (claimIn mesh claim)) → HasMultipliers (claimIn mesh claim)
+pub record ClaimLengths (m : List ℤ) (r : MeshSizes) (claim : List ℕ) : Type 0 where
+  pub field : HasField (claimIn m claim) → (¬ HasMultipliers (claimIn m claim)) → length claim ≡ r .«field_bytes»
+  pub multipliers : (¬ HasField (claimIn m claim)) → HasMultipliers (claimIn m claim)
       → length claim ≡ r .«multipliers_bytes»
-  pub both : HasField (claimIn mesh claim) → HasMultipliers (claimIn mesh claim) → length claim ≡ r .«both_bytes»
+  pub both : HasField (claimIn m claim) → HasMultipliers (claimIn m claim) → length claim ≡ r .«both_bytes»
 
 -- "the row and column counts are those of the definition": two balance rows for each element, four side rows for each
 -- edge and four jump rows for each jump, "unfixed ones counted", a strength row for each side of each pair, "three a
--- node"
-pub record SizesOf (mesh : List ℕ) (r : MeshSizes) : Type 0 where
-  pub balance : Counts (r .«balance_rows») (balanceRows (meshIn mesh)) (2 * elements (meshIn mesh))
-  pub side : Counts (r .«side_rows») (sideRows (meshIn mesh)) (4 * edges (meshIn mesh))
-  pub jump : Counts (r .«jump_rows») (jumpRows (meshIn mesh)) (4 * jumps (meshIn mesh))
-  pub strength : Counts (r .«strength_rows») (strengthRows (meshIn mesh)) (pairCount (meshIn mesh) * sides (meshIn mesh))
-  pub rows : r .«balance_rows» + r .«side_rows» + r .«jump_rows» + r .«strength_rows» ≡ length (rowsOf (meshIn mesh))
-  pub columns : r .columns ≡ 3 * nodes (meshIn mesh)
-  pub lengths : (claim : List ℕ) → LinesSound (claimLayout (meshIn mesh)) (claimIn mesh claim)
-      → ClaimLengths mesh r claim
+-- node"; of the mesh that is read
+pub record SizesOf (m : List ℤ) (r : MeshSizes) : Type 0 where
+  pub balance : Counts (r .«balance_rows») (balanceRows m) (2 * elements m)
+  pub side : Counts (r .«side_rows») (sideRows m) (4 * edges m)
+  pub jump : Counts (r .«jump_rows») (jumpRows m) (4 * jumps m)
+  pub strength : Counts (r .«strength_rows») (strengthRows m) (pairCount m * sides m)
+  pub rows : r .«balance_rows» + r .«side_rows» + r .«jump_rows» + r .«strength_rows» ≡ length (rowsOf m)
+  pub columns : r .columns ≡ 3 * nodes m
+  pub lengths : (claim : List ℕ) → LinesSound (claimLayout m) (claimIn m claim) → ClaimLengths m r claim
   -- a claim with both parts has one header
   pub one-header : r .«field_bytes» + r .«multipliers_bytes» ≡ r .«both_bytes» + lineBytes fileWidth claimHeaderColumns
 
-pub record SizesTold (mesh : List ℕ) (r : MeshSizes) : Type 0 where
+pub record SizesTold (mesh table : List ℕ) (r : MeshSizes) : Type 0 where
   -- 0 exactly when the mesh is accepted; else "its refusal and no sizes"
-  pub accepted : (r .number ≡ 0) ↔ MeshSound (meshIn mesh)
+  pub accepted : (r .number ≡ 0) ↔ MeshAccepted mesh table
   pub place-zero : r .number ≡ 0 → r .place ≡ 0
   pub refused : (k j : ℕ) → k ≢ 0
-      → ((r .number ≡ k) × (r .place ≡ j)) ↔ MeshRefusal (meshIn mesh) k (placeFor k j)
+      → ((r .number ≡ k) × (r .place ≡ j)) ↔ RefusedBy (tabledPhases (tableIn table) (meshIn mesh)) k (placeFor k j)
   pub no-sizes : r .number ≢ 0 → r ≡ noSizes (r .number) (r .place)
-  pub sizes : r .number ≡ 0 → SizesOf mesh r
+  pub sizes : r .number ≡ 0 → SizesOf (meshWith mesh table) r

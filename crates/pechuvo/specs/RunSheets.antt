@@ -6,15 +6,16 @@ use Prim.Native.String.{String}
 use lib.ListN.{length, take, replicate}
 use Rattle.scope.specs.Mesh.{meshLayout}
 use Rattle.scope.specs.Claim.{claimLayout}
-use Rattle.reader.specs.File.{fileOf, fileWidth}
-use Rattle.judge.specs.Judge.{meshNumbers}
+use Rattle.reader.specs.File.{fileOf, tableOf, fileWidth}
+use Rattle.judge.specs.Judge.{meshFrom, meshOutcome}
 use Rattle.run.specs.Run.{Ran, run}
 use Rattle.pechuvo.specs.Bytes.{bytes, numbers}
-use Rattle.pechuvo.specs.Sheets.{workedMesh}
+use Rattle.pechuvo.specs.Sheets.{workedMesh, soilZeroMesh}
 
--- the bytes of a mesh file and of the claims, those of the buffer, and what a run of them gives
+-- the bytes of a mesh file, of a table file and of the claims, those of the buffer, and what a run of them gives
 pub record RunSheet : Type 0 where
   pub mesh : List ℕ
+  pub table : List ℕ
   pub claims : List ℕ
   pub room : ℕ
   pub reports : ℕ
@@ -25,15 +26,20 @@ pub record RunSheet : Type 0 where
 unfoldable pub claimsOn : String → List String → List ℕ
 claimsOn m cs = flatMap (λ c. fileOf fileWidth (claimLayout (numbers m)) (numbers c)) cs
 
-unfoldable pub runSheet : String → List ℕ → ℕ → ℕ → ℕ → List String → RunSheet
-runSheet m claims room reports taken lines = record {
+unfoldable pub runSheetWith : String → String → List ℕ → ℕ → ℕ → ℕ → List String → RunSheet
+runSheetWith m t claims room reports taken lines = record {
   mesh = fileOf fileWidth meshLayout (numbers m);
+  table = tableOf fileWidth (numbers t);
   claims = claims;
   room = room;
   reports = reports;
   taken = taken;
   written = flatMap bytes lines;
 }
+
+-- without a table
+unfoldable pub runSheet : String → List ℕ → ℕ → ℕ → ℕ → List String → RunSheet
+runSheet m claims room reports taken lines = runSheetWith m "" claims room reports taken lines
 
 -- a buffer of bytes 7 before, and what is to be answered and left in it
 abbrev pub lent : RunSheet → List ℕ
@@ -43,7 +49,8 @@ abbrev pub left : RunSheet → List ℕ
 left s = s .written ++ replicate (s .room - length (s .written)) 7
 
 unfoldable pub ranOn : RunSheet → Ran
-ranOn s = run (meshNumbers fileWidth (s .mesh)) (s .claims) (lent s)
+ranOn s =
+    run (meshOutcome fileWidth (s .mesh) (s .table)) (meshFrom fileWidth (s .mesh) (s .table)) (s .claims) (lent s)
 
 unfoldable pub told : RunSheet → Ran
 told s = record { reports = s .reports; bytes = s .taken; buffer = left s }
@@ -91,10 +98,23 @@ several =
 unfoldable pub meshAlone : RunSheet
 meshAlone = runSheet refusedMesh [] 120 1 0 (refusedLine ∷ [])
 
+-- document 01's sheet with soil 0, and a table that gives its soil; a table that ends at the highest node: 45, place 4
+unfoldable pub tabledRun : RunSheet
+tabledRun =
+    runSheetWith soilZeroMesh "0 2 1" (claimsOn workedMesh (good ∷ beyond ∷ [])) 240 2 1898
+    (goodLine
+    ∷ "                          22                           1                        none                        none\n"
+    ∷ [])
+
+unfoldable pub tableRefused : RunSheet
+tableRefused = runSheetWith soilZeroMesh "0 1 1" (claimsOn workedMesh (good ∷ [])) 240 1 0 ("                          45                           4                        none                        none\n" ∷ [])
+
 unfoldable pub runSheets : List RunSheet
 runSheets =
     several
     ∷ meshAlone
+    ∷ tabledRun
+    ∷ tableRefused
     -- room for two reports and 112 bytes more
     ∷ runSheet workedMesh (claimsOn workedMesh (good ∷ good ∷ good ∷ [])) 338 2 1898 (goodLine ∷ goodLine ∷ [])
     -- a claim cut short by a byte: 11 in its last line, and its bytes aren't taken

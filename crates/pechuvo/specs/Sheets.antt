@@ -9,28 +9,40 @@ use lib.IntN.{ℤ, pos}
 use lib.ListN.{replicate}
 use Rattle.scope.specs.Mesh.{meshLayout}
 use Rattle.scope.specs.Claim.{claimLayout}
-use Rattle.reader.specs.File.{fileOf, fileWidth}
+use Rattle.scope.specs.Table.{meshRead}
+use Rattle.reader.specs.File.{fileOf, tableOf, fileWidth}
 use Rattle.pechuvo.specs.Bytes.{bytes, numbers}
 use Rattle.report.specs.Report.{reportBytes, usualDecimals}
 use Rattle.pechuvo.specs.Check.{check}
 
--- the bytes of two files, and the line that they give
+-- the bytes of three files, an empty table being none, and the line that they give
 pub record Sheet : Type 0 where
   pub mesh : List ℕ
+  pub table : List ℕ
   pub claim : List ℕ
   pub line : List ℕ
 
--- a sheet from its mesh, its claim and its line
+-- a sheet from its mesh, its table, its claim and its line
+unfoldable pub sheetWith : String → String → String → String → Sheet
+sheetWith m t c line = record {
+  mesh = fileOf fileWidth meshLayout (numbers m);
+  table = tableOf fileWidth (numbers t);
+  claim = fileOf fileWidth (claimLayout (meshRead (numbers t) (numbers m))) (numbers c);
+  line = bytes line;
+}
+
+-- without a table
 unfoldable pub sheet : String → String → String → Sheet
 sheet m c line = record {
   mesh = fileOf fileWidth meshLayout (numbers m);
+  table = [];
   claim = fileOf fileWidth (claimLayout (numbers m)) (numbers c);
   line = bytes line;
 }
 
 -- what the check writes into a buffer of 113 bytes, with z decimals, and with six
 unfoldable pub printedWith : ℤ → Sheet → List ℕ
-printedWith z s = check (s .mesh) (s .claim) z (replicate reportBytes 0) .buffer
+printedWith z s = check (s .mesh) (s .table) (s .claim) z (replicate reportBytes 0) .buffer
 
 unfoldable pub printed : Sheet → List ℕ
 printed = printedWith (pos usualDecimals)
@@ -270,9 +282,71 @@ noticing =
     -- document 01's header, of five columns: 1, line 1
     ∷ record {
       mesh = bytes "           4           1           1           3          12\n";
+      table = [];
       claim = [];
       line = bytes "                           1                           1                        none                        none\n";
     }
+    ∷ []
+
+-- ---- with a borehole table (document 02, N8)
+
+-- document 01's sheet with soil 0, and its claim
+unfoldable pub soilZeroMesh : String
+soilZeroMesh = "4 1 1 3 12 0 / 0 1 1 10 0 0 0 0 / 0 0 / 1 0 / 1 1 / 0 1 / 1 2 3 4 0 / 3 4 3 0 0 -1 0 / 2 3 3 0 0 0 0 / 4 1 3 0 0 0 0"
+
+unfoldable pub workedClaim : String
+workedClaim = "1 1 1 20 / 0 -20 0 / 0 -20 0 / 0 -20 0 / 0 -20 0 / 0 0 / 30 0 0 0 / 0 0 -30 0 / 0 0 0 0 / 0 0 0 0 0 0 0 0 0 0 0 0 / 0 0 0 0 0 0 0 0 0 0 0 0 / 1 0 0 0 0 0 0 0 0 0 0 1 / 0 0 0 0 0 0 0 0 0 0 0 0"
+
+-- the seam of clay with soil 0 throughout, and with the clay's element by its own soil
+unfoldable pub seamZero : String
+seamZero = "8 3 2 8 12 0 / 0 1 1 30 0 0 0 0 / 0 1 1 10 0 0 0 0 / 0 0 / 10 0 / 0 10 / 10 10 / 0 20 / 10 20 / 0 30 / 10 30 / 1 2 4 3 0 / 5 6 8 7 0 / 3 4 6 5 0 / 1 2 2 0 0 0 0 / 2 4 3 0 0 0 0 / 3 1 2 0 0 0 0 / 6 8 3 0 0 0 0 / 8 7 3 0 0 -1 0 / 7 5 2 0 0 0 0 / 4 6 3 0 0 0 0 / 5 3 2 0 0 0 0"
+
+unfoldable pub seamMixed : String
+seamMixed = "8 3 2 8 12 0 / 0 1 1 30 0 0 0 0 / 0 1 1 10 0 0 0 0 / 0 0 / 10 0 / 0 10 / 10 10 / 0 20 / 10 20 / 0 30 / 10 30 / 1 2 4 3 0 / 5 6 8 7 0 / 3 4 6 5 2 / 1 2 2 0 0 0 0 / 2 4 3 0 0 0 0 / 3 1 2 0 0 0 0 / 6 8 3 0 0 0 0 / 8 7 3 0 0 -1 0 / 7 5 2 0 0 0 0 / 4 6 3 0 0 0 0 / 5 3 2 0 0 0 0"
+
+unfoldable pub seamClaim : String
+seamClaim = "1 0 1 60 / 0 -60 0 / 0 -60 0 / 0 -60 0 / 0 -60 0 / 0 -60 0 / 0 -60 0 / 0 -60 0 / 0 -60 0"
+
+unfoldable pub tabledSheets : List Sheet
+tabledSheets =
+    -- `0 2 1` gives the sheet's soil
+    sheetWith soilZeroMesh
+    "0 2 1"
+    workedClaim
+    "                           0                           0                   20.000000                   20.000000\n"
+    -- `0 1 1`: the highest node's height, four quarters, is in no layer: 45
+    ∷ sheetWith soilZeroMesh
+    "0 1 1"
+    workedClaim
+    "                          45                           4                        none                        none\n"
+    -- a table is judged where no element has soil 0: two layers share a height, 46 with the later line
+    ∷ sheetWith workedMesh
+    "0 2 1 / 1 3 1"
+    workedClaim
+    "                          46                        1002                        none                        none\n"
+    -- soil 0 without a table: 4, line 7; soil 0 in the table: 4, line 1,001
+    ∷ sheet soilZeroMesh
+    workedClaim
+    "                           4                           7                        none                        none\n"
+    ∷ sheetWith soilZeroMesh
+    "0 2 0"
+    workedClaim
+    "                           4                        1001                        none                        none\n"
+    -- a second line that is not whole: 1, line 1,002
+    ∷ sheetWith soilZeroMesh
+    "0 2 1 / 2"
+    workedClaim
+    "                           1                        1002                        none                        none\n"
+    -- three layers, in no order: the seam's fault, and the same with the clay's element by its own soil and a table of
+    -- fill alone
+    ∷ sheetWith seamZero
+    "20 31 1 / 0 10 1 / 10 20 2"
+    seamClaim
+    "                          22                          37                        none                        none\n"
+    ∷ sheetWith seamMixed
+    "0 31 1"
+    seamClaim
+    "                          22                          37                        none                        none\n"
     ∷ []
 
 -- ---- other decimals (document 02, N5)

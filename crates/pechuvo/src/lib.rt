@@ -1,6 +1,6 @@
-// Every call that C makes: the check of a mesh file and a claim file, two byte strings into a report line and the
-// verdict's numbers; the check of claims for one mesh, one after another; the check of the numbers themselves; and the
-// room that a mesh asks for.
+// Every call that C makes: the check of a mesh file, a table file and a claim file, three byte strings into a report line
+// and the verdict's numbers; the check of claims for one mesh, one after another; the check of the numbers themselves;
+// and the room that a mesh asks for. An empty table is none.
 
 use judge::judge_files;
 use judge::room::MeshSizes;
@@ -14,14 +14,11 @@ use scope::Verdict;
 use scope::place_number;
 ghost use mathlib.Core.Path.{_≡_};
 ghost use Rattle.scope.specs.Answer.{numberOf, placeOf};
-ghost use Rattle.scope.specs.Verdict.{verdict};
+ghost use Rattle.scope.specs.TableVerdict.{tabledVerdict};
 ghost use Rattle.numbers.specs.NumbersAnswer.{answerOf};
-ghost use Rattle.reader.specs.File.{fileWidth};
 ghost use Rattle.report.specs.Buffer.{reportedNumber, reportedPlace};
-ghost use Rattle.judge.specs.Judge.{meshNumbers};
-ghost use Rattle.judge.specs.Room.{meshSizes};
-ghost use Rattle.run.specs.Run.{RunAnswers};
 ghost use Rattle.pechuvo.specs.Answers.{Answers};
+ghost use Rattle.pechuvo.specs.Promises.{RunAsked, SizesAsked};
 
 // What is returned: 0 and 0 for an accepted claim, else a refusal's number and its place.
 #[repr(C)]
@@ -64,43 +61,51 @@ fn answer_of(v: Verdict, reported: Reported) -> Answer
     }
 }
 
-// The report of a mesh file and a claim file, with so many decimals, at the front of the buffer that is lent.
+// The report of a mesh file, a table file and a claim file, with so many decimals, at the front of the buffer that is
+// lent.
 #[no_mangle]
 pub extern "C" fn pechuvo_check(
     mesh: &[u8],
+    table: &[u8],
     claim: &[u8],
     decimals: i64,
     report: &mut [u8],
 ) -> Answer
-    ensures { λ r. ⌜ Answers (now (mesh .entry)) (now (claim .entry)) decimals (now (report .entry)) (r .number)
-        (r .place) (now (report .exit)) ⌝ }
+    ensures { λ r. ⌜ Answers (now (mesh .entry)) (now (table .entry)) (now (claim .entry)) decimals
+        (now (report .entry)) (r .number) (r .place) (now (report .exit)) ⌝ }
 {
-    let v = judge_files(mesh, claim);
+    let v = judge_files(mesh, table, claim);
     let reported = write_report(v, report, decimals);
     answer_of(v, reported)
 }
 
 // The reports of claims for one mesh, written one after another, in turn at the front of the buffer that is lent.
 #[no_mangle]
-pub extern "C" fn pechuvo_check_run(mesh: &[u8], claims: &[u8], reports: &mut [u8]) -> RunAnswer
-    ensures { λ r. ⌜ RunAnswers (meshNumbers fileWidth (now (mesh .entry))) (now (claims .entry))
-        (now (reports .entry)) r (now (reports .exit)) ⌝ }
+pub extern "C" fn pechuvo_check_run(
+    mesh: &[u8],
+    table: &[u8],
+    claims: &[u8],
+    reports: &mut [u8],
+) -> RunAnswer
+    ensures { λ r. ⌜ RunAsked (now (mesh .entry)) (now (table .entry)) (now (claims .entry)) (now (reports .entry)) r
+        (now (reports .exit)) ⌝ }
 {
-    check_run(mesh, claims, reports)
+    check_run(mesh, table, claims, reports)
 }
 
-// The same check of the numbers of a mesh and of a claim, for a solver that writes no files.
+// The same check of the numbers of a mesh, of a table and of a claim, for a solver that writes no files.
 #[no_mangle]
-pub extern "C" fn pechuvo_check_numbers(m: &[i64], c: &[i64]) -> NumbersAnswer
-    ensures { λ r. ⌜ r ≡ answerOf (verdict (now (m .entry)) (now (c .entry))) ⌝ }
+pub extern "C" fn pechuvo_check_numbers(m: &[i64], t: &[i64], c: &[i64]) -> NumbersAnswer
+    ensures { λ r. ⌜ r ≡ answerOf (tabledVerdict (now (t .entry)) (now (m .entry)) (now (c .entry))) ⌝ }
 {
-    numbers::check(m, c)
+    numbers::check(m, t, c)
 }
 
-// The rows of each kind, the columns and the bytes of a claim, from the mesh alone, for a caller who lends the buffers.
+// The rows of each kind, the columns and the bytes of a claim, from the mesh and its table, for a caller who lends the
+// buffers.
 #[no_mangle]
-pub extern "C" fn pechuvo_mesh_sizes(mesh: &[u8]) -> MeshSizes
-    ensures { λ r. ⌜ r ≡ meshSizes (meshNumbers fileWidth (now (mesh .entry))) ⌝ }
+pub extern "C" fn pechuvo_mesh_sizes(mesh: &[u8], table: &[u8]) -> MeshSizes
+    ensures { λ r. ⌜ SizesAsked (now (mesh .entry)) (now (table .entry)) r ⌝ }
 {
-    mesh_sizes(mesh)
+    mesh_sizes(mesh, table)
 }

@@ -27,7 +27,7 @@ drop-take zero n bs = rw (zero-add n)
 drop-take (suc a) n [] = rw (take-nil (suc a + n), take-nil n)
 drop-take (suc a) n (b ∷ bs) = rw (suc-add a n) (drop-take a n bs)
 
-line-cut : (w k n : ℕ) (bs : List ℕ) → lineBytes w k ≤ n → readLine w k (take n bs) ≡ readLine w k bs
+pub line-cut : (w k n : ℕ) (bs : List ℕ) → lineBytes w k ≤ n → readLine w k (take n bs) ≡ readLine w k bs
 unfolding readLine
 line-cut w k n bs h =
     let b = lineBytes w k in

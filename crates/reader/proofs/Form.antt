@@ -28,24 +28,24 @@ use Rattle.scope.specs.Refusals.{ruleNumber}
 
 -- ---- good lines
 
-unread : (w : ℕ) (g : Group) (bs : List ℕ) → readLine w (width g) bs ≡ none → IllFormed w g bs
+pub unread : (w : ℕ) (g : Group) (bs : List ℕ) → readLine w (width g) bs ≡ none → IllFormed w g bs
 unread w g bs e zs h = Option·none-ne-some zs (sym e ∙ line-means w (width g) bs zs .1 h)
 
 -- a line that is read and passes is good
-good : (w : ℕ) (f : Layout) (g : Group) (bs : List ℕ) (p : Place) (zs : List ℤ) → readLine w (width g) bs ≡ some zs → lineCheck f g zs p ≡ Passed → GoodLine w g bs
+pub good : (w : ℕ) (f : Layout) (g : Group) (bs : List ℕ) (p : Place) (zs : List ℤ) → readLine w (width g) bs ≡ some zs → lineCheck f g zs p ≡ Passed → GoodLine w g bs
 good w f g bs p zs o e =
     let l = line-means w (width g) bs zs .0 o in
     let h = line-check-passed f g zs p .says e in
     record { numbers = zs; wellFormed = l; inLimits = h .1; rulesHold = h .2 }
 
 -- and a good line is read and passes
-good-read : (w : ℕ) (g : Group) (bs : List ℕ) (h : GoodLine w g bs) → readLine w (width g) bs ≡ some (h .numbers)
+pub good-read : (w : ℕ) (g : Group) (bs : List ℕ) (h : GoodLine w g bs) → readLine w (width g) bs ≡ some (h .numbers)
 good-read w g bs h = line-means w (width g) bs (h .numbers) .1 (h .wellFormed)
 
-good-passed : (w : ℕ) (f : Layout) (g : Group) (bs : List ℕ) (p : Place) (h : GoodLine w g bs) → lineCheck f g (h .numbers) p ≡ Passed
+pub good-passed : (w : ℕ) (f : Layout) (g : Group) (bs : List ℕ) (p : Place) (h : GoodLine w g bs) → lineCheck f g (h .numbers) p ≡ Passed
 good-passed w f g bs p h = line-check-passed f g (h .numbers) p .passed (h .wellFormed .count, h .inLimits, h .rulesHold)
 
-ill-formed-unread : (w : ℕ) (g : Group) (bs : List ℕ) → IllFormed w g bs → readLine w (width g) bs ≡ none
+pub ill-formed-unread : (w : ℕ) (g : Group) (bs : List ℕ) → IllFormed w g bs → readLine w (width g) bs ≡ none
 ill-formed-unread w g bs h = by (readLine w (width g) bs) refl
   where
     by : (o : Option (List ℤ)) → readLine w (width g) bs ≡ o → o ≡ none

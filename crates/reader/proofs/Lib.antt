@@ -15,3 +15,5 @@ pub mod Whole
 pub mod LinesAfterHeader
 pub mod Most
 pub mod TableBytes
+pub mod TableRead
+pub mod TableForm

@@ -16,7 +16,7 @@ use Rattle.lines.specs.declared.layout.Group as Code
 use Rattle.scope.specs.Columns.{at, hasField, hasMultipliers}
 use Rattle.scope.specs.Layout.{Group, groups, lineOf, lineNumbers}
 use Rattle.scope.specs.Verdict.{lineCheck, lineAt}
-use Rattle.scope.specs.Mesh.{meshHeaderColumns, meshLayout, meshHeader}
+use Rattle.scope.specs.Mesh.{meshHeaderColumns, meshLayout, layoutWith, meshHeader}
 use Rattle.scope.specs.Claim.{claimHeaderColumns, claimLayout, claimHeader}
 use Rattle.mesh.specs.MeshContracts.{SizesAre, Counted, HeaderThere}
 use Rattle.lines.specs.Table.{meant, AllGood, Known, Tabled, meshBody, claimBody, lineWidths}
@@ -43,8 +43,9 @@ widths-meant {s} {gs} t = widths-good s gs (t .table .good) ∙ ap widths (t .sa
 pub known : {s : Sizes} {gs : List Code.Group} {body : List Group} → Tabled s gs body → Known gs
 known {s} t = record { sizes = s; table = t .table }
 
-pub mesh-lines : {m : List ℤ} {s : Sizes} {gs : List Code.Group} → Tabled s gs (meshBody s) → SizesAre m s → lineWidths gs ≡ widths (meshLayout .body m)
-mesh-lines t k = widths-meant t ∙ ap widths (mesh-body k)
+pub mesh-lines : {m : List ℤ} {s : Sizes} {gs : List Code.Group} → Tabled s gs (meshBody s false) → SizesAre m s → lineWidths gs ≡ widths (meshLayout .body m)
+unfolding meshLayout layoutWith
+mesh-lines t k = widths-meant t ∙ ap widths (mesh-body false k)
 
 -- ---- the header of a mesh file
 

@@ -15,8 +15,9 @@ use Rattle.scope.specs.declared.Outcome.the-variants.{Passed}
 use Rattle.scope.specs.Columns.{hasField, hasMultipliers}
 use Rattle.scope.specs.Layout.{Group, Layout, width, numberCount}
 use Rattle.scope.specs.Verdict.{lineCheck}
-use Rattle.scope.specs.Mesh.{pairsWith, meshHeaderColumns, meshLayout, meshHeader, soilLines, nodeLines, elementLines, edgeLines, nodes, elements, soils, edges, sides, elementRows, edgeRows, jumpLines, jumps, rowsPerJump}
+use Rattle.scope.specs.Mesh.{pairsWith, meshHeaderColumns, meshLayout, meshHeader, soilLines, nodeLines, elementLines, edgeLines, nodes, elements, soils, edges, sides, elementRows, edgeRows, jumpLines, jumps, rowsPerJump, mostSides, mostPairs}
 use Rattle.scope.specs.Claim.{claimHeaderColumns, stressColumns, claimLayout, claimHeader, ifThere, stressLines, elementMultipliers, edgeMultipliers, strengthMultipliers, jumpMultipliers}
+use Rattle.scope.specs.Layers.{mostLayers, layerColumns}
 use Rattle.scope.proofs.Exactly.{there-most}
 use Rattle.scope.proofs.PolygonRule.{listed-polygon}
 use Rattle.mesh.specs.declared.sizes.Sizes.{Sizes}
@@ -24,8 +25,8 @@ use Rattle.scope.specs.Rows.{pairCount}
 use Rattle.mesh.specs.MeshContracts.{Counted}
 use Rattle.lines.proofs.LineLaws.{mesh-header-line}
 use Rattle.lines.proofs.GroupLaws.{header-counts}
-use Rattle.reader.specs.File.{fileWidth, lineBytes, readLine, readLines, widths, headerPasses, numbersOf}
-use Rattle.reader.specs.Most.{mostNumbers, meshRoom, claimRoom}
+use Rattle.reader.specs.File.{fileWidth, lineBytes, readLine, readLines, widths, headerPasses, numbersOf, leftOver, readRows, tableNumbersOf}
+use Rattle.reader.specs.Most.{mostNumbers, meshRoom, claimRoom, tableRoom}
 use Rattle.reader.proofs.Line.{line-means}
 use Rattle.reader.proofs.Cut.{line-there, header-passes}
 
@@ -118,7 +119,7 @@ numbers-most w f most header told bs = by (readLine w (width (f .header)) bs) re
         let count = line-means w (width (f .header)) bs h .0 e .count in
         rw (e, numbersOf) (simp length-append (omega (arith, count, after h count)))
 
-mesh-count : (m : List ℤ) → numberCount (meshLayout .body m) ≡ soils m * width (soilLines 0) + nodes m * width (nodeLines 0) + elements m * width (elementLines 0 0 0) + edges m * width (edgeLines 0 0) + jumps m * width (jumpLines 0 0)
+mesh-count : (m : List ℤ) → numberCount (meshLayout .body m) ≡ soils m * width (soilLines 0) + nodes m * width (nodeLines 0) + elements m * width (elementLines 0 0 1 0) + edges m * width (edgeLines 0 0) + jumps m * width (jumpLines 0 0)
 unfolding numberCount meshLayout soilLines nodeLines elementLines edgeLines jumpLines
 mesh-count m = omega arith
 
@@ -154,3 +155,22 @@ claim-most {m} k = numbers-most fileWidth (claimLayout m) claimRoom (omega arith
         let counts = k .sizes .counts in
         let fits = listed-polygon (sides m) (counts .sidesListed) .fits .numbersFit in
         omega (arith, claim-count m c, counts .nodesFit, counts .elementsMost, counts .edgesMost, counts .jumpsMost, fits)
+
+-- a table file
+left-most : (bs : List ℕ) → length (leftOver bs) ≤ 1
+unfolding leftOver
+left-most [] = omega arith
+left-most (b ∷ bs) = omega arith
+
+rows-most : (w k n : ℕ) (bs : List ℕ) → length (readRows w k n bs) ≤ n * k + 1
+unfolding readRows
+rows-most w k zero bs = omega (arith, left-most bs, zero-mul k)
+rows-most w k (suc n) bs = by (rows-most w k n (drop (lineBytes w k) bs)) (readLine w k bs) refl
+  where
+    by : length (readRows w k n (drop (lineBytes w k) bs)) ≤ n * k + 1 → (o : Option (List ℤ)) → readLine w k bs ≡ o → length (readRows w k (suc n) bs) ≤ suc n * k + 1
+    by rest none e = rw (e, readRows) (omega (arith, left-most bs))
+    by rest (some zs) e = rw (e, readRows) (simp (length-append, suc-mul) (omega (arith, rest, line-means w k bs zs .0 e .count)))
+
+pub table-most : (bs : List ℕ) → length (tableNumbersOf fileWidth bs) ≤ tableRoom
+unfolding tableNumbersOf
+table-most bs = rows-most fileWidth layerColumns mostLayers bs

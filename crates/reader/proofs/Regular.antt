@@ -1,6 +1,7 @@
 -- The layouts of a mesh and of a claim are regular: what lines follow the header is told by numbers that stand in the header.
 use mathlib.Core.Path.{_≡_, refl}
 use mathlib.Core.Logic.{_≢_}
+use mathlib.Core.Bool.{Bool, false}
 use mathlib.Core.List.{List, _++_}
 use Prim.Native.Nat.{ℕ, _<_}
 use native.Mathlib.Omega.{arith}
@@ -8,10 +9,12 @@ use lib.IntN.{ℤ, pos}
 use lib.ListN.{length, length-replicate, List·getD-append}
 use Rattle.scope.specs.Columns.{Rule, rightAngle, naming, parts, atMost, at, hasField, hasMultipliers}
 use Rattle.scope.specs.Layout.{groups}
-use Rattle.scope.specs.Mesh.{meshLayout, meshHeader, soilLines, nodeLines, elementLines, edgeLines, jumpLines, nodes, elements, soils, edges, sides, jumps}
+use Rattle.scope.specs.Mesh.{meshLayout, layoutWith, meshHeader, soilLines, nodeLines, elementLines, edgeLines, jumpLines, nodes, elements, soils, edges, sides, jumps}
 use Rattle.scope.specs.Claim.{claimLayout, claimHeader, stressLines, elementMultipliers, edgeMultipliers, jumpMultipliers, strengthMultipliers}
-use Rattle.reader.specs.WellFormed.{Regular}
 use Rattle.scope.specs.Refusals.{ruleNumber}
+use Rattle.scope.specs.Verdict.{lineCheck}
+use Rattle.reader.specs.File.{widths, headerPasses, numbersOf}
+use Rattle.reader.specs.WellFormed.{Regular}
 
 front : (h rest : List ℤ) (k : ℕ) → k < length h → at (h ++ rest) k ≡ at h k
 unfolding at
@@ -31,9 +34,10 @@ claim-number (naming cs) = omega arith
 claim-number parts = omega arith
 claim-number (atMost c k d z) = omega arith
 
-pub mesh-regular : Regular meshLayout
-unfolding meshLayout meshHeader groups soilLines nodeLines elementLines edgeLines jumpLines nodes elements soils edges jumps
-mesh-regular = record {
+-- with a table or without
+pub layout-regular : (tabled : Bool) → Regular (layoutWith tabled)
+unfolding layoutWith meshHeader groups soilLines nodeLines elementLines edgeLines jumpLines nodes elements soils edges jumps
+layout-regular tabled = record {
   oneHeader = refl;
   byHeader = λ h rest e.
       rw (front h rest 0 (omega arith), front h rest 1 (omega arith), front h rest 2 (omega arith), front h rest 3 (omega arith), front h rest 5 (omega arith));
@@ -41,6 +45,15 @@ mesh-regular = record {
   notLimit = omega arith;
   notRule = mesh-number;
 }
+
+pub mesh-regular : Regular meshLayout
+unfolding meshLayout layoutWith
+mesh-regular = layout-regular false
+
+-- a table adds a soil that an element may name, and no column: the numbers of a mesh file are the same
+pub same-numbers : (tabled : Bool) (w : ℕ) (bs : List ℕ) → numbersOf w (layoutWith tabled) bs ≡ numbersOf w meshLayout bs
+unfolding numbersOf headerPasses lineCheck widths layoutWith meshLayout elementLines
+same-numbers tabled w bs = refl
 
 pub claim-regular : (m : List ℤ) → 0 < sides m → Regular (claimLayout m)
 unfolding claimLayout claimHeader groups stressLines elementMultipliers edgeMultipliers jumpMultipliers strengthMultipliers hasField hasMultipliers

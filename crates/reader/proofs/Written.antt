@@ -34,7 +34,7 @@ fit-take w zero zs h = tt
 fit-take w (suc k) [] h = tt
 fit-take w (suc k) (z ∷ zs) h = (h .0, fit-take w k zs (h .1))
 
-fit-drop : (w k : ℕ) (zs : List ℤ) → Fit w zs → Fit w (drop k zs)
+pub fit-drop : (w k : ℕ) (zs : List ℤ) → Fit w zs → Fit w (drop k zs)
 fit-drop w zero zs h = h
 fit-drop w (suc k) [] h = tt
 fit-drop w (suc k) (z ∷ zs) h = fit-drop w k zs (h .1)
@@ -75,17 +75,17 @@ short-line w k zs h l =
     rw (lt-leb (lineBytes w k) (length (columns w zs)) s, readLine)
 
 -- a first line of k columns, written and read
-first-whole : (w k : ℕ) (ks : List ℕ) (zs : List ℤ) → Fit w zs → k ≤ length zs → readLine w k (writeLines w (k ∷ ks) zs) ≡ some (take k zs)
+pub first-whole : (w k : ℕ) (ks : List ℕ) (zs : List ℤ) → Fit w zs → k ≤ length zs → readLine w k (writeLines w (k ∷ ks) zs) ≡ some (take k zs)
 unfolding writeLines
 first-whole w k ks zs h l =
     rw (le-leb k (length zs) l, writeLines) (rw (length-take-le k zs l) at (whole-line w (take k zs) (fit-take w k zs h) (writeLines w ks (drop k zs))))
 
-after-first : (w k : ℕ) (ks : List ℕ) (zs : List ℤ) → Fit w zs → k ≤ length zs → drop (lineBytes w k) (writeLines w (k ∷ ks) zs) ≡ writeLines w ks (drop k zs)
+pub after-first : (w k : ℕ) (ks : List ℕ) (zs : List ℤ) → Fit w zs → k ≤ length zs → drop (lineBytes w k) (writeLines w (k ∷ ks) zs) ≡ writeLines w ks (drop k zs)
 unfolding writeLines
 after-first w k ks zs h l =
     rw (le-leb k (length zs) l, writeLines) (rw (length-take-le k zs l) at (after-line w (take k zs) (fit-take w k zs h) (writeLines w ks (drop k zs))))
 
-first-short : (w k : ℕ) (ks : List ℕ) (zs : List ℤ) → Fit w zs → length zs < k → readLine w k (writeLines w (k ∷ ks) zs) ≡ none
+pub first-short : (w k : ℕ) (ks : List ℕ) (zs : List ℤ) → Fit w zs → length zs < k → readLine w k (writeLines w (k ∷ ks) zs) ≡ none
 unfolding writeLines
 first-short w k ks zs h l =
     rw (lt-leb k (length zs) l, writeLines) (rw (take-all k zs (omega arith), append-nil (columns w zs)) (short-line w k zs h l))
@@ -104,7 +104,7 @@ unfolding spelling
 spelling-some (pos k) = digits-some k
 spelling-some (negsuc k) = omega arith
 
-columns-some : (w : ℕ) (z : ℤ) (zs : List ℤ) → Fit w (z ∷ zs) → 0 < length (columns w (z ∷ zs))
+pub columns-some : (w : ℕ) (z : ℤ) (zs : List ℤ) → Fit w (z ∷ zs) → 0 < length (columns w (z ∷ zs))
 unfolding columns
 columns-some w z zs h =
     rw (length-append, column-length w z (h .0)) (omega (arith, spelling-some z))

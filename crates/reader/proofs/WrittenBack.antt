@@ -24,7 +24,7 @@ use Rattle.reader.proofs.Line.{line-means}
 use Rattle.reader.proofs.File.{widths-of, columns-of, lines-header, readAll, read-none, read-some, fileLines, header-column, header-passed, file-in-order}
 
 -- one line written, and others after it
-write-line : (w k : ℕ) (ks : List ℕ) (zs rest : List ℤ) → length zs ≡ k → writeLines w (k ∷ ks) (zs ++ rest) ≡ (columns w zs ++ (10 ∷ [])) ++ writeLines w ks rest
+pub write-line : (w k : ℕ) (ks : List ℕ) (zs rest : List ℤ) → length zs ≡ k → writeLines w (k ∷ ks) (zs ++ rest) ≡ (columns w zs ++ (10 ∷ [])) ++ writeLines w ks rest
 unfolding writeLines
 write-line w k ks zs rest e =
     rw (le-leb k (length (zs ++ rest)) (omega (arith, length-append zs rest)), writeLines)

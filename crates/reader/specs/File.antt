@@ -12,6 +12,8 @@ use Rattle.scope.specs.declared.Outcome.{Outcome}
 use Rattle.scope.specs.declared.Outcome.the-variants.{Passed, Refused}
 use Rattle.scope.specs.Layout.{Group, Layout, width}
 use Rattle.scope.specs.Verdict.{lineCheck}
+use Rattle.scope.specs.Layers.{mostLayers, layerColumns}
+use Rattle.scope.specs.Table.{tableLines}
 use Rattle.reader.specs.Spelling.{column, readColumn}
 
 -- "Every number is .. in a column of 12 characters"
@@ -77,6 +79,26 @@ numbersOf w f bs =
           ]
     ]
 
+-- ---- a borehole table, which has no header (document 02, N8)
+
+-- bytes left over are one number
+unfoldable pub leftOver : List ℕ → List ℤ
+leftOver [] = []
+leftOver (b ∷ bs) = pos 0 ∷ []
+
+-- the numbers of the lines of k columns at the front that are well formed, at most n of them, and of what follows them
+unfoldable pub readRows : ℕ → ℕ → ℕ → List ℕ → List ℤ
+readRows w k zero bs = leftOver bs
+readRows w k (suc n) bs =
+    elim (readLine w k bs) [
+      | none ↦ leftOver bs
+      | some zs ↦ zs ++ readRows w k n (drop (lineBytes w k) bs)
+    ]
+
+-- "1 to 32 lines", as wide as a layer's: the numbers of a table; an empty file has none, "an empty one is no table"
+unfoldable pub tableNumbersOf : ℕ → List ℕ → List ℤ
+tableNumbersOf w bs = readRows w layerColumns mostLayers bs
+
 -- ---- writing
 
 unfoldable pub columns : ℕ → List ℤ → List ℕ
@@ -93,3 +115,7 @@ writeLines w (k ∷ ks) zs =
 -- the file written from a list of numbers
 unfoldable pub fileOf : ℕ → Layout → List ℤ → List ℕ
 fileOf w f zs = writeLines w (width (f .header) ∷ widths (f .body zs)) zs
+
+-- the table written from a list of numbers
+unfoldable pub tableOf : ℕ → List ℤ → List ℕ
+tableOf w t = writeLines w (replicate (tableLines t) layerColumns) t

@@ -3,6 +3,7 @@ use Prim.Native.Nat.{ℕ, _+_, _*_, _/_}
 use Rattle.scope.specs.Mesh.{mostNodes, mostElements, mostSoils, mostEdges, nodesFor108, meshHeaderColumns, soilColumns, nodeColumns, elementColumns, edgeColumns, elementRows, edgeRows, mostJumps, jumpColumns, rowsPerJump}
 use Rattle.scope.specs.Bounds.{mostStrengthRows}
 use Rattle.scope.specs.Claim.{claimHeaderColumns, stressColumns}
+use Rattle.scope.specs.Layers.{mostLayers, layerColumns}
 use Rattle.reader.specs.File.{fileWidth}
 
 -- a file of so many bytes: each number has a column, and bytes left over add one number more
@@ -30,3 +31,7 @@ claimRoom =
     + mostJumps * rowsPerJump
     + mostStrengthRows
     + 1
+
+-- a table file: as many lines as there can be, and one for bytes left over
+abbrev pub tableRoom : ℕ
+tableRoom = mostLayers * layerColumns + 1

@@ -8,7 +8,8 @@ use lib.IntN.{ℤ}
 use lib.ListN.{length, take, drop, replicate}
 use Rattle.reader.specs.declared.file_lines.Progress.{Progress}
 use Rattle.lines.specs.declared.layout.Group.{Group}
-use Rattle.reader.specs.File.{fileWidth, lineBytes, readLine, readLines}
+use Rattle.scope.specs.Layers.{layerColumns}
+use Rattle.reader.specs.File.{fileWidth, lineBytes, readLine, readLines, leftOver, readRows, tableNumbersOf}
 
 -- nothing is read
 unfoldable pub start : Progress
@@ -65,3 +66,18 @@ pub record Room (bs ks : List ℕ) (p : Progress) (out : List ℤ) : Type 0 wher
 pub record RoomBefore (bs ks : List ℕ) (p : Progress) (out : List ℤ) : Type 0 where
   pub after : List ℕ
   pub room : Room bs (ks ++ after) p out
+
+-- ---- the lines of a table
+
+-- all numbers of a table, where those in the list `out` are read and at most n lines are still to be read
+unfoldable pub allRows : List ℕ → ℕ → Progress → List ℤ → List ℤ
+allRows bs n p out =
+    take (p .numbers) out
+    ++ cond (p .going) (readRows fileWidth layerColumns n (drop (p .at) bs)) (leftOver (drop (p .at) bs))
+
+-- the well-formed lines of a table are read, which leaves r and `after` of the list `before`; what follows them is not
+pub record RowsTaken (bs : List ℕ) (before : List ℤ) (r : Progress) (after : List ℤ) : Type 0 where
+  pub same : tableNumbersOf fileWidth bs ≡ take (r .numbers) after ++ leftOver (drop (r .at) bs)
+  pub there : r .numbers ≤ length after
+  pub within : r .at ≤ length bs
+  pub others : drop (r .numbers) after ≡ drop (r .numbers) before

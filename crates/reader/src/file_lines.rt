@@ -4,6 +4,8 @@ use crate::column::Reading;
 use crate::column::column;
 use lines::layout::GROUPS;
 use lines::layout::Group;
+use mesh::sizes::LAYER_COLUMNS;
+use mesh::sizes::MOST_LAYERS;
 use mesh::sizes::MOST_SIDES;
 ghost use mathlib.Core.Path.{_≡_};
 ghost use mathlib.Core.Bool.{cond};
@@ -12,8 +14,9 @@ ghost use mathlib.Core.Option.{none, some};
 ghost use Prim.Native.Nat.{_+_, _≤_};
 ghost use lib.ListN.{length, take, drop};
 ghost use Rattle.lines.specs.Table.{mostColumns, Known, lineWidths};
+ghost use Rattle.scope.specs.Layers.{layerColumns};
 ghost use Rattle.reader.specs.OnePass.{Table};
-ghost use Rattle.reader.specs.File.{fileWidth, readLine};
+ghost use Rattle.reader.specs.File.{fileWidth, readLine, tableNumbersOf};
 ghost use Rattle.reader.specs.ReadSoFar.{
   start,
   LineTaken,
@@ -23,6 +26,7 @@ ghost use Rattle.reader.specs.ReadSoFar.{
   allNumbers,
   Room,
   RoomBefore,
+  RowsTaken,
 };
 ghost use Rattle.reader.specs.Listed.{Listed};
 
@@ -198,4 +202,27 @@ pub fn read_groups(
     let mut line = [0; MOST_SIDES];
     let q = read_all(table, bytes, p, groups, &mut line, out);
     finish(bytes, q, out)
+}
+
+// The well-formed lines of a table, which has no header: the place of the byte after them says whether more
+// follows. The array `line` is room for a line.
+pub fn read_rows(table: &[u64; 256], bytes: &[u8], line: &mut [i64], out: &mut [i64]) -> Progress
+    requires { ⌜ Table (now table) ⌝ ∗ ⌜ layerColumns ≤ length (now line) ⌝
+        ∗ ⌜ length (tableNumbersOf fileWidth (now bytes)) ≤ length (now out) ⌝ }
+    ensures { λ r. ⌜ RowsTaken (now (bytes .entry)) (now (out .entry)) r (now (out .exit)) ⌝ }
+{
+    let mut q = Progress {
+        going: true,
+        at: 0,
+        numbers: 0,
+    };
+    let mut k: usize = 0;
+    while k < MOST_LAYERS {
+        if !q.going {
+            return q;
+        }
+        q = next_line(table, bytes, q, LAYER_COLUMNS, line, out);
+        k += 1;
+    }
+    q
 }

@@ -1,5 +1,5 @@
-// The bytes of a mesh file and of a claim file into numbers: each byte is taken once, front to back, and the numbers
-// stand at the front of a list that the caller lends.
+// The bytes of a mesh file, of a table file and of a claim file into numbers: each byte is taken once, front to back,
+// and the numbers stand at the front of a list that the caller lends.
 mod column;
 mod file_lines;
 
@@ -8,6 +8,7 @@ use crate::column::table;
 use crate::file_lines::Progress;
 use crate::file_lines::read_groups;
 use crate::file_lines::read_header;
+use crate::file_lines::read_rows;
 use lines::layout::CLAIM_HEADER;
 use lines::layout::GROUPS;
 use lines::layout::Group;
@@ -17,16 +18,16 @@ use lines::layout::has_part;
 use lines::layout::mesh_groups;
 use lines::line_checks::claim_header;
 use lines::line_checks::mesh_header;
-use mesh::sizes::EDGE_COLUMNS;
 use mesh::sizes::EDGE_ROWS;
-use mesh::sizes::ELEMENT_COLUMNS;
 use mesh::sizes::ELEMENT_ROWS;
-use mesh::sizes::JUMP_COLUMNS;
 use mesh::sizes::JUMP_ROWS;
+use mesh::sizes::LAYER_COLUMNS;
 use mesh::sizes::MESH_HEADER;
+use mesh::sizes::MESH_NUMBERS;
 use mesh::sizes::MOST_EDGES;
 use mesh::sizes::MOST_ELEMENTS;
 use mesh::sizes::MOST_JUMPS;
+use mesh::sizes::MOST_LAYERS;
 use mesh::sizes::MOST_NODES;
 use mesh::sizes::MOST_SIDES;
 use mesh::sizes::MOST_SOILS;
@@ -44,22 +45,16 @@ ghost use Rattle.scope.specs.Columns.{hasField, hasMultipliers};
 ghost use Rattle.scope.specs.Mesh.{meshLayout};
 ghost use Rattle.mesh.specs.MeshContracts.{HeaderThere, FewThings};
 ghost use Rattle.lines.specs.Table.{Known, claimBody};
-ghost use Rattle.reader.specs.File.{fileWidth, numbersOf, widths};
+ghost use Rattle.reader.specs.File.{fileWidth, numbersOf, tableNumbersOf, widths};
 ghost use Rattle.reader.specs.OnePass.{Table};
 ghost use Rattle.reader.specs.ReadSoFar.{allNumbers, Room};
 ghost use Rattle.reader.specs.Listed.{Listed, ClaimRoom, ClaimListed};
 ghost use Rattle.reader.specs.Most.{mostNumbers};
 ghost use Rattle.reader.specs.TableBytes.{mostBytes, bytesIn};
 
-// The most numbers of a mesh file, and of a claim file, which has them with the most sides: their headers, as many
-// lines as there can be, and one for bytes left over.
-pub const MESH_ROOM: usize = MESH_HEADER
-    + MOST_SOILS * SOIL_COLUMNS
-    + MOST_NODES * NODE_COLUMNS
-    + MOST_ELEMENTS * ELEMENT_COLUMNS
-    + MOST_EDGES * EDGE_COLUMNS
-    + MOST_JUMPS * JUMP_COLUMNS
-    + 1;
+// The most numbers of a mesh file, of a table file, and of a claim file, which has them with the most sides: their
+// headers, as many lines as there can be, and one for bytes left over.
+pub const MESH_ROOM: usize = MESH_NUMBERS + 1;
 
 pub const CLAIM_ROOM: usize = CLAIM_HEADER
     + NODES_FOR_108 * STRESS_COLUMNS
@@ -87,7 +82,7 @@ fn mesh_body(table: &[u64; 256], bytes: &[u8], p: Progress, out: &mut [i64]) -> 
         (allNumbers (now (bytes .entry)) (widths (meshLayout .body (now (out .entry)))) p (now (out .entry)))
         (now (out .entry)) r (now (out .exit)) ⌝ }
 {
-    let groups = mesh_groups(header_sizes(out));
+    let groups = mesh_groups(header_sizes(out), false);
     read_groups(table, bytes, p, groups, out)
 }
 
@@ -107,6 +102,24 @@ pub fn read_mesh(bytes: &[u8], out: &mut [i64]) -> usize
         return p.numbers;
     };
     mesh_body(&entries, bytes, p, out)
+}
+
+// The numbers of a table file, and how many they are. Where bytes follow its well-formed lines they add one number, so
+// that the line which they begin is not whole, or is one too many.
+pub fn read_table(bytes: &[u8], out: &mut [i64]) -> usize
+    requires { ⌜ length (tableNumbersOf fileWidth (now bytes)) ≤ length (now out) ⌝ }
+    ensures { λ r. ⌜ Listed (tableNumbersOf fileWidth (now (bytes .entry))) (now (out .entry)) r
+        (now (out .exit)) ⌝ }
+{
+    let entries = table();
+    let mut line = [0; LAYER_COLUMNS];
+    let p = read_rows(&entries, bytes, &mut line, out);
+    let numbers = p.numbers;
+    if p.at < bytes.len() {
+        out[numbers] = 0;
+        return numbers + 1;
+    }
+    numbers
 }
 
 // The lines after a claim's header, which stands at the front of `out`.

@@ -18,7 +18,7 @@ use Rattle.scope.specs.declared.Verdict.{Verdict}
 use Rattle.scope.specs.declared.Verdict.the-variants.{Accepted, Refused}
 use Rattle.scope.specs.Mesh.{meshLayout, sides}
 use Rattle.scope.specs.Claim.{claimHeader, claimLayout}
-use Rattle.scope.specs.Verdict.{meshCheck, verdict}
+use Rattle.scope.specs.Verdict.{answer, claimVerdict, meshCheck}
 use Rattle.scope.proofs.Refusals.{lines-passed, mesh-passed}
 use Rattle.reader.specs.File.{fileWidth, lineBytes}
 use Rattle.reader.proofs.Cut.{header-alone}
@@ -93,21 +93,21 @@ own-some m left = omega (arith, own-length m left)
 data Steps (m : List ℤ) : ℕ → List ℕ → List (List ℕ) → Type 0 where
   no-room : {left : List ℕ} → Steps m 0 left []
   no-byte : {room : ℕ} → Steps m (suc room) [] []
-  last : {room : ℕ} {left : List ℕ} → 0 < length left → RefusedByLines (verdictOn m (ownBytes m left)) → Steps m (suc room) left (ownBytes m left ∷ [])
-  more : {room : ℕ} {left : List ℕ} {cs : List (List ℕ)} → 0 < length left → (¬ RefusedByLines (verdictOn m (ownBytes m left))) → Steps m room (drop (length (ownBytes m left)) left) cs → Steps m (suc room) left (ownBytes m left ∷ cs)
+  last : {room : ℕ} {left : List ℕ} → 0 < length left → RefusedByLines (verdictOn Passed m (ownBytes m left)) → Steps m (suc room) left (ownBytes m left ∷ [])
+  more : {room : ℕ} {left : List ℕ} {cs : List (List ℕ)} → 0 < length left → (¬ RefusedByLines (verdictOn Passed m (ownBytes m left))) → Steps m room (drop (length (ownBytes m left)) left) cs → Steps m (suc room) left (ownBytes m left ∷ cs)
 
-steps : (m : List ℤ) → meshCheck m ≡ Passed → (room : ℕ) (left : List ℕ) → Steps m room left (claimsJudged room m left)
+steps : (m : List ℤ) (room : ℕ) (left : List ℕ) → Steps m room left (claimsJudged room Passed m left)
 unfolding claimsJudged
-steps m p zero left = no-room
-steps m p (suc room) [] = subst (Steps m (suc room) []) (sym (judged-none m p (suc room))) no-byte
-steps m p (suc room) (b ∷ bs) =
+steps m zero left = no-room
+steps m (suc room) [] = subst (Steps m (suc room) []) (sym (judged-none m (suc room))) no-byte
+steps m (suc room) (b ∷ bs) =
     let left = b ∷ bs in
-    let v = verdictOn m (ownBytes m left) in
-    let rest = claimsJudged room m (drop (length (ownBytes m left)) left) in
-    let next = judged-next m p room left (omega arith) in
+    let v = verdictOn Passed m (ownBytes m left) in
+    let rest = claimsJudged room Passed m (drop (length (ownBytes m left)) left) in
+    let next = judged-next m room left (omega arith) in
     cases (endsRun v)
     (λ t. subst (Steps m (suc room) left) (sym (next ∙ ap (λ (b : Bool). ownBytes m left ∷ cond b [] rest) t)) (last (omega arith) (ends-refused v t)))
-    (λ t. subst (Steps m (suc room) left) (sym (next ∙ ap (λ (b : Bool). ownBytes m left ∷ cond b [] rest) t)) (more (omega arith) (goes-unrefused v t) (steps m p room (drop (length (ownBytes m left)) left))))
+    (λ t. subst (Steps m (suc room) left) (sym (next ∙ ap (λ (b : Bool). ownBytes m left ∷ cond b [] rest) t)) (more (omega arith) (goes-unrefused v t) (steps m room (drop (length (ownBytes m left)) left))))
 
 module _ (m : List ℤ) where
   pieces : {room : ℕ} {left : List ℕ} {cs : List (List ℕ)} → Steps m room left cs → flatten cs ≡ take (length (flatten cs)) left
@@ -141,7 +141,7 @@ module _ (m : List ℤ) where
   byte-left (more {left = left} {cs = cs} l r s) (suc i) h =
       omega (arith, start-after (ownBytes m left) cs i, byte-left s i (omega arith), length-drop (length (ownBytes m left)) left, own-some m left)
 
-  unrefused : {room : ℕ} {left : List ℕ} {cs : List (List ℕ)} → Steps m room left cs → (i : ℕ) → suc i < length cs → ¬ RefusedByLines (verdictOn m (claimAt cs i))
+  unrefused : {room : ℕ} {left : List ℕ} {cs : List (List ℕ)} → Steps m room left cs → (i : ℕ) → suc i < length cs → ¬ RefusedByLines (verdictOn Passed m (claimAt cs i))
   unrefused no-room i h = absurd (omega arith)
   unrefused no-byte i h = absurd (omega arith)
   unrefused (last l r) i h = absurd (omega arith)
@@ -173,7 +173,7 @@ module _ (m : List ℤ) where
   lengths-told z (more {left = left} {cs = cs} l r s) (suc i) h = next-length left cs i (lengths-told z s i (omega arith))
 
   abbrev Ended : ℕ → List ℕ → List (List ℕ) → Type 0
-  Ended room left cs = (length cs ≡ room) ⊎ ((length (flatten cs) ≡ length left) ⊎ ((j : ℕ) × (length cs ≡ suc j) × RefusedByLines (verdictOn m (claimAt cs j))))
+  Ended room left cs = (length cs ≡ room) ⊎ ((length (flatten cs) ≡ length left) ⊎ ((j : ℕ) × (length cs ≡ suc j) × RefusedByLines (verdictOn Passed m (claimAt cs j))))
 
   ended-next : (room : ℕ) (left : List ℕ) (cs : List (List ℕ)) → Ended room (drop (length (ownBytes m left)) left) cs → Ended (suc room) left (ownBytes m left ∷ cs)
   unfolding flatten
@@ -190,22 +190,22 @@ module _ (m : List ℤ) where
   why-ended (more {room} {left} {cs} l r s) = ended-next room left cs (why-ended s)
 
   -- what is taken of one claim
-  taken-own : (claim : List ℕ) → (¬ RefusedByLines (verdictOn m claim)) → takenOf m claim ≡ claim
+  taken-own : (claim : List ℕ) → (¬ RefusedByLines (verdictOn Passed m claim)) → takenOf Passed m claim ≡ claim
   unfolding takenOf
-  taken-own claim r = cases (endsRun (verdictOn m claim)) (λ t. absurd (r (ends-refused (verdictOn m claim) t))) (λ t. rw t)
+  taken-own claim r = cases (endsRun (verdictOn Passed m claim)) (λ t. absurd (r (ends-refused (verdictOn Passed m claim) t))) (λ t. rw t)
 
-  taken-none : (claim : List ℕ) → RefusedByLines (verdictOn m claim) → takenOf m claim ≡ []
+  taken-none : (claim : List ℕ) → RefusedByLines (verdictOn Passed m claim) → takenOf Passed m claim ≡ []
   unfolding takenOf
-  taken-none claim r = rw (refused-ends (verdictOn m claim) r)
+  taken-none claim r = rw (refused-ends (verdictOn Passed m claim) r)
 
-  all-taken : {room : ℕ} {left : List ℕ} {cs : List (List ℕ)} → Steps m room left cs → ((i : ℕ) → i < length cs → ¬ RefusedByLines (verdictOn m (claimAt cs i))) → flatMap (takenOf m) cs ≡ flatten cs
+  all-taken : {room : ℕ} {left : List ℕ} {cs : List (List ℕ)} → Steps m room left cs → ((i : ℕ) → i < length cs → ¬ RefusedByLines (verdictOn Passed m (claimAt cs i))) → flatMap (takenOf Passed m) cs ≡ flatten cs
   unfolding flatMap flatten
   all-taken no-room h = refl
   all-taken no-byte h = refl
   all-taken (last l r) h = absurd (h 0 (omega arith) r)
   all-taken (more {left = left} l r s) h = ap₂ (λ (x y : List ℕ). x ++ y) (taken-own (ownBytes m left) r) (all-taken s (λ i b. h (suc i) (omega arith)))
 
-  last-not-taken : {room : ℕ} {left : List ℕ} {cs : List (List ℕ)} → Steps m room left cs → (j : ℕ) → length cs ≡ suc j → RefusedByLines (verdictOn m (claimAt cs j)) → flatMap (takenOf m) cs ≡ flatten (take j cs)
+  last-not-taken : {room : ℕ} {left : List ℕ} {cs : List (List ℕ)} → Steps m room left cs → (j : ℕ) → length cs ≡ suc j → RefusedByLines (verdictOn Passed m (claimAt cs j)) → flatMap (takenOf Passed m) cs ≡ flatten (take j cs)
   unfolding flatMap flatten
   last-not-taken no-room j e w = absurd (omega arith)
   last-not-taken no-byte j e w = absurd (omega arith)
@@ -214,16 +214,13 @@ module _ (m : List ℤ) where
   last-not-taken (more l r s) zero e w = absurd (r w)
   last-not-taken (more {left = left} l r s) (suc j) e w = ap₂ (λ (x y : List ℕ). x ++ y) (taken-own (ownBytes m left) r) (last-not-taken s j (omega arith) w)
 
-no-claims : (m : List ℤ) (claims : List ℕ) → length (claimsJudged 0 m claims) ≤ 0
-unfolding claimsJudged
-no-claims m claims = omega arith
-
 -- ---- the statements
 
-pub in-turn : (m : List ℤ) → meshCheck m ≡ Passed → (room : ℕ) (claims : List ℕ) → InTurn m room claims (claimsJudged room m claims) (length (flatMap (takenOf m) (claimsJudged room m claims)))
-in-turn m p room claims =
-    let s = steps m p room claims in
-    record {
+-- a mesh that passes, by an outcome that says so
+pub in-turn : (o : Outcome) (m : List ℤ) → o ≡ Passed → meshCheck m ≡ Passed → (room : ℕ) (claims : List ℕ) → InTurn m room claims (claimsJudged room o m claims) (length (flatMap (takenOf o m) (claimsJudged room o m claims)))
+in-turn o m e p room claims =
+    let s = steps m room claims in
+    subst (λ (o : Outcome). InTurn m room claims (claimsJudged room o m claims) (length (flatMap (takenOf o m) (claimsJudged room o m claims)))) (sym e) (record {
       adjoining = pieces m s;
       lengths = lengths-told m (sides-there m p) s;
       room-there = within-room m s;
@@ -232,23 +229,19 @@ in-turn m p room claims =
       ended = why-ended m s;
       taken = λ h. ap length (all-taken m s h);
       not-taken = λ j e r. ap length (last-not-taken m s j e r);
-    }
+    })
 
 -- no more claims get a report than there is room for, whatever the mesh
-pub few-judged : (m : List ℤ) (room : ℕ) (claims : List ℕ) → length (claimsJudged room m claims) ≤ room
-few-judged m room claims = by room (meshCheck m) refl
-  where
-    none : length (claimsJudged 0 m claims) ≤ 0
-    none = no-claims m claims
-
-    by : (room : ℕ) (o : Outcome) → meshCheck m ≡ o → length (claimsJudged room m claims) ≤ room
-    by room Passed e = in-turn m e room claims .room-there
-    by zero (Fails k p) e = none
-    by (suc room) (Fails k p) e = rw (judged-refused m claims room k p e) (omega arith)
+pub few-judged : (o : Outcome) (m : List ℤ) (room : ℕ) (claims : List ℕ) → length (claimsJudged room o m claims) ≤ room
+unfolding claimsJudged
+few-judged Passed m room claims = within-room m (steps m room claims)
+few-judged (Fails k p) m zero claims = omega arith
+few-judged (Fails k p) m (suc room) claims = omega arith
 
 pub header-told : HeaderAlone
 unfolding verdictOn ownBytes claimNumbers claimLayout claimHeader lineBytes
-header-told m left h = ap (verdict m) (header-alone fileWidth (claimLayout m) (claimBytes m (claimNumbers fileWidth m left)) left (header-there m (claimNumbers fileWidth m left)) h)
+header-told o m left h =
+    ap (λ (c : List ℤ). answer o (claimVerdict m c)) (header-alone fileWidth (claimLayout m) (claimBytes m (claimNumbers fileWidth m left)) left (header-there m (claimNumbers fileWidth m left)) h)
 
 pub refused-once : RefusedOnce
-refused-once m k place e room claims = judged-refused m claims room k place e
+refused-once = judged-refused

@@ -11,12 +11,10 @@ use lib.Seq.{take-all, take-length}
 use Rattle.scope.specs.declared.Verdict.{Verdict}
 use Rattle.scope.specs.Layout.{Layout}
 use Rattle.scope.specs.Claim.{claimHeaderColumns}
-use Rattle.scope.specs.Verdict.{claimVerdict}
+use Rattle.scope.specs.Verdict.{answer, claimVerdict}
 use Rattle.scope.proofs.NumberRanges.{some-sides}
 use Rattle.mesh.specs.declared.sizes.Sizes.{Sizes}
 use Rattle.mesh.specs.MeshContracts.{Counted}
-use Rattle.verdict.specs.JudgeContracts.{SoundMesh}
-use Rattle.verdict.proofs.VerdictLaws.{mesh-goes-on}
 use Rattle.reader.specs.File.{fileWidth, numbersOf}
 use Rattle.reader.specs.Listed.{ClaimListed}
 use Rattle.reader.proofs.Most.{numbers-by-length}
@@ -60,9 +58,9 @@ own-counted {m} left {end} k e l b r =
     r ∙ ap (λ (n : ℕ). min n (length left)) bytes ∙ sym (own-length m left)
 
 -- the verdict on them is that of a single call
-pub next-claim : {m : List ℤ} {s : Sizes} {pairs : List ℕ} (left : List ℕ) {v : Verdict} {bytes : ℕ} → SoundMesh m s pairs → bytes ≡ length (ownBytes m left) → v ≡ claimVerdict m (claimNumbers fileWidth m (take bytes left)) → NextOf m left (record { verdict = v; bytes = bytes })
-unfolding verdictOn
-next-claim {m} left h b v = record {
-  verdictIs = mesh-goes-on m (claimNumbers fileWidth m (ownBytes m left)) (h .passes) (v ∙ ap (λ (bs : List ℕ). claimVerdict m (claimNumbers fileWidth m bs)) (ap (λ (n : ℕ). take n left) b ∙ own-front m left));
+pub next-claim : {m : List ℤ} (left : List ℕ) {v : Verdict} {bytes : ℕ} → bytes ≡ length (ownBytes m left) → v ≡ claimVerdict m (claimNumbers fileWidth m (take bytes left)) → NextOf m left (record { verdict = v; bytes = bytes })
+unfolding verdictOn answer
+next-claim {m} left b v = record {
+  verdictIs = v ∙ ap (λ (bs : List ℕ). claimVerdict m (claimNumbers fileWidth m bs)) (ap (λ (n : ℕ). take n left) b ∙ own-front m left);
   bytesAre = b;
 }

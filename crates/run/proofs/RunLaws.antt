@@ -12,10 +12,11 @@ use lib.Seq.{take-all, take-at, drop-at, drop-drop, drop-length}
 use borrow.Author.Tests.{le-ltb}
 use borrow.Rule.Slice.PartMut.{midOf, putMid}
 use Rattle.scope.specs.declared.Place.{Place}
+use Rattle.scope.specs.declared.Outcome.{Outcome}
 use Rattle.scope.specs.declared.Outcome.the-variants.{Passed, Refused as Fails}
 use Rattle.scope.specs.declared.Verdict.{Verdict}
 use Rattle.scope.specs.declared.Verdict.the-variants.{Refused}
-use Rattle.scope.specs.Verdict.{meshCheck, verdict, answer}
+use Rattle.scope.specs.Verdict.{answer}
 use Rattle.report.specs.Report.{reportBytes, reportLine, isDecimals, usualDecimals}
 use Rattle.report.specs.declared.Reported.{Reported}
 use Rattle.report.specs.Buffer.{reported, afterAnswer, afterReport, Reports}
@@ -27,20 +28,19 @@ use Rattle.run.proofs.NextLaws.{own-length}
 
 -- ---- the claims that get a report
 
-module _ (m : List ℤ) (passes : meshCheck m ≡ Passed) where
-  pub judged-none : (room : ℕ) → claimsJudged room m [] ≡ []
-  unfolding claimsJudged
-  judged-none zero = refl
-  judged-none (suc room) = rw (passes, claimsJudged)
-
-  pub judged-next : (room : ℕ) (left : List ℕ) → 0 < length left → claimsJudged (suc room) m left ≡ ownBytes m left ∷ cond (endsRun (verdictOn m (ownBytes m left))) [] (claimsJudged room m (drop (length (ownBytes m left)) left))
-  unfolding claimsJudged
-  judged-next room [] l = absurd (omega arith)
-  judged-next room (b ∷ bs) l = rw (passes, claimsJudged)
-
-pub judged-refused : (m : List ℤ) (left : List ℕ) (room k : ℕ) (p : Place) → meshCheck m ≡ Fails k p → claimsJudged (suc room) m left ≡ [] ∷ []
+pub judged-none : (m : List ℤ) (room : ℕ) → claimsJudged room Passed m [] ≡ []
 unfolding claimsJudged
-judged-refused m left room k p e = rw (e, claimsJudged)
+judged-none m zero = refl
+judged-none m (suc room) = refl
+
+pub judged-next : (m : List ℤ) (room : ℕ) (left : List ℕ) → 0 < length left → claimsJudged (suc room) Passed m left ≡ ownBytes m left ∷ cond (endsRun (verdictOn Passed m (ownBytes m left))) [] (claimsJudged room Passed m (drop (length (ownBytes m left)) left))
+unfolding claimsJudged
+judged-next m room [] l = absurd (omega arith)
+judged-next m room (b ∷ bs) l = refl
+
+pub judged-refused : (o : Outcome) (k : ℕ) (p : Place) → o ≡ Fails k p → (room : ℕ) (m : List ℤ) (left : List ℕ) → claimsJudged (suc room) o m left ≡ [] ∷ []
+unfolding claimsJudged
+judged-refused o k p e room m left = rw (e, claimsJudged)
 
 pub no-room : (n : ℕ) → n < reportBytes → n / reportBytes ≡ 0
 no-room n l = div-eq-of-lt l
@@ -91,17 +91,17 @@ module _ (f : List ℕ → List ℕ) (k : ℕ) (each : (x : List ℕ) → length
 
 -- ---- so far
 
--- the claims `done` have their reports: `at` bytes of the claims are taken, and the bytes before `from` are written
+-- the claims `done` on a mesh that passes have their reports: `at` bytes of the claims are taken, and the bytes before `from` are written
 pub record SoFar (m : List ℤ) (claims before : List ℕ) (at from count : ℕ) (buffer : List ℕ) : Type 0 where
   pub done : List (List ℕ)
-  pub all : claimsJudged (length before / reportBytes) m claims ≡ done ++ claimsJudged ((length before - from) / reportBytes) m (drop at claims)
+  pub all : claimsJudged (length before / reportBytes) Passed m claims ≡ done ++ claimsJudged ((length before - from) / reportBytes) Passed m (drop at claims)
   pub counts : count ≡ length done
   pub places : from ≡ count * reportBytes
   pub room : from ≤ length before
-  pub takes : at ≡ length (flatMap (takenOf m) done)
+  pub takes : at ≡ length (flatMap (takenOf Passed m) done)
   pub within : at ≤ length claims
-  pub lines : length (flatMap (lineOf m) done) ≡ from
-  pub written : buffer ≡ flatMap (lineOf m) done ++ drop from before
+  pub lines : length (flatMap (lineOf Passed m) done) ≡ from
+  pub written : buffer ≡ flatMap (lineOf Passed m) done ++ drop from before
 
 pub none-done : (m : List ℤ) (claims before : List ℕ) → SoFar m claims before 0 0 0 before
 unfolding flatMap
@@ -118,41 +118,42 @@ none-done m claims before = record {
 }
 
 -- a run whose claims are `done`
-pub ran-over : {m : List ℤ} {claims before after : List ℕ} {r : RunAnswer} (done : List (List ℕ)) → claimsJudged (length before / reportBytes) m claims ≡ done → r .reports ≡ length done → r .bytes ≡ length (flatMap (takenOf m) done) → after ≡ flatMap (lineOf m) done ++ drop (length (flatMap (lineOf m) done)) before → RunAnswers m claims before r after
+pub ran-over : {o : Outcome} {m : List ℤ} {claims before after : List ℕ} {r : RunAnswer} (done : List (List ℕ)) → claimsJudged (length before / reportBytes) o m claims ≡ done → r .reports ≡ length done → r .bytes ≡ length (flatMap (takenOf o m) done) → after ≡ flatMap (lineOf o m) done ++ drop (length (flatMap (lineOf o m) done)) before → RunAnswers o m claims before r after
 unfolding run ran
-ran-over {m} {claims} {before} done e a b w = record {
+ran-over {o} {m} {claims} {before} done e a b w = record {
   reportsAre = a ∙ ap length (sym e);
-  bytesAre = b ∙ ap (λ (cs : List (List ℕ)). length (flatMap (takenOf m) cs)) (sym e);
-  bufferIs = w ∙ ap (λ (cs : List (List ℕ)). flatMap (lineOf m) cs ++ drop (length (flatMap (lineOf m) cs)) before) (sym e);
+  bytesAre = b ∙ ap (λ (cs : List (List ℕ)). length (flatMap (takenOf o m) cs)) (sym e);
+  bufferIs = w ∙ ap (λ (cs : List (List ℕ)). flatMap (lineOf o m) cs ++ drop (length (flatMap (lineOf o m) cs)) before) (sym e);
 }
 
-pub same-mesh : {m n : List ℤ} {claims before after : List ℕ} {r : RunAnswer} → m ≡ n → RunAnswers m claims before r after → RunAnswers n claims before r after
-same-mesh {claims = claims} {before} {after} {r} e h = subst (λ (m : List ℤ). RunAnswers m claims before r after) e h
+pub same-mesh : {o q : Outcome} {m n : List ℤ} {claims before after : List ℕ} {r : RunAnswer} → o ≡ q → m ≡ n → RunAnswers o m claims before r after → RunAnswers q n claims before r after
+same-mesh {q = q} {m} {claims = claims} {before} {after} {r} e f h =
+    subst (λ (n : List ℤ). RunAnswers q n claims before r after) f (subst (λ (o : Outcome). RunAnswers o m claims before r after) e h)
 
 module _ {m : List ℤ} {claims before : List ℕ} {at from count : ℕ} {buffer : List ℕ} (h : SoFar m claims before at from count buffer) where
-  ended : {r : RunAnswer} → claimsJudged ((length before - from) / reportBytes) m (drop at claims) ≡ [] → (r .reports ≡ count) × (r .bytes ≡ at) → RunAnswers m claims before r buffer
+  ended : {r : RunAnswer} → claimsJudged ((length before - from) / reportBytes) Passed m (drop at claims) ≡ [] → (r .reports ≡ count) × (r .bytes ≡ at) → RunAnswers Passed m claims before r buffer
   ended e a =
       ran-over (h .done)
       (h .all ∙ ap (λ (cs : List (List ℕ)). h .done ++ cs) e ∙ append-nil (h .done))
       (a .0 ∙ h .counts)
       (a .1 ∙ h .takes)
-      (h .written ∙ ap (λ (n : ℕ). flatMap (lineOf m) (h .done) ++ drop n before) (sym (h .lines)))
+      (h .written ∙ ap (λ (n : ℕ). flatMap (lineOf Passed m) (h .done) ++ drop n before) (sym (h .lines)))
 
   -- "A run ends first of all when the buffer lacks 113 bytes for the next report"
-  pub ends-for-room : {r : RunAnswer} → length before - from < reportBytes → (r .reports ≡ count) × (r .bytes ≡ at) → RunAnswers m claims before r buffer
+  pub ends-for-room : {r : RunAnswer} → length before - from < reportBytes → (r .reports ≡ count) × (r .bytes ≡ at) → RunAnswers Passed m claims before r buffer
   unfolding claimsJudged
-  ends-for-room l a = ended (ap (λ (n : ℕ). claimsJudged n m (drop at claims)) (no-room (length before - from) l)) a
+  ends-for-room l a = ended (ap (λ (n : ℕ). claimsJudged n Passed m (drop at claims)) (no-room (length before - from) l)) a
 
   -- "With no claim byte left it ends without a further report"
-  pub ends-for-claims : {r : RunAnswer} → meshCheck m ≡ Passed → at ≡ length claims → (r .reports ≡ count) × (r .bytes ≡ at) → RunAnswers m claims before r buffer
-  ends-for-claims p l a =
-      ended (ap (claimsJudged ((length before - from) / reportBytes) m) (ap (λ (n : ℕ). drop n claims) l ∙ drop-length claims) ∙ judged-none m p ((length before - from) / reportBytes)) a
+  pub ends-for-claims : {r : RunAnswer} → at ≡ length claims → (r .reports ≡ count) × (r .bytes ≡ at) → RunAnswers Passed m claims before r buffer
+  ends-for-claims l a =
+      ended (ap (claimsJudged ((length before - from) / reportBytes) Passed m) (ap (λ (n : ℕ). drop n claims) l ∙ drop-length claims) ∙ judged-none m ((length before - from) / reportBytes)) a
 
   pub same-size : length buffer ≡ length before
-  same-size = ap length (h .written) ∙ omega (arith, length-append (flatMap (lineOf m) (h .done)) (drop from before), length-drop from before, h .lines, h .room)
+  same-size = ap length (h .written) ∙ omega (arith, length-append (flatMap (lineOf Passed m) (h .done)) (drop from before), length-drop from before, h .lines, h .room)
 
   -- the next claim, and the part of the buffer that its report was written into
-  module _ (p : meshCheck m ≡ Passed) (more : reportBytes ≤ length buffer - from) (left : at < length claims) {next : NextClaim} {w : Reported} (part : List ℕ) (n′ : NextOf m (take (length claims - at) (drop at claims)) next) (rep : Reports (pos usualDecimals) (next .verdict) (midOf from (length buffer - from) buffer) part w) (same : length part ≡ length (midOf from (length buffer - from) buffer)) where
+  module _ (more : reportBytes ≤ length buffer - from) (left : at < length claims) {next : NextClaim} {w : Reported} (part : List ℕ) (n′ : NextOf m (take (length claims - at) (drop at claims)) next) (rep : Reports (pos usualDecimals) (next .verdict) (midOf from (length buffer - from) buffer) part w) (same : length part ≡ length (midOf from (length buffer - from) buffer)) where
     n : NextOf m (drop at claims) next
     n = rw (up-to-end at claims) at n′
 
@@ -177,20 +178,20 @@ module _ {m : List ℤ} {claims before : List ℕ} {at from count : ℕ} {buffer
     own : List ℕ
     own = ownBytes m (drop at claims)
 
-    line-is : lineOf m own ≡ reportLine usualDecimals (next .verdict)
+    line-is : lineOf Passed m own ≡ reportLine usualDecimals (next .verdict)
     unfolding own lineOf
     line-is = ap (reportLine usualDecimals) (sym (n .verdictIs))
 
-    lines-more : flatMap (lineOf m) (h .done ++ (own ∷ [])) ≡ flatMap (lineOf m) (h .done) ++ reportLine usualDecimals (next .verdict)
-    lines-more = flat-last (lineOf m) (h .done) own ∙ ap (λ (l : List ℕ). flatMap (lineOf m) (h .done) ++ l) line-is
+    lines-more : flatMap (lineOf Passed m) (h .done ++ (own ∷ [])) ≡ flatMap (lineOf Passed m) (h .done) ++ reportLine usualDecimals (next .verdict)
+    lines-more = flat-last (lineOf Passed m) (h .done) own ∙ ap (λ (l : List ℕ). flatMap (lineOf Passed m) (h .done) ++ l) line-is
 
-    lines-long : length (flatMap (lineOf m) (h .done ++ (own ∷ []))) ≡ from + reportBytes
-    lines-long = ap length lines-more ∙ omega (arith, length-append (flatMap (lineOf m) (h .done)) (reportLine usualDecimals (next .verdict)), h .lines, long)
+    lines-long : length (flatMap (lineOf Passed m) (h .done ++ (own ∷ []))) ≡ from + reportBytes
+    lines-long = ap length lines-more ∙ omega (arith, length-append (flatMap (lineOf Passed m) (h .done)) (reportLine usualDecimals (next .verdict)), h .lines, long)
 
-    written-more : oneMore ≡ flatMap (lineOf m) (h .done ++ (own ∷ [])) ++ drop (from + reportBytes) before
+    written-more : oneMore ≡ flatMap (lineOf Passed m) (h .done ++ (own ∷ [])) ++ drop (from + reportBytes) before
     written-more =
-        let front = ap (take from) (h .written) ∙ take-at (flatMap (lineOf m) (h .done)) (drop from before) from (h .lines) in
-        let back = ap (drop from) (h .written) ∙ drop-at (flatMap (lineOf m) (h .done)) (drop from before) from (h .lines) in
+        let front = ap (take from) (h .written) ∙ take-at (flatMap (lineOf Passed m) (h .done)) (drop from before) from (h .lines) in
+        let back = ap (drop from) (h .written) ∙ drop-at (flatMap (lineOf Passed m) (h .done)) (drop from before) from (h .lines) in
         put-is
         ∙ ap₂ (λ (x y : List ℕ). x ++ (reportLine usualDecimals (next .verdict) ++ drop reportBytes y)) front back
         ∙ rw (drop-drop reportBytes from before, lines-more, append-assoc)
@@ -200,52 +201,52 @@ module _ {m : List ℤ} {claims before : List ℕ} {at from count : ℕ} {buffer
         let e : length before - from - reportBytes ≡ length before - (from + reportBytes) = omega arith in
         one-room (length before - from) (omega (arith, same-size)) ∙ ap (λ (n : ℕ). suc (n / reportBytes)) e
 
-    all-next : claimsJudged (length before / reportBytes) m claims ≡ h .done ++ (own ∷ cond (endsRun (next .verdict)) [] (claimsJudged ((length before - (from + reportBytes)) / reportBytes) m (drop (at + next .bytes) claims)))
+    all-next : claimsJudged (length before / reportBytes) Passed m claims ≡ h .done ++ (own ∷ cond (endsRun (next .verdict)) [] (claimsJudged ((length before - (from + reportBytes)) / reportBytes) Passed m (drop (at + next .bytes) claims)))
     unfolding own
     all-next =
         h .all
         ∙ ap (λ (cs : List (List ℕ)). h .done ++ cs)
-        (ap (λ (n : ℕ). claimsJudged n m (drop at claims)) room-less
-        ∙ judged-next m p ((length before - (from + reportBytes)) / reportBytes) (drop at claims) (omega (arith, length-drop at claims))
+        (ap (λ (n : ℕ). claimsJudged n Passed m (drop at claims)) room-less
+        ∙ judged-next m ((length before - (from + reportBytes)) / reportBytes) (drop at claims) (omega (arith, length-drop at claims))
         ∙ rw (n .verdictIs, n .bytesAre, drop-drop (length (ownBytes m (drop at claims))) at claims))
 
-    taken-more : flatMap (takenOf m) (h .done ++ (own ∷ [])) ≡ flatMap (takenOf m) (h .done) ++ cond (endsRun (next .verdict)) [] own
+    taken-more : flatMap (takenOf Passed m) (h .done ++ (own ∷ [])) ≡ flatMap (takenOf Passed m) (h .done) ++ cond (endsRun (next .verdict)) [] own
     unfolding takenOf own
-    taken-more = flat-last (takenOf m) (h .done) own ∙ rw (n .verdictIs)
+    taken-more = flat-last (takenOf Passed m) (h .done) own ∙ rw (n .verdictIs)
 
-    none-more : endsRun (next .verdict) ≡ true → flatMap (takenOf m) (h .done ++ (own ∷ [])) ≡ flatMap (takenOf m) (h .done)
-    none-more e = taken-more ∙ rw e (append-nil (flatMap (takenOf m) (h .done)))
+    none-more : endsRun (next .verdict) ≡ true → flatMap (takenOf Passed m) (h .done ++ (own ∷ [])) ≡ flatMap (takenOf Passed m) (h .done)
+    none-more e = taken-more ∙ rw e (append-nil (flatMap (takenOf Passed m) (h .done)))
 
-    own-more : endsRun (next .verdict) ≡ false → flatMap (takenOf m) (h .done ++ (own ∷ [])) ≡ flatMap (takenOf m) (h .done) ++ own
+    own-more : endsRun (next .verdict) ≡ false → flatMap (takenOf Passed m) (h .done ++ (own ∷ [])) ≡ flatMap (takenOf Passed m) (h .done) ++ own
     own-more e = taken-more ∙ rw e
 
     counts-more : count + 1 ≡ length (h .done ++ (own ∷ []))
     counts-more = omega (arith, length-append (h .done) (own ∷ []), h .counts)
 
     -- "A claim refused with 11, 12 or 13 ends the run after its report, and its bytes aren't taken"
-    pub ends-for-claim : {r : RunAnswer} → endsRun (next .verdict) ≡ true → (r .reports ≡ count + 1) × (r .bytes ≡ at) → RunAnswers m claims before r oneMore
+    pub ends-for-claim : {r : RunAnswer} → endsRun (next .verdict) ≡ true → (r .reports ≡ count + 1) × (r .bytes ≡ at) → RunAnswers Passed m claims before r oneMore
     ends-for-claim e a =
         ran-over (h .done ++ (own ∷ []))
         (all-next ∙ rw e)
         (a .0 ∙ counts-more)
         (a .1 ∙ h .takes ∙ ap length (sym (none-more e)))
-        (written-more ∙ ap (λ (n : ℕ). flatMap (lineOf m) (h .done ++ (own ∷ [])) ++ drop n before) (sym lines-long))
+        (written-more ∙ ap (λ (n : ℕ). flatMap (lineOf Passed m) (h .done ++ (own ∷ [])) ++ drop n before) (sym lines-long))
 
     pub taken-within : at + next .bytes ≤ length claims
     taken-within = omega (arith, n .bytesAre, own-length m (drop at claims), length-drop at claims)
 
-    takes-more : endsRun (next .verdict) ≡ false → at + next .bytes ≡ length (flatMap (takenOf m) (h .done ++ (own ∷ [])))
+    takes-more : endsRun (next .verdict) ≡ false → at + next .bytes ≡ length (flatMap (takenOf Passed m) (h .done ++ (own ∷ [])))
     unfolding own
     takes-more e =
         ap₂ (λ (x y : ℕ). x + y) (h .takes) (n .bytesAre)
-        ∙ sym (length-append (flatMap (takenOf m) (h .done)) own)
+        ∙ sym (length-append (flatMap (takenOf Passed m) (h .done)) own)
         ∙ ap length (sym (own-more e))
 
     -- "Bytes after a full claim begin the next"
     pub goes-on : endsRun (next .verdict) ≡ false → SoFar m claims before (at + next .bytes) (from + reportBytes) (count + 1) oneMore
     goes-on e = record {
       done = h .done ++ (own ∷ []);
-      all = all-next ∙ rw e (sym (append-assoc (h .done) (own ∷ []) (claimsJudged ((length before - (from + reportBytes)) / reportBytes) m (drop (at + next .bytes) claims))));
+      all = all-next ∙ rw e (sym (append-assoc (h .done) (own ∷ []) (claimsJudged ((length before - (from + reportBytes)) / reportBytes) Passed m (drop (at + next .bytes) claims))));
       counts = counts-more;
       places = omega (arith, h .places);
       room = omega (arith, h .room, same-size);
@@ -258,33 +259,33 @@ module _ {m : List ℤ} {claims before : List ℕ} {at from count : ℕ} {buffer
 -- ---- a refused mesh
 
 -- the verdict on every claim is the mesh's refusal
-refused-line : (m : List ℤ) (k : ℕ) (p : Place) → meshCheck m ≡ Fails k p → lineOf m [] ≡ reportLine usualDecimals (Refused k p)
-unfolding lineOf verdictOn verdict answer
-refused-line m k p e = rw e
+refused-line : (k : ℕ) (p : Place) (m : List ℤ) → lineOf (Fails k p) m [] ≡ reportLine usualDecimals (Refused k p)
+unfolding lineOf verdictOn answer
+refused-line k p m = refl
 
 -- and no byte is taken
-pub none-taken : (m : List ℤ) → length (flatMap (takenOf m) ([] ∷ [])) ≡ 0
+pub none-taken : (o : Outcome) (m : List ℤ) → length (flatMap (takenOf o m) ([] ∷ [])) ≡ 0
 unfolding flatMap takenOf
-none-taken m = by (endsRun (verdictOn m []))
+none-taken o m = by (endsRun (verdictOn o m []))
   where
     by : (b : Bool) → length {A = ℕ} (cond b [] [] ++ []) ≡ 0
     by true = refl
     by false = refl
 
-module _ (m : List ℤ) (claims before : List ℕ) (k : ℕ) (p : Place) (e : meshCheck m ≡ Fails k p) where
+module _ (k : ℕ) (p : Place) (m : List ℤ) (claims before : List ℕ) where
   -- "A refused mesh writes its report once, even with no claim byte, and takes no claim"
-  pub mesh-reported : {r : RunAnswer} {after : List ℕ} {w : Reported} → reportBytes ≤ length before → Reports (pos usualDecimals) (Refused k p) before after w → length after ≡ length before → (r .reports ≡ 1) × (r .bytes ≡ 0) → RunAnswers m claims before r after
+  pub mesh-reported : {r : RunAnswer} {after : List ℕ} {w : Reported} → reportBytes ≤ length before → Reports (pos usualDecimals) (Refused k p) before after w → length after ≡ length before → (r .reports ≡ 1) × (r .bytes ≡ 0) → RunAnswers (Fails k p) m claims before r after
   unfolding flatMap
   mesh-reported {after = after} room w same a =
       let is = written-there (Refused k p) before room w in
       let long : length (reportLine usualDecimals (Refused k p)) ≡ reportBytes = omega (arith, ap length is, same, length-append (reportLine usualDecimals (Refused k p)) (drop reportBytes before), length-drop reportBytes before) in
-      let line : flatMap (lineOf m) ([] ∷ []) ≡ reportLine usualDecimals (Refused k p) = append-nil (lineOf m []) ∙ refused-line m k p e in
+      let line : flatMap (lineOf (Fails k p) m) ([] ∷ []) ≡ reportLine usualDecimals (Refused k p) = append-nil (lineOf (Fails k p) m []) ∙ refused-line k p m in
       ran-over ([] ∷ [])
-      (ap (λ (n : ℕ). claimsJudged n m claims) (one-room (length before) room) ∙ judged-refused m claims ((length before - reportBytes) / reportBytes) k p e)
+      (ap (λ (n : ℕ). claimsJudged n (Fails k p) m claims) (one-room (length before) room) ∙ judged-refused (Fails k p) k p refl ((length before - reportBytes) / reportBytes) m claims)
       (a .0)
-      (a .1 ∙ sym (none-taken m))
+      (a .1 ∙ sym (none-taken (Fails k p) m))
       (is ∙ sym (ap (λ (l : List ℕ). l ++ drop (length l) before) line ∙ ap (λ (n : ℕ). reportLine usualDecimals (Refused k p) ++ drop n before) long))
 
-  pub no-report : {r : RunAnswer} → length before < reportBytes → (r .reports ≡ 0) × (r .bytes ≡ 0) → RunAnswers m claims before r before
+  pub no-report : {r : RunAnswer} → length before < reportBytes → (r .reports ≡ 0) × (r .bytes ≡ 0) → RunAnswers (Fails k p) m claims before r before
   unfolding claimsJudged flatMap
-  no-report short a = ran-over [] (ap (λ (n : ℕ). claimsJudged n m claims) (no-room (length before) short)) (a .0) (a .1) refl
+  no-report short a = ran-over [] (ap (λ (n : ℕ). claimsJudged n (Fails k p) m claims) (no-room (length before) short)) (a .0) (a .1) refl

@@ -9,11 +9,11 @@ use Prim.Native.Nat.{ℕ, suc, _+_, _≤_, _<_}
 use lib.IntN.{ℤ}
 use lib.ListN.{length, take, getD}
 use Rattle.scope.specs.declared.Place.{Place}
-use Rattle.scope.specs.declared.Outcome.the-variants.{Refused as Fails}
+use Rattle.scope.specs.declared.Outcome.{Outcome}
+use Rattle.scope.specs.declared.Outcome.the-variants.{Passed, Refused as Fails}
 use Rattle.scope.specs.declared.Verdict.{Verdict}
 use Rattle.scope.specs.Answer.{numberOf}
 use Rattle.scope.specs.Claim.{claimHeaderColumns, claimLayout}
-use Rattle.scope.specs.Verdict.{meshCheck}
 use Rattle.reader.specs.File.{fileWidth, readLine, headerPasses}
 use Rattle.judge.specs.Judge.{claimNumbers}
 use Rattle.judge.specs.ClaimBytes.{claimBytes}
@@ -43,26 +43,26 @@ pub record InTurn (m : List ℤ) (room : ℕ) (claims : List ℕ) (judged : List
   pub room-there : length judged ≤ room
   pub byte-there : (i : ℕ) → i < length judged → startOf judged i < length claims
   -- "A claim refused with 11, 12 or 13 ends the run after its report": none but the last is
-  pub goes-on : (i : ℕ) → suc i < length judged → ¬ RefusedByLines (verdictOn m (claimAt judged i))
+  pub goes-on : (i : ℕ) → suc i < length judged → ¬ RefusedByLines (verdictOn Passed m (claimAt judged i))
   -- and it ends for no other reason than those: "when the buffer lacks 113 bytes for the next report", "With no claim
   -- byte left", or the last is refused so
   pub ended : (length judged ≡ room)
       ⊎ ((length (flatten judged) ≡ length claims)
-      ⊎ ((j : ℕ) × (length judged ≡ suc j) × RefusedByLines (verdictOn m (claimAt judged j))))
+      ⊎ ((j : ℕ) × (length judged ≡ suc j) × RefusedByLines (verdictOn Passed m (claimAt judged j))))
   -- all claims are taken but one refused so: "its bytes aren't taken"
-  pub taken : ((i : ℕ) → i < length judged → ¬ RefusedByLines (verdictOn m (claimAt judged i)))
+  pub taken : ((i : ℕ) → i < length judged → ¬ RefusedByLines (verdictOn Passed m (claimAt judged i)))
       → bytes ≡ length (flatten judged)
-  pub not-taken : (j : ℕ) → length judged ≡ suc j → RefusedByLines (verdictOn m (claimAt judged j))
+  pub not-taken : (j : ℕ) → length judged ≡ suc j → RefusedByLines (verdictOn Passed m (claimAt judged j))
       → bytes ≡ startOf judged j
 
 -- where the header of what is left is no line, or is refused, its claim has no length: whichever bytes are called its
 -- own, the verdict is that on all that is left
 abbrev pub HeaderAlone : Type 0
-HeaderAlone = (m : List ℤ) (left : List ℕ)
+HeaderAlone = (o : Outcome) (m : List ℤ) (left : List ℕ)
     → ((h : List ℤ) → readLine fileWidth claimHeaderColumns left ≡ some h → headerPasses (claimLayout m) h ≡ false)
-    → verdictOn m (ownBytes m left) ≡ verdictOn m left
+    → verdictOn o m (ownBytes m left) ≡ verdictOn o m left
 
 -- "A refused mesh writes its report once, even with no claim byte, and takes no claim"
 abbrev pub RefusedOnce : Type 0
-RefusedOnce = (m : List ℤ) (k : ℕ) (place : Place) → meshCheck m ≡ Fails k place → (room : ℕ) (claims : List ℕ)
-    → claimsJudged (suc room) m claims ≡ [] ∷ []
+RefusedOnce = (o : Outcome) (k : ℕ) (place : Place) → o ≡ Fails k place → (room : ℕ) (m : List ℤ) (claims : List ℕ)
+    → claimsJudged (suc room) o m claims ≡ [] ∷ []

@@ -4,6 +4,7 @@ use mathlib.Core.List.{List}
 use Prim.Native.Nat.{ℕ}
 use lib.IntN.{ℤ}
 use lib.ListN.{length}
+use Rattle.scope.specs.declared.Outcome.the-variants.{Passed}
 use Rattle.mesh.specs.declared.sizes.Sizes.{Sizes}
 use Rattle.mesh.specs.MeshContracts.{Counted}
 use Rattle.run.specs.declared.NextClaim.{NextClaim}
@@ -14,7 +15,7 @@ pub record SomeMesh (s : Sizes) : Type 0 where
   pub mesh : List ℤ
   pub counted : Counted mesh s
 
--- r has the verdict on the next claim and how many bytes are its own
+-- r has the verdict on the next claim on a mesh that passes, and how many bytes are its own
 pub record NextOf (m : List ℤ) (left : List ℕ) (r : NextClaim) : Type 0 where
-  pub verdictIs : r .verdict ≡ verdictOn m (ownBytes m left)
+  pub verdictIs : r .verdict ≡ verdictOn Passed m (ownBytes m left)
   pub bytesAre : r .bytes ≡ length (ownBytes m left)

@@ -1,5 +1,5 @@
-// A solver's run handed over whole: claims for one mesh, written one after another, into their reports in turn. The
-// mesh is read and judged once, and no room grows with the number of claims.
+// A solver's run handed over whole: claims for one mesh and its table, written one after another, into their reports in
+// turn. The mesh is read and judged once, and no room grows with the number of claims.
 
 use judge::MIDDLE_MESH;
 use judge::SMALL_ROOM;
@@ -25,12 +25,11 @@ ghost use Prim.Native.Nat.{ℕ, min, _≤_};
 ghost use lib.Dec.{eqb};
 ghost use lib.IntN.{ℤ};
 ghost use lib.ListN.{length};
-ghost use Rattle.scope.specs.declared.Outcome.the-variants.{Refused as Fails};
-ghost use Rattle.scope.specs.Verdict.{meshCheck};
+ghost use Rattle.scope.specs.declared.Outcome.the-variants.{Passed, Refused as Fails};
 ghost use Rattle.mesh.specs.MeshContracts.{Counted};
 ghost use Rattle.verdict.specs.JudgeContracts.{SoundMesh};
 ghost use Rattle.reader.specs.File.{fileWidth};
-ghost use Rattle.judge.specs.Judge.{meshNumbers};
+ghost use Rattle.judge.specs.Judge.{meshNumbers, meshFrom, meshOutcome};
 ghost use Rattle.run.specs.Run.{ownBytes, endsRun, RunAnswers};
 ghost use Rattle.run.specs.NextClaim.{SomeMesh, NextOf};
 
@@ -116,7 +115,7 @@ fn next_claim(m: &[i64], s: Sizes, pairs: &[u8], left: &[u8]) -> NextClaim
 // The claims on a judged mesh, one after another.
 fn run_claims(m: &[i64], s: Sizes, pairs: &[u8], claims: &[u8], reports: &mut [u8]) -> RunAnswer
     requires { ⌜ SoundMesh (now m) s (now pairs) ⌝ }
-    ensures { λ r. ⌜ RunAnswers (now (m .entry)) (now (claims .entry)) (now (reports .entry)) r
+    ensures { λ r. ⌜ RunAnswers Passed (now (m .entry)) (now (claims .entry)) (now (reports .entry)) r
         (now (reports .exit)) ⌝ }
 {
     let mut at: usize = 0;
@@ -141,8 +140,8 @@ fn run_claims(m: &[i64], s: Sizes, pairs: &[u8], claims: &[u8], reports: &mut [u
 
 // The run on a refused mesh: "A refused mesh writes its report once, even with no claim byte, and takes no claim"
 fn run_refused(number: u32, place: Place, reports: &mut [u8]) -> RunAnswer
-    ensures { λ r. ⌜ ((m : List ℤ) (claims : List ℕ) → meshCheck m ≡ Fails number place
-        → RunAnswers m claims (now (reports .entry)) r (now (reports .exit))) ⌝ }
+    ensures { λ r. ⌜ ((m : List ℤ) (claims : List ℕ)
+        → RunAnswers (Fails number place) m claims (now (reports .entry)) r (now (reports .exit))) ⌝ }
 {
     if reports.len() < LINE {
         return answer_of(0, 0);
@@ -151,13 +150,20 @@ fn run_refused(number: u32, place: Place, reports: &mut [u8]) -> RunAnswer
     answer_of(1, 0)
 }
 
-// The run on a mesh file, with room for the mesh's numbers.
-fn run_in(mesh: &[u8], claims: &[u8], reports: &mut [u8], numbers: &mut [i64]) -> RunAnswer
+// The run on a mesh file and a table file, which is none where it is empty, with room for the mesh's numbers.
+fn run_in(
+    mesh: &[u8],
+    table: &[u8],
+    claims: &[u8],
+    reports: &mut [u8],
+    numbers: &mut [i64],
+) -> RunAnswer
     requires { ⌜ length (meshNumbers fileWidth (now mesh)) ≤ length (now numbers) ⌝ }
-    ensures { λ r. ⌜ RunAnswers (meshNumbers fileWidth (now (mesh .entry))) (now (claims .entry))
+    ensures { λ r. ⌜ RunAnswers (meshOutcome fileWidth (now (mesh .entry)) (now (table .entry)))
+        (meshFrom fileWidth (now (mesh .entry)) (now (table .entry))) (now (claims .entry))
         (now (reports .entry)) r (now (reports .exit)) ⌝ }
 {
-    let judged = judge_mesh_file(mesh, numbers);
+    let judged = judge_mesh_file(mesh, table, numbers);
     let count = judged.count;
     let answer = judged.answer;
     let outcome = answer.outcome;
@@ -170,21 +176,22 @@ fn run_in(mesh: &[u8], claims: &[u8], reports: &mut [u8], numbers: &mut [i64]) -
     }
 }
 
-// The reports of the claims on a mesh file, one after another at the front of the buffer that is lent. The room for
-// the mesh's numbers is chosen by its bytes, as in `judge_files`.
-pub fn check_run(mesh: &[u8], claims: &[u8], reports: &mut [u8]) -> RunAnswer
-    ensures { λ r. ⌜ RunAnswers (meshNumbers fileWidth (now (mesh .entry))) (now (claims .entry))
+// The reports of the claims on a mesh file and a table file, one after another at the front of the buffer that is lent.
+// The room for the mesh's numbers is chosen by its bytes, as in `judge_files`.
+pub fn check_run(mesh: &[u8], table: &[u8], claims: &[u8], reports: &mut [u8]) -> RunAnswer
+    ensures { λ r. ⌜ RunAnswers (meshOutcome fileWidth (now (mesh .entry)) (now (table .entry)))
+        (meshFrom fileWidth (now (mesh .entry)) (now (table .entry))) (now (claims .entry))
         (now (reports .entry)) r (now (reports .exit)) ⌝ }
 {
     let room = most_numbers(mesh.len());
     if room <= SMALL_ROOM {
         let mut small = [0i64; SMALL_ROOM];
-        return run_in(mesh, claims, reports, &mut small);
+        return run_in(mesh, table, claims, reports, &mut small);
     }
     if room <= MIDDLE_MESH {
         let mut middle = [0i64; MIDDLE_MESH];
-        return run_in(mesh, claims, reports, &mut middle);
+        return run_in(mesh, table, claims, reports, &mut middle);
     }
     let mut large = [0i64; MESH_ROOM];
-    run_in(mesh, claims, reports, &mut large)
+    run_in(mesh, table, claims, reports, &mut large)
 }

@@ -44,7 +44,7 @@ module _ (m t : List ℤ) (s : LinesSound (tableLayout m) t) where
       by (yes h) = omega (arith, s .noneLeft, line (tableLines t - 1) (omega arith) .there)
       by (no h) = omega (arith, s .noneLeft)
 
-  counted : layers t ≡ tableLines t
+  pub counted : layers t ≡ tableLines t
   unfolding layers
   counted = omega (arith, size)
 

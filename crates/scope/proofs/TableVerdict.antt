@@ -31,7 +31,7 @@ use Rattle.scope.specs.Filled.{heightOf, soilPlace, filled}
 use Rattle.scope.specs.LayerRows.{TableSound}
 use Rattle.scope.specs.Table.{layerLines, tableLines, tableLayout, aboveMesh, tableLinePhases, hasTable, meshRead, tabledPhases, tabledCheck}
 use Rattle.scope.specs.TableVerdict.{tabledVerdict, TabledRefusal, TablePasses, TableFits}
-use Rattle.scope.proofs.Checks.{passed-is-not-refused, then-assoc}
+use Rattle.scope.proofs.Checks.{then-assoc, then-passed}
 use Rattle.scope.proofs.Phases.{Exact, exact-as, Decided, decided-part, EachIn, phases-exact, check-join, pass-join, pass-parts, decided-join, each-refusal, each-join, each-part, own-number}
 use Rattle.scope.proofs.Refusals.{lines-decided, lines-sound, sound-lines, lines-passed, mesh-checked, claim-decided}
 use Rattle.scope.proofs.Exactly.{answer-refused, returns-zero}
@@ -49,7 +49,7 @@ abbrev pub tablePhases : List ℤ → List ℤ → List Phase
 tablePhases t m = ifPart (hasTable t) (linePhases (layoutWith true) m ++ (tableLinePhases t m ++ layerPhases t m))
 
 module _ (t m : List ℤ) where
-  sound-table : AllPass (tableLinePhases t m) → LinesSound (tableLayout m) t
+  pub sound-table : AllPass (tableLinePhases t m) → LinesSound (tableLayout m) t
   sound-table a = lines-sound (tableLayout m) t (a .0, (a .1 .0, tt))
 
   table-sound : LinesSound (tableLayout m) t → AllPass (tableLinePhases t m)
@@ -118,6 +118,26 @@ module _ (t m : List ℤ) where
       without e =
           ap (λ (b : Bool). checkPhases (linePhases (layoutWith b) m ++ (ifPart b own ++ shapePhases (cond b (filled t m) m)))) e
           ∙ sym (ap (λ (b : Bool). checkPhases (ifPart b (lines ++ own)) then meshCheck (cond b (filled t m) m)) e)
+
+  -- and stage by stage
+  pub by-stages : hasTable t ≡ true → tabledCheck t m ≡ linesCheck (layoutWith true) m then (checkPhases (tableLinePhases t m) then (checkPhases (layerPhases t m) then checkPhases (shapePhases (filled t m))))
+  unfolding tabledCheck linesCheck
+  by-stages e =
+      ap checkPhases (with-table t m e)
+      ∙ check-join (linePhases (layoutWith true) m) ((tableLinePhases t m ++ layerPhases t m) ++ shapePhases (filled t m))
+      ∙ ap (λ (o : Outcome). checkPhases (linePhases (layoutWith true) m) then o)
+      (check-join (tableLinePhases t m ++ layerPhases t m) (shapePhases (filled t m))
+      ∙ ap (λ (o : Outcome). o then checkPhases (shapePhases (filled t m))) (check-join (tableLinePhases t m) (layerPhases t m))
+      ∙ then-assoc (checkPhases (tableLinePhases t m)) (checkPhases (layerPhases t m)) (checkPhases (shapePhases (filled t m))))
+
+  -- what all after the lines reads
+  pub read-filled : hasTable t ≡ true → meshRead t m ≡ filled t m
+  unfolding meshRead
+  read-filled e = ap (λ (b : Bool). cond b (filled t m) m) e
+
+  -- where all passes, so does the mesh that is read
+  pub read-passes : tabledCheck t m ≡ Passed → meshCheck (meshRead t m) ≡ Passed
+  read-passes e = then-passed (checkPhases (tablePhases t m)) (meshCheck (meshRead t m)) .0 (sym in-two ∙ e) .1
 
   -- ---- the verdict
 
@@ -296,3 +316,13 @@ module _ (t m : List ℤ) where
       cases (hasTable t)
       (λ e. ap (λ (b : Bool). cond b (filled t m) m) e ∙ given-all-own (λ e. soilAt t (heightOf m e)) m own)
       (λ e. ap (λ (b : Bool). cond b (filled t m) m) e)
+
+-- a table is there exactly where it has a number
+pub has-table : (t : List ℤ) → 0 < length t → hasTable t ≡ true
+unfolding hasTable
+has-table [] l = absurd (omega arith)
+has-table (z ∷ t) l = refl
+
+pub empty-table : {t : List ℤ} → length t ≡ 0 → t ≡ []
+empty-table {t = []} e = refl
+empty-table {t = z ∷ t} e = absurd (omega arith)

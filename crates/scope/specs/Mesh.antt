@@ -168,11 +168,15 @@ meshLines least nodeCount elementCount soilCount edgeCount jumpCount =
     ∷ jumpLines jumpCount nodeCount
     ∷ []
 
+-- 2 "mesh number outside its limits", with or without a table
+abbrev pub meshLimit : ℕ
+meshLimit = 2
+
 -- the lines of a mesh: refusals 1 to 4
 unfoldable pub meshLayout : Layout
 meshLayout = record {
   formNumber = 1;
-  limitNumber = 2;
+  limitNumber = meshLimit;
   header = meshHeader;
   body = λ m. meshLines 1 (nodes m) (elements m) (soils m) (edges m) (jumps m);
 }
@@ -181,7 +185,7 @@ meshLayout = record {
 unfoldable pub layoutWith : Bool → Layout
 layoutWith tabled = record {
   formNumber = 1;
-  limitNumber = 2;
+  limitNumber = meshLimit;
   header = meshHeader;
   body = λ m. meshLines (cond tabled 0 1) (nodes m) (elements m) (soils m) (edges m) (jumps m);
 }

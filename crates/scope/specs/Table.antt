@@ -2,11 +2,10 @@
 -- table".
 -- A table is the list of its numbers. Its lines are counted from 0 here; a place counts them from 1,001.
 use mathlib.Core.Path.{_≡_}
-use mathlib.Core.Bool.{Bool, cond, not}
+use mathlib.Core.Bool.{Bool, true, false, cond}
 use mathlib.Core.List.{List, [], _∷_, _++_, map}
 use Prim.Native.Nat.{ℕ, _+_, _*_, _/_, _≤_, _<_, min}
 use lib.IntN.{ℤ, pos, negℤ}
-use lib.Dec.{eqb}
 use lib.ListN.{length}
 use Rattle.scope.specs.declared.Place.{Place}
 use Rattle.scope.specs.declared.Place.the-variants.{Line}
@@ -66,7 +65,8 @@ pub record TableFacts (m t : List ℤ) : Type 0 where
 -- ---- a mesh with a table
 
 unfoldable pub hasTable : List ℤ → Bool
-hasTable t = not (eqb (length t) 0)
+hasTable [] = false
+hasTable (z ∷ rest) = true
 
 -- the mesh's numbers as all after the lines reads them
 unfoldable pub meshRead : List ℤ → List ℤ → List ℤ

@@ -2,3 +2,4 @@
 pub mod FieldLaws
 pub mod PartLaws
 pub mod VerdictLaws
+pub mod TableLaws

@@ -29,7 +29,7 @@ use Rattle.mesh.specs.MeshContracts.{Sized, paired, Counted}
 use Rattle.mesh.proofs.Places.{as-sizes}
 use Rattle.shape.specs.declared.pairs.Paired.{Paired}
 use Rattle.shape.specs.ShapeContracts.{PairBytes, pairsIf, PairedAs}
-use Rattle.verdict.specs.JudgeContracts.{noSizes, sizesIf, MeshAnswered, SoundMesh}
+use Rattle.verdict.specs.JudgeContracts.{noSizes, sizesIf, MeshAnswered, SoundMesh, AnsweredAs}
 use Rattle.criterion.specs.StrengthContracts.{Judged}
 use Rattle.lines.proofs.Loops.{then-goes-on}
 use Rattle.shape.proofs.PairTables.{none-put}
@@ -44,8 +44,8 @@ mesh-known {m} e = let sound = mesh-passed m .says e in record { facts = mesh-fa
 
 -- ---- what judging a mesh answers
 
-module _ {m : List ℤ} {r : MeshAnswer} where
-  pub refused-mesh : {k : ℕ} {p : Place} → meshCheck m ≡ Fails k p → (r .outcome ≡ Fails k p) × (r .sizes ≡ noSizes) × (r .pairs ≡ replicate (2 * mostPairs) 0) → MeshAnswered m r
+module _ {o : Outcome} {m : List ℤ} {r : MeshAnswer} where
+  pub refused-mesh : {k : ℕ} {p : Place} → o ≡ Fails k p → (r .outcome ≡ Fails k p) × (r .sizes ≡ noSizes) × (r .pairs ≡ replicate (2 * mostPairs) 0) → AnsweredAs o m r
   unfolding sizesIf pairsIf
   refused-mesh e a = record {
     outcome = a .0 ∙ sym e;
@@ -54,14 +54,15 @@ module _ {m : List ℤ} {r : MeshAnswer} where
   }
 
   -- what is lent to a claim
-  pub sound-mesh : MeshAnswered m r → r .outcome ≡ Passed → SoundMesh m (r .sizes) (r .pairs)
+  pub sound-mesh : (o ≡ Passed → meshCheck m ≡ Passed) → AnsweredAs o m r → r .outcome ≡ Passed → SoundMesh m (r .sizes) (r .pairs)
   unfolding sizesIf pairsIf pairCount pairAt
-  sound-mesh a e =
-      let passes : meshCheck m ≡ Passed = sym (a .outcome) ∙ e in
+  sound-mesh so a e =
+      let outcome : o ≡ Passed = sym (a .outcome) ∙ e in
+      let passes : meshCheck m ≡ Passed = so outcome in
       let known = mesh-known passes in
       let few : pairCount m ≤ mostPairs = few-most (sides m) (few-pairs m (known .sound)) in
-      let are : r .sizes ≡ sizesIf Passed m = a .sizes ∙ ap (λ (o : Outcome). sizesIf o m) passes in
-      let bytes : PairBytes (strengthPairs m) (r .pairs) = subst (λ (o : Outcome). PairBytes (pairsIf o m) (r .pairs)) passes (a .pairs) in
+      let are : r .sizes ≡ sizesIf Passed m = a .sizes ∙ ap (λ (o : Outcome). sizesIf o m) outcome in
+      let bytes : PairBytes (strengthPairs m) (r .pairs) = subst (λ (o : Outcome). PairBytes (pairsIf o m) (r .pairs)) outcome (a .pairs) in
       record {
         passes = passes;
         sized = subst (Sized m) (sym are) (record { facts = known .facts; nodesAre = refl; elementsAre = refl; soilsAre = refl; edgesAre = refl; sidesAre = refl; jumpsAre = refl; pairsFew = few });

@@ -1,4 +1,4 @@
-//! The desk program once more, by the independent implementation: independent MESH CLAIM.
+//! The desk program once more, by the independent implementation: independent MESH CLAIM [TABLE].
 
 use std::io::{Read, Write};
 
@@ -15,7 +15,8 @@ fn main() -> std::io::Result<()> {
     let mut arguments = std::env::args().skip(1);
     let mesh = file_start(arguments.next());
     let claim = file_start(arguments.next());
+    let table = file_start(arguments.next());
     let mut line = [0; independent::report::LINE];
-    independent::check(&mesh, &claim, 6, &mut line);
+    independent::check(&mesh, &table, &claim, 6, &mut line);
     std::io::stdout().write_all(&line)
 }

@@ -1,11 +1,12 @@
 //! Prints what the independent implementation answers to the sheets of document 01's section
 //! "A whole sheet, and its neighbours"; the answers that it gives are in worked.expected.
 
-use independent::sheet::{file, printed, Files, Sheet};
+use independent::sheet::{file, printed, Files, Lines, Sheet};
 
 fn show(name: &str, files: &Files, decimals: i64, room: usize) {
     let mut buffer = vec![b'#'; room];
-    let answer = independent::check(&files.mesh, &files.claim, decimals, &mut buffer);
+    let Files { mesh, table, claim } = files;
+    let answer = independent::check(mesh, table, claim, decimals, &mut buffer);
     let text = String::from_utf8_lossy(&buffer).replace('\n', "|");
     let line = text.split_whitespace().collect::<Vec<_>>().join(" ");
     println!("{name}: {}, {}: {line}", answer.number, answer.place);
@@ -29,7 +30,7 @@ fn show_decimals(name: &str, sheet: &Sheet) {
 
 /// Room worked out beforehand (document 02, N7).
 fn show_sizes(name: &str, files: &Files) {
-    let s = independent::mesh_sizes(&files.mesh);
+    let s = independent::mesh_sizes(&files.mesh, &files.table);
     let rows = [s.balance_rows, s.side_rows, s.jump_rows, s.strength_rows];
     let bytes = [s.field_bytes, s.multipliers_bytes, s.both_bytes];
     println!(
@@ -66,6 +67,7 @@ fn one_in_three_million() -> Sheet {
             "4 1 1 2 12 0 / 0 1 1 10000 0 0 0 0 / 0 0 / 169 0 / 288 120 / 0 120 / 1 2 3 4 1 / \
              1 2 3 -1 1 6000 6600 / 2 3 3 0 0 -6000 6500",
         ),
+        table: Lines::new(),
         claim: printed(&format!(
             "0 1 0 0 / 0 0 / 0 0 -119 -120 / 119 -120 0 0{zeros}"
         )),
@@ -83,6 +85,7 @@ fn hundred_nodes(nodes: i64) -> Files {
     );
     Files {
         mesh: file(&mesh),
+        table: Vec::new(),
         claim: Vec::new(),
     }
 }

@@ -13,6 +13,7 @@ pub mod run;
 pub mod shape;
 pub mod sheet;
 pub mod sizes;
+pub mod table;
 
 use claim::Claim;
 use lines::Lines;
@@ -51,8 +52,8 @@ pub struct Accepted {
 
 pub type Verdict = Result<Accepted, Refusal>;
 
-fn judge(mut mesh: impl Lines, mut claim: impl Lines) -> Verdict {
-    let mesh = Mesh::read(&mut mesh)?;
+fn judge(mesh: impl Lines, table: impl Lines, mut claim: impl Lines) -> Verdict {
+    let mesh = Mesh::read(mesh, table)?;
     let claim = Claim::read(&mut claim, &mesh)?;
     judge_claim(&mesh, &claim)
 }
@@ -81,9 +82,9 @@ fn judge_claim(mesh: &Mesh, claim: &Claim) -> Verdict {
     })
 }
 
-/// The verdict on two files.
-pub fn judge_files(mesh: &[u8], claim: &[u8]) -> Verdict {
-    judge(mesh, claim)
+/// The verdict on files.
+pub fn judge_files(mesh: &[u8], table: &[u8], claim: &[u8]) -> Verdict {
+    judge(mesh, table, claim)
 }
 
 /// What a call returns: 0 and place 0, or a refusal.
@@ -103,14 +104,14 @@ impl Answer {
 
 /// The whole check: the line, its loads with so many decimals, goes into the first 113 bytes. A
 /// shorter buffer stays untouched, and so does any where there are no such decimals.
-pub fn check(mesh: &[u8], claim: &[u8], decimals: i64, report: &mut [u8]) -> Answer {
+pub fn check(mesh: &[u8], table: &[u8], claim: &[u8], decimals: i64, report: &mut [u8]) -> Answer {
     let Some(decimals) = report::decimals(decimals) else {
         return Answer::alone(43);
     };
     let Some(line) = report.first_chunk_mut::<{ report::LINE }>() else {
         return Answer::alone(41);
     };
-    let verdict = judge_files(mesh, claim);
+    let verdict = judge_files(mesh, table, claim);
     report::write(&verdict, decimals, line);
     match verdict {
         Ok(_) => Answer::alone(0),
@@ -133,9 +134,9 @@ pub struct Numbers {
     pub open_rows: u64,
 }
 
-/// The check of the numbers of a mesh and of a claim.
-pub fn check_numbers(mesh: &[i64], claim: &[i64]) -> Numbers {
-    match judge(mesh, claim) {
+/// The check of the numbers of a mesh, of a table and of a claim.
+pub fn check_numbers(mesh: &[i64], table: &[i64], claim: &[i64]) -> Numbers {
+    match judge(mesh, table, claim) {
         Err(Refusal { number, place }) => Numbers {
             number,
             place,

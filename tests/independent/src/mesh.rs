@@ -1,7 +1,8 @@
-//! The mesh: its lines and their refusals 1 to 4; `shape` has the refusals after them.
+//! The mesh: its lines and their refusals 1 to 4; `table` and `shape` have the refusals after them.
 
 use crate::lines::Lines;
 use crate::polygon::Polygon;
+use crate::table::{self, Heights};
 use crate::{refuse, shape, Refusal};
 
 pub struct Soil {
@@ -11,6 +12,24 @@ pub struct Soil {
     pub cohesion: i64,
     pub dead: [i64; 2],
     pub live: [i64; 2],
+}
+
+/// An element as its line has it; a soil 0 is left to the table (document 02, N8).
+struct ElementLine {
+    corners: [usize; 4],
+    soil: Option<usize>,
+}
+
+impl ElementLine {
+    /// The height is the sum of the four corner y's over four, so the sum in quarters.
+    fn filled(&self, nodes: &[[i64; 2]], heights: Option<&Heights>) -> Element {
+        let height = self.corners.iter().map(|&corner| nodes[corner][1]).sum();
+        let from_table = || heights.expect("4 without a table").soil(height);
+        Element {
+            corners: self.corners,
+            soil: self.soil.unwrap_or_else(from_table),
+        }
+    }
 }
 
 /// Corners and soil count from 0 here.
@@ -77,7 +96,7 @@ pub struct Mesh {
     pub pairs: Vec<Pair>,
 }
 
-fn within(number: i64, low: i64, high: i64) -> bool {
+pub fn within(number: i64, low: i64, high: i64) -> bool {
     low <= number && number <= high
 }
 
@@ -86,7 +105,7 @@ fn all_within(numbers: &[i64], bound: i64) -> bool {
 }
 
 /// The index of a thing that is numbered from 1.
-fn named(number: i64, count: usize) -> Option<usize> {
+pub fn named(number: i64, count: usize) -> Option<usize> {
     if within(number, 1, count as i64) {
         Some(number as usize - 1)
     } else {
@@ -95,26 +114,38 @@ fn named(number: i64, count: usize) -> Option<usize> {
 }
 
 impl Mesh {
-    pub fn read(lines: &mut impl Lines) -> Result<Mesh, Refusal> {
-        let mut reader = Reader { lines, place: 0 };
+    pub fn read(mut lines: impl Lines, mut table: impl Lines) -> Result<Mesh, Refusal> {
+        let mut reader = Reader {
+            lines: &mut lines,
+            place: 0,
+        };
         let header = reader.line::<6>()?;
         let Some(polygon) = header_polygon(&header) else {
             return reader.refuse(2);
         };
         let [nodes, elements, soils, edges, _, jumps] = header.map(|count| count as usize);
-        let mut mesh = Mesh {
-            polygon,
-            soils: reader.group(soils, Reader::soil)?,
-            nodes: reader.group(nodes, Reader::node)?,
-            elements: reader.group(elements, |r| r.element(nodes, soils))?,
-            edges: reader.group(edges, |r| r.edge(nodes))?,
-            jumps: reader.group(jumps, |r| r.jump(nodes))?,
-            pairs: Vec::new(),
-        };
+        let has_table = !table.at_end();
+        let soils = reader.group(soils, Reader::soil)?;
+        let nodes = reader.group(nodes, Reader::node)?;
+        let elements =
+            reader.group(elements, |r| r.element(nodes.len(), soils.len(), has_table))?;
+        let edges = reader.group(edges, |r| r.edge(nodes.len()))?;
+        let jumps = reader.group(jumps, |r| r.jump(nodes.len()))?;
         if !reader.lines.at_end() {
             reader.place += 1;
             return reader.refuse(1);
         }
+        let heights = table::read(&mut table, soils.len(), &nodes)?;
+        let filled = |line: &ElementLine| line.filled(&nodes, heights.as_ref());
+        let mut mesh = Mesh {
+            polygon,
+            soils,
+            elements: elements.iter().map(filled).collect(),
+            nodes,
+            edges,
+            jumps,
+            pairs: Vec::new(),
+        };
         mesh.pairs = shape::check(&mesh)?;
         Ok(mesh)
     }
@@ -161,17 +192,17 @@ fn header_polygon(header: &[i64; 6]) -> Option<Polygon> {
 }
 
 /// Reads lines and knows which one it has read.
-struct Reader<'a, L: Lines> {
-    lines: &'a mut L,
-    place: usize,
+pub struct Reader<'a, L: Lines> {
+    pub lines: &'a mut L,
+    pub place: usize,
 }
 
 impl<L: Lines> Reader<'_, L> {
-    fn refuse<T>(&self, number: u32) -> Result<T, Refusal> {
+    pub fn refuse<T>(&self, number: u32) -> Result<T, Refusal> {
         refuse(number, self.place)
     }
 
-    fn line<const K: usize>(&mut self) -> Result<[i64; K], Refusal> {
+    pub fn line<const K: usize>(&mut self) -> Result<[i64; K], Refusal> {
         self.place += 1;
         let mut numbers = [0; K];
         if self.lines.next(&mut numbers) {
@@ -221,18 +252,26 @@ impl<L: Lines> Reader<'_, L> {
         }
     }
 
-    fn element(&mut self, nodes: usize, soils: usize) -> Result<Element, Refusal> {
+    fn element(
+        &mut self,
+        nodes: usize,
+        soils: usize,
+        has_table: bool,
+    ) -> Result<ElementLine, Refusal> {
         let [a, b, c, d, soil] = self.line()?;
-        match (
-            [a, b, c, d].map(|corner| named(corner, nodes)),
-            named(soil, soils),
-        ) {
-            ([Some(a), Some(b), Some(c), Some(d)], Some(soil)) => Ok(Element {
-                corners: [a, b, c, d],
-                soil,
-            }),
-            _ => self.refuse(4),
+        let corners = [a, b, c, d].map(|corner| named(corner, nodes));
+        let [Some(a), Some(b), Some(c), Some(d)] = corners else {
+            return self.refuse(4);
+        };
+        let left_to_table = has_table && soil == 0;
+        let soil = named(soil, soils);
+        if soil.is_none() && !left_to_table {
+            return self.refuse(4);
         }
+        Ok(ElementLine {
+            corners: [a, b, c, d],
+            soil,
+        })
     }
 
     fn edge(&mut self, nodes: usize) -> Result<Edge, Refusal> {

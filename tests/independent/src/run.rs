@@ -14,13 +14,13 @@ pub struct Run {
 }
 
 /// The reports of the claims in turn, as long as there is room for one more.
-pub fn check_run(mesh: &[u8], claims: &[u8], reports: &mut [u8]) -> Run {
+pub fn check_run(mesh: &[u8], table: &[u8], claims: &[u8], reports: &mut [u8]) -> Run {
     let mut run = Run::default();
     let mut rooms = reports.as_chunks_mut::<{ report::LINE }>().0.iter_mut();
     let Some(first) = rooms.next() else {
         return run;
     };
-    let mesh = match Mesh::read(&mut { mesh }) {
+    let mesh = match Mesh::read(mesh, table) {
         Ok(mesh) => mesh,
         Err(refusal) => {
             report::write(&Err(refusal), report::SIX, first);

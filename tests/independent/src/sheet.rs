@@ -8,6 +8,8 @@ pub type Lines = Vec<Vec<i64>>;
 #[derive(Clone)]
 pub struct Sheet {
     pub mesh: Lines,
+    /// The borehole table; without lines there is none.
+    pub table: Lines,
     pub claim: Lines,
 }
 
@@ -15,6 +17,7 @@ pub struct Sheet {
 #[derive(Clone)]
 pub struct Files {
     pub mesh: Vec<u8>,
+    pub table: Vec<u8>,
     pub claim: Vec<u8>,
 }
 
@@ -22,6 +25,7 @@ pub struct Files {
 #[derive(Clone)]
 pub struct Lists {
     pub mesh: Vec<i64>,
+    pub table: Vec<i64>,
     pub claim: Vec<i64>,
 }
 
@@ -55,6 +59,9 @@ pub fn read(bytes: &[u8]) -> Lines {
             .map(|c| column(c).expect("a number"))
             .collect()
     };
+    if bytes.is_empty() {
+        return Lines::new();
+    }
     let body = bytes.strip_suffix(b"\n").expect("a last line");
     body.split(|&byte| byte == b'\n').map(line).collect()
 }
@@ -71,6 +78,7 @@ impl Sheet {
                 "4 1 1 3 12 0 / 0 1 1 10 0 0 0 0 / 0 0 / 1 0 / 1 1 / 0 1 / 1 2 3 4 1 / \
                  3 4 3 0 0 -1 0 / 2 3 3 0 0 0 0 / 4 1 3 0 0 0 0",
             ),
+            table: Lines::new(),
             claim: printed(&format!(
                 "{field} / {equalities} / {zeros} / {zeros} / {third} / {zeros}"
             )),
@@ -80,6 +88,7 @@ impl Sheet {
     pub fn files(&self) -> Files {
         Files {
             mesh: file(&self.mesh),
+            table: file(&self.table),
             claim: file(&self.claim),
         }
     }
@@ -87,6 +96,7 @@ impl Sheet {
     pub fn lists(&self) -> Lists {
         Lists {
             mesh: self.mesh.concat(),
+            table: self.table.concat(),
             claim: self.claim.concat(),
         }
     }

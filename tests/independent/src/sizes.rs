@@ -24,8 +24,8 @@ fn bytes(lines: usize, columns: usize) -> u64 {
     (lines * (WIDTH * columns + 1)) as u64
 }
 
-pub fn mesh_sizes(mesh: &[u8]) -> Sizes {
-    match Mesh::read(&mut { mesh }) {
+pub fn mesh_sizes(mesh: &[u8], table: &[u8]) -> Sizes {
+    match Mesh::read(mesh, table) {
         Ok(mesh) => sizes(&mesh),
         Err(refusal) => Sizes {
             number: refusal.number,

@@ -1,6 +1,6 @@
 //! Numbers handed over: name, number, place, kind of place, l, n, W, m, open rows.
 
-use crate::{number, table, Tally, MAKES};
+use crate::{answers, number, Tally, MAKES};
 use independent::Numbers;
 
 /// The numbers of one line.
@@ -31,13 +31,13 @@ fn agrees(answer: &Numbers, claim: &[i64], case: &[String]) -> bool {
 }
 
 pub fn all(tally: &mut Tally, folder: &str) {
-    for case in table(&format!("{folder}/expected")) {
+    for case in answers(&format!("{folder}/expected")) {
         let name = format!("{folder}/{}.txt", case[0]);
         let text = std::fs::read_to_string(name).expect("the numbers of a case");
         let mut lines = text.lines();
-        let (mesh, claim) = (list(lines.next()), list(lines.next()));
+        let [mesh, claim, table] = [0; 3].map(|_| list(lines.next()));
         for make in &MAKES {
-            let answer = (make.check_numbers)(&mesh, &claim);
+            let answer = (make.check_numbers)(&mesh, &table, &claim);
             let good = agrees(&answer, &claim, &case);
             tally.hold(good, || {
                 format!("{} numbers {case:?}: {answer:?}", make.name)

@@ -17,10 +17,10 @@ const FILL: u8 = b'#';
 /// One of the two programs that are held to the cases.
 struct Make {
     name: &'static str,
-    check: fn(&[u8], &[u8], i64, &mut [u8]) -> Answer,
-    check_numbers: fn(&[i64], &[i64]) -> independent::Numbers,
-    check_run: fn(&[u8], &[u8], &mut [u8]) -> independent::Run,
-    mesh_sizes: fn(&[u8]) -> independent::Sizes,
+    check: fn(&[u8], &[u8], &[u8], i64, &mut [u8]) -> Answer,
+    check_numbers: fn(&[i64], &[i64], &[i64]) -> independent::Numbers,
+    check_run: fn(&[u8], &[u8], &[u8], &mut [u8]) -> independent::Run,
+    mesh_sizes: fn(&[u8], &[u8]) -> independent::Sizes,
 }
 
 const MAKES: [Make; 2] = [
@@ -58,7 +58,7 @@ impl Tally {
 }
 
 /// The lines of a table of expected answers, cut at tabs.
-fn table(name: &str) -> Vec<Vec<String>> {
+fn answers(name: &str) -> Vec<Vec<String>> {
     let text = fs::read_to_string(name).unwrap_or_else(|error| panic!("{name}: {error}"));
     let columns = |line: &str| line.split('\t').map(String::from).collect();
     text.lines().map(columns).collect()
@@ -86,17 +86,17 @@ fn buffer(report: &str, room: usize) -> Vec<u8> {
 
 /// Files: name, number, place, report, kind of place, bytes of the buffer, decimals, how made.
 fn files(tally: &mut Tally, folder: &str) {
-    for case in table(&format!("{folder}/expected")) {
+    for case in answers(&format!("{folder}/expected")) {
         let part = |ending: &str| file(&format!("{folder}/{}.{ending}", case[0]));
         let expected = Answer {
             number: number(&case[1]),
             place: number(&case[2]),
         };
-        let (mesh, claim) = (part("mesh"), part("claim"));
+        let (mesh, table, claim) = (part("mesh"), part("table"), part("claim"));
         let (room, decimals) = (number(&case[5]), number(&case[6]));
         for make in &MAKES {
             let mut report = vec![FILL; room];
-            let answer = (make.check)(&mesh, &claim, decimals, &mut report);
+            let answer = (make.check)(&mesh, &table, &claim, decimals, &mut report);
             let good = answer == expected && report == buffer(&case[3], room);
             let text = String::from_utf8_lossy(&report);
             tally.hold(good, || {

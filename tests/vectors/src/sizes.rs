@@ -1,6 +1,6 @@
 //! Sizes of meshes: name, number, place, kind of place, then the eight sizes, or `-`.
 
-use crate::{file, number, table, Tally, MAKES};
+use crate::{answers, file, number, Tally, MAKES};
 use independent::Sizes;
 
 fn expected(case: &[String]) -> Sizes {
@@ -27,10 +27,11 @@ fn expected(case: &[String]) -> Sizes {
 }
 
 pub fn all(tally: &mut Tally, folder: &str) {
-    for case in table(&format!("{folder}/sizes")) {
-        let mesh = file(&format!("{folder}/{}.mesh", case[0]));
+    for case in answers(&format!("{folder}/sizes")) {
+        let part = |ending: &str| file(&format!("{folder}/{}.{ending}", case[0]));
+        let (mesh, table) = (part("mesh"), part("table"));
         for make in &MAKES {
-            let sizes = (make.mesh_sizes)(&mesh);
+            let sizes = (make.mesh_sizes)(&mesh, &table);
             let good = sizes == expected(&case);
             tally.hold(good, || format!("{} sizes {case:?}: {sizes:?}", make.name));
         }

@@ -15,7 +15,7 @@ slice-aggregate-judge-files-in c = search needs
 judge-files-in-requires : tie.Need-judge-files-in-requires
 judge-files-in-requires c κs =
     let r = c .before .before in
-    omega (arith, mesh-by-length (now (r .before .before .before .args .mesh)), r .most-numbers .ensures, c .before .if1 .taken)
+    omega (arith, mesh-by-length (now (r .before .before .before .before .args .mesh)), r .most-numbers .ensures, c .before .if1 .taken)
 
 returns : tie.Need-returns
 returns c = c .before .judge-files-in .ensures
@@ -26,7 +26,7 @@ slice-aggregate-judge-files-in-2 c = search needs
 judge-files-in-requires-2 : tie.Need-judge-files-in-requires-2
 judge-files-in-requires-2 c κs =
     let r = c .before .before .before in
-    omega (arith, mesh-by-length (now (r .before .before .before .args .mesh)), r .most-numbers .ensures, c .before .if2 .taken)
+    omega (arith, mesh-by-length (now (r .before .before .before .before .args .mesh)), r .most-numbers .ensures, c .before .if2 .taken)
 
 returns-2 : tie.Need-returns-2
 returns-2 c = c .before .judge-files-in2 .ensures

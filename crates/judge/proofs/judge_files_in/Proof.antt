@@ -1,6 +1,6 @@
 -- `judge_files_in` meets its contract: the claim is judged only on a mesh that has passed.
 use borrow.Author.Needs.{needs}
-use Rattle.judge.proofs.FilesJudged.{fits, as-many, judged-listed, judged-sound, files-refused, files-judged}
+use Rattle.judge.proofs.FilesJudged.{judged-fits, judged-many, judged-sound, files-refused, files-judged}
 use Rattle.judge.proofs.judge_files_in.Statement.{statement}
 use Rattle.judge.proofs.judge_files_in.Tie as tie
 
@@ -14,10 +14,14 @@ enum-told : tie.Need-enum-told
 enum-told c = search needs
 
 slice-reshare-prefix-m : tie.Need-slice-reshare-prefix-m
-slice-reshare-prefix-m c = fits (judged-listed (c .before .before .before .before .judge-mesh-file .ensures))
+slice-reshare-prefix-m c =
+    let k = c .before .before .before .before in
+    judged-fits (k .judge-mesh-file .ensures) (k .before .before .before .before .before .pre)
 
 slice-aggregate-m : tie.Need-slice-aggregate-m
-slice-aggregate-m c = as-many (judged-listed (c .before .before .before .before .before .judge-mesh-file .ensures))
+slice-aggregate-m c =
+    let k = c .before .before .before .before .before in
+    judged-many (k .judge-mesh-file .ensures) (k .before .before .before .before .before .pre)
 
 judge-claim-file-requires : tie.Need-judge-claim-file-requires
 judge-claim-file-requires c κs =

@@ -1,4 +1,4 @@
--- `pechuvo_check` meets its contract: the verdict on the two files is what is reported and answered.
+-- `pechuvo_check` meets its contract: the verdict on the three files is what is reported and answered.
 use borrow.Author.Needs.{needs}
 use Rattle.pechuvo.proofs.Answers.{answers}
 use Rattle.pechuvo.proofs.pechuvo_check.Statement.{statement}

@@ -15,7 +15,7 @@ slice-aggregate-run-in c = search needs
 run-in-requires : tie.Need-run-in-requires
 run-in-requires c κs =
     let r = c .before .before .before in
-    omega (arith, mesh-by-length (now (r .before .before .before .before .args .mesh)), r .most-numbers .ensures, c .before .before .if1 .taken)
+    omega (arith, mesh-by-length (now (r .before .before .before .before .before .args .mesh)), r .most-numbers .ensures, c .before .before .if1 .taken)
 
 same-length : tie.Need-same-length
 same-length c = search needs
@@ -29,7 +29,7 @@ slice-aggregate-run-in-2 c = search needs
 run-in-requires-2 : tie.Need-run-in-requires-2
 run-in-requires-2 c κs =
     let r = c .before .before .before .before in
-    omega (arith, mesh-by-length (now (r .before .before .before .before .args .mesh)), r .most-numbers .ensures, c .before .before .if2 .taken)
+    omega (arith, mesh-by-length (now (r .before .before .before .before .before .args .mesh)), r .most-numbers .ensures, c .before .before .if2 .taken)
 
 same-length-2 : tie.Need-same-length-2
 same-length-2 c = search needs

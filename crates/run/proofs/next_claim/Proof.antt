@@ -26,7 +26,7 @@ returns : tie.Need-returns
 returns c =
     let own = c .before .before in
     let start = own .before .before .before in
-    next-claim (now (start .args .left)) (start .pre) (own .own-bytes .ensures (now (start .args .m)) (counted (start .pre))) (c .judge-claim-file .ensures)
+    next-claim (now (start .args .left)) (own .own-bytes .ensures (now (start .args .m)) (counted (start .pre))) (c .judge-claim-file .ensures)
 
 pub next-claim-spec : {M : Type 1} → statement M
 next-claim-spec =

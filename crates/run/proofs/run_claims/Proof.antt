@@ -30,7 +30,7 @@ same-length c = same-size (c .before .before .before .loop .inv)
 returns : tie.Need-returns Inv-loop μ-loop
 returns c =
     let top = c .before .before .before in
-    ends-for-claims (top .loop .inv) (top .before .before .before .before .pre .passes) (c .before .if1 .taken) (c .answer-of .ensures)
+    ends-for-claims (top .loop .inv) (c .before .if1 .taken) (c .answer-of .ensures)
 
 sub-next-claim : tie.Need-sub-next-claim Inv-loop μ-loop
 sub-next-claim c = omega (arith, c .before .before .loop .inv .within)
@@ -87,7 +87,7 @@ returns-2 c =
     let other = next .before .before in
     let inside = other .before in
     let top = inside .before in
-    ends-for-claim (top .loop .inv) (top .before .before .before .before .pre .passes) (inside .loop-test .taken) (omega (arith, top .loop .inv .within, other .if1 .left)) _ (next .next-claim .ensures) (report .write-report .ensures) (back .reports .given .0) (sym (ends .ends-run .ensures) ∙ c .before .if2 .taken) (c .answer-of2 .ensures)
+    ends-for-claim (top .loop .inv) (inside .loop-test .taken) (omega (arith, top .loop .inv .within, other .if1 .left)) _ (next .next-claim .ensures) (report .write-report .ensures) (back .reports .given .0) (sym (ends .ends-run .ensures) ∙ c .before .if2 .taken) (c .answer-of2 .ensures)
 
 add-at : tie.Need-add-at Inv-loop μ-loop
 unfolding usualDecimals
@@ -100,7 +100,7 @@ add-at c =
     let inside = other .before in
     let top = inside .before in
     let good = top .before .before .before .before .good in
-    omega (arith, taken-within (top .loop .inv) (top .before .before .before .before .pre .passes) (inside .loop-test .taken) (omega (arith, top .loop .inv .within, other .if1 .left)) _ (next .next-claim .ensures) (report .write-report .ensures) (back .reports .given .0))
+    omega (arith, taken-within (top .loop .inv) (inside .loop-test .taken) (omega (arith, top .loop .inv .within, other .if1 .left)) _ (next .next-claim .ensures) (report .write-report .ensures) (back .reports .given .0))
 
 loop-less : tie.Need-loop-less Inv-loop μ-loop
 loop-less c =
@@ -117,7 +117,7 @@ loop-again c =
     let other = next .before .before in
     let inside = other .before in
     let top = inside .before in
-    goes-on (top .loop .inv) (top .before .before .before .before .pre .passes) (inside .loop-test .taken) (omega (arith, top .loop .inv .within, other .if1 .left)) _ (next .next-claim .ensures) (report .write-report .ensures) (back .reports .given .0) (sym (ends .ends-run .ensures) ∙ c .before .if2 .left)
+    goes-on (top .loop .inv) (inside .loop-test .taken) (omega (arith, top .loop .inv .within, other .if1 .left)) _ (next .next-claim .ensures) (report .write-report .ensures) (back .reports .given .0) (sym (ends .ends-run .ensures) ∙ c .before .if2 .left)
 
 answer-of-requires-3 : tie.Need-answer-of-requires-3 Inv-loop μ-loop
 answer-of-requires-3 c κs = search needs

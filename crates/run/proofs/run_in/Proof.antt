@@ -1,7 +1,7 @@
 -- `run_in` meets its contract: claims are judged only on a mesh that has passed, and a refused mesh has its report.
-use mathlib.Core.Path.{sym, _∙_}
+use mathlib.Core.Path.{refl, sym, _∙_}
 use borrow.Author.Needs.{needs}
-use Rattle.judge.proofs.FilesJudged.{front, fits, as-many, judged-listed, judged-sound}
+use Rattle.judge.proofs.FilesJudged.{judged-sound, judged-fits, judged-many}
 use Rattle.run.proofs.RunLaws.{same-mesh}
 use Rattle.run.proofs.run_in.Statement.{statement}
 use Rattle.run.proofs.run_in.Tie as tie
@@ -19,10 +19,14 @@ enum-told : tie.Need-enum-told
 enum-told c = search needs
 
 slice-reshare-prefix-m : tie.Need-slice-reshare-prefix-m
-slice-reshare-prefix-m c = fits (judged-listed (c .before .before .before .before .judge-mesh-file .ensures))
+slice-reshare-prefix-m c =
+    let judged = c .before .before .before .before in
+    judged-fits (judged .judge-mesh-file .ensures) (judged .before .before .before .before .before .before .pre)
 
 slice-aggregate-m : tie.Need-slice-aggregate-m
-slice-aggregate-m c = as-many (judged-listed (c .before .before .before .before .before .judge-mesh-file .ensures))
+slice-aggregate-m c =
+    let judged = c .before .before .before .before .before in
+    judged-many (judged .judge-mesh-file .ensures) (judged .before .before .before .before .before .before .pre)
 
 run-claims-requires : tie.Need-run-claims-requires
 run-claims-requires c κs =
@@ -40,7 +44,7 @@ returns c =
     let refused = c .before .before in
     let outcome = refused .before .before .before in
     let judged = outcome .before .before .before .before in
-    refused .run-refused .ensures _ _ (sym (judged .judge-mesh-file .ensures .answer .outcome) ∙ outcome .outcome .given .1)
+    same-mesh (sym (outcome .outcome .given .1) ∙ judged .judge-mesh-file .ensures .answer .outcome) refl (refused .run-refused .ensures _ _)
 
 same-length-3 : tie.Need-same-length-3
 same-length-3 c = search needs
@@ -53,7 +57,8 @@ returns-2 c =
     let claims = c .before .before in
     let told = claims .before .before .before .before .before .before .before in
     let judged = told .before .before .before .before in
-    same-mesh (front (judged-listed (judged .judge-mesh-file .ensures))) (claims .run-claims .ensures)
+    let passes = sym (told .enum-told .given .1) ∙ judged .judge-mesh-file .ensures .answer .outcome in
+    same-mesh passes (judged .judge-mesh-file .ensures .numbers (sym passes)) (claims .run-claims .ensures)
 
 pub run-in-spec : {M : Type 1} → statement M
 run-in-spec =

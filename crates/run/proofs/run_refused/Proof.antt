@@ -9,7 +9,7 @@ answer-of-requires : tie.Need-answer-of-requires
 answer-of-requires c κs = search needs
 
 returns : tie.Need-returns
-returns c = λ m claims e. no-report m claims _ _ _ e (c .before .if1 .taken) (c .answer-of .ensures)
+returns c = λ m claims. no-report _ _ m claims _ (c .before .if1 .taken) (c .answer-of .ensures)
 
 write-report-requires : tie.Need-write-report-requires
 write-report-requires c κs = search needs
@@ -25,7 +25,7 @@ unfolding usualDecimals
 returns-2 c =
     let back = c .before .before in
     let report = back .before in
-    λ m claims e. mesh-reported m claims _ _ _ e (report .before .before .if1 .left) (report .write-report .ensures) (back .reports .given) (c .answer-of2 .ensures)
+    λ m claims. mesh-reported _ _ m claims _ (report .before .before .if1 .left) (report .write-report .ensures) (back .reports .given) (c .answer-of2 .ensures)
 
 pub run-refused-spec : {M : Type 1} → statement M
 run-refused-spec =

@@ -3,10 +3,12 @@
 
 mod base;
 mod jumps;
+mod layers;
 mod pairs;
 mod triangles;
 
 use independent::sheet::Sheet;
+pub use layers::tower;
 
 /// A change to a sheet; lines and columns count from 1.
 #[derive(Clone, Copy)]
@@ -15,13 +17,15 @@ pub enum Change {
     MeshLine(usize, &'static [i64]),
     /// A line that is put before this one.
     MeshInsert(usize, &'static [i64]),
+    Table(usize, usize, i64),
+    TableLine(usize, &'static [i64]),
+    TableInsert(usize, &'static [i64]),
+    NoTable,
     Claim(usize, usize, i64),
     /// One number at every node of the field.
     FieldColumn(usize, i64),
     NoMultipliers,
 }
-
-use Change::{Claim, FieldColumn, Mesh, MeshInsert, MeshLine, NoMultipliers};
 
 /// Changes, and the number and the place that they are answered with.
 type Cause = (Vec<Change>, u32, u32);
@@ -39,6 +43,7 @@ pub fn tables() -> Vec<Table> {
     all.push(triangles::table());
     all.extend(pairs::tables());
     all.push(jumps::table());
+    all.extend(layers::tables());
     all
 }
 
@@ -58,12 +63,17 @@ fn all(
 
 /// The sheet with the changes of a cause.
 pub fn changed(sheet: &Sheet, changes: &[Change]) -> Sheet {
+    use Change::*;
     let mut sheet = sheet.clone();
     for change in changes {
         match *change {
             Mesh(line, column, number) => sheet.mesh[line - 1][column - 1] = number,
             MeshLine(line, numbers) => sheet.mesh[line - 1] = numbers.to_vec(),
             MeshInsert(line, numbers) => sheet.mesh.insert(line - 1, numbers.to_vec()),
+            Table(line, column, number) => sheet.table[line - 1][column - 1] = number,
+            TableLine(line, numbers) => sheet.table[line - 1] = numbers.to_vec(),
+            TableInsert(line, numbers) => sheet.table.insert(line - 1, numbers.to_vec()),
+            NoTable => sheet.table.clear(),
             Claim(line, column, number) => sheet.claim[line - 1][column - 1] = number,
             FieldColumn(column, number) => field(&mut sheet)
                 .iter_mut()

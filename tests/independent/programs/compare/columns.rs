@@ -16,6 +16,7 @@ fn files() -> Files {
     claim.extend(vec![vec![0; 3]; 4]);
     Files {
         mesh: file(&sheet.mesh),
+        table: Vec::new(),
         claim: file(&claim),
     }
 }
@@ -42,7 +43,7 @@ impl Columns<'_> {
         };
         self.files.claim[3 * WIDTH..4 * WIDTH].copy_from_slice(column);
         self.tally.expect(&self.files, number, place, 0);
-        let shown = independent::judge_files(&self.files.mesh, &self.files.claim).ok();
+        let shown = independent::judge_files(&self.files.mesh, b"", &self.files.claim).ok();
         let shown = shown
             .and_then(|accepted| accepted.carried)
             .map(|load| load.numerator);

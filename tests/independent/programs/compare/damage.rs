@@ -172,14 +172,35 @@ fn parts(random: &mut Random, claim: &mut Lines) {
     }
 }
 
+/// One line of the table so that 46 and 45 come about in each of their ways.
+fn layer(random: &mut Random, table: &mut Lines) {
+    if table.is_empty() {
+        return table.push(vec![0, 1000, 1]);
+    }
+    let (line, other) = (random.below(table.len()), random.below(table.len()));
+    if table[line].len() != 3 {
+        return;
+    }
+    match random.below(8) {
+        0..=1 => table[line][0] += random.between(-2, 2),
+        2..=3 => table[line][1] += random.between(-2, 2),
+        4 => table[line].swap(0, 1),
+        5 => table[line] = table[other].clone(),
+        6 => table[line][random.below(3)] = near_limit(random),
+        _ => drop(table.remove(line)),
+    }
+}
+
 /// A change to the numbers of a sheet.
 pub fn sheet(random: &mut Random, sheet: &mut Sheet) {
-    match random.below(8) {
+    match random.below(10) {
         0 => number(random, &mut sheet.mesh),
         1..=2 => number(random, &mut sheet.claim),
         3 => line(random, &mut sheet.mesh),
         4 => line(random, &mut sheet.claim),
         5..=6 => shape(random, &mut sheet.mesh),
+        7 => layer(random, &mut sheet.table),
+        8 if !sheet.table.is_empty() => line(random, &mut sheet.table),
         _ => parts(random, &mut sheet.claim),
     }
 }

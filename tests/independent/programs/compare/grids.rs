@@ -63,6 +63,8 @@ struct Grid {
     t: Vec<[i64; 2]>,
     /// What is added beyond a joint: to sy if it is upright, to sx if it is level.
     leap: [i64; 2],
+    /// The borehole table that some elements' soils are left to.
+    table: Lines,
 }
 
 fn common_divisor(a: i64, b: i64) -> i64 {
@@ -229,12 +231,40 @@ impl Grid {
             sy,
             t,
             leap: if whole { any_part(random) } else { [0, 0] },
+            table: Lines::new(),
         };
         grid.spots = grid.all_spots();
         grid.elements = grid.cells(random);
         grid.edges = grid.all_edges(random);
         grid.jumps = grid.all_jumps(random);
+        if random.one_in(3) {
+            grid.table = grid.layers(random);
+        }
         grid
+    }
+
+    /// A table of the grid's layers in any order, at times with lines beyond the lowest and highest node.
+    fn layers(&self, random: &mut Random) -> Lines {
+        let mut table: Lines = (0..self.rows)
+            .map(|row| {
+                vec![
+                    self.ys[row],
+                    self.ys[row + 1],
+                    self.layer_soil[row] as i64 + 1,
+                ]
+            })
+            .collect();
+        table[0][0] -= random.between(0, 9);
+        table[self.rows - 1][1] += random.between(1, 9);
+        for _ in 0..random.below(3) {
+            let (low, high) = random.pick(&[(-1000, self.ys[0]), (self.ys[self.rows] + 1, 2000)]);
+            table.push(vec![low, high, 1 + random.below(self.soils.len()) as i64]);
+        }
+        for k in 0..table.len() {
+            let other = random.below(table.len());
+            table.swap(k, other);
+        }
+        table
     }
 
     /// The nodes row by row, then the second ones along the joint.
@@ -416,10 +446,31 @@ impl Grid {
                 .iter()
                 .map(|spot| vec![self.xs[spot.column], self.ys[spot.row]]),
         );
-        mesh.extend(self.elements.iter().cloned());
+        mesh.extend(
+            self.elements
+                .iter()
+                .map(|element| self.left_to_table(element)),
+        );
         mesh.extend(self.edges.iter().cloned());
         mesh.extend(self.jumps.iter().cloned());
         mesh
+    }
+
+    /// Where there is a table, most elements with their layer's soil have soil 0.
+    fn left_to_table(&self, element: &[i64]) -> Vec<i64> {
+        let height = |node: &i64| self.ys[self.spots[*node as usize - 1].row];
+        let lowest = element[..4].iter().map(height).min();
+        let row = self
+            .ys
+            .iter()
+            .position(|&y| Some(y) == lowest)
+            .expect("a row");
+        let mut line = element.to_vec();
+        let is_layers = line[4] == self.layer_soil[row] as i64 + 1;
+        if !self.table.is_empty() && is_layers && element[0] % 4 != 0 {
+            line[4] = 0;
+        }
+        line
     }
 
     fn field(&self, n: i64, l: i64) -> Lines {
@@ -513,14 +564,14 @@ impl Grid {
 
 /// One sheet; most of them are accepted.
 pub fn sheet(random: &mut Random) -> Sheet {
-    let (mesh, mut claims) = family(random, 1);
+    let (mesh, table, mut claims) = family(random, 1);
     let claim = claims.pop().expect("a claim");
-    Sheet { mesh, claim }
+    Sheet { mesh, table, claim }
 }
 
-/// A mesh and claims for it.
-pub fn family(random: &mut Random, claims: usize) -> (Lines, Vec<Lines>) {
+/// A mesh, its table if it has one, and claims for it.
+pub fn family(random: &mut Random, claims: usize) -> (Lines, Lines, Vec<Lines>) {
     let grid = Grid::new(random);
     let claims = (0..claims).map(|_| grid.claim(random)).collect();
-    (grid.mesh(), claims)
+    (grid.mesh(), grid.table, claims)
 }

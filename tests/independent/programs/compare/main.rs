@@ -1,7 +1,7 @@
 //! Holds the proved program against the independent implementation, on sheets, on grids and on
 //! damaged ones of both: answer, line and every byte of the buffer, for files and for numbers.
-//! Arguments: a folder of inputs that fuzzing found, each a mesh file, a byte 0 and a claim file; then
-//! the sheets, each as a .mesh and a .claim file of one name.
+//! Arguments: a folder of inputs that fuzzing found, each a mesh, a claim and a table with a byte 0
+//! between; then the sheets, each as a .mesh, a .claim and perhaps a .table file of one name.
 
 mod archive;
 mod causes;
@@ -54,6 +54,10 @@ fn every_byte(tally: &mut Tally, random: &mut Random, sheet: &Sheet) {
     while cut.claim.pop().is_some() {
         tally.file(&cut, How::PLAIN);
     }
+    let mut cut = whole.clone();
+    while cut.table.pop().is_some() {
+        tally.file(&cut, How::PLAIN);
+    }
     let mut changed = whole.clone();
     for at in 0..whole.mesh.len() {
         for byte in [b' ', b'0', b'1', b'-', b'\n', random.below(256) as u8] {
@@ -72,7 +76,7 @@ fn every_cause(tally: &mut Tally, random: &mut Random) {
             tally.expect(&changed.files(), *number, *place, k);
             tally.sheet(random, &changed);
         }
-        if !sheet.claim.is_empty() {
+        if !sheet.claim.is_empty() && sheet.table.len() <= 32 {
             every_form(tally, &sheet.files());
         }
     }
@@ -86,6 +90,18 @@ fn every_form(tally: &mut Tally, whole: &Files) {
             ..whole.clone()
         };
         tally.expect(&files, 1, line, k);
+    }
+    for (k, (table, line)) in causes::misformed(&whole.table).into_iter().enumerate() {
+        // A table that ends after a line is a shorter table.
+        let is_shorter = whole.table.starts_with(&table) && table.ends_with(b"\n");
+        if whole.table.is_empty() || table.is_empty() || is_shorter {
+            continue;
+        }
+        let files = Files {
+            table,
+            ..whole.clone()
+        };
+        tally.expect(&files, 1, 1000 + line, k);
     }
     for (k, (claim, line)) in causes::misformed(&whole.claim).into_iter().enumerate() {
         let files = Files {
@@ -101,12 +117,10 @@ fn every_found(tally: &mut Tally, folder: &str) {
     let mut found = 0;
     for entry in std::fs::read_dir(folder).expect("the folder of found inputs") {
         let bytes = std::fs::read(entry.expect("an entry").path()).expect("a found input");
-        let mut parts = bytes.splitn(2, |&byte| byte == 0);
+        let mut parts = bytes.splitn(3, |&byte| byte == 0);
         let mut next = || parts.next().unwrap_or_default().to_vec();
-        let files = Files {
-            mesh: next(),
-            claim: next(),
-        };
+        let (mesh, claim, table) = (next(), next(), next());
+        let files = Files { mesh, table, claim };
         tally.file(&files, How::PLAIN);
         tally.run(&files, 400, b'#');
         found += 1;
@@ -123,13 +137,13 @@ fn damaged(tally: &mut Tally, random: &mut Random, seed: &Sheet) {
     tally.sheet(random, &sheet);
     let kept = if random.one_in(2) { seed } else { &sheet };
     let (mut files, mut lists) = (kept.files(), kept.lists());
-    if random.one_in(2) {
-        damage::bytes(random, &mut files.mesh);
-        damage::list(random, &mut lists.mesh);
-    } else {
-        damage::bytes(random, &mut files.claim);
-        damage::list(random, &mut lists.claim);
-    }
+    let (bytes, list) = match random.below(5) {
+        0..=1 => (&mut files.mesh, &mut lists.mesh),
+        2..=3 => (&mut files.claim, &mut lists.claim),
+        _ => (&mut files.table, &mut lists.table),
+    };
+    damage::bytes(random, bytes);
+    damage::list(random, list);
     tally.file(&files, How::PLAIN);
     tally.list(&lists);
 }
@@ -138,6 +152,7 @@ fn read_sheet(name: &str) -> Sheet {
     let part = |ending: &str| std::fs::read(format!("{name}.{ending}")).expect("a sheet's file");
     Sheet {
         mesh: sheet::read(&part("mesh")),
+        table: sheet::read(&std::fs::read(format!("{name}.table")).unwrap_or_default()),
         claim: sheet::read(&part("claim")),
     }
 }
@@ -156,6 +171,7 @@ fn main() {
     every_cause(&mut tally, &mut random);
     every_call(&mut tally, &Sheet::worked());
     every_byte(&mut tally, &mut random, &Sheet::worked());
+    every_byte(&mut tally, &mut random, &causes::tower());
     for _ in 0..30_000 {
         let grid = grids::sheet(&mut random);
         tally.sheet(&mut random, &grid);

@@ -56,8 +56,11 @@ pub fn by_hand(tally: &mut Tally) {
         (b"", &[], LINE, 1, 0),
     ];
     for (k, (mesh, claims, room, reports, bytes)) in cases.into_iter().enumerate() {
-        let (mesh, claim) = (mesh.to_vec(), claims.concat());
-        let files = Files { mesh, claim };
+        let files = Files {
+            mesh: mesh.to_vec(),
+            table: Vec::new(),
+            claim: claims.concat(),
+        };
         let run = tally.run(&files, room, b'#');
         let bytes = bytes as u64;
         if run != (Run { reports, bytes }) {
@@ -67,14 +70,14 @@ pub fn by_hand(tally: &mut Tally) {
 }
 
 /// What single calls say of claims that are well formed, or of the last of them if it is not.
-fn by_single_calls(mesh: &[u8], claims: &[Vec<u8>], room: usize) -> (Run, Vec<u8>) {
+fn by_single_calls(files: &Files, claims: &[Vec<u8>], room: usize) -> (Run, Vec<u8>) {
     let (mut run, mut written) = (Run::default(), Vec::new());
     for claim in claims {
         if written.len() + LINE > room {
             break;
         }
         let mut report = [0; LINE];
-        let answer = independent::check(mesh, claim, 6, &mut report);
+        let answer = independent::check(&files.mesh, &files.table, claim, 6, &mut report);
         written.extend(report);
         run.reports += 1;
         if answer.number < 20 && answer.number != 0 {
@@ -88,7 +91,7 @@ fn by_single_calls(mesh: &[u8], claims: &[Vec<u8>], room: usize) -> (Run, Vec<u8
 /// A mesh with several claims, the last of them cut short or damaged at times; then damage to both.
 pub fn at_random(tally: &mut Tally, random: &mut Random) {
     let count = random.below(7);
-    let (mesh, claims) = grids::family(random, count);
+    let (mesh, table, claims) = grids::family(random, count);
     let mut claims: Vec<_> = claims.iter().map(file).collect();
     if let (Some(last), true) = (claims.last_mut(), random.one_in(2)) {
         last.truncate(random.below(last.len()) + 1);
@@ -96,20 +99,23 @@ pub fn at_random(tally: &mut Tally, random: &mut Random) {
     let room = random.pick(&[0, 112, 113, 300, 4 * LINE, 8 * LINE]) + random.below(3);
     let mut files = Files {
         mesh: file(&mesh),
+        table: file(&table),
         claim: claims.concat(),
     };
     let run = tally.run(&files, room, b'#');
-    let (expected, written) = by_single_calls(&files.mesh, &claims, room);
+    let (expected, written) = by_single_calls(&files, &claims, room);
     let mut reports = vec![0; room];
-    independent::check_run(&files.mesh, &files.claim, &mut reports);
-    let accepted = independent::check(&files.mesh, b"", 6, &mut [0; LINE]).number == 11;
+    independent::check_run(&files.mesh, &files.table, &files.claim, &mut reports);
+    let accepted =
+        independent::check(&files.mesh, &files.table, b"", 6, &mut [0; LINE]).number == 11;
     if accepted && (run != expected || !reports.starts_with(&written)) {
         tally.disagree(&format!("{run:?}, by single calls {expected:?}"), &files);
     }
-    if random.one_in(4) {
-        damage::bytes(random, &mut files.mesh);
-    } else {
-        damage::bytes(random, &mut files.claim);
-    }
+    let damaged = match random.below(8) {
+        0 => &mut files.mesh,
+        1 => &mut files.table,
+        _ => &mut files.claim,
+    };
+    damage::bytes(random, damaged);
     tally.run(&files, room, random.below(256) as u8);
 }

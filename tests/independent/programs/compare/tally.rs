@@ -7,8 +7,8 @@ use independent::{Answer, Run};
 use std::collections::BTreeMap;
 
 /// Every number that a file can get, and those that have to do with the call.
-const NUMBERS: [u32; 19] = [
-    0, 1, 2, 3, 4, 5, 6, 7, 8, 44, 42, 11, 12, 13, 21, 22, 31, 32, 33,
+const NUMBERS: [u32; 21] = [
+    0, 1, 2, 3, 4, 46, 45, 5, 6, 7, 8, 44, 42, 11, 12, 13, 21, 22, 31, 32, 33,
 ];
 const CALLS: [u32; 2] = [41, 43];
 
@@ -65,17 +65,18 @@ impl Tally {
         if self.disagreements <= 3 {
             println!("DISAGREEMENT: {what}");
             println!("mesh:\n{}", String::from_utf8_lossy(&files.mesh));
+            println!("table:\n{}", String::from_utf8_lossy(&files.table));
             println!("claim:\n{}", String::from_utf8_lossy(&files.claim));
         }
     }
 
     /// Both checks, called one way; the answer is the independent one.
     pub fn file(&mut self, files: &Files, how: How) -> Answer {
-        let Files { mesh, claim } = files;
+        let Files { mesh, table, claim } = files;
         let mut proved = vec![how.fill; how.room];
         let mut independent = proved.clone();
-        let theirs = archive::check(mesh, claim, how.decimals, &mut proved);
-        let ours = independent::check(mesh, claim, how.decimals, &mut independent);
+        let theirs = archive::check(mesh, table, claim, how.decimals, &mut proved);
+        let ours = independent::check(mesh, table, claim, how.decimals, &mut independent);
         *self.files.entry(ours.number).or_default() += 1;
         if theirs != ours || proved != independent {
             let line = String::from_utf8_lossy(&proved).into_owned();
@@ -94,14 +95,15 @@ impl Tally {
     }
 
     pub fn list(&mut self, lists: &Lists) {
-        let Lists { mesh, claim } = lists;
-        let theirs = archive::check_numbers(mesh, claim);
-        let ours = independent::check_numbers(mesh, claim);
+        let Lists { mesh, table, claim } = lists;
+        let theirs = archive::check_numbers(mesh, table, claim);
+        let ours = independent::check_numbers(mesh, table, claim);
         *self.lists.entry(ours.number).or_default() += 1;
         if theirs != ours {
             let text = |list: &[i64]| format!("{list:?}").into_bytes();
             let files = Files {
                 mesh: text(mesh),
+                table: text(table),
                 claim: text(claim),
             };
             self.disagree(&format!("{theirs:?} not {ours:?}"), &files);
@@ -110,11 +112,11 @@ impl Tally {
 
     /// Both runs, the claims as one file, on one buffer; the answer is the independent one.
     pub fn run(&mut self, files: &Files, room: usize, fill: u8) -> Run {
-        let Files { mesh, claim } = files;
+        let Files { mesh, table, claim } = files;
         let mut proved = vec![fill; room];
         let mut independent = proved.clone();
-        let theirs = archive::check_run(mesh, claim, &mut proved);
-        let ours = independent::check_run(mesh, claim, &mut independent);
+        let theirs = archive::check_run(mesh, table, claim, &mut proved);
+        let ours = independent::check_run(mesh, table, claim, &mut independent);
         *self.runs.entry(ours.reports).or_default() += 1;
         if theirs != ours || proved != independent {
             self.disagree(
@@ -127,8 +129,8 @@ impl Tally {
 
     /// Both sizes of a mesh; a claim that passes 11, 12 and 13 has the length said for its kind.
     pub fn sizes(&mut self, files: &Files) {
-        let theirs = archive::mesh_sizes(&files.mesh);
-        let ours = independent::mesh_sizes(&files.mesh);
+        let theirs = archive::mesh_sizes(&files.mesh, &files.table);
+        let ours = independent::mesh_sizes(&files.mesh, &files.table);
         if theirs != ours {
             self.disagree(&format!("{theirs:?} not {ours:?}"), files);
         }
@@ -136,7 +138,7 @@ impl Tally {
             return;
         }
         self.sizes += 1;
-        let verdict = independent::judge_files(&files.mesh, &files.claim);
+        let verdict = independent::judge_files(&files.mesh, &files.table, &files.claim);
         if verdict.is_err_and(|refusal| refusal.number < 20) {
             return;
         }

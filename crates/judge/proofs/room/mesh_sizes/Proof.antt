@@ -4,7 +4,7 @@ use borrow.Author.Needs.{needs}
 use Rattle.mesh.proofs.Places.{few-things}
 use Rattle.verdict.proofs.VerdictLaws.{sound-mesh, counted}
 use Rattle.judge.specs.Room.{noSizes}
-use Rattle.judge.proofs.FilesJudged.{mesh-fits}
+use Rattle.judge.proofs.FilesJudged.{mesh-fits, read-sound}
 use Rattle.judge.proofs.RoomLaws.{sizes-refused, sizes-passed}
 use Rattle.judge.proofs.room.mesh_sizes.Statement.{statement}
 use Rattle.judge.proofs.room.mesh_sizes.Tie as tie
@@ -29,21 +29,21 @@ enum-told c = search needs
 
 sizes-for-requires : tie.Need-sizes-for-requires
 sizes-for-requires c κs =
-    few-things (sound-mesh (c .before .before .before .before .judge-mesh-file .ensures .answer) (c .enum-told .given .1) .sized)
+    few-things (read-sound (c .before .before .before .before .judge-mesh-file .ensures) (c .enum-told .given .1) .sized)
 
 returns : tie.Need-returns
 returns c =
     let outcome = c .before .before .before in
     c .no-sizes .ensures
     ∙ ap (noSizes _) (c .before .place-number .ensures)
-    ∙ sizes-refused (outcome .before .before .before .before .judge-mesh-file .ensures .answer) (outcome .outcome .given .1)
+    ∙ sizes-refused _ _ (outcome .before .before .before .before .judge-mesh-file .ensures .answer) (outcome .outcome .given .1)
 
 returns-2 : tie.Need-returns-2
 returns-2 c =
     let told = c .before in
-    let judged = told .before .before .before .before .judge-mesh-file .ensures .answer in
+    let judged = told .before .before .before .before .judge-mesh-file .ensures in
     let passed = told .enum-told .given .1 in
-    sizes-passed judged passed (c .sizes-for .ensures _ (counted (sound-mesh judged passed)))
+    sizes-passed _ _ (judged .answer) passed (c .sizes-for .ensures _ (counted (read-sound judged passed)))
 
 pub mesh-sizes-spec : {M : Type 1} → statement M
 mesh-sizes-spec =

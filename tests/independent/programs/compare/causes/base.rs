@@ -3,7 +3,7 @@
 
 use super::Change::{Claim, FieldColumn, Mesh, MeshInsert, NoMultipliers};
 use super::{all, Beyond, Change, Listed, Table};
-use independent::sheet::{printed, Sheet};
+use independent::sheet::{printed, Lines, Sheet};
 
 /// Two squares side by side, two soils, three of the six outer sides with an edge.
 fn pair() -> Sheet {
@@ -14,6 +14,7 @@ fn pair() -> Sheet {
              0 0 / 1 0 / 2 0 / 0 1 / 1 1 / 2 1 / 1 2 5 4 1 / 2 3 6 5 2 / \
              6 5 3 0 0 -1 0 / 5 4 3 0 0 -1 0 / 3 6 1 0 0 0 0",
         ),
+        table: Lines::new(),
         claim: printed(&format!(
             "0 1 0 0 / 0 0 / 0 0 / 0 0 0 0 / 0 0 0 0 / 0 0 0 0{zeros}"
         )),

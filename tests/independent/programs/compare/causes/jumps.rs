@@ -2,7 +2,7 @@
 
 use super::Change::{Claim, Mesh, MeshInsert, MeshLine, NoMultipliers};
 use super::{all, Beyond, Change, Listed, Table};
-use independent::sheet::{printed, Sheet};
+use independent::sheet::{printed, Lines, Sheet};
 
 /// Nodes 2 and 3 are the joint's on the left, 5 and 8 on the right; the jump is line 17.
 fn joint() -> Sheet {
@@ -15,6 +15,7 @@ fn joint() -> Sheet {
              0 0 / 1 0 / 1 1 / 0 1 / 1 0 / 2 0 / 2 1 / 1 1 / 1 2 3 4 1 / 5 6 7 8 1 / \
              7 8 3 0 0 -1 0 / 3 4 3 0 0 -1 0 / 6 7 3 0 0 0 0 / 4 1 3 0 0 0 0 / 2 3 5 8",
         ),
+        table: Lines::new(),
         claim: printed(&format!(
             "1 1 1 20{field} / 0 0 / 0 0 / 30 0 0 0 / 0 0 0 0 / 0 0 -30 0 / 0 0 0 0 / 0 0 0 0{before} / \
              1 0 0 0 0 0 0 0 0 0 0 1{zeros}"

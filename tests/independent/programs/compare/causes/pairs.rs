@@ -15,6 +15,7 @@ fn meeting() -> Sheet {
              0 0 / 1 0 / 2 0 / 0 1 / 1 1 / 2 1 / 1 2 5 4 2 / 2 3 6 5 1 / \
              6 5 3 0 0 -1 0 / 5 4 3 0 0 -1 0 / 3 6 3 0 0 0 0 / 4 1 3 0 0 0 0",
         ),
+        table: Lines::new(),
         claim: printed(&format!(
             "1 1 1 20{field} / 0 0 / 0 0 / 30 0 0 0 / 0 0 0 0 / 0 0 -30 0 / 0 0 0 0{zeros} / \
              1 0 0 0 0 0 0 0 0 0 0 1"
@@ -64,6 +65,7 @@ fn strips(soils: &[i64], rows: i64) -> Sheet {
     }
     Sheet {
         mesh,
+        table: Lines::new(),
         claim: Lines::new(),
     }
 }

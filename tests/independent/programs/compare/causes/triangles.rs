@@ -2,7 +2,7 @@
 
 use super::Change::{Mesh, MeshInsert, MeshLine};
 use super::{all, Listed, Table};
-use independent::sheet::{printed, Sheet};
+use independent::sheet::{printed, Lines, Sheet};
 
 fn fan() -> Sheet {
     let zeros = " / 0 0 0 0 0 0 0 0 0 0 0 0";
@@ -14,6 +14,7 @@ fn fan() -> Sheet {
              1 2 5 5 1 / 2 3 5 5 1 / 3 4 5 5 1 / 4 1 5 5 1 / \
              3 4 3 0 0 -1 0 / 2 3 3 0 0 0 0 / 4 1 3 0 0 0 0",
         ),
+        table: Lines::new(),
         claim: printed(&format!(
             "1 1 1 20{field}{balance} / 15 0 0 0 / 0 0 -15 0 / 0 0 0 0{zeros}{zeros} / \
              2 0 0 0 0 0 0 0 0 0 0 2{zeros}{zeros}"
