@@ -9,7 +9,7 @@ use native.Mathlib.Omega.{arith}
 use native.Mathlib.Numerals.{add-one}
 use borrow.Author.Tests.{lt-ltb, le-ltb}
 use lib.IntN.{ℤ, pos, natAbs}
-use lib.ListN.{length, getD, set, replicate, length-set, length-replicate, List·getD-append}
+use lib.ListN.{length, getD, set, length-set, List·getD-append}
 use lib.Seq.{getD-set-same, getD-set-other, getD-append-seam}
 use Rattle.integer.specs.Bounds.{Within}
 use Rattle.integer.proofs.BoundLaws.{Within-le, all-within}
@@ -18,7 +18,6 @@ use Rattle.criterion.specs.declared.polygons.Step.{Step}
 use Rattle.scope.specs.Members.{_∈_}
 use Rattle.scope.specs.Columns.{at}
 use Rattle.scope.specs.Polygon.{Point, point, Side, Polygon, sidesTo, polygonSides, quarterTurn, fourQuadrants, twelve, twenty, thirtySix, oneHundredEight, polygonOf}
-use Rattle.scope.specs.Mesh.{mostSides}
 use Rattle.scope.specs.Bounds.{mostRadius}
 use Rattle.scope.specs.PolygonRule.{PolygonFits, ListedPolygon}
 use Rattle.scope.specs.Rows.{cross}

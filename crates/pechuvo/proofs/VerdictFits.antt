@@ -86,7 +86,7 @@ module _ (m c : List ℤ) (a : ClaimAccepted m c) where
   unfolding upperLoad hasMultipliers
   upper-held =
       if-load (hasMultipliers c) (limitSum (multiplier m c) (rowsOf m)) (liveSum (multiplier m c) (rowsOf m))
-      (λ t. limit-bound m c (a .mesh) claim (eqZ-yes t) .within)
+      (λ t. omega (arith, limit-bound m c (a .mesh) claim (eqZ-yes t) .within))
 
 pub held : (m c : List ℤ) → Held (verdict m c)
 held m c = by (verdict-cases m c)

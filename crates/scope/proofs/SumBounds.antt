@@ -17,7 +17,7 @@ use Rattle.scope.specs.Members.{_∈_}
 use Rattle.scope.specs.Mesh.{strengthMultiplier, nodes, elements, edges, sides, deadX, deadY, soilEntry, x, y, corner, elementSoil, edgeEntry, fromNode, toNode, equalityCount, jumps}
 use Rattle.scope.specs.Polygon.{Side, polygonSides, polygonOf}
 use Rattle.scope.specs.Rows.{Row, countFrom, node, crossAt, riseAcross, runAcross, twiceArea, balanceX, balanceY, balanceRows, stepX, stepY, stepSquare, normalRow, shearRow, sideRows, strengthPairs, cross, strengthRow, pairRows, strengthRows, equalityRows, rowsOf, agreeRow, jumpNormal, jumpShear, jumpRows}
-use Rattle.scope.specs.Bounds.{mostCoordinate, mostForce, mostTraction, mostMultiplier, mostArea, balanceRight, mostBalanceRows, mostSquare, sideRight, mostSideRows, weightedCross, twiceStrength, strengthSum, mostStrengthRows, jumpRight, mostJumpRows}
+use Rattle.scope.specs.Bounds.{mostCoordinate, mostForce, mostTraction, mostMultiplier, mostArea, balanceRight, mostBalanceRows, mostSquare, sideRight, mostSideRows, weightedCross, twiceStrength, strengthSum, mostStrengthRows, jumpRight, mostJumpRows, mostSlack, mostLimit}
 use Rattle.scope.specs.PolygonRule.{ListedPolygon}
 use Rattle.scope.specs.Sums.{weightedSum, weighed, limitSum}
 use Rattle.scope.specs.Claim.{multiplier}
@@ -172,8 +172,12 @@ limit-++ w rs ss = ap (sumOf (λ p. p .0 *ℤ p .1 .right)) (weighed-++ w rs ss)
 weighted : (g n : ℕ) → g * n ≤ weightedCross → g * (n * twiceStrength) ≤ strengthSum
 weighted g n h = rw (← mul-assoc) (omega (arith, mul-le-mul-right twiceStrength h))
 
+-- the right side of a strength row less its left, and W: both fit 64 bits
+pub sums-fit : (mostSlack < 14 * 10 ^ 17) × (mostLimit < 52 * 10 ^ 17)
+sums-fit = (omega arith, omega arith)
+
 -- W of multipliers that are there: each kind of row by its count, its largest multiplier and its largest right side
-pub limit-bound : (m c : List ℤ) → MeshSound m → ClaimFacts m c → HasMultipliers c → Within (2 ^ 63) (limitSum (multiplier m c) (rowsOf m))
+pub limit-bound : (m c : List ℤ) → MeshSound m → ClaimFacts m c → HasMultipliers c → Within mostLimit (limitSum (multiplier m c) (rowsOf m))
 unfolding rowsOf equalityRows
 limit-bound m c s k t =
     Within-le

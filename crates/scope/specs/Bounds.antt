@@ -161,6 +161,14 @@ mostColumn = equalityColumns + mostPairs * (3 * pairColumn)
 abbrev pub mostSum : ℕ
 mostSum = equalitySums + mostStrengthRows * strengthSum
 
+-- W by kind of row
+abbrev pub mostLimit : ℕ
+mostLimit =
+    mostBalanceRows * (mostMultiplier * balanceRight)
+    + mostSideRows * (mostMultiplier * sideRight)
+    + mostJumpRows * (mostMultiplier * jumpRight)
+    + mostStrengthRows * strengthSum
+
 -- a number that is added to a sum, and the sum: two of them fit 64 bits
 abbrev pub mostAddend : ℕ
 mostAddend = 2 ^ 61
