@@ -19,10 +19,13 @@ pub fn corner_count(m: &[i64], s: Sizes, e: usize) -> usize
     4
 }
 
-// Corner i of element e, which has so many; after the last comes the first.
+// Corner i of element e, which has so many; after the last comes the first. For speed the divisor is a constant.
 pub fn corner_around(m: &[i64], s: Sizes, e: usize, count: usize, i: usize) -> usize
     requires { ⌜ Sized (now m) s × (e < elements (now m)) × (count ≡ cornerCount (now m) e) ⌝ }
     ensures { λ r. ⌜ r ≡ around (now (m .entry)) e i ⌝ }
 {
-    corner_of(m, s, e, i % count)
+    if count == 3 {
+        return corner_of(m, s, e, i % 3);
+    }
+    corner_of(m, s, e, i % 4)
 }

@@ -28,7 +28,7 @@ fn cross(ux: i64, uy: i64, vx: i64, vy: i64) -> i64
 }
 
 // Whether the nodes a, b, c turn left at b.
-fn turns_left(m: &[i64], s: Sizes, a: usize, b: usize, c: usize) -> bool
+pub fn turns_left(m: &[i64], s: Sizes, a: usize, b: usize, c: usize) -> bool
     requires { ⌜ Sized (now m) s × (a < nodes (now m)) × (b < nodes (now m)) × (c < nodes (now m)) ⌝ }
     ensures { λ r. ⌜ r ≡ ltZ (pos 0) (turn (now (m .entry)) a b c) ⌝ }
 {

@@ -53,14 +53,14 @@ ends-before {along} {z} g a b before after =
 
 pub clear-boxes-decide : {A B : List Corner} → ClearBoxesDecide A B
 clear-boxes-decide p q a b i j (inl h) s =
-    ends-before (upright (p .right)) a b (λ c k. i c k .toRight)
-    (λ c k. let l = j c k .fromLeft in linear (h & l) (search facts depth 40) (omega arith)) s
-clear-boxes-decide p q a b i j (inr (inl h)) s =
-    ends-before (upright (q .right)) b a (λ c k. j c k .toRight)
-    (λ c k. let l = i c k .fromLeft in linear (h & l) (search facts depth 40) (omega arith)) (swapped s)
-clear-boxes-decide p q a b i j (inr (inr (inl h))) s =
     ends-before (flat (p .top)) a b (λ c k. i c k .toTop)
     (λ c k. let l = j c k .fromBottom in linear (h & l) (search facts depth 40) (omega arith)) s
+clear-boxes-decide p q a b i j (inr (inl h)) s =
+    ends-before (upright (p .right)) a b (λ c k. i c k .toRight)
+    (λ c k. let l = j c k .fromLeft in linear (h & l) (search facts depth 40) (omega arith)) s
+clear-boxes-decide p q a b i j (inr (inr (inl h))) s =
+    ends-before (upright (q .right)) b a (λ c k. j c k .toRight)
+    (λ c k. let l = i c k .fromLeft in linear (h & l) (search facts depth 40) (omega arith)) (swapped s)
 clear-boxes-decide p q a b i j (inr (inr (inr h))) s =
     ends-before (flat (q .top)) b a (λ c k. j c k .toTop)
     (λ c k. let l = i c k .fromBottom in linear (h & l) (search facts depth 40) (omega arith)) (swapped s)

@@ -22,9 +22,9 @@ pub record InBox (b : Box) (c : Corner) : Type 0 where
 abbrev pub Around : Box → List Corner → Type 0
 Around b A = (c : Corner) → c ∈ A → InBox b c
 
--- no inner point in common: one ends before the other begins, or where it begins, from left to right or upward
+-- no inner point in common: one ends before the other begins, or where it begins, upward or from left to right
 abbrev pub Clear : Box → Box → Type 0
-Clear p q = (p .right ≤ℤ q .left) ⊎ ((q .right ≤ℤ p .left) ⊎ ((p .top ≤ℤ q .bottom) ⊎ (q .top ≤ℤ p .bottom)))
+Clear p q = (p .top ≤ℤ q .bottom) ⊎ ((p .right ≤ℤ q .left) ⊎ ((q .right ≤ℤ p .left) ⊎ (q .top ≤ℤ p .bottom)))
 
 abbrev pub ClearBoxesDecide : List Corner → List Corner → Type 0
 ClearBoxesDecide A B = (p q : Box) → Convex A → Convex B → Around p A → Around q B → Clear p q → ¬ Shared A B

@@ -1,18 +1,36 @@
--- `corner_around` meets its contract: corners go round by as many as there are.
-use mathlib.Core.Path.{_∙_}
+-- `corner_around` meets its contract: an element has three corners or four, and they go round by as many.
+use mathlib.Core.Path.{sym, _∙_}
 use native.Mathlib.Omega.{arith}
-use Rattle.shape.proofs.MeshLaws.{corners-there, place-below, around-corner}
-use Rattle.shape.proofs.corners.corner_around.Statement.{statement}
-use Rattle.shape.proofs.corners.corner_around.Tie as tie
-
-rem-corner-of : tie.Need-rem-corner-of
-rem-corner-of c = omega (arith, corners-there (c .args .m .now) (c .args .e) (c .pre .2) .0)
+use Rattle.outlines.proofs.CornerLaws.{corners-there, place-below, around-corner}
+use Rattle.outlines.proofs.corners.corner_around.Statement.{statement}
+use Rattle.outlines.proofs.corners.corner_around.Tie as tie
 
 corner-of-requires : tie.Need-corner-of-requires
-corner-of-requires c κs = (c .pre .0, c .pre .1, place-below (c .args .m .now) (c .args .e) (c .args .i) (c .pre .2))
+corner-of-requires c κs =
+    let p = c .before .pre in
+    (p .0, p .1, place-below (c .before .args .m .now) (c .before .args .e) (c .before .args .i) (sym (c .if1 .taken) ∙ p .2))
 
 returns : tie.Need-returns
-returns c = c .corner-of .ensures .same ∙ around-corner (c .before .args .m .now) (c .before .args .e) (c .before .args .i) (c .before .pre .2)
+returns c =
+    let told = c .before in
+    let a = told .before .args in
+    c .corner-of .ensures .same
+    ∙ around-corner (a .m .now) (a .e) (a .i) (sym (told .if1 .taken) ∙ told .before .pre .2)
+
+corner-of-requires-2 : tie.Need-corner-of-requires-2
+corner-of-requires-2 c κs =
+    let p = c .before .pre in
+    let a = c .before .args in
+    (p .0, p .1, place-below (a .m .now) (a .e) (a .i) (omega (arith, corners-there (a .m .now) (a .e) (p .2), c .if1 .left, p .2)))
+
+returns-2 : tie.Need-returns-2
+returns-2 c =
+    let told = c .before in
+    let a = told .before .args in
+    let p = told .before .pre in
+    c .corner-of2 .ensures .same
+    ∙ around-corner (a .m .now) (a .e) (a .i)
+    (omega (arith, corners-there (a .m .now) (a .e) (p .2), told .if1 .left, p .2))
 
 pub corner-around-spec : {M : Type 1} → statement M
-corner-around-spec = tie.close (tie.spec rem-corner-of corner-of-requires returns)
+corner-around-spec = tie.close (tie.spec corner-of-requires returns corner-of-requires-2 returns-2)

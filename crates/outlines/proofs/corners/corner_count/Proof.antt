@@ -2,8 +2,8 @@
 use mathlib.Core.Path.{sym, _∙_}
 use borrow.Author.Needs.{needs}
 use Rattle.scope.proofs.Triangles.{three-corners, four-corners}
-use Rattle.shape.proofs.corners.corner_count.Statement.{statement}
-use Rattle.shape.proofs.corners.corner_count.Tie as tie
+use Rattle.outlines.proofs.corners.corner_count.Statement.{statement}
+use Rattle.outlines.proofs.corners.corner_count.Tie as tie
 
 corner-of-requires : tie.Need-corner-of-requires
 corner-of-requires c κs = search needs

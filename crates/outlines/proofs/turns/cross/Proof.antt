@@ -2,8 +2,8 @@
 use mathlib.Core.Path.{refl}
 use native.Mathlib.Omega.{arith}
 use Rattle.integer.proofs.Machine.{machine, fits, is}
-use Rattle.shape.proofs.turns.cross.Statement.{statement}
-use Rattle.shape.proofs.turns.cross.Tie as tie
+use Rattle.outlines.proofs.turns.cross.Statement.{statement}
+use Rattle.outlines.proofs.turns.cross.Tie as tie
 
 mul-result : tie.Need-mul-result
 mul-result c = fits (search machine depth 30) (omega arith)

@@ -2,9 +2,9 @@
 use Prim.Native.Nat.{_+_, _-_}
 use native.Mathlib.Omega.{arith}
 use borrow.Author.Needs.{needs}
-use Rattle.shape.proofs.MeshLaws.{corners-there, around-there, left-turn-from}
-use Rattle.shape.proofs.turns.left_turn_at.Statement.{statement}
-use Rattle.shape.proofs.turns.left_turn_at.Tie as tie
+use Rattle.outlines.proofs.CornerLaws.{corners-there, around-there, left-turn-from}
+use Rattle.outlines.proofs.turns.left_turn_at.Statement.{statement}
+use Rattle.outlines.proofs.turns.left_turn_at.Tie as tie
 
 sub-corner-around : tie.Need-sub-corner-around
 sub-corner-around c = omega (arith, corners-there (c .args .m .now) (c .args .e) (c .pre .2))

@@ -8,8 +8,8 @@ use Rattle.scope.specs.Checks.{allBelow}
 use Rattle.scope.specs.Mesh.{cornerCount}
 use Rattle.scope.specs.Tests.{leftTurnAt, leftTurns}
 use Rattle.lines.proofs.Loops.{all-more, all-fails, all-done}
-use Rattle.shape.proofs.turns.left_turns.Statement.{statement}
-use Rattle.shape.proofs.turns.left_turns.Tie as tie
+use Rattle.outlines.proofs.turns.left_turns.Statement.{statement}
+use Rattle.outlines.proofs.turns.left_turns.Tie as tie
 
 abbrev Inv-loop : tie.InvT-loop
 Inv-loop m s e count i₀ i = (i ≤ count) × (allBelow (leftTurnAt m e) i ≡ true)

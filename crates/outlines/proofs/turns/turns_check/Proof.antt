@@ -11,8 +11,8 @@ use Rattle.scope.specs.Mesh.{elements}
 use Rattle.scope.specs.Phases.{checkPhase}
 use Rattle.scope.specs.Tests.{leftTurns}
 use Rattle.lines.proofs.Loops.{all-more, each-below, phase-at, phase-all}
-use Rattle.shape.proofs.turns.turns_check.Statement.{statement}
-use Rattle.shape.proofs.turns.turns_check.Tie as tie
+use Rattle.outlines.proofs.turns.turns_check.Statement.{statement}
+use Rattle.outlines.proofs.turns.turns_check.Tie as tie
 
 abbrev Inv-loop : tie.InvT-loop
 Inv-loop m s count e₀ e = (e ≤ count) × (allBelow (leftTurns m) e ≡ true)

@@ -6,9 +6,9 @@ use lib.Signed.{ltZ}
 use borrow.Author.Needs.{needs}
 use Rattle.integer.proofs.Machine.{Is-read, machine, bounded, decides}
 use Rattle.scope.specs.Tests.{turn}
-use Rattle.shape.proofs.MeshLaws.{cross-from}
-use Rattle.shape.proofs.turns.turns_left.Statement.{statement}
-use Rattle.shape.proofs.turns.turns_left.Tie as tie
+use Rattle.outlines.proofs.CornerLaws.{cross-from}
+use Rattle.outlines.proofs.turns.turns_left.Statement.{statement}
+use Rattle.outlines.proofs.turns.turns_left.Tie as tie
 
 run-between-requires : tie.Need-run-between-requires
 run-between-requires c κs = search needs
