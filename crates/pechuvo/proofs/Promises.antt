@@ -1,12 +1,12 @@
 -- The promises of the check of two files hold of every call: the theorems about the definitions, read off what is returned and written.
 use mathlib.Core.Path.{_≡_, refl, sym, _∙_, ap, subst}
-use mathlib.Core.Logic.{Iff·symm, Iff·trans, _⊎_, inl, inr, _≢_}
-use mathlib.Core.Bool.{true, false}
-use mathlib.Core.List.{List, _∷_, _++_, map, append-nil, List·Memᴰ·head, List·Memᴰ·tail}
+use mathlib.Core.Logic.{Iff·symm, Iff·trans, _⊎_, inl, inr, ⊎-elim, _≢_}
+use mathlib.Core.Bool.{Bool, true, false, not, _&&_}
+use mathlib.Core.List.{List, [], _∷_, _++_, map, append-nil, List·Memᴰ·head, List·Memᴰ·tail, List·Memᴰ·cases-cons, List·Memᴰ·not-nil}
 use mathlib.Core.Option.{some}
 use Prim.Native.Nat.{ℕ, suc, _^_, _≤_, _<_}
 use native.Mathlib.Omega.{arith}
-use lib.Dec.{ltb}
+use lib.Dec.{T, eqb, ltb}
 use lib.IntN.{ℤ, pos, natAbs, _+ℤ_, _-ℤ_}
 use lib.Signed.{_<ℤ_, <ℤ-irrefl, <ℤ-≤ℤ-trans}
 use lib.Ieee.Bits.{is-true}
@@ -34,18 +34,19 @@ use Rattle.scope.specs.Sums.{openRows, liveSum, limitSum}
 use Rattle.scope.specs.Claim.{claimLayout, stress, multiplier}
 use Rattle.scope.specs.Verdict.{verdict, lowerLoad, upperLoad, openCount}
 use Rattle.scope.specs.Statements.{HasField, HasMultipliers}
-use Rattle.scope.specs.Refusals.{meshPhases, claimPhases}
+use Rattle.scope.specs.Refusals.{tableNumbers}
 use Rattle.scope.specs.Accepted.{FieldAccepted, MultipliersAccepted, ClaimAccepted}
 use Rattle.scope.specs.Parts.{carried, allowed}
-use Rattle.scope.proofs.Exactly.{accepted-exactly, refused-exactly, verdict-cases, returns-zero, claim-by-parts, each-number}
-use Rattle.scope.proofs.Phases.{EachIn, each-refusal, own-number}
+use Rattle.scope.proofs.Exactly.{accepted-exactly, refused-exactly, verdict-cases, returns-zero, claim-by-parts}
+use Rattle.scope.proofs.Decides.{both, opposite, equal}
+use Rattle.scope.proofs.TableNumbers.{in-table}
 use Rattle.scope.proofs.Parts.{field-n, open-rows-count}
 use Rattle.scope.proofs.Refusals.{lines-passed}
 use Rattle.numbers.specs.declared.numbers_answer.NumbersAnswer.{NumbersAnswer}
 use Rattle.numbers.specs.NumbersAnswer.{answerOf}
 use Rattle.numbers.specs.Promises as Handed-over
 use Rattle.numbers.specs.Promises.{Returned, TellsField}
-use Rattle.numbers.proofs.Promises.{returned, returns-zero-exactly, refuses-exactly, numbers-listed, rows-refused, field-exactly, multipliers-exactly, pairs-asked, criterion-for-each-pair, jumps-asked, tractions-on-joints, fractions-allowed}
+use Rattle.numbers.proofs.Promises.{returned, returns-zero-exactly, refuses-exactly, numbers-listed, rows-refused, field-exactly, multipliers-exactly, pairs-asked, criterion-for-each-pair, overlaps-asked, jumps-asked, tractions-on-joints, fractions-allowed}
 use Rattle.report.specs.Text.{Said, number as shows, said}
 use Rattle.report.specs.Report.{reportBytes, reportLine, mostDecimals, Decimals, isDecimals, usualDecimals}
 use Rattle.report.specs.Says.{columnOf, LoadSays, no-load, rounded, Says, says-accepted, says-refused, LineSays}
@@ -115,27 +116,28 @@ module _ (mesh claim : List ℕ) (z : ℤ) (before : List ℕ) (number place : �
         writes = h .bufferIs ∙ ap (λ x. x .buffer) e;
       }
 
--- no verdict has a number above 33 but 42 and 44, so none has 41 or 43
-not-of-a-verdict : (x : ℕ) → 33 < x → x ≢ 42 → x ≢ 44 → (m c : List ℤ) → numberOf (verdict m c) ≢ x
-not-of-a-verdict x above not-42 not-44 m c = by (verdict-cases m c)
+-- no verdict has a number that the table has not, so none has 41 or 43
+unlike : ℕ → List ℕ → Bool
+unlike x [] = true
+unlike x (k ∷ rest) = not (eqb x k) && unlike x rest
+
+not-listed : (x : ℕ) (ks : List ℕ) → T (unlike x ks) → ¬ (x ∈ ks)
+unfolding unlike
+not-listed x [] t h = absurd (List·Memᴰ·not-nil h)
+not-listed x (k ∷ rest) t h =
+    let (differs, later) = both (opposite (equal x k)) (record { holds = λ t. t; passes = λ t. t }) .holds t in
+    ⊎-elim differs (not-listed x rest later) (List·Memᴰ·cases-cons h)
+
+neither-listed : T (unlike 41 tableNumbers) × T (unlike 43 tableNumbers)
+unfolding unlike
+neither-listed = (tt, tt)
+
+not-of-a-verdict : (x : ℕ) → x ≢ 0 → T (unlike x tableNumbers) → (m c : List ℤ) → numberOf (verdict m c) ≢ x
+not-of-a-verdict x above t m c = by (verdict-cases m c)
   where
-    of-mesh : {k : ℕ} → (k ≤ 13) ⊎ ((k ≡ 42) ⊎ (k ≡ 44)) → k ≢ x
-    of-mesh (inl h) e = omega (arith, above)
-    of-mesh (inr (inl h)) e = not-42 (sym e ∙ h)
-    of-mesh (inr (inr h)) e = not-44 (sym e ∙ h)
-
-    each : EachIn (λ k p. k ≢ x) (meshPhases m ++ claimPhases m c)
-    each =
-        each-number (λ k p. k ≢ x) m c (λ k p h. of-mesh (h .1))
-        (λ k n h l r e. omega (arith, above, own-number {k = 21} refl r), λ i. (λ k n h l r e. omega (arith, above, own-number {k = 22} refl r), λ i. tt))
-        (λ a b d. (
-          λ k n h l r e. omega (arith, above, own-number {k = 31} refl r),
-          λ i. (λ k n h l r e. omega (arith, above, own-number {k = 32} refl r), λ i. (λ k n h l r e. omega (arith, above, own-number {k = 33} refl r), λ i. tt)),
-        ))
-
     by : ((k : ℕ) × (p : Place) × (verdict m c ≡ Refused k p)) ⊎ (verdict m c ≡ Accepted (openCount m c) (lowerLoad c) (upperLoad m c)) → numberOf (verdict m c) ≢ x
-    by (inl (k, p, e)) = rw e (each-refusal (λ k p. k ≢ x) (meshPhases m ++ claimPhases m c) each (refused-exactly m c k p .0 e .by))
-    by (inr e) = rw e (λ y. omega (arith, above))
+    by (inl (k, p, e)) = rw e (λ h. not-listed x tableNumbers t (subst (λ i. i ∈ tableNumbers) h (in-table m c k p (refused-exactly m c k p .0 e))))
+    by (inr e) = rw e (λ h. above (sym h))
 
 -- the line that is printed
 pub says-line : (d : ℕ) → d ≤ mostDecimals → (m c : List ℤ) → LineSays d (verdict m c) (reportLine d (verdict m c))
@@ -271,8 +273,8 @@ module _ (mesh claim : List ℕ) (z : ℤ) (before : List ℕ) (number place : �
     size = as-long came;
   }
     where
-      of-the-call : (x : ℕ) → 33 < x → x ≢ 42 → x ≢ 44 → number ≡ x → LineWritten mesh claim z before number place after → ⊥
-      of-the-call x a o q e w = not-of-a-verdict x a o q (meshIn mesh) (claimIn mesh claim) (sym (w .returns .numberIs) ∙ e)
+      of-the-call : (x : ℕ) → x ≢ 0 → T (unlike x tableNumbers) → number ≡ x → LineWritten mesh claim z before number place after → ⊥
+      of-the-call x a t e w = not-of-a-verdict x a t (meshIn mesh) (claimIn mesh claim) (sym (w .returns .numberIs) ∙ e)
 
       forty-three : ¬ Decimals z → Cases mesh claim z before number place after → (number ≡ 43) × (place ≡ 0) × (after ≡ before)
       forty-three n (other o u) = (u .number-is, u .place-0, u .untouched)
@@ -282,7 +284,7 @@ module _ (mesh claim : List ℕ) (z : ℤ) (before : List ℕ) (number place : �
       then-others : number ≡ 43 → Cases mesh claim z before number place after → ¬ Decimals z
       then-others e (other o u) = o
       then-others e (short d l u) = absurd (omega (arith, u .number-is))
-      then-others e (line r w) = absurd (of-the-call 43 (omega arith) (λ x. omega arith) (λ x. omega arith) e w)
+      then-others e (line r w) = absurd (of-the-call 43 (λ x. omega arith) (neither-listed .1) e w)
 
       forty-one : Decimals z → length before < reportBytes → Cases mesh claim z before number place after → (number ≡ 41) × (place ≡ 0) × (after ≡ before)
       forty-one d l (other o u) = absurd (o d)
@@ -292,7 +294,7 @@ module _ (mesh claim : List ℕ) (z : ℤ) (before : List ℕ) (number place : �
       then-short : number ≡ 41 → Cases mesh claim z before number place after → Decimals z × (length before < reportBytes)
       then-short e (other o u) = absurd (omega (arith, u .number-is))
       then-short e (short d l u) = (d, l)
-      then-short e (line r w) = absurd (of-the-call 41 (omega arith) (λ x. omega arith) (λ x. omega arith) e w)
+      then-short e (line r w) = absurd (of-the-call 41 (λ x. omega arith) (neither-listed .0) e w)
 
       beyond : Cases mesh claim z before number place after → drop reportBytes after ≡ drop reportBytes before
       beyond (other o u) = ap (drop reportBytes) (u .untouched)
@@ -328,6 +330,7 @@ module _ (mesh claim : List ℕ) (z : ℤ) (before : List ℕ) (number place : �
         multipliers = multipliers-exactly (meshIn mesh) (claimIn mesh claim) number place r;
         pairs = pairs-asked (meshIn mesh) (claimIn mesh claim) number place r;
         criterion = criterion-for-each-pair (meshIn mesh) (claimIn mesh claim) number place r;
+        overlaps = overlaps-asked (meshIn mesh) (claimIn mesh claim) number place r;
         jumps = jumps-asked (meshIn mesh);
         tractions = tractions-on-joints (meshIn mesh) (claimIn mesh claim) number place r;
       }

@@ -24,7 +24,7 @@ use Rattle.scope.specs.Tests.{rowAt}
 use Rattle.scope.specs.Verdict.{lowerLoad, upperLoad}
 use Rattle.numbers.specs.declared.numbers_answer.NumbersAnswer.{NumbersAnswer}
 use Rattle.numbers.specs.Promises as Handed-over
-use Rattle.numbers.specs.Promises.{Returned, ReturnsZero, RefusesExactly, NumbersListed, TellsField, RowsRefused, FieldExactly, MultipliersExactly, CriterionForEachPair, PairsAsked, JumpsAsked, TractionsOnJoints, FractionsBracket}
+use Rattle.numbers.specs.Promises.{Returned, ReturnsZero, RefusesExactly, NumbersListed, TellsField, RowsRefused, FieldExactly, MultipliersExactly, CriterionForEachPair, PairsAsked, OverlapsAsked, JumpsAsked, TractionsOnJoints, FractionsBracket}
 use Rattle.numbers.specs.NumbersAnswer.{answerOf}
 use Rattle.reader.specs.File.{fileOf, fileWidth}
 use Rattle.reader.specs.WellFormed.{Fit, FormFails}
@@ -77,7 +77,8 @@ pub record LongFiles (mesh claim : List ℕ) (z : ℤ) (before : List ℕ) (numb
 -- ==== Demand 2: what is accepted, what is refused, what is printed; where a line is written (`Room`)
 
 -- 0 exactly when, each refusal with its place exactly when, no number but those of the table, each part accepted
--- exactly when, the pairs with the criterion for each, and the jumps with the tractions on their joints
+-- exactly when, the pairs with the criterion for each, the elements that lie on each other, and the jumps with the
+-- tractions on their joints
 pub record OnFiles (mesh claim : List ℕ) (number place : ℕ) : Type 0 where
   pub returns-zero : ReturnsZero (meshIn mesh) (claimIn mesh claim) number place
   pub refuses : RefusesExactly (meshIn mesh) (claimIn mesh claim) number place
@@ -87,6 +88,7 @@ pub record OnFiles (mesh claim : List ℕ) (number place : ℕ) : Type 0 where
   pub multipliers : MultipliersExactly (meshIn mesh) (claimIn mesh claim) number
   pub pairs : PairsAsked (meshIn mesh) number place
   pub criterion : TellsField (claimIn mesh claim) number → CriterionForEachPair (meshIn mesh) (claimIn mesh claim)
+  pub overlaps : OverlapsAsked (meshIn mesh) number place
   pub jumps : JumpsAsked (meshIn mesh)
   pub tractions : TractionsOnJoints (meshIn mesh) (claimIn mesh claim) number
 
