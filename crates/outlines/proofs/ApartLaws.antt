@@ -3,7 +3,9 @@
 use mathlib.Core.Path.{_≡_, refl, sym, _∙_, ap, subst}
 use mathlib.Core.Bool.{Bool, true, false, _||_, or-true, or-false}
 use mathlib.Core.List.{List}
-use Prim.Native.Nat.{ℕ, suc, _<_}
+use Prim.Native.Nat.{ℕ, suc, _+_, _≤_, _<_}
+use native.Mathlib.Decide.{decLt}
+use native.Mathlib.Omega.{arith}
 use lib.Dec.{T, T-not}
 use lib.IntN.{ℤ, pos}
 use lib.Signed.{leZ, ltZ, ltZ-yes, ltZ-no}
@@ -15,10 +17,10 @@ use Rattle.scope.specs.declared.Outcome.the-variants.{Passed}
 use Rattle.scope.specs.Mesh.{elements, around}
 use Rattle.scope.specs.Phases.{checkPhase}
 use Rattle.scope.specs.Refusals.{turnsPhase}
-use Rattle.scope.specs.Tests.{turn, leftTurns, partedBy, apartFrom}
+use Rattle.scope.specs.Tests.{turn, leftTurns, partedBy, apartFrom, liesApart}
 use Rattle.scope.proofs.Statements.{left-turns}
 use Rattle.scope.proofs.Overlaps.{element-convex, none-shared}
-use Rattle.lines.proofs.Loops.{phase-passed}
+use Rattle.lines.proofs.Loops.{phase-passed, all-of-each}
 use Rattle.outlines.specs.BoxContracts.{boxAt, BoxTable, boxesApart, Turned}
 use Rattle.outlines.proofs.BoxTables.{clear}
 
@@ -48,6 +50,34 @@ module _ (m : List ℤ) (d e : ℕ) where
   pub by-lower : {r : Bool} → partedBy m e d ≡ false → r ≡ partedBy m d e → r ≡ apartFrom m d e
   unfolding apartFrom
   by-lower h s = s ∙ sym (ap (λ (b : Bool). partedBy m d e || b) h ∙ or-false (partedBy m d e))
+
+-- ---- one element and those below it, from the nearest down
+
+-- element e is apart from those from d up
+abbrev pub ApartDownTo : List ℤ → ℕ → ℕ → Type 0
+ApartDownTo m e d = (k : ℕ) → d ≤ k → k < e → apartFrom m k e ≡ true
+
+pub down-more : (m : List ℤ) (e : ℕ) {d above : ℕ} → ApartDownTo m e above → above ≡ d + 1 → apartFrom m d e ≡ true
+    → ApartDownTo m e d
+down-more m e {d} {above} old next here k l h = elim (decLt d k) [
+  | yes i ↦ old k (omega arith) h
+  | no i ↦ subst (λ (j : ℕ). apartFrom m j e ≡ true) (same i) here
+]
+  where
+    same : ¬ (d < k) → d ≡ k
+    same i = omega (arith, i)
+
+-- and from the rest
+pub down-rest : (m : List ℤ) (e : ℕ) {d : ℕ} → ApartDownTo m e d → ((k : ℕ) → k < d → apartFrom m k e ≡ true)
+    → true ≡ liesApart m e
+unfolding liesApart
+down-rest m e {d} from rest = sym (all-of-each (λ k. apartFrom m k e) e each)
+  where
+    each : (k : ℕ) → k < e → apartFrom m k e ≡ true
+    each k l = elim (decLt k d) [
+      | yes i ↦ rest k i
+      | no i ↦ from k (omega (arith, i)) l
+    ]
 
 -- ---- one corner
 

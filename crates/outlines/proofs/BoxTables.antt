@@ -1,7 +1,7 @@
 -- Boxes around elements: a box of an element's four nodes has its corners; a box that is put at its place leaves the
 -- others; and what the test of two boxes says.
 use mathlib.Core.Path.{_≡_, refl, sym, _∙_, ap, subst}
-use mathlib.Core.Logic.{_⊎_, inl, inr}
+use mathlib.Core.Logic.{_⊎_, inl, inr, ⊎-elim}
 use mathlib.Core.Bool.{Bool, true, _||_}
 use mathlib.Core.List.{List, Memᴰ·of-map}
 use Prim.Native.Nat.{ℕ, zero, suc, _+_, _*_, _%_, _≤_, _<_}
@@ -15,7 +15,8 @@ use mir.Syntax.{w16}
 use mir.Val.{Fits}
 use borrow.Author.Tests.{le-leb, lt-leb}
 use Rattle.integer.specs.Bounds.{Is}
-use Rattle.integer.proofs.Machine.{Is-nonNeg}
+use Rattle.integer.proofs.Machine.{Is-nonNeg, is-true}
+use Rattle.integer.proofs.TestLaws.{same-test}
 use Rattle.integer.proofs.Order.{pos-≤ℤ, ≤ℤ-pos}
 use Rattle.plane.specs.Points.{Corner}
 use Rattle.plane.specs.Boxes.{Box, InBox, Around, Clear}
@@ -27,7 +28,7 @@ use Rattle.scope.proofs.Checks.{below-suc}
 use Rattle.scope.proofs.Decides.{Decides, either, said-as, at-most}
 use Rattle.scope.proofs.Triangles.{around-below}
 use Rattle.outlines.specs.declared.boxes.ElementBox.{ElementBox}
-use Rattle.outlines.specs.BoxContracts.{boxOf, boxAt, putBox, BoxTable, boxesApart}
+use Rattle.outlines.specs.BoxContracts.{boxOf, boxAt, putBox, BoxTable, Reach, allBefore, boxesApart}
 
 -- ---- a coordinate as the machine has it: not below 0, and of 16 bits
 
@@ -202,3 +203,54 @@ case-here a b rest l = sym (ap (λ (z : Bool). z || rest) (le-leb a b l))
 
 pub case-next : (a b : ℕ) {r rest : Bool} → b < a → r ≡ rest → r ≡ (leb a b || rest)
 case-next a b {r} {rest} l e = e ∙ sym (ap (λ (z : Bool). z || rest) (lt-leb a b l))
+
+-- ---- how far elements reach
+
+-- none below the first
+pub no-reach : (t : List ℕ) (side : ℕ) → Reach t side 0 (replicate mostElements 0)
+no-reach t side = record { size = length-replicate {A = ℕ} mostElements 0; upTo = λ d k l. absurd (omega arith) }
+
+-- what no number of the elements below d passes
+abbrev pub Most : List ℕ → ℕ → ℕ → ℕ → Type 0
+Most t side d most = (k : ℕ) → k < d → getD t (k * 4 + side) 0 ≤ most
+
+-- one element more
+module _ {t r : List ℕ} {side d most next : ℕ} (reach : Reach t side d r) (passed : Most t side d most) where
+  pub most-more : most ≤ next → getD t (d * 4 + side) 0 ≤ next → Most t side (d + 1) next
+  most-more old own k l = by (below-suc (omega arith))
+    where
+      by : (k < d) ⊎ (k ≡ d) → getD t (k * 4 + side) 0 ≤ next
+      by (inl i) = omega (arith, passed k i)
+      by (inr e) = subst (λ (i : ℕ). getD t (i * 4 + side) 0 ≤ next) (sym e) own
+
+  pub reach-more : {u : List ℕ} → d < mostElements → Most t side (d + 1) next → u ≡ set r d next
+      → Reach t side (d + 1) u
+  reach-more {u} l more e = record {
+    size = ap length e ∙ length-set r d next ∙ reach .size;
+    upTo = λ i k j h. subst (λ (w : List ℕ). getD t (k * 4 + side) 0 ≤ getD w i 0) (sym e) (by i k h (below-suc (omega arith)));
+  }
+    where
+      by : (i k : ℕ) → k ≤ i → (i < d) ⊎ (i ≡ d) → getD t (k * 4 + side) 0 ≤ getD (set r d next) i 0
+      by i k h (inl j) =
+          subst (λ (n : ℕ). getD t (k * 4 + side) 0 ≤ n) (sym (getD-set-other r d i next 0 (λ e. omega arith)))
+          (reach .upTo i k j h)
+      by i k h (inr j) =
+          subst (λ (n : ℕ). getD t (k * 4 + side) 0 ≤ n)
+          (sym (ap (λ (i : ℕ). getD (set r d next) i 0) j ∙ getD-set-same r d next 0 (omega (arith, reach .size))))
+          (more k (omega arith))
+
+pub reach-to : {t r : List ℕ} {side d n : ℕ} → Reach t side d r → n ≡ d → Reach t side n r
+reach-to {t} {r} {side} h s = subst (λ (n : ℕ). Reach t side n r) (sym s) h
+
+-- where those up to d end before e, so does each
+pub each-before : (e : ℕ) {t r q : List ℕ} {n d : ℕ} → Reach t 1 n r → Reach t 3 n q → d < n
+    → allBefore t e (getD r d 0) (getD q d 0) ≡ true → (k : ℕ) → k ≤ d → boxesApart t k e ≡ true
+unfolding allBefore
+each-before e {t} {r} {q} {n} {d} right top l h k j =
+    same-test (λ u. tt) (λ u.
+    clear t k e .passes
+    (⊎-elim
+    (λ a. inl (pos-≤ℤ (omega (arith, top .upTo d k l j, a))))
+    (λ a. inr (inl (pos-≤ℤ (omega (arith, right .upTo d k l j, a)))))
+    (either (at-most (getD q d 0) (getD t (e * 4 + 2) 0)) (at-most (getD r d 0) (getD t (e * 4) 0)) .holds
+    (is-true refl h))))

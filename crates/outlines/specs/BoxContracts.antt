@@ -3,7 +3,7 @@
 use mathlib.Core.Path.{_≡_}
 use mathlib.Core.Bool.{Bool, _||_}
 use mathlib.Core.List.{List}
-use Prim.Native.Nat.{ℕ, _+_, _*_, _<_}
+use Prim.Native.Nat.{ℕ, _+_, _*_, _≤_, _<_}
 use lib.IntN.{ℤ, pos}
 use lib.Dec.{leb}
 use lib.ListN.{length, getD, set}
@@ -33,6 +33,15 @@ putBox t e b =
 pub record BoxTable (m : List ℤ) (e : ℕ) (t : List ℕ) : Type 0 where
   pub size : length t ≡ mostElements * 4
   pub around : (d : ℕ) → d < e → Around (boxAt t d) (outline m d)
+
+-- of the elements below n, those up to each reach no further than its number in r: to the right by side 1, up by side 3
+pub record Reach (t : List ℕ) (side n : ℕ) (r : List ℕ) : Type 0 where
+  pub size : length r ≡ mostElements
+  pub upTo : (d k : ℕ) → d < n → k ≤ d → getD t (k * 4 + side) 0 ≤ getD r d 0
+
+-- what reaches so far right and so far up ends below element e, or left of it
+unfoldable pub allBefore : List ℕ → ℕ → ℕ → ℕ → Bool
+allBefore t e right top = leb top (getD t (e * 4 + 2) 0) || leb right (getD t (e * 4) 0)
 
 -- the boxes of the elements d and e have no inner point in common
 unfoldable pub boxesApart : List ℕ → ℕ → ℕ → Bool

@@ -11,9 +11,9 @@ ghost use Rattle.plane.specs.Boxes.{Around};
 ghost use Rattle.scope.specs.Mesh.{mostElements, nodes, elements, x, y};
 ghost use Rattle.scope.specs.Outline.{outline};
 ghost use Rattle.mesh.specs.MeshContracts.{Sized};
-ghost use Rattle.outlines.specs.BoxContracts.{boxOf, putBox, BoxTable, boxesApart};
+ghost use Rattle.outlines.specs.BoxContracts.{boxOf, putBox, BoxTable, Reach, boxesApart};
 
-const BOX: usize = 4;
+pub const BOX: usize = 4;
 
 pub const BOXES: usize = MOST_ELEMENTS * BOX;
 
@@ -125,8 +125,23 @@ pub fn box_table(m: &[i64], s: Sizes) -> [u16; BOXES]
     t
 }
 
-// Whether the boxes of the elements d and e have no inner point in common. For speed it is asked first whether the lower
-// element lies below: of elements that are numbered row by row most do.
+// How far the elements from the first to each reach, by one number of their boxes: 1 to the right, 3 up.
+pub fn reach(t: &[u16; BOXES], count: usize, side: usize) -> [u16; MOST_ELEMENTS]
+    requires { ⌜ (count ≤ mostElements) × (side < 4) ⌝ }
+    ensures { λ r. ⌜ Reach (now (t .entry)) side count r ⌝ }
+{
+    let mut r = [0u16; MOST_ELEMENTS];
+    let mut most: u16 = 0;
+    let mut d: usize = 0;
+    while d < count {
+        most = higher(most, t[d * BOX + side]);
+        r[d] = most;
+        d += 1;
+    }
+    r
+}
+
+// Whether the boxes of the elements d and e have no inner point in common.
 pub fn boxes_apart(t: &[u16; BOXES], d: usize, e: usize) -> bool
     requires { ⌜ (d < mostElements) × (e < mostElements) ⌝ }
     ensures { λ r. ⌜ r ≡ boxesApart (now (t .entry)) d e ⌝ }
