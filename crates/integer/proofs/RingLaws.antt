@@ -3,6 +3,7 @@
 -- Example (`example-signs`, checked after `*ℤ-negℤ`): two signs cancel in a product, (-a)·(-b) = a·b, once each stands in front of it:
 --     simp (*ℤ-negℤ, negℤ-*ℤ, negℤ-negℤ)
 use mathlib.Core.Path.{_≡_, refl, sym, _∙_, ap, ap₂}
+use mathlib.Core.Logic.{_⊎_, inl, inr}
 use Prim.Native.Nat.{ℕ, zero, suc, _+_, _*_, _-_, _≤_, _<_}
 use native.Mathlib.Omega.{arith}
 use mathlib.Core.Bool.{Bool, true, false, cond}
@@ -108,3 +109,12 @@ pos-injective e = ap natAbs e
 pub natAbs-zero : (a : ℤ) → natAbs a ≡ 0 → a ≡ pos 0
 natAbs-zero (pos n) e = ap pos e
 natAbs-zero (negsuc n) e = absurd (let f : suc n ≡ 0 = e in omega arith)
+
+-- a product is 0 only where a factor is
+pub zero-product : (a b : ℤ) → a *ℤ b ≡ pos 0 → (a ≡ pos 0) ⊎ (b ≡ pos 0)
+zero-product a b e = sides (natAbs a) (natAbs b) (sym (natAbs-*ℤ a b) ∙ ap natAbs e) (natAbs-zero a) (natAbs-zero b)
+  where
+    sides : (m n : ℕ) → m * n ≡ 0 → (m ≡ 0 → a ≡ pos 0) → (n ≡ 0 → b ≡ pos 0) → (a ≡ pos 0) ⊎ (b ≡ pos 0)
+    sides zero n h f g = inl (f refl)
+    sides (suc m) zero h f g = inr (g refl)
+    sides (suc m) (suc n) h f g = absurd (omega arith)

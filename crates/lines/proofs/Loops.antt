@@ -1,7 +1,7 @@
 -- Loops over tests, one law for each turn and each way out, and what the search for the lowest place says of checks: by what it is to be the lowest.
 use mathlib.Core.Path.{_≡_, refl, sym, _∙_, ap, ap₂, subst}
 use mathlib.Core.Logic.{_⊎_, inl, inr}
-use mathlib.Core.Bool.{Bool, true, false, not, cond, _&&_, and-false}
+use mathlib.Core.Bool.{Bool, true, false, not, cond, _&&_, _||_, and-false, or-true}
 use Prim.Native.Nat.{ℕ, zero, suc, _+_, _≤_, _<_}
 use native.Mathlib.Numerals.{add-one}
 use native.Mathlib.Decide.{decLt}
@@ -11,7 +11,7 @@ use borrow.Author.Tests.{eq-eqb}
 use Rattle.scope.specs.declared.Place.{Place}
 use Rattle.scope.specs.declared.Outcome.{Outcome}
 use Rattle.scope.specs.declared.Outcome.the-variants.{Passed, Refused}
-use Rattle.scope.specs.Checks.{demand, _then_, lowest, allBelow}
+use Rattle.scope.specs.Checks.{demand, _then_, lowest, someBelow, allBelow}
 use Rattle.scope.specs.Rows.{firstWhere}
 use Rattle.scope.proofs.Checks.{passed-is-not-refused, below-suc, lowest-all, all-lowest, first-refused}
 use Rattle.scope.proofs.Decides.{First, first-where}
@@ -51,6 +51,19 @@ pub all-cong : (f g : ℕ → Bool) (n : ℕ) → ((i : ℕ) → i < n → f i �
 unfolding allBelow
 all-cong f g zero h = refl
 all-cong f g (suc n) h = ap₂ _&&_ (all-cong f g n (λ i l. h i (omega arith))) (h n (omega arith))
+
+pub some-there : (f : ℕ → Bool) (n : ℕ) {i : ℕ} → i < n → f i ≡ true → someBelow f n ≡ true
+unfolding someBelow
+some-there f zero l k = absurd (omega arith)
+some-there f (suc n) {i} l k = by (λ j. some-there f n j k) (below-suc l)
+  where
+    by : (i < n → someBelow f n ≡ true) → (i < n) ⊎ (i ≡ n) → (someBelow f n || f n) ≡ true
+    by lower (inl j) = ap (λ (b : Bool). b || f n) (lower j)
+    by lower (inr e) = ap (λ (b : Bool). someBelow f n || b) (ap f (sym e) ∙ k) ∙ or-true (someBelow f n)
+
+pub none-more : (f : ℕ → Bool) {i : ℕ} → someBelow f i ≡ false → f i ≡ false → someBelow f (i + 1) ≡ false
+unfolding someBelow
+none-more f {i} h k = subst (λ (n : ℕ). someBelow f n ≡ false) (sym (add-one i)) (ap₂ _||_ h k)
 
 -- ---- the search for the lowest place at which a test fails
 

@@ -231,7 +231,7 @@ fn thing_in(m: &[i64], from: usize, i: usize, width: usize, c: usize) -> usize
 }
 
 // The coordinates of node v.
-fn node_x(m: &[i64], s: Sizes, v: usize) -> i64
+pub fn node_x(m: &[i64], s: Sizes, v: usize) -> i64
     requires { ⌜ Sized (now m) s × (v < nodes (now m)) ⌝ }
     ensures { λ r. ⌜ Is r (x (now (m .entry)) v) 1000 ⌝ }
 {

@@ -113,10 +113,13 @@ mesh-placed m =
         λ e. (
           λ k c h l r. own (Node (suc k)) (plain 7 (Node (suc k)) (λ e. omega arith) (λ e. omega arith)) r,
           λ e. (
-            λ k c h l r. own (Line (suc (edgeLine m k))) (plain 8 (Line (suc (edgeLine m k))) (λ e. omega arith) (λ e. omega arith)) r,
+            λ k c h l r. own (Element (suc k)) (plain 47 (Element (suc k)) (λ e. omega arith) (λ e. omega arith)) r,
             λ e. (
-              λ k c h l r. own (Line (suc (jumpLine m k))) (plain 44 (Line (suc (jumpLine m k))) (λ e. omega arith) (λ e. omega arith)) r,
-              λ e. (λ k c h l r. own (Node (suc k)) (plain 42 (Node (suc k)) (λ e. omega arith) (λ e. omega arith)) r, λ i. tt),
+              λ k c h l r. own (Line (suc (edgeLine m k))) (plain 8 (Line (suc (edgeLine m k))) (λ e. omega arith) (λ e. omega arith)) r,
+              λ e. (
+                λ k c h l r. own (Line (suc (jumpLine m k))) (plain 44 (Line (suc (jumpLine m k))) (λ e. omega arith) (λ e. omega arith)) r,
+                λ e. (λ k c h l r. own (Node (suc k)) (plain 42 (Node (suc k)) (λ e. omega arith) (λ e. omega arith)) r, λ i. tt),
+              ),
             ),
           ),
         ),

@@ -13,7 +13,7 @@ use Rattle.integer.proofs.FractionLaws.{≤ᶠ-trans, ≈ᶠ→≤ᶠ, ≈ᶠ-s
 use Rattle.integer.specs.Tests.{eqZ}
 use Rattle.integer.proofs.TestLaws.{eqZ-yes, eqZ-no}
 use Rattle.scope.specs.declared.Place.{Place}
-use Rattle.scope.specs.declared.Place.the-variants.{Line}
+use Rattle.scope.specs.declared.Place.the-variants.{Line, Element}
 use Rattle.scope.specs.declared.Load.{Load}
 use Rattle.scope.specs.declared.Load.the-variants.{Absent, Exact}
 use Rattle.scope.specs.declared.OpenRows.the-variants.{Absent as NoCount}
@@ -37,6 +37,8 @@ use Rattle.scope.proofs.RefusedRows.{equality-fails, strength-fails, pairs-fail
 use Rattle.scope.proofs.Exactly.{accepted-exactly, refused-exactly, verdict-cases, returns-zero, claim-by-parts, field-before-multipliers, refused-after-field}
 use Rattle.scope.proofs.Printed.{field-printed}
 use Rattle.scope.proofs.AcceptedField.{accepted-criterion, criterion-around, tractions-agree}
+use Rattle.scope.proofs.Overlaps.{sound-mesh-apart}
+use Rattle.scope.proofs.OverlapRefused.{overlap-named, never-for-this}
 use Rattle.scope.proofs.Jumps.{sound-jumps, tip-asks-nothing, no-jumps}
 use Rattle.scope.proofs.Pairs.{pairs, sound-pairs}
 use Rattle.scope.proofs.Phases.{join-refused}
@@ -55,7 +57,7 @@ use Rattle.verdict.specs.declared.MeshAnswer.{MeshAnswer}
 use Rattle.numbers.proofs.NumbersListed.{refusal-listed}
 use Rattle.numbers.specs.declared.numbers_answer.NumbersAnswer.{NumbersAnswer}
 use Rattle.numbers.specs.NumbersAnswer.{there, numerator, denominator, counted, answerOf}
-use Rattle.numbers.specs.Promises.{Answers, Returned, ReturnsZero, RefusesExactly, NumbersListed, RowsRefused, TellsField, FieldExactly, MultipliersExactly, FieldReported, MultipliersReported, CriterionForEachPair, PairsAsked, SidesAsked, JumpsAsked, TractionsOnJoints, CallsBracket, TwoAnswers, AnswerAndMultipliers, OpenRowsReported, FractionsBracket, FractionsAndAnswer, FieldInFractions, MeshAnsweredExactly, TrianglesAsked}
+use Rattle.numbers.specs.Promises.{Answers, Returned, ReturnsZero, RefusesExactly, NumbersListed, RowsRefused, TellsField, FieldExactly, MultipliersExactly, FieldReported, MultipliersReported, CriterionForEachPair, PairsAsked, SidesAsked, JumpsAsked, TractionsOnJoints, CallsBracket, TwoAnswers, AnswerAndMultipliers, OpenRowsReported, FractionsBracket, FractionsAndAnswer, FieldInFractions, MeshAnsweredExactly, TrianglesAsked, OverlapsAsked}
 
 -- every answer returns the verdict's number and place
 pub returned : {m c : List ℤ} {r : NumbersAnswer} → Answers m c r → Returned m c (r .number) (r .place)
@@ -190,6 +192,17 @@ module _ (m c : List ℤ) (number place : ℕ) (h : Returned m c number place) w
     where
       of-mesh : MeshRefusal m 2 (Line 1) → Refusal m c 2 (Line 1)
       of-mesh r = record { by = join-refused (meshPhases m) (claimPhases m c) 2 (Line 1) (inl (r .by)) }
+
+  pub overlaps-asked : OverlapsAsked m number place
+  unfolding placeFor
+  overlaps-asked = record {
+    sound = sound-mesh-apart m;
+    refused = λ e. overlap-named m c (Element place) (named e);
+    never = λ none e. never-for-this m c none (Element place) (named e);
+  }
+    where
+      named : number ≡ 47 → Refusal m c 47 (Element place)
+      named e = refuses-exactly .exactly 47 place (λ z. omega arith) .0 (e, refl)
 
 pub jumps-asked : (m : List ℤ) → JumpsAsked m
 jumps-asked m = record { sound = sound-jumps m; tip = tip-asks-nothing m; none = no-jumps m }

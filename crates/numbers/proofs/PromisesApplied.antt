@@ -1,4 +1,4 @@
--- Each promise of the call on numbers applied to document 01's sheet or a neighbour, that of N1 to two triangles, those of N2 to fill over clay and those of N6 to two blocks on a joint too: antt computes the answer, and the promise says the rest.
+-- Each promise of the call on numbers applied to document 01's sheet or a neighbour, that of N1 to two triangles, those of N2 to fill over clay those of N6 to two blocks on a joint, and that of N10 to bars that cross and to those blocks, which touch, too: antt computes the answer, and the promise says the rest.
 use mathlib.Core.Path.{_≡_, refl, sym, _∙_, ap, subst₂}
 use mathlib.Core.Logic.{inl, inr}
 use mathlib.Core.List.{List, [], _∷_, _++_}
@@ -27,7 +27,7 @@ use Rattle.scope.specs.Bracket.{Open, NoneOpen}
 use Rattle.scope.specs.Fractions.{Fraction, FractionField, fieldOver}
 use Rattle.scope.specs.AcceptedFractions.{MeetsMesh}
 use Rattle.scope.specs.Parts.{SameRows, NumberOf, PartsBracket}
-use Rattle.scope.specs.Worked.{zeros, workedMesh, workedStresses, workedMultipliers, workedClaim, multipliersAlone, sheet, sheet19, sheet29, freeShear, twoTriangles, fieldAlone, fillOverClay, overClay, blocks, blockEdges, joint, twoBlocks, onJoint}
+use Rattle.scope.specs.Worked.{zeros, workedMesh, workedStresses, workedMultipliers, workedClaim, multipliersAlone, sheet, sheet19, sheet29, freeShear, twoTriangles, fieldAlone, fillOverClay, overClay, blocks, blockEdges, joint, twoBlocks, onJoint, crossingBars}
 use Rattle.scope.proofs.Printed.{field-printed}
 use Rattle.scope.proofs.Applied.{free-field, free-rows}
 use Rattle.scope.specs.Tests.{rowAt}
@@ -35,12 +35,13 @@ use Rattle.scope.specs.Mesh.{elements, sides, jumps, corner, elementSoil, jumpF
 use Rattle.scope.specs.Statements.{MeshSound}
 use Rattle.scope.specs.Triangles.{Triangle}
 use Rattle.scope.specs.Pairs.{SoilAround, rowsBefore}
+use Rattle.scope.specs.Overlaps.{NoneOnEachOther, OnEachOther}
 use Rattle.scope.specs.Jumps.{SameTraction}
 use Rattle.verdict.specs.declared.MeshAnswer.{MeshAnswer}
 use Rattle.verdict.specs.JudgeContracts.{MeshAnswered}
 use Rattle.numbers.specs.declared.numbers_answer.NumbersAnswer.{NumbersAnswer}
 use Rattle.numbers.specs.Promises.{Answers, returnedNumbers, TellsField, FieldInFractions}
-use Rattle.numbers.proofs.Promises.{mesh-answered-exactly, returned, returns-zero-exactly, refuses-exactly, numbers-listed, field-exactly, multipliers-exactly, criterion-for-each-pair, pairs-asked, jumps-asked, tractions-on-joints, rows-refused, field-reported, multipliers-reported, open-rows-reported, field-in-fractions, calls-bracket, call-bracket, accepted-parts, fractions-bracket, triangles-asked}
+use Rattle.numbers.proofs.Promises.{mesh-answered-exactly, returned, returns-zero-exactly, refuses-exactly, numbers-listed, field-exactly, multipliers-exactly, criterion-for-each-pair, pairs-asked, overlaps-asked, jumps-asked, tractions-on-joints, rows-refused, field-reported, multipliers-reported, open-rows-reported, field-in-fractions, calls-bracket, call-bracket, accepted-parts, fractions-bracket, triangles-asked}
 
 -- ---- what is answered
 
@@ -341,3 +342,22 @@ no-jump = refl
 
 pub sheet-equalities-stay : equalityRows workedMesh ≡ balanceRows workedMesh ++ sideRows workedMesh
 sheet-equalities-stay = jumps-asked workedMesh .none no-jump
+
+-- ---- overlaps: bars that cross, and the two blocks, which touch along a side
+
+pub crossingAnswer : NumbersAnswer
+crossingAnswer = record { number = 47; place = 3; field = 0; multipliers = 0; l = pos 0; n = pos 0; w = pos 0; m = pos 0; «open_rows» = 0 }
+
+pub crossing-answered : Answers crossingBars [] crossingAnswer
+unfolding computed zeros crossingBars crossingAnswer
+crossing-answered = refl
+
+pub crossing-named : OnEachOther crossingBars 3
+unfolding crossingAnswer
+crossing-named = overlaps-asked crossingBars [] 47 3 (returned crossing-answered) .refused refl
+
+pub blocks-touch : NoneOnEachOther twoBlocks
+unfolding jointAnswer
+blocks-touch =
+    overlaps-asked twoBlocks jointClaim 0 0 (returned joint-answered) .sound
+    (returns-zero-exactly twoBlocks jointClaim 0 0 (returned joint-answered) .exactly .0 refl .mesh)

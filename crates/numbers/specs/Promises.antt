@@ -28,6 +28,7 @@ use Rattle.scope.specs.Printed.{MeetsPrinted}
 use Rattle.scope.specs.RefusedRows.{EqualityFails, StrengthFails, PairsFail}
 use Rattle.scope.specs.PrintedColumns.{MultipliersPrinted, printedLive, printedLimit}
 use Rattle.scope.specs.AcceptedField.{CriterionEverywhere, CriterionAround, TractionsAgree}
+use Rattle.scope.specs.Overlaps.{NoneOnEachOther, OnEachOther}
 use Rattle.scope.specs.Jumps.{SoundJumps, TipAsksNothing, NoJumps}
 use Rattle.scope.specs.Bracket.{Open, NoneOpen}
 use Rattle.scope.specs.Fractions.{FractionField, WrittenOver, FractionLaws, fieldOver}
@@ -55,9 +56,9 @@ pub record Returned (m c : List ℤ) (number place : ℕ) : Type 0 where
 
 -- ==== Demand 2: what is accepted, and what is refused
 
--- "Accepted returns 0, place 0": 0 exactly when the mesh passes 1 to 8, 44 and 42, the claim passes 11 to 13, a field that
--- is there meets every row, and multipliers that are there are zero on every unfixed row, make all 3·nodes columns 0
--- and have m above 0
+-- "Accepted returns 0, place 0": 0 exactly when the mesh passes 1 to 8, 47, 44 and 42, the claim passes 11 to 13, a
+-- field that is there meets every row, and multipliers that are there are zero on every unfixed row, make all 3·nodes
+-- columns 0 and have m above 0
 pub record ReturnsZero (m c : List ℤ) (number place : ℕ) : Type 0 where
   pub exactly : (number ≡ 0) ↔ ClaimAccepted m c
   pub place-zero : number ≡ 0 → place ≡ 0
@@ -131,6 +132,14 @@ pub record PairsAsked (m : List ℤ) (number place : ℕ) : Type 0 where
   pub listed : Pairs m
   pub sound : MeshSound m → SoundPairs m
   pub refused : number ≡ 42 → PairsFail m place
+
+-- "A mesh is refused if two elements share a point inside both, fractions included; .. Absent such a point the mesh is
+-- never refused for this. .. Refused: 47, with the higher element of the pair whose higher number is least" (document 02,
+-- N10)
+pub record OverlapsAsked (m : List ℤ) (number place : ℕ) : Type 0 where
+  pub sound : MeshSound m → NoneOnEachOther m
+  pub refused : number ≡ 47 → OnEachOther m place
+  pub never : NoneOnEachOther m → number ≢ 47
 
 -- "Source 001, 2.3, lets stress jump across a side while normal and shear agree" (document 02, N6): both sides of a joint
 -- are outer sides, used by no edge and by no other jump, and face each other; an end that isn't doubled asks nothing;

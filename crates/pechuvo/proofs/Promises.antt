@@ -33,12 +33,9 @@ use Rattle.scope.specs.Accepted.{ClaimAccepted}
 use Rattle.scope.specs.Parts.{carried, allowed}
 use Rattle.scope.proofs.Exactly.{accepted-exactly, returns-zero, claim-by-parts}
 use Rattle.scope.proofs.Parts.{field-n, open-rows-count}
-use Rattle.scope.proofs.Refusals.{lines-passed}
-use Rattle.numbers.specs.declared.numbers_answer.NumbersAnswer.{NumbersAnswer}
-use Rattle.numbers.specs.NumbersAnswer.{answerOf}
 use Rattle.numbers.specs.Promises as Handed-over
-use Rattle.numbers.specs.Promises.{Returned, TellsField}
-use Rattle.numbers.proofs.Promises.{returned, returns-zero-exactly, refuses-exactly, numbers-listed, rows-refused, field-exactly, multipliers-exactly, pairs-asked, sides-asked, criterion-for-each-pair, jumps-asked, tractions-on-joints, fractions-allowed}
+use Rattle.numbers.specs.Promises.{Returned}
+use Rattle.numbers.proofs.Promises.{returns-zero-exactly, refuses-exactly, numbers-listed, rows-refused, field-exactly, multipliers-exactly, pairs-asked, sides-asked, criterion-for-each-pair, overlaps-asked, jumps-asked, tractions-on-joints}
 use Rattle.report.specs.Text.{Said, number as shows, said}
 use Rattle.report.specs.Report.{reportBytes, reportLine, mostDecimals, Decimals, isDecimals}
 use Rattle.report.specs.Says.{LoadSays, no-load, rounded, Says, says-accepted, says-refused, LineSays}
@@ -279,6 +276,7 @@ module _ (m : List ℤ) (claim : List ℕ) (z : ℤ) (before : List ℕ) (number
         pairs = pairs-asked m c number place r;
         sides = sides-asked m c number place r;
         criterion = criterion-for-each-pair m c number place r;
+        overlaps = overlaps-asked m c number place r;
         jumps = jumps-asked m;
         tractions = tractions-on-joints m c number place r;
       }

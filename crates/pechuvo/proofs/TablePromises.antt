@@ -2,7 +2,7 @@
 use mathlib.Core.Path.{_≡_, refl, sym, _∙_, ap, ap₂, subst}
 use mathlib.Core.Logic.{_⊎_, inl, inr}
 use mathlib.Core.List.{List, [], _∷_, map, append-nil, List·Memᴰ·head, List·Memᴰ·tail}
-use Prim.Native.Nat.{ℕ, zero, suc, _≤_, _<_}
+use Prim.Native.Nat.{ℕ, _≤_, _<_}
 use native.Mathlib.Omega.{arith}
 use lib.IntN.{ℤ, pos}
 use Rattle.scope.specs.declared.Outcome.the-variants.{Passed}
@@ -21,7 +21,7 @@ use Rattle.scope.proofs.Refusals.{mesh-passed}
 use Rattle.scope.proofs.TableVerdict.{tablePhases, OfTable, Came, early, late, came, table-exact, in-two, fits-late, early-number, no-table-verdict, read-as-it-was}
 use Rattle.numbers.specs.Promises.{returnedNumbers, Returned, TellsField}
 use Rattle.numbers.specs.TablePromises.{TableReturned}
-use Rattle.numbers.proofs.Promises.{numbers-listed, field-exactly, multipliers-exactly, fractions-allowed}
+use Rattle.numbers.proofs.Promises.{field-exactly, multipliers-exactly, fractions-allowed}
 use Rattle.numbers.proofs.TablePromises.{table-returned, table-exactly, filled-mesh}
 use Rattle.report.specs.Report.{reportLine, isDecimals, usualDecimals}
 use Rattle.report.proofs.BufferLaws.{these-decimals}
@@ -33,7 +33,7 @@ use Rattle.pechuvo.specs.Check.{answered, check}
 use Rattle.pechuvo.specs.Sheets.{Sheet, printedWith, printed, starred, tabledSheets}
 use Rattle.pechuvo.specs.Answers.{AnswersFor, Answers, AnswersOn}
 use Rattle.pechuvo.specs.Promises.{meshIn, tableIn, meshWith, claimIn, MeshAccepted, Room, AnyCall, AsRead, NoTable, OnTable, Call, on-files, on-numbers, TwoCalls, CallAndMultipliers, FractionsAndCall, Written}
-use Rattle.pechuvo.proofs.VerdictFits.{Sayable, tabled-sayable}
+use Rattle.pechuvo.proofs.VerdictFits.{Sayable, tabled-listed, tabled-sayable}
 use Rattle.pechuvo.proofs.Promises.{Cases, other, short, line, Untouched, by-cases, written, line-is, any-call}
 use Rattle.pechuvo.proofs.Sheets.{starred-sheets, tabled-sheets}
 
@@ -124,29 +124,9 @@ module _ (mesh table claim : List ℕ) where
     unfolding meshFrom
     on-table b = record {
       exactly = table-exactly (t mesh table) (m mesh table) c number place (tabled b);
-      listed = subst (λ (k : ℕ). k ∈ 45 ∷ 46 ∷ returnedNumbers) (sym (tabled b .numberIs)) (by (came (t mesh table) (m mesh table) c));
+      listed = subst (λ (k : ℕ). k ∈ 45 ∷ 46 ∷ returnedNumbers) (sym (tabled b .numberIs)) (tabled-listed (t mesh table) (m mesh table) c);
       filled = filled-mesh (t mesh table) (m mesh table);
     }
-      where
-        first-four : (k : ℕ) → 0 < k → k ≤ 4 → k ∈ returnedNumbers
-        first-four zero p l = absurd (omega arith)
-        first-four (suc zero) p l = List·Memᴰ·tail (List·Memᴰ·head refl)
-        first-four (suc (suc zero)) p l = List·Memᴰ·tail (List·Memᴰ·tail (List·Memᴰ·head refl))
-        first-four (suc (suc (suc zero))) p l = List·Memᴰ·tail (List·Memᴰ·tail (List·Memᴰ·tail (List·Memᴰ·head refl)))
-        first-four (suc (suc (suc (suc zero)))) p l = List·Memᴰ·tail (List·Memᴰ·tail (List·Memᴰ·tail (List·Memᴰ·tail (List·Memᴰ·head refl))))
-        first-four (suc (suc (suc (suc (suc k))))) p l = absurd (omega arith)
-
-        own : {k : ℕ} → OfTable k → k ∈ 45 ∷ 46 ∷ returnedNumbers
-        own {k} (p, inl l) = List·Memᴰ·tail (List·Memᴰ·tail (first-four k p l))
-        own (p, inr (inl e)) = List·Memᴰ·head e
-        own (p, inr (inr e)) = List·Memᴰ·tail (List·Memᴰ·head e)
-
-        by : Came (t mesh table) (m mesh table) c → numberOf (tabledVerdict (t mesh table) (m mesh table) c) ∈ 45 ∷ 46 ∷ returnedNumbers
-        by (early k p r e) = subst (λ (v : Verdict). numberOf v ∈ 45 ∷ 46 ∷ returnedNumbers) (sym e) (own (early-number (t mesh table) (m mesh table) k p r))
-        by (late f e) =
-            let v = verdict (meshRead (t mesh table) (m mesh table)) c in
-            subst (λ (v : Verdict). numberOf v ∈ 45 ∷ 46 ∷ returnedNumbers) (sym e)
-            (List·Memᴰ·tail (List·Memᴰ·tail (numbers-listed (meshRead (t mesh table) (m mesh table)) c (numberOf v) (placeOf v) (record { numberIs = refl; placeIs = refl }) .listed)))
 
 -- ==== Demand 3
 

@@ -1,11 +1,11 @@
 -- Every verdict is one that the line can hold: a refusal's number and place are small, l is within its limit, W fits 64 bits, and no more rows are open than there are.
-use mathlib.Core.Path.{_≡_, refl, sym, _∙_, ap, subst}
-use mathlib.Core.Logic.{_⊎_, inl, inr, _≢_}
-use mathlib.Core.Bool.{Bool, true, false, cond, _&&_}
-use mathlib.Core.List.{List, [], _∷_, _++_}
-use Prim.Native.Nat.{ℕ, suc, _+_, _^_, _≤_, _<_}
+use mathlib.Core.Path.{_≡_, refl, sym, subst}
+use mathlib.Core.Logic.{_⊎_, inl, inr, ⊎-elim, _≢_}
+use mathlib.Core.Bool.{Bool, true, false, cond, not, _&&_}
+use mathlib.Core.List.{List, [], _∷_, List·Memᴰ·head, List·Memᴰ·tail, List·Memᴰ·cases-cons, List·Memᴰ·not-nil}
+use Prim.Native.Nat.{ℕ, zero, suc, _+_, _^_, _≤_, _<_}
 use native.Mathlib.Omega.{arith}
-use lib.Dec.{T}
+use lib.Dec.{T, eqb}
 use lib.IntN.{ℤ, natAbs}
 use lib.ListN.{length, length-append}
 use Rattle.integer.proofs.TestLaws.{eqZ-yes}
@@ -14,25 +14,27 @@ use Rattle.scope.specs.declared.Load.the-variants.{Absent, Exact}
 use Rattle.scope.specs.declared.OpenRows.the-variants.{Absent as NoCount, Count}
 use Rattle.scope.specs.declared.Verdict.{Verdict}
 use Rattle.scope.specs.declared.Verdict.the-variants.{Accepted, Refused}
-use Rattle.scope.specs.Answer.{numberOf}
+use Rattle.scope.specs.Answer.{numberOf, placeOf}
+use Rattle.scope.specs.Members.{_∈_}
 use Rattle.scope.specs.Columns.{hasField, hasMultipliers, n, l}
 use Rattle.scope.specs.Rows.{Row, equalityRows, strengthRows, rowsOf}
 use Rattle.scope.specs.Sums.{weighed, limitSum, liveSum, howMany, isOpen, openRows}
 use Rattle.scope.specs.Claim.{stress, multiplier}
 use Rattle.scope.specs.Verdict.{verdict, lowerLoad, upperLoad, openCount}
-use Rattle.scope.specs.Refusals.{meshPhases, claimPhases}
 use Rattle.scope.specs.Table.{meshRead}
 use Rattle.scope.specs.TableVerdict.{tabledVerdict}
 use Rattle.scope.specs.Accepted.{ClaimAccepted}
 use Rattle.scope.specs.NumberRanges.{MeshFacts, ClaimFacts}
-use Rattle.scope.proofs.Exactly.{verdict-cases, accepted-exactly, refused-exactly, each-number}
-use Rattle.scope.proofs.Phases.{EachIn, each-refusal, own-number}
+use Rattle.scope.proofs.Exactly.{verdict-cases, accepted-exactly, refused-exactly}
+use Rattle.scope.proofs.Decides.{both, opposite, equal}
 use Rattle.scope.proofs.TableVerdict.{OfTable, Came, early, late, came, early-number, early-small}
 use Rattle.scope.proofs.NumberRanges.{mesh-facts}
 use Rattle.scope.proofs.ClaimNumberRanges.{claim-facts}
 use Rattle.scope.proofs.RowCounts.{equality-count}
 use Rattle.scope.proofs.SumBounds.{between, limit-bound}
 use Rattle.scope.proofs.AnswerBounds.{few-strengths, refusal-bounds}
+use Rattle.numbers.specs.Promises.{returnedNumbers}
+use Rattle.numbers.proofs.Promises.{numbers-listed}
 use Rattle.report.specs.Says.{HeldLoad, HeldRows, Held}
 
 at-most-all : {A : Type 0} (f : A → Bool) (l : List A) → howMany f l ≤ length l
@@ -95,28 +97,6 @@ held m c = by (verdict-cases m c)
     by (inl (k, p, e)) = let b = refusal-bounds (refused-exactly m c k p .0 e) in subst Held (sym e) (omega (arith, b .0), omega (arith, b .1))
     by (inr e) = let a = accepted-exactly m c .0 e in subst Held (sym e) (rows-held m c a, lower-held m c a, upper-held m c a)
 
--- no verdict has a number above 33 but 42 and 44, so none has 41 or 43
-not-of-a-verdict : (x : ℕ) → 33 < x → x ≢ 42 → x ≢ 44 → (m c : List ℤ) → numberOf (verdict m c) ≢ x
-not-of-a-verdict x above not-42 not-44 m c = by (verdict-cases m c)
-  where
-    of-mesh : {k : ℕ} → (k ≤ 13) ⊎ ((k ≡ 42) ⊎ (k ≡ 44)) → k ≢ x
-    of-mesh (inl h) e = omega (arith, above)
-    of-mesh (inr (inl h)) e = not-42 (sym e ∙ h)
-    of-mesh (inr (inr h)) e = not-44 (sym e ∙ h)
-
-    each : EachIn (λ k p. k ≢ x) (meshPhases m ++ claimPhases m c)
-    each =
-        each-number (λ k p. k ≢ x) m c (λ k p h. of-mesh (h .1))
-        (λ k n h l r e. omega (arith, above, own-number {k = 21} refl r), λ i. (λ k n h l r e. omega (arith, above, own-number {k = 22} refl r), λ i. tt))
-        (λ a b d. (
-          λ k n h l r e. omega (arith, above, own-number {k = 31} refl r),
-          λ i. (λ k n h l r e. omega (arith, above, own-number {k = 32} refl r), λ i. (λ k n h l r e. omega (arith, above, own-number {k = 33} refl r), λ i. tt)),
-        ))
-
-    by : ((k : ℕ) × (p : Place) × (verdict m c ≡ Refused k p)) ⊎ (verdict m c ≡ Accepted (openCount m c) (lowerLoad c) (upperLoad m c)) → numberOf (verdict m c) ≢ x
-    by (inl (k, p, e)) = rw e (each-refusal (λ k p. k ≢ x) (meshPhases m ++ claimPhases m c) each (refused-exactly m c k p .0 e .by))
-    by (inr e) = rw e (λ y. omega (arith, above))
-
 -- ---- with a table
 
 tabled-held : (t m c : List ℤ) → Held (tabledVerdict t m c)
@@ -131,18 +111,46 @@ tabled-held t m c = by (came t m c)
     by (early k p r e) = subst Held (sym e) (small (early-number t m k p r .1), omega (arith, early-small t m k p r))
     by (late f e) = subst Held (sym e) (held (meshRead t m) c)
 
--- a table's own refusals have other numbers too
-tabled-other : (x : ℕ) → 33 < x → x ≢ 42 → x ≢ 44 → x ≢ 45 → x ≢ 46 → (t m c : List ℤ) → numberOf (tabledVerdict t m c) ≢ x
-tabled-other x above not-42 not-44 not-45 not-46 t m c e = by (came t m c)
-  where
-    own : {k : ℕ} → OfTable k → k ≡ x → ⊥
-    own (p, inl l) d = omega (arith, above)
-    own (p, inr (inl l)) d = not-45 (sym d ∙ l)
-    own (p, inr (inr l)) d = not-46 (sym d ∙ l)
+-- ---- the numbers that a verdict can have
 
-    by : Came t m c → ⊥
-    by (early k p r d) = own (early-number t m k p r) (sym (ap numberOf d) ∙ e)
-    by (late f d) = not-of-a-verdict x above not-42 not-44 (meshRead t m) c (sym (ap numberOf d) ∙ e)
+abbrev allNumbers : List ℕ
+allNumbers = 45 ∷ 46 ∷ returnedNumbers
+
+verdict-listed : (m c : List ℤ) → numberOf (verdict m c) ∈ allNumbers
+verdict-listed m c =
+    let v = verdict m c in
+    List·Memᴰ·tail (List·Memᴰ·tail (numbers-listed m c (numberOf v) (placeOf v) (record { numberIs = refl; placeIs = refl }) .listed))
+
+pub tabled-listed : (t m c : List ℤ) → numberOf (tabledVerdict t m c) ∈ allNumbers
+tabled-listed t m c = by (came t m c)
+  where
+    first-four : (k : ℕ) → 0 < k → k ≤ 4 → k ∈ returnedNumbers
+    first-four zero p l = absurd (omega arith)
+    first-four (suc zero) p l = List·Memᴰ·tail (List·Memᴰ·head refl)
+    first-four (suc (suc zero)) p l = List·Memᴰ·tail (List·Memᴰ·tail (List·Memᴰ·head refl))
+    first-four (suc (suc (suc zero))) p l = List·Memᴰ·tail (List·Memᴰ·tail (List·Memᴰ·tail (List·Memᴰ·head refl)))
+    first-four (suc (suc (suc (suc zero)))) p l = List·Memᴰ·tail (List·Memᴰ·tail (List·Memᴰ·tail (List·Memᴰ·tail (List·Memᴰ·head refl))))
+    first-four (suc (suc (suc (suc (suc k))))) p l = absurd (omega arith)
+
+    own : {k : ℕ} → OfTable k → k ∈ allNumbers
+    own {k} (p, inl l) = List·Memᴰ·tail (List·Memᴰ·tail (first-four k p l))
+    own (p, inr (inl e)) = List·Memᴰ·head e
+    own (p, inr (inr e)) = List·Memᴰ·tail (List·Memᴰ·head e)
+
+    by : Came t m c → numberOf (tabledVerdict t m c) ∈ allNumbers
+    by (early k p r e) = subst (λ (v : Verdict). numberOf v ∈ allNumbers) (sym e) (own (early-number t m k p r))
+    by (late f e) = subst (λ (v : Verdict). numberOf v ∈ allNumbers) (sym e) (verdict-listed (meshRead t m) c)
+
+unlike : ℕ → List ℕ → Bool
+unlike x [] = true
+unlike x (k ∷ rest) = not (eqb x k) && unlike x rest
+
+not-listed : (x : ℕ) (ks : List ℕ) → T (unlike x ks) → ¬ (x ∈ ks)
+unfolding unlike
+not-listed x [] t h = absurd (List·Memᴰ·not-nil h)
+not-listed x (k ∷ rest) t h =
+    let (differs, later) = both (opposite (equal x k)) (record { holds = λ t. t; passes = λ t. t }) .holds t in
+    ⊎-elim differs (not-listed x rest later) (List·Memᴰ·cases-cons h)
 
 -- ---- what the answer and the line ask of a verdict
 
@@ -151,16 +159,17 @@ pub record Sayable (v : Verdict) : Type 0 where
   pub not-41 : numberOf v ≢ 41
   pub not-43 : numberOf v ≢ 43
 
-pub sayable : (m c : List ℤ) → Sayable (verdict m c)
-sayable m c = record {
-  held = held m c;
-  not-41 = not-of-a-verdict 41 (omega arith) (λ e. omega arith) (λ e. omega arith) m c;
-  not-43 = not-of-a-verdict 43 (omega arith) (λ e. omega arith) (λ e. omega arith) m c;
+-- neither 41 nor 43 is listed
+say : {v : Verdict} → Held v → numberOf v ∈ allNumbers → Sayable v
+unfolding unlike
+say {v} h there = record {
+  held = h;
+  not-41 = λ e. not-listed 41 allNumbers tt (subst (λ (k : ℕ). k ∈ allNumbers) e there);
+  not-43 = λ e. not-listed 43 allNumbers tt (subst (λ (k : ℕ). k ∈ allNumbers) e there);
 }
 
+pub sayable : (m c : List ℤ) → Sayable (verdict m c)
+sayable m c = say (held m c) (verdict-listed m c)
+
 pub tabled-sayable : (t m c : List ℤ) → Sayable (tabledVerdict t m c)
-tabled-sayable t m c = record {
-  held = tabled-held t m c;
-  not-41 = tabled-other 41 (omega arith) (λ e. omega arith) (λ e. omega arith) (λ e. omega arith) (λ e. omega arith) t m c;
-  not-43 = tabled-other 43 (omega arith) (λ e. omega arith) (λ e. omega arith) (λ e. omega arith) (λ e. omega arith) t m c;
-}
+tabled-sayable t m c = say (tabled-held t m c) (tabled-listed t m c)

@@ -34,7 +34,7 @@ use Rattle.scope.specs.Tests.{rowAt}
 use Rattle.scope.specs.Verdict.{meshCheck, verdict, lowerLoad, upperLoad}
 use Rattle.numbers.specs.declared.numbers_answer.NumbersAnswer.{NumbersAnswer}
 use Rattle.numbers.specs.Promises as Handed-over
-use Rattle.numbers.specs.Promises.{Returned, ReturnsZero, RefusesExactly, NumbersListed, TellsField, RowsRefused, FieldExactly, MultipliersExactly, CriterionForEachPair, PairsAsked, SidesAsked, JumpsAsked, TractionsOnJoints, FractionsBracket, returnedNumbers}
+use Rattle.numbers.specs.Promises.{Returned, ReturnsZero, RefusesExactly, NumbersListed, TellsField, RowsRefused, FieldExactly, MultipliersExactly, CriterionForEachPair, PairsAsked, SidesAsked, OverlapsAsked, JumpsAsked, TractionsOnJoints, FractionsBracket, returnedNumbers}
 use Rattle.numbers.specs.NumbersAnswer.{answerOf}
 use Rattle.numbers.specs.TablePromises.{TableAnswers, TableExactly, FilledMesh}
 use Rattle.reader.specs.File.{fileOf, tableOf, tableNumbersOf, fileWidth, lineBytes}
@@ -137,8 +137,8 @@ pub record OnTable (mesh table claim : List ℕ) (number place : ℕ) : Type 0 w
 -- ==== Demand 2: what is accepted, what is refused, what is printed; where a line is written (`Room`)
 
 -- 0 exactly when, each refusal with its place exactly when, no number but those of the table, each part accepted
--- exactly when, the pairs with the criterion for each, the jumps with the tractions on their joints, and what
--- goes by the number of sides
+-- exactly when, the pairs with the criterion for each, the elements that lie on each other, the jumps with the
+-- tractions on their joints, and what goes by the number of sides
 pub record OnMesh (m c : List ℤ) (number place : ℕ) : Type 0 where
   pub returns-zero : ReturnsZero m c number place
   pub refuses : RefusesExactly m c number place
@@ -149,6 +149,7 @@ pub record OnMesh (m c : List ℤ) (number place : ℕ) : Type 0 where
   pub pairs : PairsAsked m number place
   pub sides : SidesAsked m number place
   pub criterion : TellsField c number → CriterionForEachPair m c
+  pub overlaps : OverlapsAsked m number place
   pub jumps : JumpsAsked m
   pub tractions : TractionsOnJoints m c number
 

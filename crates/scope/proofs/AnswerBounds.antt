@@ -79,17 +79,16 @@ few-strengths m s =
 
 -- ---- numbers
 
-mesh-most : {k : ℕ} → OfMesh k → k ≤ 44
+mesh-most : {k : ℕ} → OfMesh k → k ≤ 47
 mesh-most {k} e = by (e .1)
   where
-    by : (k ≤ 13) ⊎ ((k ≡ 42) ⊎ (k ≡ 44)) → k ≤ 44
+    by : (k ≤ 13) ⊎ ((42 ≤ k) × (k ≤ 47)) → k ≤ 47
     by (inl l) = omega arith
-    by (inr (inl l)) = omega arith
-    by (inr (inr l)) = omega arith
+    by (inr l) = l .1
 
-numbers-most : (m c : List ℤ) → EachIn (λ k p. k ≤ 44) (meshPhases m ++ claimPhases m c)
+numbers-most : (m c : List ℤ) → EachIn (λ k p. k ≤ 47) (meshPhases m ++ claimPhases m c)
 numbers-most m c =
-    each-number (λ k p. k ≤ 44) m c (λ k p e. mesh-most e)
+    each-number (λ k p. k ≤ 47) m c (λ k p e. mesh-most e)
     (λ k n h l r. omega (arith, own-number {k = 21} refl r), λ e. (λ k n h l r. omega (arith, own-number {k = 22} refl r), λ i. tt))
     (λ a b d. (
       λ k n h l r. omega (arith, own-number {k = 31} refl r),
@@ -112,7 +111,10 @@ places-most m c =
         λ k n h b r. omega (arith, counts),
         λ e. (
           λ k n h b r. omega (arith, counts),
-          λ e. (λ g n h b r. omega (arith, counts, edge-line m g), λ e. (λ j n h b r. omega (arith, counts, jump-line m j), λ e. (λ k n h b r. omega (arith, counts), λ i. tt))),
+          λ e. (
+            λ k n h b r. omega (arith, counts),
+            λ e. (λ g n h b r. omega (arith, counts, edge-line m g), λ e. (λ j n h b r. omega (arith, counts, jump-line m j), λ e. (λ k n h b r. omega (arith, counts), λ i. tt))),
+          ),
         ),
       ),
     )))
@@ -135,6 +137,6 @@ places-most m c =
     Q : ℕ → Place → Type 0
     Q k p = placeNumber p ≤ mostPlace
 
--- the number of a refusal is at most 44, its place at most that of the last strength row
-pub refusal-bounds : {m c : List ℤ} {k : ℕ} {p : Place} → Refusal m c k p → (k ≤ 44) × (placeNumber p ≤ mostPlace)
-refusal-bounds {m} {c} r = (each-refusal (λ k p. k ≤ 44) (meshPhases m ++ claimPhases m c) (numbers-most m c) (r .by), each-refusal (λ k p. placeNumber p ≤ mostPlace) (meshPhases m ++ claimPhases m c) (places-most m c) (r .by))
+-- the number of a refusal is at most 47, its place at most that of the last strength row
+pub refusal-bounds : {m c : List ℤ} {k : ℕ} {p : Place} → Refusal m c k p → (k ≤ 47) × (placeNumber p ≤ mostPlace)
+refusal-bounds {m} {c} r = (each-refusal (λ k p. k ≤ 47) (meshPhases m ++ claimPhases m c) (numbers-most m c) (r .by), each-refusal (λ k p. placeNumber p ≤ mostPlace) (meshPhases m ++ claimPhases m c) (places-most m c) (r .by))

@@ -8,7 +8,7 @@ use lib.Dec.{lt→ltb}
 use lib.IntN.{ℤ, pos, negℤ, _*ℤ_, _-ℤ_}
 use lib.Signed.{ltZ-yes}
 use Rattle.integer.specs.Fraction.{_over_, _≈ᶠ_, _≤ᶠ_, Positive}
-use Rattle.scope.specs.declared.Place.the-variants.{Line, Column, Row as PlaceRow}
+use Rattle.scope.specs.declared.Place.the-variants.{Line, Column, Element, Row as PlaceRow}
 use Rattle.scope.specs.declared.Outcome.the-variants.{Passed, Refused as Fails}
 use Rattle.scope.specs.declared.Verdict.the-variants.{Refused}
 use Rattle.scope.specs.Columns.{n, l}
@@ -25,7 +25,7 @@ use Rattle.scope.specs.AcceptedField.{TractionsAgree}
 use Rattle.scope.proofs.AcceptedField.{tractions-agree}
 use Rattle.scope.specs.Bracket.{toSpare}
 use Rattle.scope.specs.Parts.{carried, allowed, SameRows, PartsBracket}
-use Rattle.scope.specs.Worked.{zeros, workedMesh, workedStresses, workedMultipliers, workedClaim, multipliersAlone, sheet, sheet19, sheet29, nineteenFractions, nineteenSixths, oneEdge, freeShear, fillOverClay, overClay, blocks, blockEdges, joint, twoBlocks, onJoint, sharedBlocks, onShared, cutWithTip, onCut, againstItsSide, facingTurned, sideWithEdge, facingWithEdge, jumpTwice, sidesApart, facingUsed}
+use Rattle.scope.specs.Worked.{zeros, workedMesh, workedStresses, workedMultipliers, workedClaim, multipliersAlone, sheet, sheet19, sheet29, nineteenFractions, nineteenSixths, oneEdge, freeShear, fillOverClay, overClay, blocks, blockEdges, joint, twoBlocks, onJoint, sharedBlocks, onShared, cutWithTip, onCut, againstItsSide, facingTurned, sideWithEdge, facingWithEdge, jumpTwice, sidesApart, jointFromBehind, crossingBars}
 use Rattle.scope.specs.Fractions.{FractionField, WrittenOver}
 use Rattle.scope.specs.AcceptedFractions.{MeetsMesh}
 use Rattle.integer.specs.Tests.{eqZ}
@@ -264,6 +264,12 @@ cut-field = field-accepted cutWithTip onCut refl refl refl refl
 
 pub refused-44 : (meshCheck againstItsSide ≡ Fails 44 (Line 15)) × (meshCheck facingTurned ≡ Fails 44 (Line 15))
     × (meshCheck sideWithEdge ≡ Fails 44 (Line 14)) × (meshCheck facingWithEdge ≡ Fails 44 (Line 14))
-    × (meshCheck sidesApart ≡ Fails 44 (Line 13)) × (meshCheck jumpTwice ≡ Fails 44 (Line 14)) × (meshCheck facingUsed ≡ Fails 44 (Line 19))
-unfolding computed zeros blocks blockEdges joint againstItsSide facingTurned sideWithEdge facingWithEdge jumpTwice sidesApart facingUsed
+    × (meshCheck sidesApart ≡ Fails 44 (Line 13)) × (meshCheck jumpTwice ≡ Fails 44 (Line 14)) × (meshCheck jointFromBehind ≡ Fails 44 (Line 14))
+unfolding computed zeros blocks blockEdges joint againstItsSide facingTurned sideWithEdge facingWithEdge jumpTwice sidesApart jointFromBehind
 refused-44 = (refl, refl, refl, refl, refl, refl, refl)
+
+-- ---- 47: no corner of a bar is inside the other, and the block touches both
+
+pub refused-47 : meshCheck crossingBars ≡ Fails 47 (Element 3)
+unfolding computed zeros crossingBars
+refused-47 = refl

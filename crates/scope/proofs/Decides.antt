@@ -92,14 +92,22 @@ some-below {f} {P} d (suc n) = said-as (either (some-below d n) (d n)) up (λ h.
     down {k} (inl l) h = inl (k, l, h)
     down {k} (inr l) h = inr (rw l at h)
 
-pub all-below : {f : ℕ → Bool} {P : ℕ → Type 0} → ((k : ℕ) → Decides (f k) (P k)) → (n : ℕ) → Decides (allBelow f n) ((k : ℕ) → k < n → P k)
+-- where each test below n decides its statement
+pub all-below-where : {f : ℕ → Bool} {P : ℕ → Type 0} (n : ℕ) → ((k : ℕ) → k < n → Decides (f k) (P k))
+    → Decides (allBelow f n) ((k : ℕ) → k < n → P k)
 unfolding allBelow
-all-below d zero = record { holds = λ t k h. absurd (omega arith); passes = λ h. tt }
-all-below {f} {P} d (suc n) = said-as (both (all-below d n) (d n)) (λ h k l. up h (below-suc l)) (λ h. (λ k l. h k (omega arith), h n (omega arith)))
+all-below-where zero d = record { holds = λ t k h. absurd (omega arith); passes = λ h. tt }
+all-below-where {f} {P} (suc n) d =
+    said-as (both (all-below-where n (λ k h. d k (omega arith))) (d n (omega arith))) (λ h k l. up h (below-suc l))
+    (λ h. (λ k l. h k (omega arith), h n (omega arith)))
   where
     up : {k : ℕ} → (((k : ℕ) → k < n → P k) × P n) → (k < n) ⊎ (k ≡ n) → P k
     up {k} h (inl l) = h .0 k l
     up {k} h (inr l) = rw l (h .1)
+
+pub all-below : {f : ℕ → Bool} {P : ℕ → Type 0} → ((k : ℕ) → Decides (f k) (P k)) → (n : ℕ)
+    → Decides (allBelow f n) ((k : ℕ) → k < n → P k)
+all-below d n = all-below-where n (λ k h. d k)
 
 -- ---- the lowest
 

@@ -81,12 +81,12 @@ module _ (m c : List ℤ) where
 
 -- ---- what is returned
 
--- the numbers of lines, 1 to 13; of a mesh and of lines, with 42 and 44 besides; of a claim's parts; of its multipliers
+-- the numbers of lines, 1 to 13; of a mesh and of lines, with those from 42 to 47 besides; of a claim's parts; of its multipliers
 abbrev pub OfLines : ℕ → Type 0
 OfLines c = (0 < c) × (c ≤ 13)
 
 abbrev pub OfMesh : ℕ → Type 0
-OfMesh c = (0 < c) × ((c ≤ 13) ⊎ ((c ≡ 42) ⊎ (c ≡ 44)))
+OfMesh c = (0 < c) × ((c ≤ 13) ⊎ ((42 ≤ c) × (c ≤ 47)))
 
 abbrev pub OfParts : ℕ → Type 0
 OfParts c = (21 ≤ c) × (c ≤ 33)
@@ -97,10 +97,9 @@ OfMultipliers c = (31 ≤ c) × (c ≤ 33)
 pub not-of-parts : {X : Type 0} {c : ℕ} → OfMesh c → OfParts c → X
 not-of-parts {X} {c} e h = by (e .1)
   where
-    by : (c ≤ 13) ⊎ ((c ≡ 42) ⊎ (c ≡ 44)) → X
+    by : (c ≤ 13) ⊎ ((42 ≤ c) × (c ≤ 47)) → X
     by (inl l) = absurd (omega arith)
-    by (inr (inl l)) = absurd (omega arith)
-    by (inr (inr l)) = absurd (omega arith)
+    by (inr l) = absurd (omega (arith, l .0))
 
 rule-number : (rs : List Rule) (line : List ℤ) (c : ℕ) → FirstFails (ruleSteps rs line) c → OfLines c
 unfolding ruleNumber
@@ -132,10 +131,13 @@ mesh-numbers Q m q =
         λ s. (
           λ k c h l r. q c _ (subst OfMesh (own-number refl r) (omega arith, inl (omega arith))),
           λ v. (
-            λ k c h l r. q c _ (subst OfMesh (own-number refl r) (omega arith, inl (omega arith))),
-            λ g. (
-              λ k c h l r. q c _ (subst OfMesh (own-number refl r) (omega arith, inr (inr refl))),
-              λ j. (λ k c h l r. q c _ (subst OfMesh (own-number refl r) (omega arith, inr (inl refl))), λ i. tt),
+            λ k c h l r. q c _ (subst OfMesh (own-number refl r) (omega arith, inr (omega arith, omega arith))),
+            λ d. (
+              λ k c h l r. q c _ (subst OfMesh (own-number refl r) (omega arith, inl (omega arith))),
+              λ g. (
+                λ k c h l r. q c _ (subst OfMesh (own-number refl r) (omega arith, inr (omega arith, omega arith))),
+                λ j. (λ k c h l r. q c _ (subst OfMesh (own-number refl r) (omega arith, inr (omega arith, omega arith))), λ i. tt),
+              ),
             ),
           ),
         ),

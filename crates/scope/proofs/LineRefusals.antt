@@ -42,10 +42,13 @@ shape-number m k p r = each-refusal (λ k p. NotOfLines k) (shapePhases m) all r
         λ e. (
           λ k c h l r. inl (omega (arith, own-number {k = 7} refl r)),
           λ e. (
-            λ k c h l r. inl (omega (arith, own-number {k = 8} refl r)),
+            λ k c h l r. inr (omega (arith, own-number {k = 47} refl r)),
             λ e. (
-              λ k c h l r. inr (omega (arith, own-number {k = 44} refl r)),
-              λ e. (λ k c h l r. inr (omega (arith, own-number {k = 42} refl r)), λ i. tt),
+              λ k c h l r. inl (omega (arith, own-number {k = 8} refl r)),
+              λ e. (
+                λ k c h l r. inr (omega (arith, own-number {k = 44} refl r)),
+                λ e. (λ k c h l r. inr (omega (arith, own-number {k = 42} refl r)), λ i. tt),
+              ),
             ),
           ),
         ),

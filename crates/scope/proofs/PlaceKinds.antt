@@ -63,7 +63,7 @@ unfolding placeFor meshLayout
 mesh-kinds m =
     each-join Kind (linePhases meshLayout m) (shapePhases m) (line-kinds meshLayout m (λ j. refl) (λ j. refl)) (λ a. (
       λ k c h l r. one-kind refl r,
-      λ e. (λ k c h l r. one-kind refl r, λ e. (λ k c h l r. one-kind refl r, λ e. (λ k c h l r. one-kind refl r, λ e. (λ k c h l r. one-kind refl r, λ e. (λ k c h l r. one-kind refl r, λ i. tt))))),
+      λ e. (λ k c h l r. one-kind refl r, λ e. (λ k c h l r. one-kind refl r, λ e. (λ k c h l r. one-kind refl r, λ e. (λ k c h l r. one-kind refl r, λ e. (λ k c h l r. one-kind refl r, λ e. (λ k c h l r. one-kind refl r, λ i. tt)))))),
     ))
 
 pub all-kinds : (m c : List ℤ) → EachIn Kind (meshPhases m ++ claimPhases m c)
@@ -89,7 +89,7 @@ mesh-place-kind {m} r = each-refusal Kind (meshPhases m) (mesh-kinds m) (r .by)
 
 pub place-number : (k j : ℕ) → placeNumber (placeFor k j) ≡ j
 unfolding placeFor
-place-number k j = by (eqb k 5 || eqb k 6) (eqb k 7 || eqb k 42) (eqb k 21 || eqb k 22 || eqb k 31) (eqb k 32 || eqb k 33) (eqb k 45)
+place-number k j = by (eqb k 5 || eqb k 6 || eqb k 47) (eqb k 7 || eqb k 42) (eqb k 21 || eqb k 22 || eqb k 31) (eqb k 32 || eqb k 33) (eqb k 45)
   where
     by : (a b c d e : Bool) → placeNumber (cond a (Element j) (cond b (Node j) (cond c (Row j) (cond d (Column j) (cond e (Height j) (Line j)))))) ≡ j
     by true b c d e = refl

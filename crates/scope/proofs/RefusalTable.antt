@@ -14,7 +14,7 @@ use Rattle.scope.specs.Claim.{claimLayout, stress, multiplier}
 use Rattle.scope.specs.Rows.{equalityRows, strengthRows, rowsOf}
 use Rattle.scope.specs.Statements.{LinesSound, MeshSound, HasField, HasMultipliers}
 use Rattle.scope.specs.Refusals.{linePhases, shapePhases, meshPhases, fieldPhases, multiplierPhases, fieldPart, multiplierPart, partPhases, claimPhases, LineRefusal, MeshRefusal, Refusal}
-use Rattle.scope.specs.RefusalTable.{LowestFails, MeshRow, of-lines, five, six, seven, eight, forty-four, forty-two, Before21, Before31, TableRow, of-mesh, of-claim-lines, twenty-one, twenty-two, thirty-one, thirty-two, thirty-three}
+use Rattle.scope.specs.RefusalTable.{LowestFails, MeshRow, of-lines, five, six, seven, forty-seven, eight, forty-four, forty-two, Before21, Before31, TableRow, of-mesh, of-claim-lines, twenty-one, twenty-two, thirty-one, thirty-two, thirty-three}
 use Rattle.scope.proofs.Phases.{EachIn, each-refusal, each-join, each-as, each-there, join-refused, refused-there}
 use Rattle.scope.proofs.Refusals.{lines-sound, sound-lines, mesh-sound, sound-mesh, field-there, multipliers-there, field-part-sound, sound-field-part}
 
@@ -47,12 +47,15 @@ mesh-rows m =
         λ sides. (
           λ v c h l r. row (MeshRow m) r (λ x. seven v lines (alone turns) (alone sides) (lowest-fails h l x)),
           λ nodes. (
-            λ g c h l r. row (MeshRow m) r (λ x. eight g lines (alone turns) (alone sides) (alone nodes) (lowest-fails h l x)),
-            λ edges. (
-              λ j c h l r. row (MeshRow m) r (λ x. forty-four j lines (alone turns) (alone sides) (alone nodes) (alone edges) (lowest-fails h l x)),
-              λ joints. (
-                λ v c h l r. row (MeshRow m) r (λ x. forty-two v lines (alone turns) (alone sides) (alone nodes) (alone edges) (alone joints) (lowest-fails h l x)),
-                λ pairs. tt,
+            λ e c h l r. row (MeshRow m) r (λ x. forty-seven e lines (alone turns) (alone sides) (alone nodes) (lowest-fails h l x)),
+            λ apart. (
+              λ g c h l r. row (MeshRow m) r (λ x. eight g lines (alone turns) (alone sides) (alone nodes) (alone apart) (lowest-fails h l x)),
+              λ edges. (
+                λ j c h l r. row (MeshRow m) r (λ x. forty-four j lines (alone turns) (alone sides) (alone nodes) (alone apart) (alone edges) (lowest-fails h l x)),
+                λ joints. (
+                  λ v c h l r. row (MeshRow m) r (λ x. forty-two v lines (alone turns) (alone sides) (alone nodes) (alone apart) (alone edges) (alone joints) (lowest-fails h l x)),
+                  λ pairs. tt,
+                ),
               ),
             ),
           ),
@@ -114,9 +117,10 @@ row-mesh m {k} {p} (of-lines r) = join-refused (linePhases meshLayout m) (shapeP
 row-mesh m (five e lines h) = shape-refusal m lines (inl (record { here = e; there = h .there; lower = held (h .lower); fails = inl (h .fails, refl); called = refl }))
 row-mesh m (six e lines turns h) = shape-refusal m lines (inr (held turns, inl (record { here = e; there = h .there; lower = held (h .lower); fails = inl (h .fails, refl); called = refl })))
 row-mesh m (seven v lines turns sides h) = shape-refusal m lines (inr (held turns, inr (held sides, inl (record { here = v; there = h .there; lower = held (h .lower); fails = inl (h .fails, refl); called = refl }))))
-row-mesh m (eight g lines turns sides nodes h) = shape-refusal m lines (inr (held turns, inr (held sides, inr (held nodes, inl (record { here = g; there = h .there; lower = held (h .lower); fails = inl (h .fails, refl); called = refl })))))
-row-mesh m (forty-four j lines turns sides nodes edges h) = shape-refusal m lines (inr (held turns, inr (held sides, inr (held nodes, inr (held edges, inl (record { here = j; there = h .there; lower = held (h .lower); fails = inl (h .fails, refl); called = refl }))))))
-row-mesh m (forty-two v lines turns sides nodes edges joints h) = shape-refusal m lines (inr (held turns, inr (held sides, inr (held nodes, inr (held edges, inr (held joints, inl (record { here = v; there = h .there; lower = held (h .lower); fails = inl (h .fails, refl); called = refl })))))))
+row-mesh m (forty-seven e lines turns sides nodes h) = shape-refusal m lines (inr (held turns, inr (held sides, inr (held nodes, inl (record { here = e; there = h .there; lower = held (h .lower); fails = inl (h .fails, refl); called = refl })))))
+row-mesh m (eight g lines turns sides nodes apart h) = shape-refusal m lines (inr (held turns, inr (held sides, inr (held nodes, inr (held apart, inl (record { here = g; there = h .there; lower = held (h .lower); fails = inl (h .fails, refl); called = refl }))))))
+row-mesh m (forty-four j lines turns sides nodes apart edges h) = shape-refusal m lines (inr (held turns, inr (held sides, inr (held nodes, inr (held apart, inr (held edges, inl (record { here = j; there = h .there; lower = held (h .lower); fails = inl (h .fails, refl); called = refl })))))))
+row-mesh m (forty-two v lines turns sides nodes apart edges joints h) = shape-refusal m lines (inr (held turns, inr (held sides, inr (held nodes, inr (held apart, inr (held edges, inr (held joints, inl (record { here = v; there = h .there; lower = held (h .lower); fails = inl (h .fails, refl); called = refl }))))))))
 
 module _ (m c : List ℤ) where
   claim-refusal : {k : ℕ} {p : Place} → MeshSound m → RefusedBy (claimPhases m c) k p → RefusedBy (meshPhases m ++ claimPhases m c) k p

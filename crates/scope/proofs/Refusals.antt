@@ -25,6 +25,7 @@ use Rattle.scope.specs.Refusals.{ruleNumber, ruleSteps, lineSteps, lineP
 use Rattle.scope.specs.Verdict.{rulesHold, lineCheck, lineAt, linesCheck, meshCheck, claimCheck, fieldCheck, multipliersCheck}
 use Rattle.scope.proofs.Decides.{Decides, equal, at-most, equalℤ, belowℤ, Passes, put-as, Refuses}
 use Rattle.scope.proofs.Statements.{all-within, rule-says, left-turns, own-sides, in-element, outer-edge, is-joint, pairs-fit, row-meets, none-on-unfixed}
+use Rattle.scope.proofs.Overlaps.{lies-apart}
 use Rattle.scope.proofs.Lists.{each-++, row-in, by-place}
 use Rattle.scope.proofs.Phases.{Exact, exact-as, DecidedSteps, Decided, one-step, steps-exact, phases-exact, check-join, pass-join, pass-parts, decided-join, decided-part, part-passes, passes-part}
 
@@ -115,10 +116,13 @@ module _ (m : List ℤ) where
       λ sides. (
         λ v h b. one-step (in-element m v),
         λ nodes. (
-          λ g h b. one-step (outer-edge m g),
-          λ edges. (
-            λ j h b. one-step (is-joint m j),
-            λ jumps. (λ v h b. one-step (pairs-fit m v), λ pairs. tt),
+          λ e h b. one-step (lies-apart m (λ d k. turns d k .0) e h),
+          λ apart. (
+            λ g h b. one-step (outer-edge m g),
+            λ edges. (
+              λ j h b. one-step (is-joint m j),
+              λ jumps. (λ v h b. one-step (pairs-fit m v), λ pairs. tt),
+            ),
           ),
         ),
       ),
@@ -134,6 +138,7 @@ module _ (m : List ℤ) where
       let (turns, shape) = shape in
       let (sides, shape) = shape in
       let (nodes, shape) = shape in
+      let (apart, shape) = shape in
       let (edges, shape) = shape in
       let (joints, shape) = shape in
       let (pairs, shape) = shape in
@@ -142,6 +147,7 @@ module _ (m : List ℤ) where
         leftTurns = λ e h. turns e h .0;
         ownSides = λ e h. sides e h .0;
         inElement = λ v h. nodes v h .0;
+        noneShared = λ e h. apart e h .0;
         outerEdges = λ g h. edges g h .0;
         joints = λ j h. joints j h .0;
         pairsFit = λ v h. pairs v h .0;
@@ -151,7 +157,13 @@ module _ (m : List ℤ) where
   sound-mesh s =
       pass-join (linePhases meshLayout m) (shapePhases m) (sound-lines meshLayout m (s .lines)) (
         λ e h. (s .leftTurns e h, tt),
-        (λ e h. (s .ownSides e h, tt), (λ v h. (s .inElement v h, tt), (λ g h. (s .outerEdges g h, tt), (λ j h. (s .joints j h, tt), (λ v h. (s .pairsFit v h, tt), tt))))),
+        (
+          λ e h. (s .ownSides e h, tt),
+          (
+            λ v h. (s .inElement v h, tt),
+            (λ e h. (s .noneShared e h, tt), (λ g h. (s .outerEdges g h, tt), (λ j h. (s .joints j h, tt), (λ v h. (s .pairsFit v h, tt), tt)))),
+          ),
+        ),
       )
 
   pub mesh-exact : Exact (meshCheck m) (MeshSound m) (MeshRefusal m)
@@ -163,7 +175,7 @@ module _ (m : List ℤ) where
   unfolding meshCheck linesCheck
   mesh-checked = check-join (linePhases meshLayout m) (shapePhases m)
 
-  -- a mesh passes 1 to 8, 44 and 42 exactly when it is sound
+  -- a mesh passes 1 to 8, 47, 44 and 42 exactly when it is sound
   pub mesh-passed : Passes (meshCheck m) (MeshSound m)
   mesh-passed = mesh-exact .passes
 

@@ -18,7 +18,7 @@ use Rattle.scope.specs.Rows.{pairAt, equalityRows, strengthRows}
 use Rattle.scope.specs.Meets.{RowMet}
 use Rattle.scope.specs.Refusals.{ruleNumber, meshPhases, claimPhases, Refusal}
 use Rattle.scope.specs.RowNumbers.{rowNumbered, sideNumbered, RowNumbers}
-use Rattle.scope.specs.RefusalTable.{MeshRow, of-lines, five, six, seven, eight, forty-four, forty-two, TableRow, of-mesh, of-claim-lines, twenty-one, twenty-two, thirty-one, thirty-two, thirty-three}
+use Rattle.scope.specs.RefusalTable.{MeshRow, of-lines, five, six, seven, forty-seven, eight, forty-four, forty-two, TableRow, of-mesh, of-claim-lines, twenty-one, twenty-two, thirty-one, thirty-two, thirty-three}
 use Rattle.scope.specs.RefusedRows.{EqualityFails, StrengthFails, PairsFail}
 use Rattle.scope.proofs.Phases.{EachIn, each-refusal, own-number}
 use Rattle.scope.proofs.Exactly.{OfParts, not-of-parts, each-number, refused-on-mesh}
@@ -113,9 +113,10 @@ module _ (m c : List ℤ) where
   of-mesh-row (five k l h) e = absurd (omega arith)
   of-mesh-row (six k l a h) e = absurd (omega arith)
   of-mesh-row (seven v l a b h) e = absurd (omega arith)
-  of-mesh-row (eight g l a b d h) e = absurd (omega arith)
-  of-mesh-row (forty-four j l a b d g h) e = absurd (omega arith)
-  of-mesh-row (forty-two v l a b d g i h) e = let (many, at) = pairs m .brings-one-more v .0 h in record { many = many; node = ap suc (sym at) }
+  of-mesh-row (forty-seven k l a b d h) e = absurd (omega arith)
+  of-mesh-row (eight g l a b d k h) e = absurd (omega arith)
+  of-mesh-row (forty-four j l a b d k g h) e = absurd (omega arith)
+  of-mesh-row (forty-two v l a b d k g i h) e = let (many, at) = pairs m .brings-one-more v .0 h in record { many = many; node = ap suc (sym at) }
 
   of-table-row : {k : ℕ} {p : Place} → TableRow m c k p → k ≡ 42 → PairsFail m (placeNumber p)
   unfolding claimLayout

@@ -260,7 +260,7 @@ in-table m c k p r = each-refusal InTableNumbers (meshPhases m ++ claimPhases m 
         each-join InTableNumbers (meshPhases m) (claimPhases m c)
         (each-join InTableNumbers (linePhases meshLayout m) (shapePhases m) (lines-listed meshLayout m (listed 1 tt) (listed 2 tt)) (λ a. (
           λ k c h l r. own-listed (listed 5 tt) r,
-          λ e. (λ k c h l r. own-listed (listed 6 tt) r, λ e. (λ k c h l r. own-listed (listed 7 tt) r, λ e. (λ k c h l r. own-listed (listed 8 tt) r, λ e. (λ k c h l r. own-listed (listed 44 tt) r, λ e. (λ k c h l r. own-listed (listed 42 tt) r, λ i. tt))))),
+          λ e. (λ k c h l r. own-listed (listed 6 tt) r, λ e. (λ k c h l r. own-listed (listed 7 tt) r, λ e. (λ k c h l r. own-listed (listed 47 tt) r, λ e. (λ k c h l r. own-listed (listed 8 tt) r, λ e. (λ k c h l r. own-listed (listed 44 tt) r, λ e. (λ k c h l r. own-listed (listed 42 tt) r, λ i. tt)))))),
         )))
         (λ mesh.
         each-join InTableNumbers (linePhases (claimLayout m) c) (partPhases m c) (lines-listed (claimLayout m) c (listed 11 tt) (listed 12 tt)) (λ lines.

@@ -20,11 +20,12 @@ placeNumber (Node k) = k
 placeNumber (Element k) = k
 placeNumber (Height k) = k
 
--- the table's "What is returned", "1, line" to "33, column 0", and document 02's 42, "with the node", 44, "with the line",
--- 46, "with the first line", and 45, "with the lowest such height": what the place j of a refusal with the number k is
+-- the table's "What is returned", "1, line" to "33, column 0", and document 02's 42, "with the node", 44, "with the
+-- line", 46, "with the first line", 45, "with the lowest such height", and 47, "with the higher element": what the place
+-- j of a refusal with the number k is
 unfoldable pub placeFor : ℕ → ℕ → Place
 placeFor k j =
-    cond (eqb k 5 || eqb k 6) (Element j)
+    cond (eqb k 5 || eqb k 6 || eqb k 47) (Element j)
     (cond (eqb k 7 || eqb k 42) (Node j)
     (cond (eqb k 21 || eqb k 22 || eqb k 31) (Row j)
     (cond (eqb k 32 || eqb k 33) (Column j)

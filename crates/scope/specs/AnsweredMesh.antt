@@ -1,5 +1,5 @@
 -- What judging a mesh alone answers (document 01, 'Verdict and report'), by the number and the place of its outcome: 0
--- exactly when the mesh passes 1 to 8, 44 and 42, and each of these with its place exactly when the table has it.
+-- exactly when the mesh passes 1 to 8, 47, 44 and 42, and each of these with its place exactly when the table has it.
 use mathlib.Core.Path.{_≡_}
 use mathlib.Core.Logic.{_↔_, _≢_}
 use mathlib.Core.List.{List}

@@ -22,9 +22,9 @@ use Rattle.scope.specs.Claim.{claimLayout, stress, multiplier}
 use Rattle.scope.specs.Rows as R
 use Rattle.scope.specs.Rows.{equalityRows, strengthRows, rowsOf}
 use Rattle.scope.specs.Sums.{rowHolds, zeroIfUnfixed, columnSum, liveSum}
-use Rattle.scope.specs.Tests.{leftTurns, ownSides, inElement, outerEdge, isJoint, pairsFit, rowAt}
+use Rattle.scope.specs.Tests.{leftTurns, ownSides, inElement, liesApart, outerEdge, isJoint, pairsFit, rowAt}
 use Rattle.scope.specs.Meets.{RowMet}
-use Rattle.scope.specs.Statements.{AllWithin, Says, AllSay, Complete, InLimits, LineSound, LeftTurns, OwnSides, InElement, OuterEdge, Joint, PairsFit, NoneOnUnfixed}
+use Rattle.scope.specs.Statements.{AllWithin, Says, AllSay, Complete, InLimits, LineSound, LeftTurns, OwnSides, InElement, NoneShared, OuterEdge, Joint, PairsFit, NoneOnUnfixed}
 
 -- ---- lines: 1 to 4 of a mesh, 11 to 13 of a claim (which is which is said at the end, number by number)
 
@@ -81,6 +81,10 @@ ownSidesPhase m = phase 6 (elements m) (OwnSides m) (ownSides m) (λ e. Element 
 abbrev pub nodesPhase : List ℤ → Phase
 nodesPhase m = phase 7 (nodes m) (InElement m) (inElement m) (λ v. Node (suc v))
 
+-- 47 (document 02, N10): "with the higher element of the pair whose higher number is least"
+abbrev pub apartPhase : List ℤ → Phase
+apartPhase m = phase 47 (elements m) (NoneShared m) (liesApart m) (λ e. Element (suc e))
+
 -- 8: "edge is no element's side, or its reverse is one, or an earlier edge has it"
 abbrev pub edgesPhase : List ℤ → Phase
 edgesPhase m = phase 8 (edges m) (OuterEdge m) (outerEdge m) (λ g. Line (suc (edgeLine m g)))
@@ -93,12 +97,14 @@ jointsPhase m = phase 44 (jumps m) (Joint m) (isJoint m) (λ j. Line (suc (jumpL
 abbrev pub pairsPhase : List ℤ → Phase
 pairsPhase m = phase 42 (nodes m) (PairsFit m) (pairsFit m) (λ v. Node (suc v))
 
--- "then 5, 6, 7, 8, each over the whole mesh, lowest place first"; 42 "after 8"; 44 "after 8 and before 42"
+-- "then 5, 6, 7, 8, each over the whole mesh, lowest place first"; 47 "after 7 and before 8"; 42 "after 8"; 44 "after 8
+-- and before 42"
 abbrev pub shapePhases : List ℤ → List Phase
 shapePhases m =
     turnsPhase m
     ∷ ownSidesPhase m
     ∷ nodesPhase m
+    ∷ apartPhase m
     ∷ edgesPhase m
     ∷ jointsPhase m
     ∷ pairsPhase m
@@ -230,7 +236,7 @@ pub record ClaimLineNumbers (m c : List ℤ) : Type 0 where
 -- ---- all numbers of document 01's table and of document 02's requests, and no other
 
 abbrev pub tableNumbers : List ℕ
-tableNumbers = 1 ∷ 2 ∷ 3 ∷ 4 ∷ 5 ∷ 6 ∷ 7 ∷ 8 ∷ 11 ∷ 12 ∷ 13 ∷ 21 ∷ 22 ∷ 31 ∷ 32 ∷ 33 ∷ 42 ∷ 44 ∷ []
+tableNumbers = 1 ∷ 2 ∷ 3 ∷ 4 ∷ 5 ∷ 6 ∷ 7 ∷ 8 ∷ 11 ∷ 12 ∷ 13 ∷ 21 ∷ 22 ∷ 31 ∷ 32 ∷ 33 ∷ 42 ∷ 44 ∷ 47 ∷ []
 
 abbrev pub InTable : List ℤ → List ℤ → Type 0
 InTable m c = (k : ℕ) (p : Place) → Refusal m c k p → k ∈ tableNumbers

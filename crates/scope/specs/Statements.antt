@@ -8,10 +8,12 @@ use lib.IntN.{ℤ, pos, _+ℤ_, _*ℤ_}
 use lib.Signed.{_≤ℤ_, _<ℤ_}
 use lib.ListN.{length}
 use Rattle.scope.specs.Columns.{Limit, between, oneOf, free, Rule, rightAngle, naming, parts, atMost, at, n, l}
+use Rattle.plane.specs.Polygon.{Shared}
 use Rattle.scope.specs.Layout.{Layout, width, groups, lineCount, numberCount, groupAt, numbersAt}
 use Rattle.scope.specs.Mesh.{pairsWith, meshLayout, nodes, elements, edges, sides, corner, cornerCount, around, fromNode, toNode, jumps, x, y, jumpFrom, jumpTo, facingFrom, facingTo}
 use Rattle.scope.specs.Rows as R
 use Rattle.scope.specs.Rows.{pairsBelow, equalityRows, rowsOf}
+use Rattle.scope.specs.Outline.{outline}
 use Rattle.scope.specs.Sums.{columnSum, liveSum}
 use Rattle.scope.specs.Tests.{turn, rowAt}
 use Rattle.scope.specs.Claim.{stress, multiplier}
@@ -122,6 +124,12 @@ pub record OuterEdge (m : List ℤ) (g : ℕ) : Type 0 where
   pub outer : OuterSide m (fromNode m g) (toNode m g)
   pub isFirst : (k : ℕ) → k < g → ¬ ((fromNode m k ≡ fromNode m g) × (toNode m k ≡ toNode m g))
 
+-- "A mesh is refused if two elements share a point inside both, fractions included; touching along sides or at corners is
+-- fine" (document 02, N10): element e shares none with an element below it, that is, no point in fractions lies strictly
+-- left of every side of both
+abbrev pub NoneShared : List ℤ → ℕ → Type 0
+NoneShared m e = (d : ℕ) → d < e → ¬ Shared (outline m d) (outline m e)
+
 -- the side from a to b is one of the two that jump k uses
 abbrev pub UsedByJump : List ℤ → ℕ → ℕ → ℕ → Type 0
 UsedByJump m a b k =
@@ -149,12 +157,13 @@ pub record Joint (m : List ℤ) (j : ℕ) : Type 0 where
 abbrev pub PairsFit : List ℤ → ℕ → Type 0
 PairsFit m v = length (pairsBelow m (suc v)) ≤ pairsWith (sides m)
 
--- a mesh that passes 1 to 8, 44 and 42
+-- a mesh that passes 1 to 8, 47, 44 and 42
 pub record MeshSound (m : List ℤ) : Type 0 where
   pub lines : LinesSound meshLayout m
   pub leftTurns : (e : ℕ) → e < elements m → LeftTurns m e
   pub ownSides : (e : ℕ) → e < elements m → OwnSides m e
   pub inElement : (v : ℕ) → v < nodes m → InElement m v
+  pub noneShared : (e : ℕ) → e < elements m → NoneShared m e
   pub outerEdges : (g : ℕ) → g < edges m → OuterEdge m g
   pub joints : (j : ℕ) → j < jumps m → Joint m j
   pub pairsFit : (v : ℕ) → v < nodes m → PairsFit m v

@@ -1,10 +1,10 @@
--- What is tested of a mesh after its lines (document 01, 'Verdict and report', refusals 5 to 8; document 02, 44 and
+-- What is tested of a mesh after its lines (document 01, 'Verdict and report', refusals 5 to 8; document 02, 47, 44 and
 -- 42), and the row that 21, 22 and 31 test.
 use mathlib.Core.Bool.{Bool, not, _&&_, _||_}
 use mathlib.Core.List.{List, []}
 use Prim.Native.Nat.{ℕ, suc, _+_, _-_}
 use lib.IntN.{ℤ, pos, _-ℤ_, _*ℤ_}
-use lib.Signed.{ltZ}
+use lib.Signed.{leZ, ltZ}
 use lib.Dec.{eqb, leb}
 use lib.ListN.{length, getD}
 use Rattle.integer.specs.Tests.{eqZ}
@@ -39,6 +39,23 @@ ownSides m e = allBelow (ownSideAt m e) (cornerCount m e)
 -- refusal 7: "in no element"
 unfoldable pub inElement : List ℤ → ℕ → Bool
 inElement m v = someBelow (hasCorner m v) (elements m)
+
+-- refusal 47 (document 02, N10), "A line along one of the two elements' sides decides it": each corner of element d is
+-- on the line from node a to node b or right of it
+unfoldable pub noneLeft : List ℤ → ℕ → ℕ → ℕ → Bool
+noneLeft m a b d = allBelow (λ j. leZ (turn m a b (around m d j)) (pos 0)) (cornerCount m d)
+
+-- the line along a side of element e has all of element d on it or to its right
+unfoldable pub partedBy : List ℤ → ℕ → ℕ → Bool
+partedBy m e d = someBelow (λ i. noneLeft m (around m e i) (around m e (i + 1)) d) (cornerCount m e)
+
+-- a side of one of the two does
+unfoldable pub apartFrom : List ℤ → ℕ → ℕ → Bool
+apartFrom m d e = partedBy m d e || partedBy m e d
+
+-- element e is apart from each element below it
+unfoldable pub liesApart : List ℤ → ℕ → Bool
+liesApart m e = allBelow (λ d. apartFrom m d e) e
 
 -- "An outer side (an element's directed side whose reverse is no element's)", from a to b: what 8 and 44 ask for
 unfoldable pub outerSide : List ℤ → ℕ → ℕ → Bool

@@ -132,9 +132,6 @@ first-found f (suc n) {e} l h = by (λ i. first-found f n i h) (below-suc l)
 first-there : (f : ℕ → Bool) (n : ℕ) {e : ℕ} → e < n → f e ≡ true → eqb (firstWhere f n) n ≡ false
 first-there f n l h = ne-eqb (firstWhere f n) n (λ d. omega (arith, first-found f n l h .0))
 
-pub some-there : (f : ℕ → Bool) (n : ℕ) {e : ℕ} → e < n → f e ≡ true → someBelow f n ≡ true
-some-there f n l h = some-first f n ∙ ap not (first-there f n l h)
-
 pub some-cong : (f g : ℕ → Bool) (n : ℕ) → ((k : ℕ) → k < n → f k ≡ g k) → someBelow f n ≡ someBelow g n
 unfolding someBelow
 some-cong f g zero h = refl
@@ -144,10 +141,6 @@ pub none-there : (f : ℕ → Bool) (n : ℕ) → ((k : ℕ) → k < n → f k �
 unfolding someBelow
 none-there f zero h = refl
 none-there f (suc n) h = ap₂ _||_ (none-there f n (λ k l. h k (omega arith))) (h n (omega arith))
-
-pub none-more : (f : ℕ → Bool) {i : ℕ} → someBelow f i ≡ false → f i ≡ false → someBelow f (i + 1) ≡ false
-unfolding someBelow
-none-more f {i} h k = subst (λ (n : ℕ). someBelow f n ≡ false) (sym (add-one i)) (ap₂ _||_ h k)
 
 -- ---- its byte
 

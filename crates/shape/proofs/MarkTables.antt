@@ -18,7 +18,8 @@ use Rattle.scope.specs.Pairs.{SoilAround}
 use Rattle.scope.proofs.Decides.{opposite}
 use Rattle.scope.proofs.Statements.{in-element, soil-around}
 use Rattle.shape.specs.ShapeContracts.{Holds, put, soilBelow, markByte, MarkTable, isMarked}
-use Rattle.shape.proofs.ByteTables.{holds-as, holds-each, same-place, put-one, some-cong, some-there, none-there}
+use Rattle.shape.proofs.ByteTables.{holds-as, holds-each, same-place, put-one, some-cong, none-there}
+use Rattle.lines.proofs.Loops.{some-there}
 
 -- the bytes of a test, at each place
 abbrev pub Marks : (ℕ → Bool) → List ℕ → Type 0
@@ -97,7 +98,7 @@ module _ (m : List ℤ) where
       by true e =
           let r = in-element m v .holds (subst T (sym e) tt) in
           let s = elementSoil m (r .element) in
-          some-there (hasSoil m v) (soils m) {e = s} (facts .element (r .element) (r .there) .soilThere)
+          some-there (hasSoil m v) (soils m) {i = s} (facts .element (r .element) (r .there) .soilThere)
           (is-true (hasSoil m v s) (soil-around m v s .passes (record { element = r .element; there = r .there; has-corner = (r .place, r .four, r .same); same = refl })))
       by false e = none-there (hasSoil m v) (soils m) (λ s l. is-false (hasSoil m v s) (opposite (soil-around m v s) .passes (none s)))
         where

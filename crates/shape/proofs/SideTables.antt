@@ -17,8 +17,10 @@ use Rattle.scope.specs.Rows.{firstWhere}
 use Rattle.scope.specs.Tests.{ownSideAt, hasEnds, hasSide, ownSides, outerSide, outerEdge}
 use Rattle.mesh.specs.MeshContracts.{Sized}
 use Rattle.shape.specs.ShapeContracts.{noByte, Holds, isNone, put, keepFirst, byteBelow, byteAt, atPlace, SideBytes, sideByte, SideTable, edgeByte, EdgeTable, isUntaken}
-use Rattle.shape.proofs.MeshLaws.{around-there, side-fits, edge-fits}
-use Rattle.shape.proofs.ByteTables.{holds-as, holds-each, same-place, put-one, first-below, first-found, some-there, byte-found, free-below, cond-same, byte-more, given, none-given, one-given, all-given}
+use Rattle.shape.proofs.MeshLaws.{side-fits, edge-fits}
+use Rattle.lines.proofs.Loops.{some-there}
+use Rattle.outlines.proofs.CornerLaws.{around-there}
+use Rattle.shape.proofs.ByteTables.{holds-as, holds-each, same-place, put-one, first-below, first-found, byte-found, free-below, cond-same, byte-more, given, none-given, one-given, all-given}
 
 -- ---- places of sides
 

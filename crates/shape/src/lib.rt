@@ -1,6 +1,5 @@
-// The shape of a mesh (document 01, refusals 5 to 8; document 02, 44 and 42), and its pairs of a node and a soil.
+// The shape of a mesh (document 01, refusals 5 to 8; document 02, 47, 44 and 42), and its pairs of a node and a soil.
 
-mod corners;
 mod edges;
 mod joints;
 mod marks;
@@ -9,4 +8,3 @@ mod nodes;
 pub mod pairs;
 mod sides;
 mod tables;
-mod turns;

@@ -1,14 +1,17 @@
-// The shape of a mesh whose lines have passed: refusals 5 to 8, 44 and 42 in their order, and the pairs of a mesh that
-// passes.
+// The shape of a mesh whose lines have passed: refusals 5 to 7, 47, 8, 44 and 42 in their order, and the pairs of a mesh
+// that passes.
 use mesh::sizes::MOST_NODES;
 use mesh::sizes::Sizes;
+use outlines::overlaps::overlaps_check;
+use outlines::turns::turns_check;
 use scope::Outcome;
 ghost use mathlib.Core.Path.{_≡_};
 ghost use mathlib.Core.List.{[], _∷_};
 ghost use Rattle.scope.specs.Mesh.{elements};
 ghost use Rattle.scope.specs.Phases.{checkPhases};
-ghost use Rattle.scope.specs.Refusals.{ownSidesPhase, nodesPhase, edgesPhase, jointsPhase, shapePhases};
+ghost use Rattle.scope.specs.Refusals.{ownSidesPhase, nodesPhase, apartPhase, edgesPhase, jointsPhase, shapePhases};
 ghost use Rattle.mesh.specs.MeshContracts.{Sized};
+ghost use Rattle.outlines.specs.BoxContracts.{Turned};
 ghost use Rattle.shape.specs.ShapeContracts.{MarkTable, SideTable, PairedAs};
 use crate::edges::edges_check;
 use crate::edges::take_sides;
@@ -22,7 +25,6 @@ use crate::pairs::pairs_check;
 use crate::sides::side_table;
 use crate::sides::sides_check;
 use crate::tables::NONE;
-use crate::turns::turns_check;
 
 // A small mesh, the table of its sides, and the table for any mesh.
 const SMALL_NODES: usize = 16;
@@ -44,13 +46,28 @@ fn edges_and_joints(m: &[i64], s: Sizes, t: &mut [u8]) -> Outcome
     }
 }
 
-// Refusals 6 to 8 and 44, by a table in which no byte is given yet.
-fn checks_by_table(m: &[i64], s: Sizes, marks: &[u8; MARKS], t: &mut [u8]) -> Outcome
-    requires { ⌜ Sized (now m) s × MarkTable (now m) (elements (now m)) (now marks) × SideTable (now m) 0 (now t) ⌝ }
+// Refusals 47, 8 and 44, by the same table.
+fn overlaps_to_joints(m: &[i64], s: Sizes, t: &mut [u8]) -> Outcome
+    requires { ⌜ Sized (now m) s × Turned (now m) × SideTable (now m) (elements (now m)) (now t) ⌝ }
     ensures { λ r. ⌜ r
         ≡ checkPhases
-        (ownSidesPhase (now (m .entry)) ∷ nodesPhase (now (m .entry)) ∷ edgesPhase (now (m .entry))
-        ∷ jointsPhase (now (m .entry)) ∷ []) ⌝ }
+        (apartPhase (now (m .entry)) ∷ edgesPhase (now (m .entry)) ∷ jointsPhase (now (m .entry)) ∷ []) ⌝ }
+{
+    let overlaps = overlaps_check(m, s);
+    match overlaps {
+        Outcome::Refused { number, place } => Outcome::Refused { number, place },
+        Outcome::Passed => edges_and_joints(m, s, t),
+    }
+}
+
+// Refusals 6, 7, 47, 8 and 44, by a table in which no byte is given yet.
+fn checks_by_table(m: &[i64], s: Sizes, marks: &[u8; MARKS], t: &mut [u8]) -> Outcome
+    requires { ⌜ Sized (now m) s × Turned (now m) × MarkTable (now m) (elements (now m)) (now marks)
+        × SideTable (now m) 0 (now t) ⌝ }
+    ensures { λ r. ⌜ r
+        ≡ checkPhases
+        (ownSidesPhase (now (m .entry)) ∷ nodesPhase (now (m .entry)) ∷ apartPhase (now (m .entry))
+        ∷ edgesPhase (now (m .entry)) ∷ jointsPhase (now (m .entry)) ∷ []) ⌝ }
 {
     side_table(m, s, t);
     let sides = sides_check(m, s, t);
@@ -60,20 +77,20 @@ fn checks_by_table(m: &[i64], s: Sizes, marks: &[u8; MARKS], t: &mut [u8]) -> Ou
             let nodes = nodes_check(m, s, marks);
             match nodes {
                 Outcome::Refused { number, place } => Outcome::Refused { number, place },
-                Outcome::Passed => edges_and_joints(m, s, t),
+                Outcome::Passed => overlaps_to_joints(m, s, t),
             }
         }
     }
 }
 
-// Refusals 6 to 8 and 44. For speed a small mesh has a small table: the bytes that need no filling were 6 % of the time of
-// the worked sheet.
+// Refusals 6, 7, 47, 8 and 44. For speed a small mesh has a small table: the bytes that need no filling were 6 % of the
+// time of the worked sheet.
 fn sides_to_joints(m: &[i64], s: Sizes, marks: &[u8; MARKS]) -> Outcome
-    requires { ⌜ Sized (now m) s × MarkTable (now m) (elements (now m)) (now marks) ⌝ }
+    requires { ⌜ Sized (now m) s × Turned (now m) × MarkTable (now m) (elements (now m)) (now marks) ⌝ }
     ensures { λ r. ⌜ r
         ≡ checkPhases
-        (ownSidesPhase (now (m .entry)) ∷ nodesPhase (now (m .entry)) ∷ edgesPhase (now (m .entry))
-        ∷ jointsPhase (now (m .entry)) ∷ []) ⌝ }
+        (ownSidesPhase (now (m .entry)) ∷ nodesPhase (now (m .entry)) ∷ apartPhase (now (m .entry))
+        ∷ edgesPhase (now (m .entry)) ∷ jointsPhase (now (m .entry)) ∷ []) ⌝ }
 {
     if s.nodes <= SMALL_NODES {
         let mut small = [NONE; SMALL_TABLE];
@@ -83,7 +100,7 @@ fn sides_to_joints(m: &[i64], s: Sizes, marks: &[u8; MARKS]) -> Outcome
     checks_by_table(m, s, marks, &mut table)
 }
 
-// Refusals 5 to 8, 44 and 42, in their order, and the pairs.
+// Refusals 5 to 7, 47, 8, 44 and 42, in their order, and the pairs.
 pub fn mesh_shape(m: &[i64], s: Sizes) -> Paired
     requires { ⌜ Sized (now m) s ⌝ }
     ensures { λ r. ⌜ PairedAs (checkPhases (shapePhases (now (m .entry)))) (now (m .entry)) r ⌝ }

@@ -1,10 +1,11 @@
 // 6: no element has a directed side that a lower one has.
 // Sides are looked up in a table, MOST_NODES bytes for each node, that is filled first and then only read: the byte at
 // a * MOST_NODES + b is NONE where a to b is no element's side, and else the number, from 0, of the lowest element
-// that
-// has it.
+// that has it.
 use mesh::sizes::MOST_NODES;
 use mesh::sizes::Sizes;
+use outlines::corners::corner_around;
+use outlines::corners::corner_count;
 use scope::Outcome;
 use scope::Place;
 ghost use mathlib.Core.Path.{_≡_};
@@ -16,8 +17,6 @@ ghost use Rattle.scope.specs.Refusals.{ownSidesPhase};
 ghost use Rattle.scope.specs.Tests.{ownSideAt, ownSides};
 ghost use Rattle.mesh.specs.MeshContracts.{Sized};
 ghost use Rattle.shape.specs.ShapeContracts.{keepFirst, byteAt, SideTable};
-use crate::corners::corner_around;
-use crate::corners::corner_count;
 use crate::tables::keep_first;
 
 pub fn side_byte(t: &[u8], a: usize, b: usize) -> u8

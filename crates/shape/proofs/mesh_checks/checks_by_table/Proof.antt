@@ -27,8 +27,8 @@ enum-known-nodes c = search needs
 enum-told-2 : tie.Need-enum-told-2
 enum-told-2 c = search needs
 
-edges-and-joints-requires : tie.Need-edges-and-joints-requires
-edges-and-joints-requires c κs = search needs
+overlaps-to-joints-requires : tie.Need-overlaps-to-joints-requires
+overlaps-to-joints-requires c κs = search needs
 
 same-length : tie.Need-same-length
 same-length c = search needs
@@ -54,7 +54,7 @@ unfolding checkPhases
 returns-3 c =
     let asked = c .before .before .before .before .before .before in
     let passed = sym (asked .before .before .before .sides-check .ensures) ∙ asked .before .enum-told .given .1 in
-    then-goes-on passed (then-goes-on (sym (asked .nodes-check .ensures) ∙ c .before .before .before .before .enum-told2 .given .1) (c .before .before .edges-and-joints .ensures))
+    then-goes-on passed (then-goes-on (sym (asked .nodes-check .ensures) ∙ c .before .before .before .before .enum-told2 .given .1) (c .before .before .overlaps-to-joints .ensures))
 
 pub checks-by-table-spec : {M : Type 1} → statement M
 checks-by-table-spec =
@@ -67,7 +67,7 @@ checks-by-table-spec =
     nodes-check-requires
     enum-known-nodes
     enum-told-2
-    edges-and-joints-requires
+    overlaps-to-joints-requires
     same-length
     returns
     same-length-2

@@ -1,6 +1,7 @@
--- `mesh_shape` meets its contract: the turns first, then the sides, nodes, edges and jumps, and the pairs last.
+-- `mesh_shape` meets its contract: the turns first, then the sides, nodes, overlaps, edges and jumps, and the pairs last.
 use mathlib.Core.Path.{sym, _∙_}
 use borrow.Author.Needs.{needs}
+use Rattle.outlines.proofs.ApartLaws.{turned}
 use Rattle.shape.proofs.MeshLaws.{turns-refuse, rest-refuses, pairs-last}
 use Rattle.shape.proofs.PairTables.{paired-as}
 use Rattle.shape.proofs.mesh_checks.mesh_shape.Statement.{statement}
@@ -27,7 +28,13 @@ mark-table-requires : tie.Need-mark-table-requires
 mark-table-requires c κs = search needs
 
 sides-to-joints-requires : tie.Need-sides-to-joints-requires
-sides-to-joints-requires c κs = search needs
+sides-to-joints-requires c κs =
+    let told = c .before .before in
+    let start = told .before .before in (
+      start .before .pre,
+      turned _ (sym (start .turns-check .ensures) ∙ told .enum-told .given .1),
+      c .before .mark-table .ensures,
+    )
 
 enum-known-sides : tie.Need-enum-known-sides
 enum-known-sides c = search needs

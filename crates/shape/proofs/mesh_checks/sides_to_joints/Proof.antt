@@ -11,7 +11,7 @@ slice-aggregate-checks-by-table : tie.Need-slice-aggregate-checks-by-table
 slice-aggregate-checks-by-table c = search needs
 
 checks-by-table-requires : tie.Need-checks-by-table-requires
-checks-by-table-requires c κs = let k = c .before .before .before .pre in (k .0, k .1, no-sides _ (16 * mostNodes) (omega (arith, k .0 .nodesAre)))
+checks-by-table-requires c κs = let k = c .before .before .before .pre in (k .0, k .1, k .2, no-sides _ (16 * mostNodes) (omega (arith, k .0 .nodesAre)))
 
 returns : tie.Need-returns
 returns c = search needs
@@ -20,7 +20,7 @@ slice-aggregate-checks-by-table-2 : tie.Need-slice-aggregate-checks-by-table-2
 slice-aggregate-checks-by-table-2 c = search needs
 
 checks-by-table-requires-2 : tie.Need-checks-by-table-requires-2
-checks-by-table-requires-2 c κs = let k = c .before .before .before .pre in (k .0, k .1, no-sides _ (mostNodes * mostNodes) (omega (arith, k .0 .facts .counts .nodesMost)))
+checks-by-table-requires-2 c κs = let k = c .before .before .before .pre in (k .0, k .1, k .2, no-sides _ (mostNodes * mostNodes) (omega (arith, k .0 .facts .counts .nodesMost)))
 
 returns-2 : tie.Need-returns-2
 returns-2 c = search needs

@@ -5,7 +5,7 @@ use Prim.Native.Nat.{_≤_, _-_}
 use native.Mathlib.Omega.{arith}
 use Rattle.scope.specs.Checks.{someBelow}
 use Rattle.shape.specs.ShapeContracts.{isMarked}
-use Rattle.shape.proofs.ByteTables.{some-there, none-more}
+use Rattle.lines.proofs.Loops.{some-there, none-more}
 use Rattle.shape.proofs.nodes.some_soil.Statement.{statement}
 use Rattle.shape.proofs.nodes.some_soil.Tie as tie
 
