@@ -56,6 +56,8 @@ ghost use Rattle.reader.specs.TableBytes.{mostBytes, bytesIn};
 // headers, as many lines as there can be, and one for bytes left over.
 pub const MESH_ROOM: usize = MESH_NUMBERS + 1;
 
+pub const TABLE_ROOM: usize = MOST_LAYERS * LAYER_COLUMNS + 1;
+
 pub const CLAIM_ROOM: usize = CLAIM_HEADER
     + NODES_FOR_108 * STRESS_COLUMNS
     + MOST_ELEMENTS * ELEMENT_ROWS
