@@ -3,3 +3,4 @@ pub mod AnswerLaws
 pub mod NumbersListed
 pub mod Promises
 pub mod PromisesApplied
+pub mod Blends

@@ -3,13 +3,13 @@ use mathlib.Core.Path.{_≡_, refl, sym, _∙_, ap, subst, subst₂}
 use mathlib.Core.Logic.{_↔_, _⊎_, inl, inr, _≢_}
 use mathlib.Core.Bool.{Bool, true, false, cond}
 use mathlib.Core.List.{List, List·Memᴰ·head}
-use Prim.Native.Nat.{ℕ, suc, _*_, _≤_}
+use Prim.Native.Nat.{ℕ, suc, _≤_}
 use native.Mathlib.Omega.{arith}
 use lib.Dec.{T}
 use lib.IntN.{ℤ, pos}
 use borrow.Table.Steps.{cases}
 use Rattle.integer.specs.Fraction.{_over_, _≈ᶠ_, _≤ᶠ_, Positive}
-use Rattle.integer.proofs.FractionLaws.{≤ᶠ-trans, ≈ᶠ→≤ᶠ, ≈ᶠ-sym, ≈ᶠ-trans}
+use Rattle.integer.proofs.FractionLaws.{≈ᶠ-sym, ≈ᶠ-trans}
 use Rattle.integer.specs.Tests.{eqZ}
 use Rattle.integer.proofs.TestLaws.{eqZ-yes, eqZ-no}
 use Rattle.scope.specs.declared.Place.{Place}
@@ -20,12 +20,10 @@ use Rattle.scope.specs.declared.Verdict.{Verdict}
 use Rattle.scope.specs.declared.Verdict.the-variants.{Accepted, Refused}
 use Rattle.scope.specs.Answer.{placeNumber, placeFor, numberOf, placeOf}
 use Rattle.scope.specs.Columns.{at, hasField, hasMultipliers, n, l}
-use Rattle.scope.specs.Mesh.{nodes}
 use Rattle.scope.specs.Rows.{rowsOf}
 use Rattle.scope.specs.Sums.{liveSum, limitSum, openRows}
 use Rattle.scope.specs.Claim.{stress, multiplier}
 use Rattle.scope.specs.Verdict.{verdict, lowerLoad, upperLoad, openCount}
-use Rattle.scope.specs.Meets.{FieldMeets}
 use Rattle.scope.specs.Statements.{MeshSound, HasField, HasMultipliers}
 use Rattle.scope.specs.Refusals.{Refusal}
 use Rattle.scope.specs.Accepted.{FieldAccepted, MultipliersAccepted}
@@ -38,11 +36,8 @@ use Rattle.scope.proofs.Printed.{field-printed}
 use Rattle.scope.proofs.AcceptedField.{accepted-criterion, criterion-around, tractions-agree}
 use Rattle.scope.proofs.Jumps.{sound-jumps, tip-asks-nothing, no-jumps}
 use Rattle.scope.proofs.Pairs.{pairs, sound-pairs}
-use Rattle.scope.proofs.Columns.{mesh-columns}
-use Rattle.scope.proofs.Bracket.{bracket}
-use Rattle.scope.proofs.Parts.{nodes-named, multipliers-meet, field-n, parts-bracket, open-rows-count}
-use Rattle.scope.proofs.AcceptedFractions.{mesh-fractions}
-use Rattle.scope.proofs.SameRows.{same-met}
+use Rattle.scope.proofs.Parts.{field-n, whole-bracket, parts-bracket, open-rows-count}
+use Rattle.scope.proofs.AcceptedFractions.{mesh-fractions, fraction-at-most}
 use Rattle.scope.proofs.AcceptedMultipliers.{sums-printed, multipliers-as-printed}
 use Rattle.scope.proofs.Meaning.{area, outward-normal}
 use Rattle.scope.proofs.Triangles.{only-repeat, read-as-triangle, passed-before}
@@ -349,20 +344,13 @@ accepted-parts {m} {c} {d} {k} {r} h same t w = parts-bracket m c d k same (fiel
 
 -- ---- fractions
 
--- a field of whole numbers that meets the rows of m, against multipliers for the same rows
-whole-bracket : (m d k : List ℤ) → SameRows m d → MultipliersAccepted d k → (t : ℕ → ℤ) (j e : ℤ) → FieldMeets t j e (rowsOf m) → Bracket t j e (multiplier d k) (rowsOf d)
-whole-bracket m d k same w t j e met =
-    bracket t j e (multiplier d k) (rowsOf d) (3 * nodes d) (mesh-columns d (nodes-named d (w .mesh))) (same-met m d same t j e met) (multipliers-meet d k w)
-
 pub fractions-allowed : (m d k : List ℤ) → MeshSound m → SameRows m d → MultipliersAccepted d k → FractionsBracket m d k (allowed d k)
 unfolding allowed
 fractions-allowed m d k sound same w =
     let proper : Positive (allowed d k) = record { positive = w .meet .live } in
     record {
       laws = mesh-fractions m sound .laws;
-      at-most = λ f met.
-          ≤ᶠ-trans (f .load .proper) (record { positive = met .written .above-0 }) proper (≈ᶠ→≤ᶠ (≈ᶠ-sym (met .written .load)))
-          (record { cross-≤ = whole-bracket m d k same w (met .numerators) (met .numerator) (met .denominator) (met .meets) .at-most });
+      at-most = fraction-at-most m d k same w;
       equal = λ f met b t a written.
           let whole : Bracket t a b (multiplier d k) (rowsOf d) = whole-bracket m d k same w t a b (mesh-fractions m sound .laws .same-for-each f .0 met b t a written) in
           let over-b : Positive (a over b) = record { positive = written .above-0 } in (

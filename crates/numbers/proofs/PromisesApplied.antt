@@ -104,7 +104,7 @@ pub listed-32 : 32 ∈ returnedNumbers
 listed-32 = numbers-listed workedMesh sheet29 32 7 (returned refused-answered) .listed
 
 -- the field of the refused claim
-tells-field : TellsField sheet29 32
+pub tells-field : TellsField sheet29 32
 unfolding computed zeros workedStresses workedMultipliers workedClaim sheet29
 tells-field = (refl, inr (omega arith, omega arith))
 

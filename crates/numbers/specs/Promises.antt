@@ -6,7 +6,7 @@
 use mathlib.Core.Path.{_≡_}
 use mathlib.Core.Logic.{_↔_, _⊎_, _≢_}
 use mathlib.Core.List.{List, _∷_}
-use Prim.Native.Nat.{ℕ, _*_, _≤_, _<_}
+use Prim.Native.Nat.{ℕ, _+_, _*_, _≤_, _<_}
 use lib.IntN.{ℤ, pos}
 use lib.Signed.{_<ℤ_}
 use lib.ListN.{length}
@@ -32,6 +32,7 @@ use Rattle.scope.specs.Jumps.{SoundJumps, TipAsksNothing, NoJumps}
 use Rattle.scope.specs.Bracket.{Open, NoneOpen}
 use Rattle.scope.specs.Fractions.{FractionField, WrittenOver, FractionLaws, fieldOver}
 use Rattle.scope.specs.AcceptedFractions.{MeetsMesh}
+use Rattle.scope.specs.Blends.{BlendedClaims}
 use Rattle.scope.specs.Parts.{SameRows, PartsBracket, NumberOf}
 use Rattle.scope.specs.Tests.{rowAt}
 use Rattle.scope.specs.Meaning.{Area, OutwardNormal}
@@ -208,6 +209,15 @@ FractionsAndAnswer d k s = Answers d k s → s .multipliers ≡ 1 → (m : List 
 pub record FieldInFractions (m c : List ℤ) (r : NumbersAnswer) : Type 0 where
   pub above-0 : pos 0 <ℤ r .n
   pub meets : MeetsMesh m (fieldOver (r .n) above-0 (stress m c) (r .l))
+
+-- ==== Blended sheets
+
+-- "two accepted fields, weighted with whole numbers not below zero and not both zero, give a field in exact fractions
+-- that meets every row and carries the weighted load .. no such blend passes any accepted limit" (document 02, N11):
+-- of two calls, or of one twice, on meshes with the same rows, whose numbers tell that their fields are accepted
+abbrev pub BlendedAnswers : (m c d k : List ℤ) (r s : NumbersAnswer) → Type 0
+BlendedAnswers m c d k r s = Answers m c r → Answers d k s → SameRows m d → TellsField c (r .number)
+    → TellsField k (s .number) → (a b : ℕ) → 0 < a + b → BlendedClaims a b m c d k
 
 -- ==== A mesh alone
 

@@ -7,5 +7,6 @@ pub mod Words
 pub mod OpenColumn
 pub mod Promises
 pub mod PromisesApplied
+pub mod Blends
 pub mod RunPromises
 pub mod RunApplied

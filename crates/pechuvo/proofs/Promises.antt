@@ -365,7 +365,7 @@ module _ (mesh claim : List ℕ) (z : ℤ) (before : List ℕ) (number place : �
   prints-open-rows b e f w = rw (line-is b) (prints-open (meshIn mesh) (claimIn mesh claim) (natAbs z) (decimals-small z (b .decimals)) (sym (written b .returns .numberIs) ∙ e) f w)
 
 -- an accepted field, and accepted multipliers, of a call on files or on numbers
-call-field : {a : Handed} {i : ℕ} → Call a i → TellsField (claimOf a) i → FieldAccepted (meshOf a) (claimOf a)
+pub call-field : {a : Handed} {i : ℕ} → Call a i → TellsField (claimOf a) i → FieldAccepted (meshOf a) (claimOf a)
 unfolding meshOf claimOf
 call-field (on-files mesh claim z before number place after h) t = by (by-cases mesh claim z before number place after h)
   where

@@ -47,7 +47,7 @@ use Rattle.pechuvo.proofs.Sheets.{computedLine}
 use Rattle.pechuvo.proofs.Promises.{any-call, long-files, on-numbers-read, form-exactly, accepted-files, prints-columns, millionths, texts-fit, prints-open-rows, calls-bracket, accepted-parts, fractions-bracket, as-a-file, starred-written}
 
 -- for proofs by computation: besides the definitions that make a line, those that read its columns and those that say what was handed over
-unfoldable opened : Unit {0}
+unfoldable pub opened : Unit {0}
 unfolding computedLine beforePoint afterPoint decimal saidNumber belowZero saidMinus andSaid signedDecimal isNone said columnOf meshOf claimOf twoThirdsMesh twoThirdsClaim withDecimals
 opened = tt
 
@@ -105,11 +105,11 @@ six = these-decimals (omega arith)
 fits : Room (pos 6) room
 fits = fits-with 6 (omega arith)
 
-sheet-parts : HasField (claimIn (at 0 .mesh) (at 0 .claim)) × HasMultipliers (claimIn (at 0 .mesh) (at 0 .claim))
+pub sheet-parts : HasField (claimIn (at 0 .mesh) (at 0 .claim)) × HasMultipliers (claimIn (at 0 .mesh) (at 0 .claim))
 unfolding opened
 sheet-parts = (refl, refl)
 
-nineteen-parts : HasField (claimIn (at 1 .mesh) (at 1 .claim)) × HasMultipliers (claimIn (at 1 .mesh) (at 1 .claim))
+pub nineteen-parts : HasField (claimIn (at 1 .mesh) (at 1 .claim)) × HasMultipliers (claimIn (at 1 .mesh) (at 1 .claim))
 unfolding opened
 nineteen-parts = (refl, refl)
 
@@ -411,11 +411,11 @@ alone-call : Call (numbers secondSoil Numbers.multipliersAlone) 0
 alone-call = on-numbers secondSoil Numbers.multipliersAlone aloneAnswer alone-answered
 
 -- equal numbers have the same rows
-same-mesh : {m d : List ℤ} → m ≡ d → SameRows m d
+pub same-mesh : {m d : List ℤ} → m ≡ d → SameRows m d
 same-mesh e = ap (λ (m : List ℤ). map judged (rowsOf m)) e
 
 -- the meshes of the files are the numbers of document 01's sheet
-sheet-mesh : meshOf (files (at 0 .mesh) (at 0 .claim)) ≡ Numbers.workedMesh
+pub sheet-mesh : meshOf (files (at 0 .mesh) (at 0 .claim)) ≡ Numbers.workedMesh
 unfolding opened Numbers.zeros Numbers.workedMesh
 sheet-mesh = refl
 
@@ -463,7 +463,7 @@ beyond-strength =
       meet = multipliers-passed (equalityRows m) (rowsOf m) (3 * nodes m) (multiplier m c) .says refl;
     }
 
-beyond-mesh : meshOf (files (at 2 .mesh) (at 2 .claim)) ≡ Numbers.workedMesh
+pub beyond-mesh : meshOf (files (at 2 .mesh) (at 2 .claim)) ≡ Numbers.workedMesh
 unfolding opened Numbers.zeros Numbers.workedMesh
 beyond-mesh = refl
 

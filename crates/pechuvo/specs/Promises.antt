@@ -8,7 +8,7 @@ use mathlib.Core.Path.{_≡_}
 use mathlib.Core.Logic.{_↔_, _⊎_, _≢_}
 use mathlib.Core.List.{List, _∷_, _++_}
 use mathlib.Core.Option.{some}
-use Prim.Native.Nat.{ℕ, suc, _*_, _/_, _^_, _≤_, _<_}
+use Prim.Native.Nat.{ℕ, suc, _+_, _*_, _/_, _^_, _≤_, _<_}
 use lib.IntN.{ℤ, pos, natAbs, _+ℤ_, _-ℤ_}
 use lib.Signed.{_<ℤ_}
 use lib.ListN.{length, take, drop, replicate}
@@ -20,6 +20,7 @@ use Rattle.scope.specs.Claim.{claimLayout, stress, multiplier}
 use Rattle.scope.specs.Statements.{MeshSound, HasField, HasMultipliers}
 use Rattle.scope.specs.Bracket.{Open}
 use Rattle.scope.specs.Parts.{carried, allowed, SameRows, NumberOf}
+use Rattle.scope.specs.Blends.{BlendedClaims}
 use Rattle.scope.specs.Tests.{rowAt}
 use Rattle.scope.specs.Verdict.{lowerLoad, upperLoad}
 use Rattle.numbers.specs.declared.numbers_answer.NumbersAnswer.{NumbersAnswer}
@@ -181,6 +182,13 @@ CallAndMultipliers a i = Call a i → (b : Handed) → OnTheSameMesh a b → Tel
 abbrev pub FractionsAndCall : (b : Handed) (j : ℕ) → Type 0
 FractionsAndCall b j = Call b j → HasMultipliers (claimOf b) → j ≡ 0 → (m : List ℤ) → MeshSound m
     → SameRows m (meshOf b) → FractionsBracket m (meshOf b) (claimOf b) (allowed (meshOf b) (claimOf b))
+
+-- "two accepted fields, weighted with whole numbers not below zero and not both zero, give a field in exact fractions
+-- that meets every row and carries the weighted load .. no such blend passes any accepted limit" (document 02, N11):
+-- the fields of two calls, or of one twice, each on files or on numbers
+abbrev pub BlendedCalls : (a b : Handed) (i j : ℕ) → Type 0
+BlendedCalls a b i j = Call a i → Call b j → OnTheSameMesh a b → TellsField (claimOf a) i → TellsField (claimOf b) j
+    → (u v : ℕ) → 0 < u + v → BlendedClaims u v (meshOf a) (claimOf a) (meshOf b) (claimOf b)
 
 -- "Numbers handed to it get the refusals that a file of them, with columns as wide as needed, would get"
 pub record AsAFile (m c : List ℤ) (r : NumbersAnswer) : Type 0 where

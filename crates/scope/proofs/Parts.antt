@@ -23,6 +23,7 @@ use Rattle.scope.specs.Verdict.{openCount}
 use Rattle.scope.specs.Statements.{NoneOnUnfixed, MeshSound}
 use Rattle.scope.specs.Accepted.{FieldAccepted, MultipliersAccepted}
 use Rattle.scope.specs.NumberRanges.{MeshFacts, ClaimFacts}
+use Rattle.scope.specs.Meets.{FieldMeets}
 use Rattle.scope.specs.Bracket.{NodesNamed, MultipliersMeet, Bracket}
 use Rattle.scope.specs.Parts.{carried, allowed, SameRows, PartsBracket, OpenRowsCount}
 use Rattle.scope.proofs.Lists.{row-in}
@@ -138,12 +139,16 @@ field-n m c a =
     let f : ClaimFacts m c = claim-facts m c (a .lines) (mesh-facts m (a .mesh .lines)) in
     above-0 (f .nRange .least) (f .partsFit .withField (a .there))
 
+-- a field of whole numbers that meets the rows of m, against accepted multipliers for the same rows
+pub whole-bracket : (m d k : List ℤ) → SameRows m d → MultipliersAccepted d k → (t : ℕ → ℤ) (j e : ℤ) → FieldMeets t j e (rowsOf m) → Bracket t j e (multiplier d k) (rowsOf d)
+whole-bracket m d k same w t j e met =
+    bracket t j e (multiplier d k) (rowsOf d) (3 * nodes d) (mesh-columns d (nodes-named d (w .mesh))) (same-met m d same t j e met) (multipliers-meet d k w)
+
 -- any accepted field and any accepted multipliers, of one claim or of two, on meshes with the same rows
 pub parts-bracket : (m c d k : List ℤ) → SameRows m d → FieldAccepted m c → MultipliersAccepted d k → PartsBracket m c d k
 unfolding carried allowed
 parts-bracket m c d k same f w =
-    let sums : Bracket (stress m c) (l c) (n c) (multiplier d k) (rowsOf d) =
-    bracket (stress m c) (l c) (n c) (multiplier d k) (rowsOf d) (3 * nodes d) (mesh-columns d (nodes-named d (w .mesh))) (same-met m d same (stress m c) (l c) (n c) (f .meets)) (multipliers-meet d k w) in
+    let sums : Bracket (stress m c) (l c) (n c) (multiplier d k) (rowsOf d) = whole-bracket m d k same w (stress m c) (l c) (n c) (f .meets) in
     record {
       n-above-0 = field-n m c f;
       m-above-0 = w .meet .live;

@@ -43,4 +43,5 @@ pub mod Fractions
 pub mod Parts
 pub mod AcceptedMultipliers
 pub mod AcceptedFractions
+pub mod Blends
 pub mod Worked
