@@ -9,13 +9,13 @@ use mir.Syntax.{w64}
 use mir.Val.{SFits}
 use mir.Facts.{toZ-ofZ}
 use borrow.Table.Steps.{cases}
+use Rattle.integer.proofs.MagnitudeLaws.{read}
 use Rattle.scope.specs.declared.Verdict.{Verdict}
 use Rattle.reader.specs.File.{fileWidth}
 use Rattle.judge.specs.Judge.{filesVerdict}
 use Rattle.report.specs.declared.Reported.{Reported}
 use Rattle.report.specs.Report.{reportBytes, isDecimals}
 use Rattle.report.specs.Buffer.{reported, afterAnswer, afterReport, reportedNumber, reportedPlace, Reports}
-use Rattle.report.proofs.DivisionLaws.{read}
 use Rattle.pechuvo.specs.Check.{check}
 use Rattle.pechuvo.specs.Answers.{Answers}
 

@@ -18,6 +18,7 @@ use borrow.Rule.Slice.PartMut.{midOf, postOf, putMid, same-len-mid}
 use Rattle.integer.specs.Decimal.{digits, rightJustified}
 use Rattle.integer.proofs.Order.{nonneg, pos-≤ℤ, ≤ℤ-pos}
 use Rattle.integer.proofs.TestLaws.{yes-leZ}
+use Rattle.integer.proofs.MagnitudeLaws.{read}
 use Rattle.scope.specs.declared.Place.{Place}
 use Rattle.scope.specs.declared.Load.{Load}
 use Rattle.scope.specs.declared.Load.the-variants.{Absent}
@@ -30,7 +31,6 @@ use Rattle.report.specs.Text.{noneText}
 use Rattle.report.specs.Report.{reportBytes, loadText, lowerText, upperText, openText, fourColumns, reportLine, mostDecimals, Decimals, isDecimals}
 use Rattle.report.specs.declared.Reported.the-variants.{Written, TooShort, OtherDecimals}
 use Rattle.report.specs.Buffer.{reported, afterAnswer, afterReport, Reports}
-use Rattle.report.proofs.DivisionLaws.{read}
 
 -- a column behind the `front` that stands already
 behind : (k : ℕ) (front y bytes : List ℕ) → length front ≡ k → putMid k 28 (front ++ drop k bytes) y ≡ (front ++ y) ++ drop (k + 28) bytes

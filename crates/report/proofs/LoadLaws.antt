@@ -16,6 +16,7 @@ use mir.Val.{Fits, SFits}
 use mir.Facts.{toZ-ofZ}
 use borrow.Author.Tests.{lt-ltb}
 use Rattle.integer.proofs.Machine.{is-true, is-false}
+use Rattle.integer.proofs.MagnitudeLaws.{read}
 use Rattle.integer.proofs.TestLaws.{leZ-no}
 use Rattle.integer.proofs.Order.{nonneg, ≤ℤ-pos}
 use Rattle.integer.specs.Decimal.{digits, lastDigits, rightJustified}
@@ -29,7 +30,6 @@ use Rattle.report.specs.Report.{loadText}
 use Rattle.report.specs.Column.{endingAt, Ends}
 use Rattle.report.specs.Quotient.{partsOf, unitsOf, roundedTo}
 use Rattle.report.specs.Spelled.{minusText, decimalsText, roundTo}
-use Rattle.report.proofs.DivisionLaws.{read}
 use Rattle.report.proofs.ColumnLaws.{ending-none, ending-last, ending-first, justified-before, justified-alone}
 
 -- ---- the decimals

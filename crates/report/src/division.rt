@@ -2,7 +2,6 @@
 // and its decimals are apart.
 ghost use mathlib.Core.Path.{_≡_};
 ghost use Prim.Native.Nat.{_+_, _*_, _%_, _^_, _≤_, _<_};
-ghost use lib.IntN.{natAbs};
 ghost use Rattle.report.specs.Report.{mostDecimals};
 ghost use Rattle.report.specs.Quotient.{partsOf, unitsOf, nextDigit, divide, roundedTo};
 
@@ -21,16 +20,6 @@ pub struct Quotient {
     pub whole: u64,
     pub part: u64,
     pub rest: u64,
-}
-
-// How large a number is: the least i64 has no opposite, so one is added on either side.
-pub fn magnitude(num: i64) -> u64
-    ensures { λ r. ⌜ r ≡ natAbs num ⌝ }
-{
-    if num < 0 {
-        return (-(num + 1)) as u64 + 1;
-    }
-    num as u64
 }
 
 // 10^d

@@ -1,10 +1,10 @@
 -- A number below 0 is the opposite of its magnitude, which the machine has by `turned`; another is its own magnitude.
 use borrow.Author.Needs.{needs}
 use native.Mathlib.Omega.{arith}
 use Rattle.integer.proofs.Machine.{machine, unbounded, told, meets}
-use Rattle.report.proofs.DivisionLaws.{Turned, turned}
-use Rattle.report.proofs.division.magnitude.Statement.{statement}
-use Rattle.report.proofs.division.magnitude.Tie as tie
+use Rattle.integer.proofs.MagnitudeLaws.{Turned, turned}
+use Rattle.integer.proofs.magnitude.Statement.{statement}
+use Rattle.integer.proofs.magnitude.Tie as tie
 
 below-zero : (c : tie.Then1) → Turned (c .before .args .num)
 below-zero c = turned (c .before .args .num) (c .before .fits .num) (told (c .if1 .taken) (search (machine, unbounded) depth 30) (omega arith))
