@@ -1,0 +1,21 @@
+-- A stale count is answered at once; else the commit is the ask.
+use borrow.Author.Needs.{needs}
+use mathlib.Core.Path.{_∙_}
+use Rattle.book.proofs.BookLaws.{committed-stale, committed-asked}
+use Rattle.book.proofs.Book.commit.Statement.{statement}
+use Rattle.book.proofs.Book.commit.Tie as tie
+
+is-stale-requires : tie.Need-is-stale-requires
+is-stale-requires c κs = search needs
+
+returns : tie.Need-returns
+returns c = committed-stale (c .before .before .before .before .args .self) _ (c .before .before .before .before .args .count) _ (c .before .is-stale .ensures) (c .if1 .taken)
+
+ask-requires : tie.Need-ask-requires
+ask-requires c κs = search needs
+
+returns-2 : tie.Need-returns-2
+returns-2 c = c .before .ask .ensures ∙ committed-asked (c .before .before .before .before .before .before .args .self) _ (c .before .before .before .before .before .before .args .count) _ (c .before .before .before .is-stale .ensures) (c .before .before .if1 .left)
+
+pub commit-spec : {M : Type 1} → statement M
+commit-spec = tie.close (tie.spec is-stale-requires returns ask-requires returns-2)
