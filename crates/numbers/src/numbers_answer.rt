@@ -22,7 +22,7 @@ pub struct NumbersAnswer {
 }
 
 // 1 for a load that is there, else 0.
-fn there(load: Load) -> u32
+pub fn there(load: Load) -> u32
     ensures { λ r. ⌜ r ≡ there load ⌝ }
 {
     match load {
@@ -31,7 +31,8 @@ fn there(load: Load) -> u32
     }
 }
 
-fn numerator(load: Load) -> i64
+// The two numbers of a load, and 0 where it is not there.
+pub fn numerator(load: Load) -> i64
     ensures { λ r. ⌜ r ≡ numerator load ⌝ }
 {
     match load {
@@ -40,7 +41,7 @@ fn numerator(load: Load) -> i64
     }
 }
 
-fn denominator(load: Load) -> i64
+pub fn denominator(load: Load) -> i64
     ensures { λ r. ⌜ r ≡ denominator load ⌝ }
 {
     match load {

@@ -10,3 +10,6 @@ pub mod PromisesApplied
 pub mod Blends
 pub mod RunPromises
 pub mod RunApplied
+pub mod BookAnswers
+pub mod BookPromises
+pub mod BookApplied

@@ -115,8 +115,8 @@ module _ (mesh claim : List ℕ) (z : ℤ) (before : List ℕ) (number place : �
         writes = h .bufferIs ∙ ap (λ x. x .buffer) e;
       }
 
--- no verdict has a number above 33 but 42 and 44, so none has 41 or 43
-not-of-a-verdict : (x : ℕ) → 33 < x → x ≢ 42 → x ≢ 44 → (m c : List ℤ) → numberOf (verdict m c) ≢ x
+-- no verdict has a number above 33 but 42 and 44, so none has 41, 43 or 48
+pub not-of-a-verdict : (x : ℕ) → 33 < x → x ≢ 42 → x ≢ 44 → (m c : List ℤ) → numberOf (verdict m c) ≢ x
 not-of-a-verdict x above not-42 not-44 m c = by (verdict-cases m c)
   where
     of-mesh : {k : ℕ} → (k ≤ 13) ⊎ ((k ≡ 42) ⊎ (k ≡ 44)) → k ≢ x

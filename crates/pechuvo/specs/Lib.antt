@@ -1,7 +1,7 @@
 -- The whole check, from two byte strings to the answer and the buffer, what a call of it answers, the worked sheets,
 -- and what a caller may rely on.
--- A reader must believe Check, Answers, Promises and the tables of Sheets and RunSheets; Bytes and Shipped say how a
--- table and a file of sheets/ are read. No file is a contract between functions.
+-- A reader must believe Check, Answers, Promises, BookInC, BookPromises and the tables of Sheets and RunSheets; Bytes and
+-- Shipped say how a table and a file of sheets/ are read. No file is a contract between functions.
 pub mod Check
 pub mod Answers
 pub mod Bytes
@@ -9,3 +9,5 @@ pub mod Sheets
 pub mod RunSheets
 pub mod Shipped
 pub mod Promises
+pub mod BookInC
+pub mod BookPromises

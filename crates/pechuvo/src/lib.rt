@@ -1,6 +1,13 @@
 // Every call that C makes: the check of a mesh file and a claim file, two byte strings into a report line and the
-// verdict's numbers; the check of claims for one mesh, one after another; and the check of the numbers themselves.
+// verdict's numbers; the check of claims for one mesh, one after another; the check of the numbers themselves; and the
+// two calls of a book.
 
+pub mod books;
+
+use crate::books::BookAnswer;
+use crate::books::BookForC;
+use crate::books::book_answer;
+use crate::books::book_of;
 use judge::judge_files;
 use numbers::numbers_answer::NumbersAnswer;
 use report::Reported;
@@ -15,9 +22,11 @@ ghost use Rattle.scope.specs.Verdict.{verdict};
 ghost use Rattle.numbers.specs.NumbersAnswer.{answerOf};
 ghost use Rattle.reader.specs.File.{fileWidth};
 ghost use Rattle.report.specs.Buffer.{reportedNumber, reportedPlace};
-ghost use Rattle.judge.specs.Judge.{meshNumbers};
+ghost use Rattle.judge.specs.Judge.{meshNumbers, filesVerdict};
 ghost use Rattle.run.specs.Run.{RunAnswers};
+ghost use Rattle.book.specs.Book.{asked, committed};
 ghost use Rattle.pechuvo.specs.Answers.{Answers};
+ghost use Rattle.pechuvo.specs.BookInC.{bookOf, bookAnswer};
 
 // What is returned: 0 and 0 for an accepted claim, else a refusal's number and its place.
 #[repr(C)]
@@ -27,7 +36,7 @@ pub struct Answer {
 }
 
 // 0 and 0, or the refusal's number and place.
-fn verdict_answer(v: Verdict) -> Answer
+pub(crate) fn verdict_answer(v: Verdict) -> Answer
     ensures { λ r. ⌜ (r .number ≡ numberOf v) × (r .place ≡ placeOf v) ⌝ }
 {
     match v {
@@ -91,4 +100,27 @@ pub extern "C" fn pechuvo_check_numbers(m: &[i64], c: &[i64]) -> NumbersAnswer
     ensures { λ r. ⌜ r ≡ answerOf (verdict (now (m .entry)) (now (c .entry))) ⌝ }
 {
     numbers::check(m, c)
+}
+
+// An ask of a book: the verdict's number and place, and the book that would follow. Nothing is written.
+#[no_mangle]
+pub extern "C" fn pechuvo_book_ask(book: BookForC, mesh: &[u8], claim: &[u8]) -> BookAnswer
+    ensures { λ r. ⌜ r ≡ bookAnswer
+        (asked (bookOf book) (filesVerdict fileWidth (now (mesh .entry)) (now (claim .entry)))) ⌝ }
+{
+    book_answer(book_of(book).ask(mesh, claim))
+}
+
+// A commit to a book, naming the count that the ask saw: the verdict's number and place, and the book that follows.
+#[no_mangle]
+pub extern "C" fn pechuvo_book_commit(
+    book: BookForC,
+    count: u64,
+    mesh: &[u8],
+    claim: &[u8],
+) -> BookAnswer
+    ensures { λ r. ⌜ r ≡ bookAnswer
+        (committed (bookOf book) count (filesVerdict fileWidth (now (mesh .entry)) (now (claim .entry)))) ⌝ }
+{
+    book_answer(book_of(book).commit(count, mesh, claim))
 }
