@@ -1,4 +1,4 @@
--- The theorems about the whole check.
+-- The theorems about the whole check, about a book and about the next strength.
 pub mod Sheets
 pub mod Check
 pub mod Answers
@@ -13,3 +13,4 @@ pub mod RunApplied
 pub mod BookAnswers
 pub mod BookPromises
 pub mod BookApplied
+pub mod NextStrength

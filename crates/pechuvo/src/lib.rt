@@ -1,6 +1,6 @@
 // Every call that C makes: the check of a mesh file and a claim file, two byte strings into a report line and the
-// verdict's numbers; the check of claims for one mesh, one after another; the check of the numbers themselves; and the
-// two calls of a book.
+// verdict's numbers; the check of claims for one mesh, one after another; the check of the numbers themselves; the two
+// calls of a book; and the next strength to try, which reads no mesh.
 
 pub mod books;
 
@@ -16,6 +16,9 @@ use run::RunAnswer;
 use run::check_run;
 use scope::Verdict;
 use scope::place_number;
+use strength::NextAnswer;
+use strength::Trial;
+use strength::next_answer;
 ghost use mathlib.Core.Path.{_≡_};
 ghost use Rattle.scope.specs.Answer.{numberOf, placeOf};
 ghost use Rattle.scope.specs.Verdict.{verdict};
@@ -27,6 +30,7 @@ ghost use Rattle.run.specs.Run.{RunAnswers};
 ghost use Rattle.book.specs.Book.{asked, committed};
 ghost use Rattle.pechuvo.specs.Answers.{Answers};
 ghost use Rattle.pechuvo.specs.BookInC.{bookOf, bookAnswer};
+ghost use Rattle.pechuvo.specs.NextStrength.{NextAnswers};
 
 // What is returned: 0 and 0 for an accepted claim, else a refusal's number and its place.
 #[repr(C)]
@@ -123,4 +127,14 @@ pub extern "C" fn pechuvo_book_commit(
         (committed (bookOf book) count (filesVerdict fileWidth (now (mesh .entry)) (now (claim .entry)))) ⌝ }
 {
     book_answer(book_of(book).commit(count, mesh, claim))
+}
+
+// The next strength to try (document 02, N13), after the trials K1 with L1 and K2 with L2.
+#[no_mangle]
+pub extern "C" fn pechuvo_next_strength(k1: f64, l1: f64, k2: f64, l2: f64) -> NextAnswer
+    ensures { λ r. ⌜ NextAnswers k1 l1 k2 l2 r ⌝ }
+{
+    let first = Trial { k: k1, l: l1 };
+    let second = Trial { k: k2, l: l2 };
+    next_answer(first, second)
 }

@@ -1,5 +1,5 @@
--- The next strength to try (document 02, N13). Numbers are binary64's, as `lib.Ieee` has them: each operation rounds its
--- exact result once, to nearest and at a tie to even, and `positive` is finite and above 0.
+-- The next strength to try (document 02, N13). Numbers are binary64's, as `lib.Ieee` has them: each operation rounds
+-- its exact result once, to nearest and at a tie to even, and `positive` is finite and above 0.
 use mathlib.Core.Bool.{Bool, false, not, _&&_, cond}
 use lib.IntN.{pos}
 use lib.Ieee.{Float, fin, binary64, sub, mul, div, eq}

@@ -34,8 +34,8 @@ pub record Accepted (a b : Trial) : Type 0 where
   pub apart : ¬ (valueOf (a .l) ≈ᶠ valueOf (b .l))
   pub result : FiniteAboveZero (hyperbola a b)
 
--- 0 exactly when all of that holds, and 49 else; the place is 0; a strength is eq. 23, each operation rounded once, and 0
--- where it is refused
+-- 0 exactly when all of that holds, and 49 else; the place is 0; a strength is eq. 23, each operation rounded once,
+-- and 0 where it is refused
 pub record GivesOrRefuses (a b : Trial) (r : NextAnswer) : Type 0 where
   pub gives : (r .number ≡ 0) ↔ Accepted a b
   pub refuses : (r .number ≡ 49) ↔ (¬ Accepted a b)

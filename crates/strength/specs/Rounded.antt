@@ -1,5 +1,5 @@
--- Exact fractions, and what it is to be the one binary64 number that a fraction is rounded to: nearest, and at a tie the
--- one whose last bit is 0. Nothing here computes with floats or says how a rounding is done.
+-- Exact fractions, and what it is to be the one binary64 number that a fraction is rounded to: nearest, and at a tie
+-- the one whose last bit is 0. Nothing here computes with floats or says how a rounding is done.
 use mathlib.Core.Path.{_≡_}
 use mathlib.Core.Logic.{_⊎_}
 use mathlib.Core.Bool.{Bool, true, false}
@@ -45,7 +45,7 @@ abbrev pub signed : Bool → ℕ → ℤ
 signed false n = pos n
 signed true n = negℤ (pos n)
 
--- `fin s m e` is m·2 ^ e, negative where s is true, and 2 ^ e is up e / down e; what is not finite is given the value 0
+-- `fin s m e` is m·2 ^ e, negative where s is true, and 2 ^ e is up e / down e; what is not finite has the value 0
 abbrev pub valueOf : Float → Frac
 valueOf nan = zeroᶠ
 valueOf (inf s) = zeroᶠ
