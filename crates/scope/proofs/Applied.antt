@@ -40,7 +40,7 @@ use Rattle.scope.proofs.Refusals.{mesh-passed, lines-passed, field-pass
 
 -- ---- what passes is accepted
 
-field-accepted : (m c : List ℤ) → meshCheck m ≡ Passed → linesCheck (claimLayout m) c ≡ Passed → HasField c → fieldCheck (equalityRows m) (strengthRows m) (stress m c) (l c) (n c) ≡ Passed → FieldAccepted m c
+pub field-accepted : (m c : List ℤ) → meshCheck m ≡ Passed → linesCheck (claimLayout m) c ≡ Passed → HasField c → fieldCheck (equalityRows m) (strengthRows m) (stress m c) (l c) (n c) ≡ Passed → FieldAccepted m c
 unfolding rowsOf
 field-accepted m c a b h e = record {
   mesh = mesh-passed m .says a;
@@ -49,7 +49,7 @@ field-accepted m c a b h e = record {
   meets = field-passed (equalityRows m) (strengthRows m) (stress m c) (l c) (n c) .says e;
 }
 
-multipliers-accepted : (m c : List ℤ) → meshCheck m ≡ Passed → linesCheck (claimLayout m) c ≡ Passed → HasMultipliers c → multipliersCheck (equalityRows m) (rowsOf m) (3 * nodes m) (multiplier m c) ≡ Passed → MultipliersAccepted m c
+pub multipliers-accepted : (m c : List ℤ) → meshCheck m ≡ Passed → linesCheck (claimLayout m) c ≡ Passed → HasMultipliers c → multipliersCheck (equalityRows m) (rowsOf m) (3 * nodes m) (multiplier m c) ≡ Passed → MultipliersAccepted m c
 multipliers-accepted m c a b h e = record {
   mesh = mesh-passed m .says a;
   lines = lines-passed (claimLayout m) c .says b;

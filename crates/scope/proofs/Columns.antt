@@ -6,11 +6,12 @@ use native.Mathlib.Omega.{arith}
 use lib.Dec.{lit<}
 use lib.IntN.{ℤ}
 use Rattle.scope.proofs.Lists.{of-count, each-nil, each-cons, each-++, each-map, each-joined}
+use Rattle.scope.proofs.Directions.{by-kind}
 use Rattle.scope.proofs.Pairs.{pairs}
 use Rattle.scope.specs.Members.{_∈_}
 use Rattle.scope.specs.Mesh.{nodes, elements, edges, sides, jumps, corner, fromNode, toNode, jumpFrom, jumpTo, facingFrom, facingTo}
-use Rattle.scope.specs.Polygon.{Side, polygonSides, polygonOf}
-use Rattle.scope.specs.Rows.{Row, sx, sy, t, countFrom, node, balanceX, balanceY, balanceRows, normalRow, shearRow, sideRows, agreeRow, jumpNormal, jumpShear, jumpRows, strengthPairs, strengthRow, pairRows, strengthRows, equalityRows, rowsOf}
+use Rattle.scope.specs.Polygon.{Point, Side, polygonSides, halfTurn, polygonOf}
+use Rattle.scope.specs.Rows.{Row, sx, sy, t, countFrom, node, balanceX, balanceY, balanceRows, normalRow, shearRow, sideRows, agreeRow, jumpNormal, jumpShear, jumpRows, strengthPairs, strengthRow, planeRow, rowsBySides, rowsByPlanes, strengthRows, equalityRows, rowsOf}
 use Rattle.scope.specs.Bracket.{MeshColumns}
 
 module _ (m : List ℤ) where
@@ -59,8 +60,12 @@ module _ (m : List ℤ) where
   unfolding In RowIn strengthRow
   strength-in r p q h C v d k = let c = columns-of v k in each-cons In (c .at-sx) (each-cons In (c .at-sy) (each-cons In (c .at-t) (each-nil In)))
 
+  plane-in : (r p q ch cv : ℤ) (v : ℕ) (c : Point) (k : ℤ) → v < nodes m → RowIn (planeRow r p q ch cv v c k)
+  unfolding In RowIn planeRow
+  plane-in r p q ch cv v c k h = let w = columns-of v h in each-cons In (w .at-sx) (each-cons In (w .at-sy) (each-cons In (w .at-t) (each-nil In)))
+
   pub mesh-columns : MeshColumns m
-  unfolding RowIn In rowsOf equalityRows balanceRows sideRows jumpRows strengthRows pairRows
+  unfolding RowIn In rowsOf equalityRows balanceRows sideRows jumpRows strengthRows rowsBySides rowsByPlanes
   mesh-columns named =
       each-++ RowIn
       (each-++ RowIn
@@ -79,4 +84,9 @@ module _ (m : List ℤ) where
       let to = jump-in g (jumpTo m g) (facingTo m g) (named .jumpTos g k .0) (named .jumpTos g k .1) in
       each-cons RowIn (from .0) (each-cons RowIn (from .1) (each-cons RowIn (to .0) (each-cons RowIn (to .1) (each-nil RowIn))))))))
       (each-joined RowIn _ (strengthPairs m) (λ a j.
-      each-map RowIn _ (polygonSides (polygonOf (sides m) .corners)) (λ d k. strength-in _ _ _ _ _ (a .at) d (pairs m .exactly a .0 j .0))))
+      let there = pairs m .exactly a .0 j .0 in
+      by-kind (polygonOf (sides m)) m a (λ rs. (r : Row) → r ∈ rs → RowIn r)
+      (λ e.
+      each-joined RowIn _ (halfTurn (polygonOf (sides m) .corners)) (λ v k.
+      each-cons RowIn (plane-in _ _ _ _ _ (a .at) v _ there) (each-cons RowIn (plane-in _ _ _ _ _ (a .at) v _ there) (each-nil RowIn))))
+      (λ e. each-map RowIn _ (polygonSides (polygonOf (sides m) .corners)) (λ d k. strength-in _ _ _ _ _ (a .at) d there))))

@@ -12,7 +12,7 @@ use Rattle.integer.proofs.Ring.{ring, ring-from, terms}
 use Rattle.integer.proofs.Order.{by-nn, nn-diff, ≤ℤ-trans, ≤ℤ-total, <ℤ→≤ℤ, +ℤ-mono, *ℤ-nonneg, square-nonneg, *ℤ-pos, *ℤ-cancel-≤}
 use Rattle.scope.proofs.PolygonRule.{polygon-rule}
 use Rattle.scope.specs.Members.{_∈_}
-use Rattle.scope.specs.Mesh.{sides, p, q, h, cohesion}
+use Rattle.scope.specs.Mesh.{sides, p, q, h, cohesion, ByDirection}
 use Rattle.scope.specs.Polygon.{Point, point, Polygon, Side, sidesTo, polygonSides, polygonOf}
 use Rattle.scope.specs.Rows.{sx, sy, t, Pair, strengthPairs, cross}
 use Rattle.scope.specs.PolygonRule.{OnCircle, OnceAround, PolygonRule}
@@ -146,6 +146,6 @@ criterion {g} rule p q h C n sx sy t rows =
 pub criterion-of : (k : ℕ) → WithinCriterion (polygonOf k)
 criterion-of k = let (sides, step, product, rule) = polygon-rule k in criterion rule
 
-pub field-criterion : (m : List ℤ) (s : ℕ → ℤ) (l n : ℤ) → MeetsPrinted m s l n → (a : Pair) → a ∈ strengthPairs m → CriterionAt m s n a
-field-criterion m s l n f a k =
-    criterion-of (sides m) (p m (a .soil)) (q m (a .soil)) (h m (a .soil)) (cohesion m (a .soil)) n (s (sx (a .at))) (s (sy (a .at))) (s (t (a .at))) (f .strength a k)
+pub field-criterion : (m : List ℤ) (s : ℕ → ℤ) (l n : ℤ) → MeetsPrinted m s l n → (a : Pair) → a ∈ strengthPairs m → ¬ ByDirection m (a .soil) → CriterionAt m s n a
+field-criterion m s l n f a k d =
+    criterion-of (sides m) (p m (a .soil)) (q m (a .soil)) (h m (a .soil)) (cohesion m (a .soil)) n (s (sx (a .at))) (s (sy (a .at))) (s (t (a .at))) (f .strength a k d)

@@ -56,19 +56,19 @@ module _ (m c : List ℤ) where
   accepted-exactly = (to, from)
     where
       good : Verdict
-      good = Accepted (openCount m c) (lowerLoad c) (upperLoad m c)
+      good = Accepted (openCount m c) (lowerLoad m c) (upperLoad m c)
 
       to : verdict m c ≡ good → ClaimAccepted m c
       to e =
-          let h : (meshCheck m ≡ Passed) × (claimVerdict m c ≡ good) = answer-accepted (meshCheck m) (claimVerdict m c) (openCount m c) (lowerLoad c) (upperLoad m c) .0 e in
-          let r : LinesSound (claimLayout m) c × ((HasField c → RowsMet m c) × (HasMultipliers c → ColumnsMet m c)) = claim-passed m c .says (answer-accepted (claimCheck m c) good (openCount m c) (lowerLoad c) (upperLoad m c) .0 (h .1) .0) in
+          let h : (meshCheck m ≡ Passed) × (claimVerdict m c ≡ good) = answer-accepted (meshCheck m) (claimVerdict m c) (openCount m c) (lowerLoad m c) (upperLoad m c) .0 e in
+          let r : LinesSound (claimLayout m) c × ((HasField c → RowsMet m c) × (HasMultipliers c → ColumnsMet m c)) = claim-passed m c .says (answer-accepted (claimCheck m c) good (openCount m c) (lowerLoad m c) (upperLoad m c) .0 (h .1) .0) in
           record { mesh = mesh-passed m .says (h .0); lines = r .0; fieldMeets = r .1 .0; multipliersMeet = r .1 .1 }
 
       from : ClaimAccepted m c → verdict m c ≡ good
       from a =
-          answer-accepted (meshCheck m) (claimVerdict m c) (openCount m c) (lowerLoad c) (upperLoad m c) .1 (
+          answer-accepted (meshCheck m) (claimVerdict m c) (openCount m c) (lowerLoad m c) (upperLoad m c) .1 (
             mesh-passed m .passed (a .mesh),
-            answer-accepted (claimCheck m c) good (openCount m c) (lowerLoad c) (upperLoad m c) .1
+            answer-accepted (claimCheck m c) good (openCount m c) (lowerLoad m c) (upperLoad m c) .1
                 (claim-passed m c .passed (a .lines, (a .fieldMeets, a .multipliersMeet)), refl),
           )
 
@@ -76,7 +76,7 @@ module _ (m c : List ℤ) where
   pub refused-exactly : RefusedExactly m c
   unfolding verdict claimVerdict
   refused-exactly k p =
-      let checks : (verdict m c ≡ Refused k p) ↔ (meshCheck m then claimCheck m c ≡ Fails k p) = answer-refused (meshCheck m) (claimCheck m c) (openCount m c) (lowerLoad c) (upperLoad m c) in
+      let checks : (verdict m c ≡ Refused k p) ↔ (meshCheck m then claimCheck m c ≡ Fails k p) = answer-refused (meshCheck m) (claimCheck m c) (openCount m c) (lowerLoad m c) (upperLoad m c) in
       (λ e. all-exact m c .refuses .why k p (checks .0 e), λ r. checks .1 (all-exact m c .refuses .refused k p r))
 
 -- ---- what is returned
@@ -166,12 +166,12 @@ refusal-number {m} {c} r =
     (r .by)
 
 -- a verdict is a refusal, or accepts with the claim's own open rows and loads
-pub verdict-cases : (m c : List ℤ) → ((k : ℕ) × (p : Place) × (verdict m c ≡ Refused k p)) ⊎ (verdict m c ≡ Accepted (openCount m c) (lowerLoad c) (upperLoad m c))
+pub verdict-cases : (m c : List ℤ) → ((k : ℕ) × (p : Place) × (verdict m c ≡ Refused k p)) ⊎ (verdict m c ≡ Accepted (openCount m c) (lowerLoad m c) (upperLoad m c))
 unfolding verdict claimVerdict answer
 verdict-cases m c = of-mesh′ (meshCheck m)
   where
     good : Verdict
-    good = Accepted (openCount m c) (lowerLoad c) (upperLoad m c)
+    good = Accepted (openCount m c) (lowerLoad m c) (upperLoad m c)
 
     of-claim′ : (o : Outcome) → ((k : ℕ) × (p : Place) × (answer o good ≡ Refused k p)) ⊎ (answer o good ≡ good)
     of-claim′ Passed = inr refl
@@ -185,7 +185,7 @@ verdict-cases m c = of-mesh′ (meshCheck m)
 pub returns-zero : (m c : List ℤ) → ZeroExactly m c
 returns-zero m c = (λ e. to (verdict-cases m c) e, λ a. ap numberOf (accepted-exactly m c .1 a))
   where
-    to : ((k : ℕ) × (p : Place) × (verdict m c ≡ Refused k p)) ⊎ (verdict m c ≡ Accepted (openCount m c) (lowerLoad c) (upperLoad m c)) → numberOf (verdict m c) ≡ 0 → ClaimAccepted m c
+    to : ((k : ℕ) × (p : Place) × (verdict m c ≡ Refused k p)) ⊎ (verdict m c ≡ Accepted (openCount m c) (lowerLoad m c) (upperLoad m c)) → numberOf (verdict m c) ≡ 0 → ClaimAccepted m c
     to (inl (k, p, d)) e = absurd (omega (arith, refusal-number (refused-exactly m c k p .0 d), sym (ap numberOf d) ∙ e))
     to (inr d) e = accepted-exactly m c .0 d
 

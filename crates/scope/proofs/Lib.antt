@@ -11,6 +11,7 @@ pub mod RefusalTable
 pub mod Exactly
 pub mod PlaceKinds
 pub mod LineRefusals
+pub mod Directions
 pub mod NumberRanges
 pub mod Pairs
 pub mod SideLimits
@@ -22,6 +23,7 @@ pub mod Meets
 pub mod Triangles
 pub mod Meaning
 pub mod Jumps
+pub mod Planes
 pub mod Criterion
 pub mod AcceptedField
 pub mod Weighted
@@ -41,3 +43,4 @@ pub mod InOrder
 pub mod SumBounds
 pub mod AnswerBounds
 pub mod Applied
+pub mod AppliedBeds

@@ -14,7 +14,7 @@ use Rattle.integer.proofs.Order.{≤ℤ-pos}
 use Rattle.scope.specs.Columns.{oneOf, free, upTo, rightAngle, at}
 use Rattle.scope.specs.Layout.{width, groups, lineCount, numberCount, linesBefore, numbersBefore, count, entry}
 use Rattle.scope.specs.Polygon.{SidesListed}
-use Rattle.scope.specs.Mesh.{mostNodes, mostSides, listedSides, nodesFor108, nodesWith, meshHeader, soilLines, nodeLines, elementLines, edgeLines, meshLayout, meshGroups, nodes, elements, soils, edges, sides, p, q, h, cohesion, soilEntry, x, y, corner, elementSoil, edgeEntry, fromNode, toNode, jumpLines, jumps, jumpEntry, jumpFrom, jumpTo, facingFrom, facingTo}
+use Rattle.scope.specs.Mesh.{mostNodes, mostSides, listedSides, nodesFor108, nodesWith, meshHeader, soilLines, nodeLines, elementLines, edgeLines, meshLayout, meshGroups, nodes, elements, soils, edges, sides, p, q, h, cohesion, soilKind, cohesionAcross, soilEntry, x, y, corner, elementSoil, edgeEntry, fromNode, toNode, jumpLines, jumps, jumpEntry, jumpFrom, jumpTo, facingFrom, facingTo}
 use Rattle.scope.specs.Statements.{Within, LineSound, LinesSound}
 use Rattle.scope.specs.NumberRanges.{Between, Counts, SoilFacts, NodeFacts, ElementFacts, EdgeFacts, JumpFacts, MeshFacts}
 use Rattle.scope.proofs.PolygonRule.{listed-polygon}
@@ -92,7 +92,7 @@ module _ (m : List ℤ) (s : LinesSound meshLayout m) where
   counts = header-counts m (s .lines 0 (omega arith))
 
   soil-facts : (k : ℕ) → k < soils m → SoilFacts m k
-  unfolding meshLayout groups meshGroups meshHeader soilLines upTo soilEntry p q h cohesion
+  unfolding meshLayout groups meshGroups meshHeader soilLines upTo soilEntry p q h cohesion soilKind cohesionAcross
   soil-facts k l =
       let f : LineFacts (groups meshLayout m) m 1 k = line-facts meshLayout m s 1 k l (omega arith) in
       let w = f .within in
@@ -102,6 +102,8 @@ module _ (m : List ℤ) (s : LinesSound meshLayout m) where
         hRange = record { least = w 2 (omega arith) .0; most = w 2 (omega arith) .1 };
         cohesionRange = record { least = w 3 (omega arith) .0; most = w 3 (omega arith) .1 };
         forceRange = λ c h. force c h (w (4 + c) (omega arith));
+        kindRange = record { least = w 8 (omega arith) .0; most = w 8 (omega arith) .1 };
+        acrossRange = record { least = w 9 (omega arith) .0; most = w 9 (omega arith) .1 };
         rightAngle =
             subst₃ (λ (a b c : ℤ). a *ℤ a +ℤ b *ℤ b ≡ c *ℤ c)
             (at-lineIn (groups meshLayout m) m 1 k 0 (omega arith))
@@ -110,7 +112,7 @@ module _ (m : List ℤ) (s : LinesSound meshLayout m) where
             (f .rules .0);
       }
     where
-      force : (c : ℕ) → c < 4 → Within (getD (soilLines (soils m) .limits) (4 + c) free) (soilEntry m k (4 + c)) → Between (negℤ (pos 1000)) (pos 1000) (soilEntry m k (4 + c))
+      force : (c : ℕ) → c < 4 → Within (getD (soilLines (soils m) (sides m) .limits) (4 + c) free) (soilEntry m k (4 + c)) → Between (negℤ (pos 1000)) (pos 1000) (soilEntry m k (4 + c))
       force zero h w = record { least = w .0; most = w .1 }
       force (suc zero) h w = record { least = w .0; most = w .1 }
       force (suc (suc zero)) h w = record { least = w .0; most = w .1 }
@@ -212,25 +214,25 @@ module _ (m : List ℤ) (s : LinesSound meshLayout m) where
       four (suc (suc (suc (suc k)))) h a b c d = absurd (omega arith)
 
   -- the last line is there, whether it is an element's, an edge's or a jump's
-  last-element : 6 + soils m * 8 + nodes m * 2 + elements m * 5 ≤ length m
+  last-element : 6 + soils m * 10 + nodes m * 2 + elements m * 5 ≤ length m
   unfolding meshLayout groups meshHeader soilLines nodeLines elementLines numbersBefore
   last-element =
       let c : Counts m = counts in
       omega (arith, c .elementsLeast, line-facts meshLayout m s 3 (elements m - 1) (omega (arith, c .elementsLeast)) (omega arith) .there)
 
-  last-edge : 0 < edges m → 6 + soils m * 8 + nodes m * 2 + elements m * 5 + edges m * 7 ≤ length m
+  last-edge : 0 < edges m → 6 + soils m * 10 + nodes m * 2 + elements m * 5 + edges m * 7 ≤ length m
   unfolding meshLayout groups meshHeader soilLines nodeLines elementLines edgeLines numbersBefore
   last-edge h = omega (arith, line-facts meshLayout m s 4 (edges m - 1) (omega arith) (omega arith) .there)
 
-  last-jump : 0 < jumps m → 6 + soils m * 8 + nodes m * 2 + elements m * 5 + edges m * 7 + jumps m * 4 ≤ length m
+  last-jump : 0 < jumps m → 6 + soils m * 10 + nodes m * 2 + elements m * 5 + edges m * 7 + jumps m * 4 ≤ length m
   unfolding meshLayout groups meshHeader soilLines nodeLines elementLines edgeLines jumpLines numbersBefore
   last-jump h = omega (arith, line-facts meshLayout m s 5 (jumps m - 1) (omega arith) (omega arith) .there)
 
-  size : length m ≡ 6 + soils m * 8 + nodes m * 2 + elements m * 5 + edges m * 7 + jumps m * 4
+  size : length m ≡ 6 + soils m * 10 + nodes m * 2 + elements m * 5 + edges m * 7 + jumps m * 4
   unfolding meshLayout groups meshHeader soilLines nodeLines elementLines edgeLines jumpLines numberCount
   size = by (decLt 0 (edges m)) (decLt 0 (jumps m))
     where
-      by : Dec (0 < edges m) → Dec (0 < jumps m) → length m ≡ 6 + soils m * 8 + nodes m * 2 + elements m * 5 + edges m * 7 + jumps m * 4
+      by : Dec (0 < edges m) → Dec (0 < jumps m) → length m ≡ 6 + soils m * 10 + nodes m * 2 + elements m * 5 + edges m * 7 + jumps m * 4
       by h (yes j) = omega (arith, s .noneLeft, last-jump j)
       by (yes h) (no j) = omega (arith, s .noneLeft, last-edge h)
       by (no h) (no j) = omega (arith, s .noneLeft, last-element)

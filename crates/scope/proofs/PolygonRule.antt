@@ -3,28 +3,29 @@
 use mathlib.Core.Path.{_≡_, refl, sym, _∙_, ap, ap₂, subst}
 use mathlib.Core.Bool.{Bool, true, false, not, _&&_, _||_}
 use mathlib.Core.Logic.{_⊎_, inl, inr, ⊎-elim}
-use mathlib.Core.List.{List, [], _∷_, List·Memᴰ·head, List·Memᴰ·tail, Memᴰ·cast, tail-eq-of-cons-eq}
-use Prim.Native.Nat.{ℕ, zero, suc, _+_, _*_, _≤_, _<_, zero-le, suc-le-suc}
+use mathlib.Core.List.{List, [], _∷_, List·Memᴰ·head, List·Memᴰ·tail, List·Memᴰ·append-cases, Memᴰ·append-left, Memᴰ·cast, tail-eq-of-cons-eq}
+use Prim.Native.Nat.{ℕ, zero, suc, _+_, _*_, _/_, _≤_, _<_, zero-le, suc-le-suc}
 use native.Mathlib.Nat.{mul-le-mul}
 use native.Mathlib.Decide.{decLt}
 use native.Mathlib.Omega.{arith}
-use lib.Dec.{T, eqb, leb, ltb, leb→le, ltb→lt, nleb→lt, eqb→eq}
+use lib.Dec.{T, T-not, eqb, leb, ltb, leb→le, ltb→lt, nleb→lt, eqb→eq}
 use mir.Facts.{and-yes, or-yes}
 use lib.Ieee.Fits.{and-l, and-r}
 use lib.IntN.{ℤ, pos, negsuc, _+ℤ_, _*ℤ_, negℤ, natAbs}
 use lib.Signed.{ltZ, _<ℤ_, ltZ-yes}
-use lib.ListN.{length}
+use lib.ListN.{length, drop, take-append-drop}
 use Rattle.integer.specs.Tests.{eqZ}
 use Rattle.integer.proofs.TestLaws.{eqZ-yes}
 use Rattle.integer.proofs.RingLaws.{pos-injective}
 use Rattle.scope.proofs.Lists.{each-nil, each-cons}
+use Rattle.scope.proofs.Decides.{Decides, both, either, said-as, equalℤ, belowℤ}
 use Rattle.scope.specs.Members.{_∈_}
-use Rattle.scope.specs.Polygon.{Point, point, Polygon, Side, sidesTo, polygonSides, quarterTurn, fourQuadrants, twelve, twenty, thirtySix, oneHundredEight, polygonOf, SidesListed}
+use Rattle.scope.specs.Polygon.{Point, point, Polygon, Side, sidesTo, polygonSides, halfTurn, quarterTurn, fourQuadrants, twelve, twenty, thirtySix, oneHundredEight, polygonOf, SidesListed}
 use Rattle.scope.specs.Rows.{cross}
-use Rattle.scope.specs.Mesh.{mostSides, nodesFor108, nodesWith, strengthMultiplier, pairsWith}
+use Rattle.scope.specs.Mesh.{mostSides, nodesFor108, nodesWith, strengthMultiplier, kindWith, pairsWith}
 use Rattle.scope.specs.Claim.{stressColumns}
-use Rattle.scope.specs.Bounds.{mostRadius, mostStep, mostCross, weightedStep, weightedCross, mostStrengthRows}
-use Rattle.scope.specs.PolygonRule.{OnCircle, OnceAround, stepSize, crossSize, Largest, PolygonRule, PolygonFits, ListedPolygon}
+use Rattle.scope.specs.Bounds.{mostRadius, mostStep, mostCross, weightedStep, weightedCross, mostPlaneRadius, twiceStrength, strengthRightWith, strengthSum, mostStrengthRows}
+use Rattle.scope.specs.PolygonRule.{OnCircle, OnceAround, HalfTurn, stepSize, crossSize, Largest, PolygonRule, PolygonFits, ListedPolygon}
 
 -- ---- tests
 
@@ -66,6 +67,13 @@ onceAround : ℤ → List Point → Bool
 onceAround r [] = false
 onceAround r (v ∷ c) = isPoint r (pos 0) v && fromUpper r c
 
+-- (r, 0), or above the axis: so is each corner of the first half turn, and none of the rest
+inHalf : ℤ → Point → Bool
+inHalf r v = isPoint r (pos 0) v || ltZ (pos 0) v.py
+
+halves : ℤ → List Point → Bool
+halves r c = every (inHalf r) (halfTurn c) && every (λ v. not (inHalf r v)) (drop (length c / 2) c)
+
 largest : (Side → ℕ) → List Side → ℕ → Bool
 largest size ss k = every (λ s. leb (size s) k) ss && some (λ s. eqb (size s) k) ss
 
@@ -83,6 +91,7 @@ polygonTest g sides step product =
     && every (onCircle g.radius) g.corners
     && walk (hasSigned g.corners) (r * r) (2 * r + 2) 0 (suc r)
     && onceAround g.radius g.corners
+    && halves g.radius g.corners
     && every turnsLeft (polygonSides g.corners)
     && largest stepSize (polygonSides g.corners) step
     && largest crossSize (polygonSides g.corners) product
@@ -220,6 +229,25 @@ once-around r [] t = absurd t
 once-around r (v ∷ c) t =
     let h = and-yes (isPoint r (pos 0) v) (fromUpper r c) t in rw (point-yes r (pos 0) v (h .0)) (from-upper r c (h .1))
 
+half-says : (r : ℤ) (v : Point) → Decides (inHalf r v) ((v ≡ point r (pos 0)) ⊎ (pos 0 <ℤ v .py))
+unfolding inHalf isPoint
+half-says r v =
+    either
+    (said-as (both (equalℤ v.px r) (equalℤ v.py (pos 0))) (λ h. ap₂ point (h .0) (h .1)) (λ e. (ap (λ (w : Point). w .px) e, ap (λ (w : Point). w .py) e)))
+    (belowℤ (pos 0) v.py)
+
+half-turn : (r : ℤ) (c : List Point) → T (halves r c) → HalfTurn r c
+unfolding halves halfTurn
+half-turn r c t v =
+    let h = and-yes (every (inHalf r) (halfTurn c)) (every (λ v. not (inHalf r v)) (drop (length c / 2) c)) t in
+    let parts = take-append-drop (length c / 2) c in (
+      λ m. (subst (λ l. v ∈ l) parts (Memᴰ·append-left (drop (length c / 2) c) m), half-says r v .holds (every-yes (inHalf r) (halfTurn c) (h .0) v m)),
+      λ k.
+          ⊎-elim (λ m. m)
+          (λ m. absurd (T-not (inHalf r v) (every-yes (λ v. not (inHalf r v)) (drop (length c / 2) c) (h .1) v m) (half-says r v .passes (k .1))))
+          (List·Memᴰ·append-cases (halfTurn c) (subst (λ l. v ∈ l) (sym parts) (k .0))),
+    )
+
 largest-yes : (size : Side → ℕ) (ss : List Side) (k : ℕ) → T (largest size ss k) → Largest size ss k
 unfolding largest
 largest-yes size ss k t =
@@ -236,6 +264,7 @@ tested g sides step product t = record {
   on-circle = λ v m. eqZ-yes (every-yes (onCircle g.radius) g.corners (search (and-l, and-r) depth 10) v m);
   none-left-out = none-left-out g.corners g.radius (2 * natAbs g.radius + 2) (search (and-l, and-r) depth 10);
   once-around = once-around g.radius g.corners (search (and-l, and-r) depth 10);
+  half-turn = half-turn g.radius g.corners (search (and-l, and-r) depth 10);
   left-turns = λ s m. ltZ-yes (every-yes turnsLeft (polygonSides g.corners) (search (and-l, and-r) depth 10) s m);
   largest-step = largest-yes stepSize (polygonSides g.corners) step (search (and-l, and-r) depth 10);
   largest-cross = largest-yes crossSize (polygonSides g.corners) product (search (and-l, and-r) depth 10);
@@ -245,7 +274,7 @@ tested g sides step product t = record {
 
 -- every definition that a table's test computes with
 shown : Unit {0}
-unfolding polygonTest onCircle turnsLeft largest onceAround fromUpper walk hasSigned isPoint some every twelve twenty thirtySix oneHundredEight fourQuadrants quarterTurn polygonSides sidesTo cross polygonOf
+unfolding polygonTest onCircle turnsLeft largest onceAround halves inHalf halfTurn fromUpper walk hasSigned isPoint some every twelve twenty thirtySix oneHundredEight fourQuadrants quarterTurn polygonSides sidesTo cross polygonOf
 shown = tt
 
 pub twelve-sides : PolygonRule (polygonOf 12) 12 3 15
@@ -281,11 +310,15 @@ boundsTest : ℕ → ℕ → ℕ → ℕ → Bool
 boundsTest sides radius step product =
     ltb 0 sides
     && leb sides mostSides
+    && eqb (sides / 2 * 2) sides
     && leb radius mostRadius
+    && leb (kindWith sides * radius) mostPlaneRadius
     && leb step mostStep
     && leb product mostCross
     && leb (strengthMultiplier sides * step) weightedStep
     && leb (strengthMultiplier sides * product) weightedCross
+    && leb (product * twiceStrength) (strengthRightWith sides)
+    && leb (strengthMultiplier sides * strengthRightWith sides) strengthSum
     && leb (pairsWith sides * sides) mostStrengthRows
     && leb (nodesWith sides * stressColumns + pairsWith sides * sides) (nodesFor108 * stressColumns + mostStrengthRows)
 
@@ -295,19 +328,23 @@ unfolding boundsTest
 bounded {sides = sides} {step = step} {product = product} radius rule e t = record {
   rule = rule;
   radiusIs = e;
-  someSides = ltb→lt 0 sides (search (and-l, and-r) depth 10);
-  fewSides = leb→le sides mostSides (search (and-l, and-r) depth 10);
-  radiusFits = leb→le radius mostRadius (search (and-l, and-r) depth 10);
-  stepFits = leb→le step mostStep (search (and-l, and-r) depth 10);
-  productFits = leb→le product mostCross (search (and-l, and-r) depth 10);
-  stepWeighted = leb→le (strengthMultiplier sides * step) weightedStep (search (and-l, and-r) depth 10);
-  productWeighted = leb→le (strengthMultiplier sides * product) weightedCross (search (and-l, and-r) depth 10);
-  rowsFit = leb→le (pairsWith sides * sides) mostStrengthRows (search (and-l, and-r) depth 10);
-  numbersFit = leb→le (nodesWith sides * stressColumns + pairsWith sides * sides) (nodesFor108 * stressColumns + mostStrengthRows) (search (and-l, and-r) depth 10);
+  someSides = ltb→lt 0 sides (search (and-l, and-r) depth 15);
+  fewSides = leb→le sides mostSides (search (and-l, and-r) depth 15);
+  evenSides = eqb→eq (sides / 2 * 2) sides (search (and-l, and-r) depth 15);
+  radiusFits = leb→le radius mostRadius (search (and-l, and-r) depth 15);
+  planeRadius = leb→le (kindWith sides * radius) mostPlaneRadius (search (and-l, and-r) depth 15);
+  stepFits = leb→le step mostStep (search (and-l, and-r) depth 15);
+  productFits = leb→le product mostCross (search (and-l, and-r) depth 15);
+  stepWeighted = leb→le (strengthMultiplier sides * step) weightedStep (search (and-l, and-r) depth 15);
+  productWeighted = leb→le (strengthMultiplier sides * product) weightedCross (search (and-l, and-r) depth 15);
+  rightFits = leb→le (product * twiceStrength) (strengthRightWith sides) (search (and-l, and-r) depth 15);
+  rightWeighted = leb→le (strengthMultiplier sides * strengthRightWith sides) strengthSum (search (and-l, and-r) depth 15);
+  rowsFit = leb→le (pairsWith sides * sides) mostStrengthRows (search (and-l, and-r) depth 15);
+  numbersFit = leb→le (nodesWith sides * stressColumns + pairsWith sides * sides) (nodesFor108 * stressColumns + mostStrengthRows) (search (and-l, and-r) depth 15);
 }
 
 pub listed-polygon : (k : ℕ) → SidesListed k → ListedPolygon k
-unfolding shown boundsTest nodesWith strengthMultiplier pairsWith
+unfolding shown boundsTest nodesWith strengthMultiplier kindWith pairsWith strengthRightWith
 listed-polygon k (inl e) = subst ListedPolygon (sym e) (record { radius = 5; step = 3; product = 15; fits = bounded 5 twelve-sides refl tt })
 listed-polygon k (inr (inl e)) = subst ListedPolygon (sym e) (record { radius = 25; step = 8; product = 220; fits = bounded 25 twenty-sides refl tt })
 listed-polygon k (inr (inr (inl e))) = subst ListedPolygon (sym e) (record { radius = 65; step = 16; product = 1183; fits = bounded 65 thirty-six-sides refl tt })

@@ -1,5 +1,5 @@
 -- Each row's data says what document 01 prints: the two differ by moving l to the left and n out of the right side, which the ring solver sees.
-use mathlib.Core.Path.{_≡_, refl, sym, _∙_}
+use mathlib.Core.Path.{_≡_, refl, sym, _∙_, ap}
 use mathlib.Core.Bool.{Bool, true, false, cond, _||_}
 use mathlib.Core.Logic.{_↔_, _⊎_}
 use mathlib.Core.List.{List, [], _∷_, _++_, List·Memᴰ·head, List·Memᴰ·tail, Memᴰ·append-left, Memᴰ·append-right, Memᴰ·map}
@@ -12,14 +12,16 @@ use Rattle.integer.specs.Tests.{eqZ}
 use Rattle.integer.proofs.Order.{by-nn, nn-diff}
 use Rattle.scope.proofs.Lists.{in-joined, in-count, of-count, each-nil, each-cons, each-++, each-map, each-joined}
 use Rattle.scope.proofs.Decides.{Decides, either, equalℤ}
-use Rattle.scope.specs.Mesh.{elements, edges, sides, jumps, p, q, h, cohesion, deadX, deadY, liveX, liveY, x, y, corner, elementSoil, edgeEntry, fromNode, toNode, jumpFrom, jumpTo, facingFrom, facingTo}
-use Rattle.scope.specs.Polygon.{Polygon, Side, polygonSides, polygonOf}
-use Rattle.scope.specs.Rows.{rowsOf, equalityRows, balanceRows, sideRows, jumpRows, strengthPairs, strengthRows, pairRows, asked, unfixed, Row, Pair, sx, sy, t, countFrom, joined, node, riseAcross, runAcross, twiceArea, balanceX, balanceY, stepX, stepY, stepSquare, normalRow, shearRow, fixedIf, jumpStepX, jumpStepY, agreeRow, jumpNormal, jumpShear, cross, strengthRow}
+use Rattle.scope.proofs.Directions.{is-direction, not-direction, by-kind}
+use Rattle.scope.specs.Mesh.{elements, edges, sides, jumps, p, q, h, cohesion, cohesionAcross, ByDirection, deadX, deadY, liveX, liveY, x, y, corner, elementSoil, edgeEntry, fromNode, toNode, jumpFrom, jumpTo, facingFrom, facingTo}
+use Rattle.scope.specs.Polygon.{Point, Polygon, Side, polygonSides, halfTurn, polygonOf}
+use Rattle.scope.specs.Rows.{rowsOf, equalityRows, balanceRows, sideRows, jumpRows, strengthPairs, strengthRows, rowsBySides, rowsByPlanes, pairRows, asked, unfixed, Row, Pair, sx, sy, t, countFrom, joined, node, riseAcross, runAcross, twiceArea, balanceX, balanceY, stepX, stepY, stepSquare, normalRow, shearRow, fixedIf, jumpStepX, jumpStepY, agreeRow, jumpNormal, jumpShear, cross, strengthRow, planeRow, planeRows}
 use Rattle.scope.specs.Sums.{weightedSum, leftSide, rightSide}
 use Rattle.scope.specs.Members.{_∈_}
 use Rattle.scope.specs.Meets.{Asks, RowMet, FieldMeets}
-use Rattle.scope.specs.PrintedColumns.{lessX, lessY, lessNormal, lessShear, lessJumpNormal, lessJumpShear, RowsPrinted}
-use Rattle.scope.specs.Printed.{forceX, forceY, deviator, resistance, BalanceXAt, BalanceYAt, NormalAt, ShearAt, NormalAgreesAt, ShearAgreesAt, StrengthAt, MeetsPrinted, FieldPrinted}
+use Rattle.scope.specs.PrintedColumns.{lessX, lessY, lessNormal, lessShear, lessJumpNormal, lessJumpShear, lessPlus, lessMinus, RowsPrinted}
+use Rattle.scope.specs.RowNumbers.{directionRow}
+use Rattle.scope.specs.Printed.{forceX, forceY, deviator, resistance, planeNormal, planeShear, planeMinus, planeResistance, BalanceXAt, BalanceYAt, NormalAt, ShearAt, NormalAgreesAt, ShearAgreesAt, StrengthAt, PlanePlusAt, PlaneMinusAt, MeetsPrinted, FieldPrinted}
 
 same-equation : {a b c d : ℤ} → a -ℤ b ≡ c -ℤ d → (a ≡ b) ↔ (c ≡ d)
 same-equation {a} {b} {c} {d} e = (
@@ -52,6 +54,17 @@ strength-less s l n r p q h C v d =
     ring
     (r ∷ p ∷ q ∷ h ∷ C ∷ n ∷ l ∷ s (sx v) ∷ s (sy v) ∷ s (t v) ∷ d .from .px ∷ d .from .py ∷ d .to .px ∷ d .to .py ∷ [])
     (both-sides (search terms depth 200 fits 100000) (search terms depth 200 fits 100000)) refl
+
+-- a row of the plane with the normal c, for any soil's numbers
+plane-less : (s : ℕ → ℤ) (l n r p q ch cv : ℤ) (v : ℕ) (c : Point) (k : ℤ) → leftSide s l (planeRow r p q ch cv v c k) -ℤ rightSide n (planeRow r p q ch cv v c k) ≡ p *ℤ planeNormal c (s (sx v)) (s (sy v)) (s (t v)) +ℤ k *ℤ planeShear c (s (sx v)) (s (sy v)) (s (t v)) -ℤ planeResistance r c q ch cv n
+unfolding planeRow leftSide rightSide weightedSum
+plane-less s l n r p q ch cv v c k =
+    ring
+    (r ∷ p ∷ q ∷ ch ∷ cv ∷ k ∷ n ∷ l ∷ s (sx v) ∷ s (sy v) ∷ s (t v) ∷ c .px ∷ c .py ∷ [])
+    (both-sides (search terms depth 200 fits 100000) (search terms depth 200 fits 100000)) refl
+
+minus-times : (a q b c : ℤ) → a +ℤ negℤ q *ℤ b -ℤ c ≡ a -ℤ q *ℤ b -ℤ c
+minus-times a q b c = ring (a ∷ q ∷ b ∷ c ∷ []) (search terms depth 100) refl
 
 -- the rows of an element, of an edge, of a jump and of a pair among the rows of the mesh
 module _ (m : List ℤ) where
@@ -119,8 +132,37 @@ module _ (m : List ℤ) (s : ℕ → ℤ) (l n : ℤ) where
       ≡ deviator r d (h m (a .soil)) (s (sx (a .at))) (s (sy (a .at))) (s (t (a .at))) -ℤ resistance d (p m (a .soil)) (q m (a .soil)) (cohesion m (a .soil)) n (s (sx (a .at))) (s (sy (a .at)))
   row-strength r a d = strength-less s l n r (p m (a .soil)) (q m (a .soil)) (h m (a .soil)) (cohesion m (a .soil)) (a .at) d
 
+  -- a plane's row pN + kT, for a polygon of radius r
+  abbrev rowOf : ℤ → Pair → Point → ℤ → Row
+  rowOf r a v k = planeRow r (p m (a .soil)) (q m (a .soil)) (cohesion m (a .soil)) (cohesionAcross m (a .soil)) (a .at) v k
+
+  abbrev resists : ℤ → Pair → Point → ℤ
+  resists r a v = planeResistance r v (q m (a .soil)) (cohesion m (a .soil)) (cohesionAcross m (a .soil)) n
+
+  row-plane : (r : ℤ) (a : Pair) (v : Point) (k : ℤ)
+      → leftSide s l (rowOf r a v k) -ℤ rightSide n (rowOf r a v k)
+      ≡ p m (a .soil) *ℤ planeNormal v (s (sx (a .at))) (s (sy (a .at))) (s (t (a .at))) +ℤ k *ℤ planeShear v (s (sx (a .at))) (s (sy (a .at))) (s (t (a .at))) -ℤ resists r a v
+  row-plane r a v k = plane-less s l n r (p m (a .soil)) (q m (a .soil)) (cohesion m (a .soil)) (cohesionAcross m (a .soil)) (a .at) v k
+
+  row-minus : (r : ℤ) (a : Pair) (v : Point)
+      → leftSide s l (rowOf r a v (negℤ (q m (a .soil)))) -ℤ rightSide n (rowOf r a v (negℤ (q m (a .soil))))
+      ≡ planeMinus v (p m (a .soil)) (q m (a .soil)) (s (sx (a .at))) (s (sy (a .at))) (s (t (a .at))) -ℤ resists r a v
+  row-minus r a v =
+      row-plane r a v (negℤ (q m (a .soil)))
+      ∙ minus-times (p m (a .soil) *ℤ planeNormal v (s (sx (a .at))) (s (sy (a .at))) (s (t (a .at)))) (q m (a .soil)) (planeShear v (s (sx (a .at))) (s (sy (a .at))) (s (t (a .at)))) (resists r a v)
+
   pub rows-printed : RowsPrinted m s l n
-  rows-printed = record { balance-x = row-x; balance-y = row-y; normal = row-normal; shear = row-shear; jump-normal = row-jump-normal; jump-shear = row-jump-shear; strength = row-strength (polygonOf (sides m) .radius) }
+  rows-printed = record {
+    balance-x = row-x;
+    balance-y = row-y;
+    normal = row-normal;
+    shear = row-shear;
+    jump-normal = row-jump-normal;
+    jump-shear = row-jump-shear;
+    strength = row-strength (polygonOf (sides m) .radius);
+    plane-plus = λ a v. row-plane (polygonOf (sides m) .radius) a v (q m (a .soil));
+    plane-minus = row-minus (polygonOf (sides m) .radius);
+  }
 
   -- ---- what is asked
 
@@ -152,9 +194,24 @@ module _ (m : List ℤ) (s : ℕ → ℤ) (l n : ℤ) where
   unfolding strengthRow
   strength r a d = same-inequality (row-strength r a d)
 
-  pub pair-rows : (g : Polygon) (a : Pair) → FieldMeets s l n (pairRows g m a) ↔ ((d : Side) → d ∈ polygonSides (g .corners) → StrengthAt m s l n (g .radius) a d)
-  unfolding pairRows
-  pair-rows g a = (
+  pub plus : (r : ℤ) (a : Pair) (v : Point) → RowMet s l n (rowOf r a v (q m (a .soil))) ↔ PlanePlusAt m s l n r a v
+  unfolding planeRow
+  plus r a v = same-inequality (row-plane r a v (q m (a .soil)))
+
+  pub minus : (r : ℤ) (a : Pair) (v : Point) → RowMet s l n (rowOf r a v (negℤ (q m (a .soil)))) ↔ PlaneMinusAt m s l n r a v
+  unfolding planeRow
+  minus r a v = same-inequality (row-minus r a v)
+
+  -- the rows of a pair by sides, by planes, and by the kind of its soil
+  BySides : Polygon → Pair → Type 0
+  BySides g a = (d : Side) → d ∈ polygonSides (g .corners) → StrengthAt m s l n (g .radius) a d
+
+  ByPlanes : Polygon → Pair → Type 0
+  ByPlanes g a = (v : Point) → v ∈ halfTurn (g .corners) → PlanePlusAt m s l n (g .radius) a v × PlaneMinusAt m s l n (g .radius) a v
+
+  side-rows : (g : Polygon) (a : Pair) → FieldMeets s l n (rowsBySides g m a) ↔ BySides g a
+  unfolding rowsBySides BySides
+  side-rows g a = (
     λ f d k. strength (g .radius) a d .0 (f (row d) (Memᴰ·map row k)),
     λ f. each-map (RowMet s l n) row (polygonSides (g .corners)) (λ d k. strength (g .radius) a d .1 (f d k)),
   )
@@ -162,10 +219,31 @@ module _ (m : List ℤ) (s : ℕ → ℤ) (l n : ℤ) where
       row : Side → Row
       row = strengthRow (g .radius) (p m (a .soil)) (q m (a .soil)) (h m (a .soil)) (cohesion m (a .soil)) (a .at)
 
+  plane-rows : (g : Polygon) (a : Pair) → FieldMeets s l n (rowsByPlanes g m a) ↔ ByPlanes g a
+  unfolding rowsByPlanes ByPlanes
+  plane-rows g a = (
+    λ f v k. (
+      plus (g .radius) a v .0 (f (rowOf (g .radius) a v (q m (a .soil))) (in-joined rows (halfTurn (g .corners)) k (List·Memᴰ·head refl))),
+      minus (g .radius) a v .0 (f (rowOf (g .radius) a v (negℤ (q m (a .soil)))) (in-joined rows (halfTurn (g .corners)) k (List·Memᴰ·tail (List·Memᴰ·head refl)))),
+    ),
+    λ f.
+        each-joined (RowMet s l n) rows (halfTurn (g .corners)) (λ v k.
+        each-cons (RowMet s l n) (plus (g .radius) a v .1 (f v k .0)) (each-cons (RowMet s l n) (minus (g .radius) a v .1 (f v k .1)) (each-nil (RowMet s l n)))),
+  )
+    where
+      rows : Point → List Row
+      rows = planeRows (g .radius) (p m (a .soil)) (q m (a .soil)) (cohesion m (a .soil)) (cohesionAcross m (a .soil)) (a .at)
+
+  pair-rows : (g : Polygon) (a : Pair) → FieldMeets s l n (pairRows g m a) ↔ ((¬ ByDirection m (a .soil) → BySides g a) × (ByDirection m (a .soil) → ByPlanes g a))
+  pair-rows g a =
+      by-kind g m a (λ rs. FieldMeets s l n rs ↔ ((¬ ByDirection m (a .soil) → BySides g a) × (ByDirection m (a .soil) → ByPlanes g a)))
+      (λ e. (λ f. (λ no. absurd (no (is-direction m (a .soil) e)), λ yes. plane-rows g a .0 f), λ f. plane-rows g a .1 (f .1 (is-direction m (a .soil) e))))
+      (λ e. (λ f. (λ no. side-rows g a .0 f, λ yes. absurd (not-direction m (a .soil) e yes)), λ f. side-rows g a .1 (f .0 (not-direction m (a .soil) e))))
+
   -- ---- the rows of a mesh
 
   meets-printed : FieldMeets s l n (rowsOf m) → MeetsPrinted m s l n
-  unfolding elementRows edgeRows rowsOfJump
+  unfolding elementRows edgeRows rowsOfJump BySides ByPlanes
   meets-printed f = record {
     balance-x = λ e k. balance-x e .0 (f (balanceX m e) (of-element m e k (List·Memᴰ·head refl)));
     balance-y = λ e k. balance-y e .0 (f (balanceY m e) (of-element m e k (List·Memᴰ·tail (List·Memᴰ·head refl))));
@@ -177,11 +255,12 @@ module _ (m : List ℤ) (s : ℕ → ℤ) (l n : ℤ) where
     jump-shear-from = λ j k. jump-shear j (jumpFrom m j) (facingFrom m j) .0 (f (jumpShear m j (jumpFrom m j) (facingFrom m j)) (of-jump m j k (List·Memᴰ·tail (List·Memᴰ·head refl))));
     jump-normal-to = λ j k. jump-normal j (jumpTo m j) (facingTo m j) .0 (f (jumpNormal m j (jumpTo m j) (facingTo m j)) (of-jump m j k (List·Memᴰ·tail (List·Memᴰ·tail (List·Memᴰ·head refl)))));
     jump-shear-to = λ j k. jump-shear j (jumpTo m j) (facingTo m j) .0 (f (jumpShear m j (jumpTo m j) (facingTo m j)) (of-jump m j k (List·Memᴰ·tail (List·Memᴰ·tail (List·Memᴰ·tail (List·Memᴰ·head refl))))));
-    strength = λ a k. pair-rows (polygonOf (sides m)) a .0 (λ r j. f r (of-pair m a k j));
+    strength = λ a k. pair-rows (polygonOf (sides m)) a .0 (λ r j. f r (of-pair m a k j)) .0;
+    planes = λ a k. pair-rows (polygonOf (sides m)) a .0 (λ r j. f r (of-pair m a k j)) .1;
   }
 
   printed-meets : MeetsPrinted m s l n → FieldMeets s l n (rowsOf m)
-  unfolding rowsOf equalityRows balanceRows sideRows jumpRows strengthRows
+  unfolding rowsOf equalityRows balanceRows sideRows jumpRows strengthRows BySides ByPlanes
   printed-meets f =
       each-++ M
       (each-++ M
@@ -199,7 +278,7 @@ module _ (m : List ℤ) (s : ℕ → ℤ) (l n : ℤ) where
       (each-cons M (jump-shear j (jumpFrom m j) (facingFrom m j) .1 (f .jump-shear-from j k))
       (each-cons M (jump-normal j (jumpTo m j) (facingTo m j) .1 (f .jump-normal-to j k))
       (each-cons M (jump-shear j (jumpTo m j) (facingTo m j) .1 (f .jump-shear-to j k)) (each-nil M))))))))
-      (each-joined M _ (strengthPairs m) (λ a j. pair-rows (polygonOf (sides m)) a .1 (f .strength a j)))
+      (each-joined M _ (strengthPairs m) (λ a j. pair-rows (polygonOf (sides m)) a .1 (f .strength a j, f .planes a j)))
     where
       M : Row → Type 0
       M = RowMet s l n

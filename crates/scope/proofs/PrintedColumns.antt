@@ -11,19 +11,19 @@ use lib.IntN.{ℤ, pos, negsuc, _+ℤ_, _-ℤ_, _*ℤ_, negℤ, +ℤ-assoc, +ℤ
 use lib.ListN.{length}
 use Rattle.integer.proofs.Ring.{ring, terms}
 use Rattle.integer.specs.Tests.{eqZ}
-use Rattle.scope.specs.Mesh.{nodes, elements, edges, sides, edgeEntry, fromNode, toNode, jumps, jumpFrom, jumpTo, facingFrom, facingTo}
+use Rattle.scope.specs.Mesh.{nodes, elements, edges, sides, q, byDirection, edgeEntry, fromNode, toNode, jumps, jumpFrom, jumpTo, facingFrom, facingTo}
 use Rattle.scope.specs.Polygon.{polygonOf, SidesListed}
-use Rattle.scope.specs.Rows.{asked, unfixed, strength, Row, sx, sy, t, pairCount, pairAt, balanceX, balanceY, normalRow, shearRow, fixedIf, equalityRows, rowsOf, agreeRow, jumpNormal, jumpShear}
+use Rattle.scope.specs.Rows.{asked, unfixed, strength, Row, sx, sy, t, pairCount, pairAt, balanceX, balanceY, normalRow, shearRow, fixedIf, equalityRows, strengthRows, rowsOf, agreeRow, jumpNormal, jumpShear}
 use Rattle.scope.specs.Sums.{weightedSum, leftSide, rightSide, weighed, unit, coefficient, columnSum, liveSum, limitSum}
 use Rattle.scope.specs.Statements.{NoneOnUnfixed}
-use Rattle.scope.specs.RowNumbers.{sideAt}
+use Rattle.scope.specs.RowNumbers.{sideAt, cornerAt}
 use Rattle.scope.specs.Printed.{FixesNormal, FixesShear}
-use Rattle.scope.specs.PrintedColumns.{lessX, lessY, lessNormal, lessShear, lessJumpNormal, lessJumpShear, lessStrength, sumBelow, ofElement, ofEdge, ofJump, ofPair, weighedRows, ColumnsPrinted, MultipliersAsPrinted, MultipliersPrinted}
+use Rattle.scope.specs.PrintedColumns.{lessX, lessY, lessNormal, lessShear, lessJumpNormal, lessJumpShear, lessStrength, lessPlus, lessMinus, sumBelow, ofElement, ofEdge, ofJump, ofPair, weighedSides, weighedPlanes, weighedPair, weighedRows, ColumnsPrinted, MultipliersAsPrinted, MultipliersPrinted}
 use Rattle.scope.proofs.Decides.{Decides, either, equalℤ}
 use Rattle.scope.proofs.Weighted.{weighted-same, weighted-zero, weighted-multiple}
 use Rattle.scope.proofs.Printed.{rows-printed}
 use Rattle.scope.proofs.RowCounts.{equality-count}
-use Rattle.scope.proofs.RowNumbers.{elementRows, edgeRows, rowsOfJump, balance-at, side-at, jump-at, equality-among, strength-among, strength-at, row-count}
+use Rattle.scope.proofs.RowNumbers.{elementRows, edgeRows, rowsOfJump, balance-at, side-at, jump-at, equality-among, strength-among, even-sides, strength-at, plus-at, minus-at, row-count}
 use Rattle.scope.specs.Tests.{rowAt}
 
 -- ---- sums below a number
@@ -92,14 +92,47 @@ module _ (m : List ℤ) (listed : SidesListed (sides m)) (w : ℕ → ℤ) (s : 
   jump-term j i h k =
       ap (λ (r : Row). w (elements m * 2 + edges m * 4 + (j * 4 + i)) *ℤ less r) (equality-among m (elements m * 2 + edges m * 4 + (j * 4 + i)) (omega arith) ∙ jump-at m j i h k)
 
-  pair-term : (a k : ℕ) → a < pairCount m → k < sides m → term (elements m * 2 + edges m * 4 + jumps m * 4 + (a * sides m + k)) ≡ ofPair m w a k *ℤ lessStrength m s l n (pairAt m a) (sideAt (polygonOf (sides m)) k)
+  -- a strength row by its place, and what it has left minus right
+  strength-term : (i : ℕ) {r : Row} {z : ℤ} → rowAt (strengthRows m) i ≡ r → leftSide s l r -ℤ rightSide n r ≡ z → term (elements m * 2 + edges m * 4 + jumps m * 4 + i) ≡ w (elements m * 2 + edges m * 4 + jumps m * 4 + i) *ℤ z
   unfolding term less
-  pair-term a k h j =
-      ap (λ (r : Row). w (elements m * 2 + edges m * 4 + jumps m * 4 + (a * sides m + k)) *ℤ less r) (strength-among m (a * sides m + k) ∙ strength-at m listed a k h j)
-      ∙ ap (λ z. w (elements m * 2 + edges m * 4 + jumps m * 4 + (a * sides m + k)) *ℤ z) (rows-printed m s l n .strength (pairAt m a) (sideAt (polygonOf (sides m)) k))
+  strength-term i e f =
+      ap (λ (r : Row). w (elements m * 2 + edges m * 4 + jumps m * 4 + i) *ℤ less r) (strength-among m i ∙ e)
+      ∙ ap (λ z. w (elements m * 2 + edges m * 4 + jumps m * 4 + i) *ℤ z) f
+
+  -- the rows of pair a
+  module _ (a : ℕ) (h : a < pairCount m) where
+    ofRow : ℕ → ℤ
+    ofRow k = term (elements m * 2 + edges m * 4 + jumps m * 4 + (a * sides m + k))
+
+    by-sides : byDirection m (pairAt m a .soil) ≡ false → sumBelow ofRow (sides m) ≡ weighedSides m w s l n a
+    unfolding ofRow weighedSides
+    by-sides e =
+        sum-same _ _ (sides m) (λ k j. strength-term (a * sides m + k) (strength-at m listed a k h j e) (rows-printed m s l n .strength (pairAt m a) (sideAt (polygonOf (sides m)) k)))
+
+    by-planes : byDirection m (pairAt m a .soil) ≡ true → sumBelow ofRow (sides m) ≡ weighedPlanes m w s l n a
+    unfolding ofRow weighedPlanes sumBelow
+    by-planes e =
+        ap (sumBelow ofRow) (sym (even-sides m listed))
+        ∙ sum-pieces ofRow 2 (sides m / 2)
+        ∙ sum-same _ _ (sides m / 2) (λ j i.
+        let v = cornerAt (polygonOf (sides m)) j in
+        let low : 2 * j + 1 < sides m = omega (arith, even-sides m listed) in
+        let first = ofPair m w a (2 * j) *ℤ lessPlus m s l n (pairAt m a) v in
+        ap₂ (λ x y. pos 0 +ℤ x +ℤ y)
+        (ap ofRow (omega arith) ∙ strength-term (a * sides m + 2 * j) (plus-at m listed a j h low e) (rows-printed m s l n .plane-plus (pairAt m a) v))
+        (ap ofRow (omega arith) ∙ strength-term (a * sides m + (2 * j + 1)) (minus-at m listed a j h low e) (rows-printed m s l n .plane-minus (pairAt m a) v))
+        ∙ ap (λ x. x +ℤ ofPair m w a (2 * j + 1) *ℤ lessMinus m s l n (pairAt m a) v) (+ℤ-idl first))
+
+    pair-terms : sumBelow ofRow (sides m) ≡ weighedPair m w s l n a
+    unfolding weighedPair
+    pair-terms = by (byDirection m (pairAt m a .soil)) refl
+      where
+        by : (b : Bool) → byDirection m (pairAt m a .soil) ≡ b → sumBelow ofRow (sides m) ≡ cond b (weighedPlanes m w s l n a) (weighedSides m w s l n a)
+        by true e = by-planes e
+        by false e = by-sides e
 
   pub weighed-rows : weightedSum (λ r. leftSide s l r -ℤ rightSide n r) (weighed w (rowsOf m)) ≡ weighedRows m w s l n
-  unfolding weighedRows sumBelow term less rowAt
+  unfolding weighedRows sumBelow term less rowAt ofRow
   weighed-rows =
       by-number less w (rowsOf m)
       ∙ ap (sumBelow term) (row-count m listed)
@@ -113,7 +146,7 @@ module _ (m : List ℤ) (listed : SidesListed (sides m)) (w : ℕ → ℤ) (s : 
       (sum-pieces (λ k. term (elements m * 2 + k)) 4 (edges m) ∙ sum-same _ _ (edges m) of-edge))
       (sum-pieces (λ k. term (elements m * 2 + edges m * 4 + k)) 4 (jumps m) ∙ sum-same _ _ (jumps m) of-jump))
       (sum-pieces (λ k. term (elements m * 2 + edges m * 4 + jumps m * 4 + k)) (sides m) (pairCount m)
-      ∙ sum-same _ _ (pairCount m) (λ a h. sum-same _ _ (sides m) (λ k j. pair-term a k h j)))
+      ∙ sum-same _ _ (pairCount m) pair-terms)
     where
       of-element : (e : ℕ) → e < elements m → sumBelow (λ i. term (e * 2 + i)) 2 ≡ ofElement m w e 0 *ℤ lessX m s l n e +ℤ ofElement m w e 1 *ℤ lessY m s l n e
       of-element e h =

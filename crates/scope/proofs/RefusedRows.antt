@@ -17,7 +17,7 @@ use Rattle.scope.specs.Rows as R
 use Rattle.scope.specs.Rows.{pairAt, equalityRows, strengthRows}
 use Rattle.scope.specs.Meets.{RowMet}
 use Rattle.scope.specs.Refusals.{ruleNumber, meshPhases, claimPhases, Refusal}
-use Rattle.scope.specs.RowNumbers.{rowNumbered, sideNumbered, RowNumbers}
+use Rattle.scope.specs.RowNumbers.{rowNumbered, sideNumbered, cornerNumbered, RowNumbers}
 use Rattle.scope.specs.RefusalTable.{MeshRow, of-lines, five, six, seven, eight, forty-four, forty-two, TableRow, of-mesh, of-claim-lines, twenty-one, twenty-two, thirty-one, thirty-two, thirty-three}
 use Rattle.scope.specs.RefusedRows.{EqualityFails, StrengthFails, PairsFail}
 use Rattle.scope.proofs.Phases.{EachIn, each-refusal, own-number}
@@ -25,7 +25,7 @@ use Rattle.scope.proofs.Exactly.{OfParts, not-of-parts, each-number, re
 use Rattle.scope.proofs.LineRefusals.{other-number}
 use Rattle.scope.proofs.NumberRanges.{mesh-facts}
 use Rattle.scope.proofs.Pairs.{pairs}
-use Rattle.scope.proofs.Printed.{balance-x, balance-y, normal, shear, jump-normal, jump-shear, strength}
+use Rattle.scope.proofs.Printed.{balance-x, balance-y, normal, shear, jump-normal, jump-shear, strength, plus, minus}
 use Rattle.scope.proofs.RefusalTable.{table-row}
 use Rattle.scope.proofs.RowNumbers.{row-numbers}
 use Rattle.scope.specs.Tests.{rowAt}
@@ -93,7 +93,9 @@ module _ (m c : List ℤ) where
         let f = refused r .1 refl in
         let by = numbers r (omega arith) in
         record {
-          strength = λ a k h j d g. row-fails (strengthRows m) place (a * sides m + suc k) f (by .strength a k h j) d (strength m (stress m c) (l c) (n c) (polygonOf (sides m) .radius) (pairAt m a) (sideNumbered (polygonOf (sides m)) (suc k)) .1 g);
+          strength = λ a k h j e d g. row-fails (strengthRows m) place (a * sides m + suc k) f (by .strength a k h j e) d (strength m (stress m c) (l c) (n c) (polygonOf (sides m) .radius) (pairAt m a) (sideNumbered (polygonOf (sides m)) (suc k)) .1 g);
+          plane-plus = λ a i h j e d g. row-fails (strengthRows m) place (a * sides m + (2 * suc i - 1)) f (by .plane-plus a i h j e) d (plus m (stress m c) (l c) (n c) (polygonOf (sides m) .radius) (pairAt m a) (cornerNumbered (polygonOf (sides m)) (suc i)) .1 g);
+          plane-minus = λ a i h j e d g. row-fails (strengthRows m) place (a * sides m + 2 * suc i) f (by .plane-minus a i h j e) d (minus m (stress m c) (l c) (n c) (polygonOf (sides m) .radius) (pairAt m a) (cornerNumbered (polygonOf (sides m)) (suc i)) .1 g);
         }
 
 -- ---- 42

@@ -2,18 +2,20 @@
 use mathlib.Core.Path.{_≡_, refl, sym, _∙_, ap, ap₂, subst}
 use mathlib.Core.Bool.{Bool, true, false, cond, _||_}
 use mathlib.Core.List.{List, [], _∷_, _++_, List·Memᴰ·head, List·Memᴰ·tail}
-use Prim.Native.Nat.{ℕ, suc, _+_, _*_}
-use native.Mathlib.Nat.{zero-mul}
+use Prim.Native.Nat.{ℕ, suc, _+_, _*_, _/_, _≤_}
+use native.Mathlib.Nat.{zero-mul, div-add-mod'}
 use native.Mathlib.Omega.{arith}
 use lib.IntN.{ℤ, pos}
 use lib.ListN.{length, length-append, length-map}
+use lib.Seq.{length-take-le}
 use Rattle.integer.specs.Tests.{eqZ}
 use Rattle.scope.specs.Members.{_∈_}
 use Rattle.scope.specs.Mesh.{elements, edges, sides, edgeEntry, equalityCount, jumps}
-use Rattle.scope.specs.Polygon.{Point, sidesTo, polygonSides, polygonOf, SidesListed}
-use Rattle.scope.specs.Rows.{Kind, asked, unfixed, strength, Row, countFrom, joined, balanceX, balanceY, balanceRows, fixedIf, normalRow, shearRow, sideRows, strengthPairs, pairCount, strengthRow, pairRows, strengthRows, equalityRows, agreeRow, jumpNormal, jumpShear, jumpRows}
+use Rattle.scope.specs.Polygon.{Point, Polygon, sidesTo, polygonSides, halfTurn, polygonOf, SidesListed}
+use Rattle.scope.specs.Rows.{Kind, asked, unfixed, strength, Row, Pair, countFrom, joined, balanceX, balanceY, balanceRows, fixedIf, normalRow, shearRow, sideRows, strengthPairs, pairCount, strengthRow, planeRow, rowsBySides, rowsByPlanes, pairRows, strengthRows, equalityRows, agreeRow, jumpNormal, jumpShear, jumpRows}
 use Rattle.scope.proofs.Lists.{count-length, each-nil, each-cons, each-++, each-map, each-joined}
 use Rattle.scope.proofs.PolygonRule.{listed-polygon}
+use Rattle.scope.proofs.Directions.{by-kind}
 
 pub length-joined : {A B : Type 0} (f : A → List B) (w : ℕ) (l : List A) → ((a : A) → a ∈ l → length (f a) ≡ w) → length (joined f l) ≡ length l * w
 unfolding joined
@@ -97,15 +99,46 @@ side-of-each (v ∷ vs) = sides-to v v vs
 pub polygon-sides : (k : ℕ) → SidesListed k → length (polygonSides (polygonOf k .corners)) ≡ k
 polygon-sides k h = side-of-each (polygonOf k .corners) ∙ listed-polygon k h .fits .rule .count
 
+-- half of the corners
+pub half-length : (vs : List Point) → length (halfTurn vs) ≡ length vs / 2
+unfolding halfTurn
+half-length vs = length-take-le (length vs / 2) vs (half-≤ (length vs))
+  where
+    half-≤ : (n : ℕ) → n / 2 ≤ n
+    half-≤ n = omega (arith, div-add-mod' n 2)
+
+-- as many rows as sides: one for each side, or two for each corner of the first half turn
+module _ (k : ℕ) (listed : SidesListed k) (m : List ℤ) (a : Pair) where
+  pub planes-count : length (rowsByPlanes (polygonOf k) m a) ≡ k
+  unfolding rowsByPlanes
+  planes-count =
+      let fits = listed-polygon k listed .fits in
+      length-joined _ 2 (halfTurn (polygonOf k .corners)) (λ v i. refl)
+      ∙ ap (λ (n : ℕ). n * 2) (half-length (polygonOf k .corners) ∙ ap (λ (n : ℕ). n / 2) (fits .rule .count))
+      ∙ fits .evenSides
+
+  pub sides-count : length (rowsBySides (polygonOf k) m a) ≡ k
+  unfolding rowsBySides
+  sides-count = length-map (polygonSides (polygonOf k .corners)) _ ∙ polygon-sides k listed
+
+  pub pair-count : length (pairRows (polygonOf k) m a) ≡ k
+  pair-count = by-kind (polygonOf k) m a (λ rs. length rs ≡ k) (λ e. planes-count) (λ e. sides-count)
+
 pub strength-count : (m : List ℤ) → SidesListed (sides m) → length (strengthRows m) ≡ pairCount m * sides m
-unfolding strengthRows pairRows pairCount
+unfolding strengthRows pairCount
 strength-count m h =
-    length-joined (pairRows (polygonOf (sides m)) m) (sides m) (strengthPairs m) (λ a i. length-map (polygonSides (polygonOf (sides m) .corners)) _ ∙ polygon-sides (sides m) h)
+    length-joined (pairRows (polygonOf (sides m)) m) (sides m) (strengthPairs m) (λ a i. pair-count (sides m) h m a)
 
 pub strength-kind : (m : List ℤ) (r : Row) → r ∈ strengthRows m → r .kind ≡ strength
-unfolding strengthRows pairRows strengthRow
+unfolding strengthRows rowsBySides rowsByPlanes strengthRow planeRow
 strength-kind m =
-    each-joined P _ (strengthPairs m) (λ a i. each-map P _ (polygonSides (polygonOf (sides m) .corners)) (λ d j. refl))
+    each-joined P _ (strengthPairs m) (λ a i.
+    by-kind g m a (λ rs. (r : Row) → r ∈ rs → P r)
+    (λ e. each-joined P _ (halfTurn (g .corners)) (λ v j. each-cons P refl (each-cons P refl (each-nil P))))
+    (λ e. each-map P _ (polygonSides (g .corners)) (λ d j. refl)))
   where
+    g : Polygon
+    g = polygonOf (sides m)
+
     P : Row → Type 0
     P r = r .kind ≡ strength

@@ -1,17 +1,21 @@
 -- The rows by their number: pieces of equal length joined, row j of piece i has the place i times that length plus j.
 use mathlib.Core.Path.{_≡_, refl, sym, _∙_, ap, ap₂}
+use mathlib.Core.Bool.{Bool, true, false, cond}
 use mathlib.Core.List.{List, [], _∷_, _++_}
-use Prim.Native.Nat.{ℕ, zero, suc, _+_, _*_, _-_, _<_}
-use native.Mathlib.Nat.{zero-add, zero-mul, suc-mul}
+use Prim.Native.Nat.{ℕ, zero, suc, _+_, _*_, _-_, _/_, _%_, _≤_, _<_}
+use native.Mathlib.Nat.{zero-add, zero-mul, suc-mul, div-add-mod', mod-lt}
 use native.Mathlib.Omega.{arith}
-use lib.IntN.{ℤ}
-use lib.ListN.{length, getD, length-append, length-map, List·getD-append}
-use lib.Seq.{getD-append-add}
-use Rattle.scope.specs.Mesh.{elements, edges, sides, fromNode, toNode, jumps, jumpFrom, jumpTo, facingFrom, facingTo}
-use Rattle.scope.specs.Polygon.{polygonSides, polygonOf, SidesListed}
-use Rattle.scope.specs.Rows.{Row, Pair, countFrom, joined, balanceX, balanceY, balanceRows, normalRow, shearRow, sideRows, strengthPairs, pairCount, pairAt, pairRows, strengthRows, equalityRows, rowsOf, jumpNormal, jumpShear, jumpRows}
-use Rattle.scope.specs.RowNumbers.{sideAt, pairRow, RowNumbers}
-use Rattle.scope.proofs.RowCounts.{balance-count, side-count, jump-count, equality-count, polygon-sides, strength-count}
+use lib.IntN.{ℤ, pos, negℤ}
+use lib.Dec.{eqb}
+use lib.ListN.{length, getD, length-append, List·getD-append}
+use lib.Seq.{getD-append-add, getD-take}
+use Rattle.scope.specs.Mesh.{elements, edges, sides, q, byDirection, fromNode, toNode, jumps, jumpFrom, jumpTo, facingFrom, facingTo}
+use Rattle.scope.specs.Polygon.{Point, point, polygonSides, halfTurn, polygonOf, SidesListed}
+use Rattle.scope.specs.Rows.{Row, Pair, countFrom, joined, balanceX, balanceY, balanceRows, normalRow, shearRow, sideRows, strengthPairs, pairCount, pairAt, rowsBySides, rowsByPlanes, pairRows, strengthRows, equalityRows, rowsOf, jumpNormal, jumpShear, jumpRows}
+use Rattle.scope.specs.RowNumbers.{sideAt, cornerAt, sideRow, directionRow, plusMinus, directionRowAt, RowNumbers}
+use Rattle.scope.proofs.RowCounts.{balance-count, side-count, jump-count, equality-count, polygon-sides, half-length, pair-count, strength-count}
+use Rattle.scope.proofs.PolygonRule.{listed-polygon}
+use Rattle.scope.proofs.Directions.{direction-is, no-direction}
 use Rattle.scope.proofs.Lists.{count-length, at-count, at-map}
 use Rattle.scope.specs.Tests.{rowAt}
 
@@ -96,17 +100,74 @@ module _ (m : List ℤ) where
 
 -- ---- strength rows
 
-module _ (m : List ℤ) (listed : SidesListed (sides m)) where
-  length-pair : (a : Pair) → length (pairRows (polygonOf (sides m)) m a) ≡ sides m
-  unfolding pairRows
-  length-pair a = length-map (polygonSides (polygonOf (sides m) .corners)) _ ∙ polygon-sides (sides m) listed
+-- the first of two rows, or the second
+first-or-second : (f : ℤ → Row) (q : ℤ) (d : Row) (i : ℕ) → i < 2 → getD (f q ∷ f (negℤ q) ∷ []) i d ≡ f (cond (eqb i 0) q (negℤ q))
+first-or-second f q d zero h = refl
+first-or-second f q d (suc zero) h = refl
+first-or-second f q d (suc (suc i)) h = absurd (omega arith)
 
-  -- row k of pair a
-  pub strength-at : (a k : ℕ) → a < pairCount m → k < sides m → rowAt (strengthRows m) (a * sides m + k) ≡ pairRow m (pairAt m a) (sideAt (polygonOf (sides m)) k)
-  unfolding strengthRows rowAt sideAt pairRows pairCount pairAt
-  strength-at a k l j =
-      at-joined (pairRows (polygonOf (sides m)) m) (sides m) length-pair (strengthPairs m) (record { at = 0; soil = 0 }) _ a k l j
-      ∙ at-map _ (polygonSides (polygonOf (sides m) .corners)) k _ _ (omega (arith, polygon-sides (sides m) listed))
+module _ (m : List ℤ) (listed : SidesListed (sides m)) where
+  pub even-sides : sides m / 2 * 2 ≡ sides m
+  even-sides = listed-polygon (sides m) listed .fits .evenSides
+
+  -- row k of a pair by sides, and by planes
+  in-sides : (a : Pair) (k : ℕ) → k < sides m → rowAt (rowsBySides (polygonOf (sides m)) m a) k ≡ sideRow m a (sideAt (polygonOf (sides m)) k)
+  unfolding rowsBySides rowAt sideAt
+  in-sides a k h = at-map _ (polygonSides (polygonOf (sides m) .corners)) k _ _ (omega (arith, polygon-sides (sides m) listed))
+
+  half-count : length (halfTurn (polygonOf (sides m) .corners)) ≡ sides m / 2
+  half-count = half-length (polygonOf (sides m) .corners) ∙ ap (λ (n : ℕ). n / 2) (listed-polygon (sides m) listed .fits .rule .count)
+
+  pub corner-of-half : (j : ℕ) → j < sides m / 2 → getD (halfTurn (polygonOf (sides m) .corners)) j (point (pos 0) (pos 0)) ≡ cornerAt (polygonOf (sides m)) j
+  unfolding halfTurn cornerAt
+  corner-of-half j h =
+      getD-take (length (polygonOf (sides m) .corners) / 2) (polygonOf (sides m) .corners) j _
+      (omega (arith, ap (λ (n : ℕ). n / 2) (listed-polygon (sides m) listed .fits .rule .count)))
+
+  in-planes : (a : Pair) (k : ℕ) → k < sides m → rowAt (rowsByPlanes (polygonOf (sides m)) m a) k ≡ directionRowAt m a k
+  unfolding rowsByPlanes rowAt plusMinus
+  in-planes a k h =
+      let half : List Point = halfTurn (polygonOf (sides m) .corners) in
+      let low : k / 2 < sides m / 2 = omega (arith, div-add-mod' k 2, even-sides) in
+      ap (rowAt (rowsByPlanes (polygonOf (sides m)) m a)) (sym (div-add-mod' k 2))
+      ∙ at-joined _ 2 (λ v. refl) half (point (pos 0) (pos 0)) _ (k / 2) (k % 2) (omega (arith, half-count)) (mod-lt k (omega arith))
+      ∙ first-or-second (directionRow m a (getD half (k / 2) (point (pos 0) (pos 0)))) (q m (a .soil)) _ (k % 2) (mod-lt k (omega arith))
+      ∙ ap (λ v. directionRow m a v (cond (eqb (k % 2) 0) (q m (a .soil)) (negℤ (q m (a .soil))))) (corner-of-half (k / 2) low)
+
+  -- row k of pair a, by the kind of its soil
+  pair-row-at : (a k : ℕ) → a < pairCount m → k < sides m → rowAt (strengthRows m) (a * sides m + k) ≡ rowAt (pairRows (polygonOf (sides m)) m (pairAt m a)) k
+  unfolding strengthRows rowAt pairCount pairAt
+  pair-row-at a k l j =
+      at-joined (pairRows (polygonOf (sides m)) m) (sides m) (pair-count (sides m) listed m) (strengthPairs m) (record { at = 0; soil = 0 }) _ a k l j
+
+  module _ (a k : ℕ) (l : a < pairCount m) (j : k < sides m) where
+    rows-as : {b : Bool} → byDirection m (pairAt m a .soil) ≡ b → rowAt (strengthRows m) (a * sides m + k) ≡ rowAt (cond b (rowsByPlanes (polygonOf (sides m)) m (pairAt m a)) (rowsBySides (polygonOf (sides m)) m (pairAt m a))) k
+    unfolding pairRows
+    rows-as e = pair-row-at a k l j ∙ ap (λ (b : Bool). rowAt (cond b (rowsByPlanes (polygonOf (sides m)) m (pairAt m a)) (rowsBySides (polygonOf (sides m)) m (pairAt m a))) k) e
+
+    pub strength-at : byDirection m (pairAt m a .soil) ≡ false → rowAt (strengthRows m) (a * sides m + k) ≡ sideRow m (pairAt m a) (sideAt (polygonOf (sides m)) k)
+    strength-at e = rows-as e ∙ in-sides (pairAt m a) k j
+
+    pub plane-at : byDirection m (pairAt m a .soil) ≡ true → rowAt (strengthRows m) (a * sides m + k) ≡ directionRowAt m (pairAt m a) k
+    plane-at e = rows-as e ∙ in-planes (pairAt m a) k j
+
+  -- the two rows of corner i
+  module _ (a i : ℕ) (l : a < pairCount m) (j : 2 * i + 1 < sides m) (e : byDirection m (pairAt m a .soil) ≡ true) where
+    pub plus-at : rowAt (strengthRows m) (a * sides m + 2 * i) ≡ directionRow m (pairAt m a) (cornerAt (polygonOf (sides m)) i) (q m (pairAt m a .soil))
+    unfolding plusMinus
+    plus-at =
+        let half : 2 * i / 2 ≡ i = omega (arith, div-add-mod' (2 * i) 2, mod-lt (2 * i) {m = 2} (omega arith)) in
+        let rest : 2 * i % 2 ≡ 0 = omega (arith, div-add-mod' (2 * i) 2) in
+        plane-at a (2 * i) l (omega arith) e
+        ∙ ap₂ (λ (c k : ℕ). directionRow m (pairAt m a) (cornerAt (polygonOf (sides m)) c) (cond (eqb k 0) (q m (pairAt m a .soil)) (negℤ (q m (pairAt m a .soil))))) half rest
+
+    pub minus-at : rowAt (strengthRows m) (a * sides m + (2 * i + 1)) ≡ directionRow m (pairAt m a) (cornerAt (polygonOf (sides m)) i) (negℤ (q m (pairAt m a .soil)))
+    unfolding plusMinus
+    minus-at =
+        let half : (2 * i + 1) / 2 ≡ i = omega (arith, div-add-mod' (2 * i + 1) 2, mod-lt (2 * i + 1) {m = 2} (omega arith)) in
+        let rest : (2 * i + 1) % 2 ≡ 1 = omega (arith, div-add-mod' (2 * i + 1) 2) in
+        plane-at a (2 * i + 1) l j e
+        ∙ ap₂ (λ (c k : ℕ). directionRow m (pairAt m a) (cornerAt (polygonOf (sides m)) c) (cond (eqb k 0) (q m (pairAt m a .soil)) (negℤ (q m (pairAt m a .soil))))) half rest
 
   pub row-count : length (rowsOf m) ≡ elements m * 2 + edges m * 4 + jumps m * 4 + pairCount m * sides m
   unfolding rowsOf
@@ -126,7 +187,9 @@ module _ (m : List ℤ) (listed : SidesListed (sides m)) where
     jump-normal-to = λ j h. ap (rowAt (equalityRows m)) (omega arith) ∙ jump-at m j 2 h (omega arith);
     jump-shear-to = λ j h. ap (rowAt (equalityRows m)) (omega arith) ∙ jump-at m j 3 h (omega arith);
     equalities = equality-count m ∙ omega arith;
-    strength = λ a k h j. ap (rowAt (strengthRows m)) (omega arith) ∙ strength-at a k h j ∙ ap (λ i. pairRow m (pairAt m a) (sideAt (polygonOf (sides m)) i)) (omega arith);
+    strength = λ a k h j f. ap (rowAt (strengthRows m)) (omega arith) ∙ strength-at a k h j (no-direction m (pairAt m a .soil) f) ∙ ap (λ i. sideRow m (pairAt m a) (sideAt (polygonOf (sides m)) i)) (omega arith);
+    plane-plus = λ a j h i f. ap (rowAt (strengthRows m)) (omega arith) ∙ plus-at a j h (omega arith) (direction-is m (pairAt m a .soil) f) ∙ ap (λ i. directionRow m (pairAt m a) (cornerAt (polygonOf (sides m)) i) (q m (pairAt m a .soil))) (sym (less j));
+    plane-minus = λ a j h i f. ap (rowAt (strengthRows m)) (omega arith) ∙ minus-at a j h (omega arith) (direction-is m (pairAt m a .soil) f) ∙ ap (λ i. directionRow m (pairAt m a) (cornerAt (polygonOf (sides m)) i) (negℤ (q m (pairAt m a .soil)))) (sym (less j));
     strengths = strength-count m listed;
     equality-first = λ k h. ap (rowAt (rowsOf m)) (less k) ∙ equality-among m k (omega arith) ∙ ap (rowAt (equalityRows m)) (sym (less k));
     strength-after = λ k. ap (rowAt (rowsOf m)) (omega arith) ∙ strength-among m k ∙ ap (rowAt (strengthRows m)) (sym (less k));

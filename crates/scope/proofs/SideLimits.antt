@@ -15,7 +15,7 @@ use Rattle.integer.proofs.Order.{≤ℤ-<ℤ-trans}
 use Rattle.scope.specs.declared.Place.the-variants.{Line}
 use Rattle.scope.specs.Columns.{between, Rule, atMost, at}
 use Rattle.scope.specs.Layout.{groups, lineOf, lineNumbers, lineCount, numbersAt}
-use Rattle.scope.specs.Mesh.{mostPairs, mostSides, mostStrength, nodesFor108, pairsFor108, strengthFor108, nodesWith, pairsWith, strengthMultiplier, meshHeaderColumns, meshHeader, meshLayout, nodes, sides}
+use Rattle.scope.specs.Mesh.{mostPairs, mostSides, mostStrength, nodesFor108, pairsFor108, strengthFor108, nodesWith, pairsWith, strengthMultiplier, kindWith, meshHeaderColumns, meshHeader, meshLayout, nodes, soils, sides, soilLines, soilKind}
 use Rattle.scope.specs.Claim.{strengthMultipliers}
 use Rattle.scope.specs.Rows.{pairCount, pairAt}
 use Rattle.scope.specs.Statements.{Says, InLimits, RulesHold, PairsFit}
@@ -83,20 +83,22 @@ unfolding meshLayout groups meshHeader lineOf lineNumbers at
 nodes-over-100 [] l h = absurd (omega arith)
 nodes-over-100 (a ∷ m) l h = header-refused (a ∷ m) l (λ w s. over-limit h (w .0 .1))
 
-module _ (m : List ℤ) {nodeMost pairMost strengthMost : ℕ} (a : nodesWith (sides m) ≡ nodeMost) (b : pairsWith (sides m) ≡ pairMost) (c : strengthMultiplier (sides m) ≡ strengthMost) where
-  limits-are : (meshHeaderColumns ≤ length m → pos nodeMost <ℤ at m 0 → MeshRefusal m 2 (Line 1)) → SideLimits m nodeMost pairMost strengthMost
-  unfolding strengthMultipliers
+module _ (m : List ℤ) {nodeMost pairMost strengthMost kindMost : ℕ} (a : nodesWith (sides m) ≡ nodeMost) (b : pairsWith (sides m) ≡ pairMost) (c : strengthMultiplier (sides m) ≡ strengthMost) (d : kindWith (sides m) ≡ kindMost) where
+  limits-are : (meshHeaderColumns ≤ length m → pos nodeMost <ℤ at m 0 → MeshRefusal m 2 (Line 1)) → SideLimits m nodeMost pairMost strengthMost kindMost
+  unfolding strengthMultipliers soilLines
   limits-are refused = record {
     nodes-refused = refused;
     nodes-fit = λ s. subst (λ (k : ℕ). nodes m ≤ k) a (mesh-facts m (s .lines) .counts .nodesFit);
     brings-one-more = λ v. subst (λ (k : ℕ). LowestFails (nodes m) (PairsFit m) v ↔ ((k < pairCount m) × (pairAt m k .at ≡ v))) b (pairs m .brings-one-more v);
     pairs-fit = λ s. subst (λ (k : ℕ). pairCount m ≤ k) b (few-pairs m s);
     strength-limits = λ k. ap (λ (z : ℕ). replicate (sides m) (between (pos 0) (pos z))) c;
+    kind-limit = λ k. ap (λ (z : ℕ). between (pos 0) (pos z)) d;
+    kinds-fit = λ s k l. subst (λ (z : ℕ). soilKind m k ≤ℤ pos z) d (mesh-facts m (s .lines) .soil k l .kindRange .most);
   }
 
 pub limits-by-sides : (m : List ℤ) → LimitsBySides m
-unfolding nodesWith pairsWith strengthMultiplier sides
+unfolding nodesWith pairsWith strengthMultiplier kindWith sides
 limits-by-sides m = record {
-  with-108 = λ e. limits-are m (rw e) (rw e) (rw e) (nodes-over m (count-is (at m 4) e));
-  with-fewer = λ f. limits-are m (rw (ne-eqb (sides m) 108 f)) (rw (ne-eqb (sides m) 108 f)) (rw (ne-eqb (sides m) 108 f)) (nodes-over-100 m);
+  with-108 = λ e. limits-are m (rw e) (rw e) (rw e) (rw e) (nodes-over m (count-is (at m 4) e));
+  with-fewer = λ f. limits-are m (rw (ne-eqb (sides m) 108 f)) (rw (ne-eqb (sides m) 108 f)) (rw (ne-eqb (sides m) 108 f)) (rw (ne-eqb (sides m) 108 f)) (nodes-over-100 m);
 }

@@ -14,10 +14,10 @@ use Rattle.integer.proofs.Ring.{ring, terms}
 use Rattle.integer.specs.Sum.{sumOf}
 use Rattle.integer.proofs.SumLaws.{sumOf-++}
 use Rattle.scope.specs.Members.{_∈_}
-use Rattle.scope.specs.Mesh.{strengthMultiplier, nodes, elements, edges, sides, deadX, deadY, soilEntry, x, y, corner, elementSoil, edgeEntry, fromNode, toNode, equalityCount, jumps}
-use Rattle.scope.specs.Polygon.{Side, polygonSides, polygonOf}
-use Rattle.scope.specs.Rows.{Row, countFrom, node, crossAt, riseAcross, runAcross, twiceArea, balanceX, balanceY, balanceRows, stepX, stepY, stepSquare, normalRow, shearRow, sideRows, strengthPairs, cross, strengthRow, pairRows, strengthRows, equalityRows, rowsOf, agreeRow, jumpNormal, jumpShear, jumpRows}
-use Rattle.scope.specs.Bounds.{mostCoordinate, mostForce, mostTraction, mostMultiplier, mostArea, balanceRight, mostBalanceRows, mostSquare, sideRight, mostSideRows, weightedCross, twiceStrength, strengthSum, mostStrengthRows, jumpRight, mostJumpRows}
+use Rattle.scope.specs.Mesh.{strengthMultiplier, kindWith, nodes, elements, edges, sides, ByDirection, deadX, deadY, soilEntry, x, y, corner, elementSoil, edgeEntry, fromNode, toNode, equalityCount, jumps}
+use Rattle.scope.specs.Polygon.{Point, Side, polygonSides, halfTurn, polygonOf}
+use Rattle.scope.specs.Rows.{Row, countFrom, node, crossAt, riseAcross, runAcross, twiceArea, balanceX, balanceY, balanceRows, stepX, stepY, stepSquare, normalRow, shearRow, sideRows, strengthPairs, Pair, cross, strengthRow, planeRow, rowsBySides, rowsByPlanes, strengthRows, equalityRows, rowsOf, agreeRow, jumpNormal, jumpShear, jumpRows}
+use Rattle.scope.specs.Bounds.{mostCoordinate, mostForce, mostTraction, mostMultiplier, mostArea, balanceRight, mostBalanceRows, mostSquare, sideRight, mostSideRows, mostPlaneRadius, planeSquare, planeRight, strengthRightWith, strengthSum, mostStrengthRows, jumpRight, mostJumpRows}
 use Rattle.scope.specs.PolygonRule.{ListedPolygon}
 use Rattle.scope.specs.Sums.{weightedSum, weighed, limitSum}
 use Rattle.scope.specs.Claim.{multiplier}
@@ -27,7 +27,8 @@ use Rattle.scope.proofs.Lists.{of-count, each-nil, each-cons, each-map,
 use Rattle.scope.proofs.NumberRanges.{mesh-facts}
 use Rattle.scope.proofs.Pairs.{pairs, few-pairs}
 use Rattle.scope.proofs.RowCounts.{balance-count, side-count, jump-count, equality-count, strength-count}
-use Rattle.scope.proofs.PolygonRule.{listed-polygon}
+use Rattle.scope.proofs.PolygonRule.{listed-polygon, legs-within}
+use Rattle.scope.proofs.Directions.{kind-one, kind-sides, is-direction, by-kind}
 
 -- ---- limits as bounds
 
@@ -44,6 +45,18 @@ apart h k = linear (h .least & h .most & k .least & k .most) (search bounds dept
 -- a cross product of two consecutive corners
 pub cross-bound : {k : ℕ} (g : ListedPolygon k) (d : Side) → d ∈ polygonSides (polygonOf k .corners) → Within (g .product) (cross (d .from) (d .to))
 cross-bound g d m = record { within = g .fits .rule .largest-cross .bounds d m }
+
+-- the radius and the corners of a polygon whose soils may have kind 1
+module _ {k : ℕ} (g : ListedPolygon k) (one : 1 ≤ kindWith k) where
+  pub plane-radius : Within mostPlaneRadius (polygonOf k .radius)
+  plane-radius =
+      subst (Within mostPlaneRadius) (sym (g .fits .radiusIs))
+      (record { within = omega (arith, subst (λ (z : ℕ). z * g .radius ≤ mostPlaneRadius) (kind-one k one .0) (g .fits .planeRadius)) })
+
+  pub plane-corner : (v : Point) → v ∈ polygonOf k .corners → Within mostPlaneRadius (v .px) × Within mostPlaneRadius (v .py)
+  plane-corner v m =
+      let legs = legs-within (polygonOf k .radius) v (g .fits .rule .on-circle v m) in
+      (record { within = omega (arith, legs .0, plane-radius .within) }, record { within = omega (arith, legs .1, plane-radius .within) })
 
 -- D by the lines across the element, from neighbour to neighbour
 pub area-is : (m : List ℤ) (e : ℕ) → riseAcross m e 0 *ℤ runAcross m e 1 -ℤ riseAcross m e 1 *ℤ runAcross m e 0 ≡ twiceArea m e
@@ -134,16 +147,33 @@ module _ (m : List ℤ) (f : MeshFacts m) where
       P : Row → Type 0
       P r = Right jumpRight r
 
-  strength-right : (g : ListedPolygon (sides m)) → (r : Row) → r ∈ strengthRows m → Right (g .product * twiceStrength) r
-  unfolding strengthRows pairRows strengthRow
-  strength-right g =
-      each-joined P _ (strengthPairs m) (λ a i.
-      each-map P _ (polygonSides (polygonOf (sides m) .corners)) (λ d j.
+  side-strength : (g : ListedPolygon (sides m)) (a : Pair) → a ∈ strengthPairs m → (r : Row) → r ∈ rowsBySides (polygonOf (sides m)) m a → Right (strengthRightWith (sides m)) r
+  unfolding rowsBySides strengthRow
+  side-strength g a i =
+      each-map (Right (strengthRightWith (sides m))) _ (polygonSides (polygonOf (sides m) .corners)) (λ d j.
       let s = f .soil (a .soil) (pairs m .exactly a .0 i .1) in
-      Within-*ℤ (cross-bound g d j) (Within-*ℤ (Within-*ℤ (Within-pos 2) (from-0 (s .qRange))) (from-0 (s .cohesionRange)))))
-    where
-      P : Row → Type 0
-      P r = Right (g .product * twiceStrength) r
+      Within-le (Within-*ℤ (cross-bound g d j) (Within-*ℤ (Within-*ℤ (Within-pos 2) (from-0 (s .qRange))) (from-0 (s .cohesionRange)))) (g .fits .rightFits))
+
+  plane-strength : (g : ListedPolygon (sides m)) (a : Pair) → a ∈ strengthPairs m → ByDirection m (a .soil) → (r : Row) → r ∈ rowsByPlanes (polygonOf (sides m)) m a → Right (strengthRightWith (sides m)) r
+  unfolding rowsByPlanes planeRow
+  plane-strength g a i e =
+      each-joined (Right (strengthRightWith (sides m))) _ (halfTurn (polygonOf (sides m) .corners)) (λ v j.
+      let s = f .soil (a .soil) (pairs m .exactly a .0 i .1) in
+      let one = kind-sides s e in
+      let r = plane-radius g one in
+      let x = plane-corner g one v (g .fits .rule .half-turn v .0 j .0) .0 in
+      let right =
+      Within-le
+      (Within-*ℤ (from-0 (s .qRange)) (Within-+ℤ (Within-*ℤ (Within-*ℤ r r) (from-0 (s .cohesionRange))) (Within-*ℤ (apart (s .acrossRange) (s .cohesionRange)) (Within-*ℤ x x))))
+      (omega (arith, kind-one (sides m) one .1)) in
+      each-cons (Right (strengthRightWith (sides m))) right (each-cons (Right (strengthRightWith (sides m))) right (each-nil (Right (strengthRightWith (sides m))))))
+
+  strength-right : (g : ListedPolygon (sides m)) → (r : Row) → r ∈ strengthRows m → Right (strengthRightWith (sides m)) r
+  unfolding strengthRows
+  strength-right g =
+      each-joined (Right (strengthRightWith (sides m))) _ (strengthPairs m) (λ a i.
+      by-kind (polygonOf (sides m)) m a (λ rs. (r : Row) → r ∈ rs → Right (strengthRightWith (sides m)) r)
+      (λ e. plane-strength g a i (is-direction m (a .soil) e)) (λ e. side-strength g a i))
 
 -- ---- sums
 
@@ -167,10 +197,6 @@ rows-bound Y B w (r ∷ rs) a b =
 limit-++ : (w : ℕ → ℤ) (rs ss : List Row) → limitSum w (rs ++ ss) ≡ limitSum w rs +ℤ limitSum (λ k. w (length rs + k)) ss
 unfolding limitSum weightedSum
 limit-++ w rs ss = ap (sumOf (λ p. p .0 *ℤ p .1 .right)) (weighed-++ w rs ss) ∙ sumOf-++ (λ p. p .0 *ℤ p .1 .right) (weighed w rs) (weighed (λ k. w (length rs + k)) ss)
-
--- a largest cross product with its largest multiplier, times 2qC
-weighted : (g n : ℕ) → g * n ≤ weightedCross → g * (n * twiceStrength) ≤ strengthSum
-weighted g n h = rw (← mul-assoc) (omega (arith, mul-le-mul-right twiceStrength h))
 
 -- W of multipliers that are there: each kind of row by its count, its largest multiplier and its largest right side
 pub limit-bound : (m c : List ℤ) → MeshSound m → ClaimFacts m c → HasMultipliers c → Within (2 ^ 63) (limitSum (multiplier m c) (rowsOf m))
@@ -230,5 +256,5 @@ limit-bound m c s k t =
     strengths : Within (mostStrengthRows * strengthSum) (limitSum (λ i. w (length (equalityRows m) + i)) (strengthRows m))
     strengths =
         Within-le
-        (rows-bound (strengthMultiplier (sides m)) (g .product * twiceStrength) (λ i. w (length (equalityRows m) + i)) (strengthRows m) strength (strength-right m f g))
-        (mul-le-mul few (weighted (strengthMultiplier (sides m)) (g .product) (g .fits .productWeighted)))
+        (rows-bound (strengthMultiplier (sides m)) (strengthRightWith (sides m)) (λ i. w (length (equalityRows m) + i)) (strengthRows m) strength (strength-right m f g))
+        (mul-le-mul few (g .fits .rightWeighted))

@@ -17,7 +17,7 @@ use Rattle.scope.specs.Accepted.{FieldAccepted, MultipliersAccepted, Cla
 -- accepted, with the claim's own open rows and loads, exactly when mesh and claim are sound and each part that is
 -- there meets what is asked
 abbrev pub AcceptedExactly : List ℤ → List ℤ → Type 0
-AcceptedExactly m c = (verdict m c ≡ Accepted (openCount m c) (lowerLoad c) (upperLoad m c)) ↔ ClaimAccepted m c
+AcceptedExactly m c = (verdict m c ≡ Accepted (openCount m c) (lowerLoad m c) (upperLoad m c)) ↔ ClaimAccepted m c
 
 -- each refusal with its place exactly when the table has it, in its order
 abbrev pub RefusedExactly : List ℤ → List ℤ → Type 0

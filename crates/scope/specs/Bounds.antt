@@ -1,7 +1,10 @@
 -- How large the numbers of rows and of sums can be: one name for each limit of the two files, and each bound as an
 -- expression over them, by kind of row.
--- The largest radius, step and cross product are those of 108 sides (document 02, N9).
+-- The largest radius, step and cross product are those of 108 sides (document 02, N9); soils of kind 1 are not listed
+-- with so many (N14), so that their rows are bounded by the largest radius of the others.
+use mathlib.Core.Bool.{cond}
 use Prim.Native.Nat.{ℕ, _+_, _*_, _^_}
+use lib.Dec.{eqb}
 use Rattle.scope.specs.Mesh.{mostPairs, mostElements, mostEdges, mostSides, mostStrength, pairsFor108, strengthFor108, elementRows, edgeRows, mostEqualityRows, mostJumps, rowsPerJump}
 
 -- ---- limits (document 01, 'The two files')
@@ -131,9 +134,29 @@ mostReserve = twiceStrength * mostScale + mostFriction * mostSpread
 abbrev pub mostSlack : ℕ
 mostSlack = mostCross * mostReserve + mostLever * (mostStep * mostSpread + mostStep * mostSpread)
 
--- the right side
-abbrev pub strengthRight : ℕ
-strengthRight = mostCross * twiceStrength
+-- ---- strength rows by direction (document 02, N14): a², ab, b² and r²; a coefficient; the right side; and that less
+-- the left
+
+abbrev pub mostPlaneRadius : ℕ
+mostPlaneRadius = 65
+
+abbrev pub planeSquare : ℕ
+planeSquare = mostPlaneRadius * mostPlaneRadius
+
+abbrev pub planeCoefficient : ℕ
+planeCoefficient = 4 * (mostFriction * planeSquare)
+
+abbrev pub planeRight : ℕ
+planeRight = mostFriction * (2 * (planeSquare * mostCohesion))
+
+abbrev pub planeSlack : ℕ
+planeSlack = planeRight * mostScale + 3 * (planeCoefficient * mostStress)
+
+-- ---- strength rows of either kind
+
+-- the right side, in a mesh with so many sides
+unfoldable pub strengthRightWith : ℕ → ℕ
+strengthRightWith k = cond (eqb k mostSides) (mostCross * twiceStrength) planeRight
 
 -- what a row with its multiplier adds to a column, and to W
 abbrev pub strengthColumn : ℕ

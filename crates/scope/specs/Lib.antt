@@ -2,7 +2,7 @@
 -- answered, the layout, rows, sums, the verdict; then what the theorems say of them.
 -- All of it a reader must believe, and nothing here is a contract between functions: the definitions down to Verdict;
 -- then the statements, which say the same a second time and share no helper with them where a slip could hide
--- (Printed, PrintedColumns, Criterion, Meaning, Jumps, Pairs, SideLimits, PolygonRule, RowNumbers). Members only names a
+-- (Printed, PrintedColumns, Criterion, Meaning, Planes, Jumps, Pairs, SideLimits, PolygonRule, RowNumbers). Members only names a
 -- thing; Worked has the numbers of document 01's sheet.
 -- 001 and 003, where a comment names them, are sources that document 01 cites by these numbers.
 pub mod Answer
@@ -37,6 +37,7 @@ pub mod Pairs
 pub mod SideLimits
 pub mod Criterion
 pub mod Meaning
+pub mod Planes
 pub mod Jumps
 pub mod AcceptedField
 pub mod Bracket

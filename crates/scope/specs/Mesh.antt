@@ -1,11 +1,14 @@
 -- A mesh (document 01, 'The two files', "Mesh, in this order"): its lines, and what its numbers are.
 -- Soils, nodes, elements, edges and jumps are counted from 0 here; the file counts from 1.
-use mathlib.Core.Bool.{cond}
+use mathlib.Core.Path.{_≡_}
+use mathlib.Core.Bool.{Bool, cond}
 use mathlib.Core.List.{List, [], _∷_}
-use Prim.Native.Nat.{ℕ, _+_, _-_, _*_, _%_}
+use Prim.Native.Nat.{ℕ, _+_, _-_, _*_, _%_, _<_}
 use lib.IntN.{ℤ, pos}
 use lib.Dec.{eqb}
 use lib.ListN.{replicate}
+use Rattle.integer.specs.Tests.{eqZ}
+use Rattle.scope.specs.Checks.{someBelow}
 use Rattle.scope.specs.Columns.{between, oneOf, free, upTo, rightAngle, naming, atMost, at}
 use Rattle.scope.specs.Layout.{Group, Layout, groups, linesBefore, count, entry}
 
@@ -60,6 +63,11 @@ pairsWith k = cond (eqb k mostSides) pairsFor108 mostPairs
 unfoldable pub strengthMultiplier : ℕ → ℕ
 strengthMultiplier k = cond (eqb k mostSides) strengthFor108 mostStrength
 
+-- the largest kind of a soil: "a kind (0 as before, 1 by direction)", and "Kind 1 with 108 sides gets 2" (document 02,
+-- N14)
+unfoldable pub kindWith : ℕ → ℕ
+kindWith k = cond (eqb k mostSides) 0 1
+
 -- "Header: nodes 4 to 100, elements 1 to 100, soils 1 to 16, edges 0 to 60, sides 12, 20 or 36"; "The mesh header gains
 -- a sixth column, jumps 0 to 60" (document 02, N6), with N9
 unfoldable pub meshHeader : Group
@@ -82,7 +90,7 @@ abbrev pub meshHeaderColumns : ℕ
 meshHeaderColumns = 6
 
 abbrev pub soilColumns : ℕ
-soilColumns = 8
+soilColumns = 10
 
 abbrev pub nodeColumns : ℕ
 nodeColumns = 2
@@ -115,16 +123,23 @@ unfoldable pub jumps : List ℤ → ℕ
 jumps m = count (at m 5)
 
 -- "Each soil: p 0 to 1,000, q 1 to 1,000, h 1 to 1,000, cohesion C 0 to 10,000, dead force x and y, live force x and y
--- (each -1,000 to 1,000)"
-unfoldable pub soilLines : ℕ → Group
-soilLines n = record {
+-- (each -1,000 to 1,000)"; "Soil lines gain at their end a kind (0 as before, 1 by direction) and cv 0 to 10,000"
+-- (document 02, N14), in a mesh with so many sides
+unfoldable pub soilLines : ℕ → ℕ → Group
+soilLines n sideCount = record {
   lines = n;
   limits =
       between (pos 0) (pos 1000)
       ∷ between (pos 1) (pos 1000)
       ∷ between (pos 1) (pos 1000)
       ∷ between (pos 0) (pos 10000)
-      ∷ replicate 4 (upTo 1000);
+      ∷ upTo 1000
+      ∷ upTo 1000
+      ∷ upTo 1000
+      ∷ upTo 1000
+      ∷ between (pos 0) (pos (kindWith sideCount))
+      ∷ between (pos 0) (pos 10000)
+      ∷ [];
   rules = rightAngle ∷ [];
 }
 
@@ -159,9 +174,9 @@ jumpLines n ns = record {
 }
 
 -- the lines after the header, in a mesh of so many things
-abbrev pub meshLines : ℕ → ℕ → ℕ → ℕ → ℕ → List Group
-meshLines nodeCount elementCount soilCount edgeCount jumpCount =
-    soilLines soilCount
+abbrev pub meshLines : ℕ → ℕ → ℕ → ℕ → ℕ → ℕ → List Group
+meshLines nodeCount elementCount soilCount edgeCount sideCount jumpCount =
+    soilLines soilCount sideCount
     ∷ nodeLines nodeCount
     ∷ elementLines elementCount nodeCount soilCount
     ∷ edgeLines edgeCount nodeCount
@@ -174,7 +189,7 @@ meshLayout = record {
   formNumber = 1;
   limitNumber = 2;
   header = meshHeader;
-  body = λ m. meshLines (nodes m) (elements m) (soils m) (edges m) (jumps m);
+  body = λ m. meshLines (nodes m) (elements m) (soils m) (edges m) (sides m) (jumps m);
 }
 
 unfoldable pub meshGroups : List ℤ → List Group
@@ -182,7 +197,8 @@ meshGroups m = groups meshLayout m
 
 -- ---- what the numbers are
 
--- soil s: p, q and h ("The friction angle has sine p/h and cosine q/h"), cohesion, dead force F and live force f
+-- soil s: p, q and h ("The friction angle has sine p/h and cosine q/h"), cohesion, dead force F and live force f, kind
+-- and cv: "Bedded clay has cohesion ch along and cv across .. C is then ch" (document 02, N14)
 unfoldable pub soilEntry : List ℤ → ℕ → ℕ → ℤ
 soilEntry m s c = entry (meshGroups m) m 1 s c
 
@@ -209,6 +225,26 @@ liveX m s = soilEntry m s 6
 
 unfoldable pub liveY : List ℤ → ℕ → ℤ
 liveY m s = soilEntry m s 7
+
+unfoldable pub soilKind : List ℤ → ℕ → ℤ
+soilKind m s = soilEntry m s 8
+
+unfoldable pub cohesionAcross : List ℤ → ℕ → ℤ
+cohesionAcross m s = soilEntry m s 9
+
+-- "1 by direction": as a test, and of a mesh that "lists one, used or not"
+unfoldable pub byDirection : List ℤ → ℕ → Bool
+byDirection m s = eqZ (soilKind m s) (pos 1)
+
+unfoldable pub someByDirection : List ℤ → Bool
+someByDirection m = someBelow (byDirection m) (soils m)
+
+-- the same as statements
+abbrev pub ByDirection : List ℤ → ℕ → Type 0
+ByDirection m s = soilKind m s ≡ pos 1
+
+abbrev pub ListsDirection : List ℤ → Type 0
+ListsDirection m = (s : ℕ) × (s < soils m) × ByDirection m s
 
 -- node v
 unfoldable pub x : List ℤ → ℕ → ℤ

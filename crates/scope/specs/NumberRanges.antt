@@ -13,7 +13,7 @@ use Rattle.scope.specs.Claim.{claimHeaderColumns, stressColumns, ifThere
 use Rattle.scope.specs.Rows.{pairCount}
 use Rattle.scope.specs.Statements.{PartsFit}
 use Rattle.scope.specs.Polygon.{SidesListed}
-use Rattle.scope.specs.Mesh.{mostNodes, mostElements, mostSoils, mostEdges, nodesWith, strengthMultiplier, meshHeaderColumns, soilColumns, nodeColumns, elementColumns, edgeColumns, elementRows, edgeRows, meshGroups, nodes, elements, soils, edges, sides, p, q, h, cohesion, soilEntry, x, y, corner, elementSoil, edgeEntry, fromNode, toNode, equalityCount, mostJumps, jumpColumns, rowsPerJump, jumps, jumpEntry, jumpFrom, jumpTo, facingFrom, facingTo}
+use Rattle.scope.specs.Mesh.{mostNodes, mostElements, mostSoils, mostEdges, nodesWith, strengthMultiplier, kindWith, meshHeaderColumns, soilColumns, nodeColumns, elementColumns, edgeColumns, elementRows, edgeRows, meshGroups, nodes, elements, soils, edges, sides, p, q, h, cohesion, soilKind, cohesionAcross, soilEntry, x, y, corner, elementSoil, edgeEntry, fromNode, toNode, equalityCount, mostJumps, jumpColumns, rowsPerJump, jumps, jumpEntry, jumpFrom, jumpTo, facingFrom, facingTo}
 
 -- z is from lo to hi
 pub record Between (lo hi z : ℤ) : Type 0 where
@@ -43,6 +43,8 @@ pub record SoilFacts (m : List ℤ) (s : ℕ) : Type 0 where
   pub hRange : Between (pos 1) (pos 1000) (h m s)
   pub cohesionRange : Between (pos 0) (pos 10000) (cohesion m s)
   pub forceRange : (c : ℕ) → c < 4 → Between (negℤ (pos 1000)) (pos 1000) (soilEntry m s (4 + c))
+  pub kindRange : Between (pos 0) (pos (kindWith (sides m))) (soilKind m s)
+  pub acrossRange : Between (pos 0) (pos 10000) (cohesionAcross m s)
   pub rightAngle : p m s *ℤ p m s +ℤ q m s *ℤ q m s ≡ h m s *ℤ h m s
 
 -- node v

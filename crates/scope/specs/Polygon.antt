@@ -5,9 +5,10 @@ use mathlib.Core.Path.{_≡_}
 use mathlib.Core.Logic.{_⊎_}
 use mathlib.Core.Bool.{true, false}
 use mathlib.Core.List.{List, [], _∷_, _++_, map}
-use Prim.Native.Nat.{ℕ}
+use Prim.Native.Nat.{ℕ, _/_}
 use lib.IntN.{ℤ, pos, negℤ}
 use lib.Dec.{eqb}
+use lib.ListN.{length, take}
 
 -- a point of the plane
 pub record Point : Type 0 where
@@ -37,6 +38,10 @@ sidesTo end (v ∷ w ∷ rest) = record { from = v; to = w } ∷ sidesTo end (w 
 unfoldable pub polygonSides : List Point → List Side
 polygonSides [] = []
 polygonSides (v ∷ rest) = sidesTo v (v ∷ rest)
+
+-- "the first half turn of corners, (r, 0) in and (-r, 0) out" (document 02, N14): the first half of them
+unfoldable pub halfTurn : List Point → List Point
+halfTurn vs = take (length vs / 2) vs
 
 -- ---- the four polygons
 

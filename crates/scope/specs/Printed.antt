@@ -1,5 +1,6 @@
--- The rows as document 01 prints them ('Rows'), and those of jumps as document 02 says them (N6), over whole numbers,
--- with l and n on the side where they have them; and what a field that meets the rows of a mesh meets.
+-- The rows as document 01 prints them ('Rows'), and those of jumps (N6) and of strength by direction (N14) as document
+-- 02 says them, over whole numbers, with l and n on the side where they have them; and what a field that meets the rows
+-- of a mesh meets.
 use mathlib.Core.Path.{_≡_}
 use mathlib.Core.Logic.{_↔_, _⊎_}
 use mathlib.Core.List.{List}
@@ -7,8 +8,8 @@ use Prim.Native.Nat.{ℕ, _+_, _%_, _<_}
 use lib.IntN.{ℤ, pos, _+ℤ_, _-ℤ_, _*ℤ_, negℤ}
 use lib.Signed.{_≤ℤ_}
 use Rattle.scope.specs.Members.{_∈_}
-use Rattle.scope.specs.Mesh.{elements, edges, sides, jumps, p, q, h, cohesion, deadX, deadY, liveX, liveY, x, y, corner, elementSoil, edgeEntry, fromNode, toNode, jumpFrom, jumpTo, facingFrom, facingTo}
-use Rattle.scope.specs.Polygon.{Side, polygonSides, polygonOf}
+use Rattle.scope.specs.Mesh.{elements, edges, sides, jumps, p, q, h, cohesion, cohesionAcross, ByDirection, deadX, deadY, liveX, liveY, x, y, corner, elementSoil, edgeEntry, fromNode, toNode, jumpFrom, jumpTo, facingFrom, facingTo}
+use Rattle.scope.specs.Polygon.{Point, Side, polygonSides, halfTurn, polygonOf}
 use Rattle.scope.specs.Rows.{sx, sy, t, twiceArea, stepX, stepY, jumpStepX, jumpStepY, Pair, strengthPairs, rowsOf}
 use Rattle.scope.specs.Meets.{FieldMeets}
 
@@ -106,6 +107,38 @@ resistance s p q C n sx sy =
 abbrev pub Strength : (r : ℤ) → Side → (p q h C n sx sy t : ℤ) → Type 0
 Strength r s p q h C n sx sy t = deviator r s h sx sy t ≤ℤ resistance s p q C n sx sy
 
+-- ---- strength by direction (document 02, N14): the plane's normal is (a, b)/r
+
+-- "N = a²sx + 2abt + b²sy and T = ab(sy-sx) + (a²-b²)t"
+abbrev pub planeNormal : Point → (sx sy t : ℤ) → ℤ
+planeNormal v sx sy t =
+    let a : ℤ = v .px in
+    let b : ℤ = v .py in
+    a *ℤ a *ℤ sx +ℤ pos 2 *ℤ a *ℤ b *ℤ t +ℤ b *ℤ b *ℤ sy
+
+abbrev pub planeShear : Point → (sx sy t : ℤ) → ℤ
+planeShear v sx sy t =
+    let a : ℤ = v .px in
+    let b : ℤ = v .py in
+    a *ℤ b *ℤ (sy -ℤ sx) +ℤ (a *ℤ a -ℤ b *ℤ b) *ℤ t
+
+-- "each ≤ q·n·(r²·ch + (cv-ch)·a²)"
+abbrev pub planeResistance : (r : ℤ) → Point → (q ch cv n : ℤ) → ℤ
+planeResistance r v q ch cv n = q *ℤ n *ℤ (r *ℤ r *ℤ ch +ℤ (cv -ℤ ch) *ℤ (v .px *ℤ v .px))
+
+-- "pN + qT, then pN - qT": their left sides, then the rows
+abbrev pub planePlus : Point → (p q sx sy t : ℤ) → ℤ
+planePlus v p q sx sy t = p *ℤ planeNormal v sx sy t +ℤ q *ℤ planeShear v sx sy t
+
+abbrev pub planeMinus : Point → (p q sx sy t : ℤ) → ℤ
+planeMinus v p q sx sy t = p *ℤ planeNormal v sx sy t -ℤ q *ℤ planeShear v sx sy t
+
+abbrev pub PlanePlus : (r : ℤ) → Point → (p q ch cv n sx sy t : ℤ) → Type 0
+PlanePlus r v p q ch cv n sx sy t = planePlus v p q sx sy t ≤ℤ planeResistance r v q ch cv n
+
+abbrev pub PlaneMinus : (r : ℤ) → Point → (p q ch cv n sx sy t : ℤ) → Type 0
+PlaneMinus r v p q ch cv n sx sy t = planeMinus v p q sx sy t ≤ℤ planeResistance r v q ch cv n
+
 -- ---- a field on the mesh m: its stresses s by column, with l and n
 
 module _ (m : List ℤ) (s : ℕ → ℤ) (l n : ℤ) where
@@ -148,6 +181,17 @@ module _ (m : List ℤ) (s : ℕ → ℤ) (l n : ℤ) where
       Strength r d (p m (a .soil)) (q m (a .soil)) (h m (a .soil)) (cohesion m (a .soil)) n (s (sx (a .at)))
       (s (sy (a .at))) (s (t (a .at)))
 
+  -- the same for a soil by direction, and a corner of that polygon
+  abbrev pub PlanePlusAt : ℤ → Pair → Point → Type 0
+  PlanePlusAt r a v =
+      PlanePlus r v (p m (a .soil)) (q m (a .soil)) (cohesion m (a .soil)) (cohesionAcross m (a .soil)) n
+      (s (sx (a .at))) (s (sy (a .at))) (s (t (a .at)))
+
+  abbrev pub PlaneMinusAt : ℤ → Pair → Point → Type 0
+  PlaneMinusAt r a v =
+      PlaneMinus r v (p m (a .soil)) (q m (a .soil)) (cohesion m (a .soil)) (cohesionAcross m (a .soil)) n
+      (s (sx (a .at))) (s (sy (a .at))) (s (t (a .at)))
+
   -- all that is asked of the field
   pub record MeetsPrinted : Type 0 where
     pub balance-x : (e : ℕ) → e < elements m → BalanceXAt e
@@ -160,8 +204,11 @@ module _ (m : List ℤ) (s : ℕ → ℤ) (l n : ℤ) where
     pub jump-shear-from : (j : ℕ) → j < jumps m → ShearAgreesAt j (jumpFrom m j) (facingFrom m j)
     pub jump-normal-to : (j : ℕ) → j < jumps m → NormalAgreesAt j (jumpTo m j) (facingTo m j)
     pub jump-shear-to : (j : ℕ) → j < jumps m → ShearAgreesAt j (jumpTo m j) (facingTo m j)
-    pub strength : (a : Pair) → a ∈ strengthPairs m → (d : Side) → d ∈ polygonSides (polygonOf (sides m) .corners)
-        → StrengthAt (polygonOf (sides m) .radius) a d
+    pub strength : (a : Pair) → a ∈ strengthPairs m → ¬ ByDirection m (a .soil)
+        → (d : Side) → d ∈ polygonSides (polygonOf (sides m) .corners) → StrengthAt (polygonOf (sides m) .radius) a d
+    pub planes : (a : Pair) → a ∈ strengthPairs m → ByDirection m (a .soil)
+        → (v : Point) → v ∈ halfTurn (polygonOf (sides m) .corners)
+        → PlanePlusAt (polygonOf (sides m) .radius) a v × PlaneMinusAt (polygonOf (sides m) .radius) a v
 
   -- it meets the rows as data exactly when it meets them as printed
   abbrev pub FieldPrinted : Type 0

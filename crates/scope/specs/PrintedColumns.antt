@@ -3,17 +3,18 @@
 -- Multipliers w are numbered as the rows are; a field is its stresses s by column, with l and n.
 use mathlib.Core.Path.{_≡_}
 use mathlib.Core.Logic.{_↔_}
+use mathlib.Core.Bool.{cond}
 use mathlib.Core.List.{List}
-use Prim.Native.Nat.{ℕ, zero, suc, _+_, _*_, _<_}
+use Prim.Native.Nat.{ℕ, zero, suc, _+_, _*_, _/_, _<_}
 use lib.IntN.{ℤ, pos, _+ℤ_, _-ℤ_, _*ℤ_, negℤ}
 use lib.Signed.{_<ℤ_}
-use Rattle.scope.specs.Mesh.{nodes, elements, edges, sides, jumps, p, q, h, cohesion, deadX, deadY, liveX, liveY, x, y, corner, elementSoil, edgeEntry, fromNode, toNode, jumpFrom, jumpTo, facingFrom, facingTo}
-use Rattle.scope.specs.Polygon.{Side, polygonOf}
+use Rattle.scope.specs.Mesh.{nodes, elements, edges, sides, jumps, p, q, h, cohesion, cohesionAcross, byDirection, deadX, deadY, liveX, liveY, x, y, corner, elementSoil, edgeEntry, fromNode, toNode, jumpFrom, jumpTo, facingFrom, facingTo}
+use Rattle.scope.specs.Polygon.{Point, Side, polygonOf}
 use Rattle.scope.specs.Rows.{sx, sy, t, twiceArea, stepX, stepY, jumpStepX, jumpStepY, Pair, pairCount, pairAt, balanceX, balanceY, normalRow, shearRow, jumpNormal, jumpShear, equalityRows, rowsOf}
 use Rattle.scope.specs.Statements.{MeetsColumns}
 use Rattle.scope.specs.Sums.{leftSide, rightSide, unit, columnSum, liveSum, limitSum}
-use Rattle.scope.specs.RowNumbers.{sideAt, pairRow}
-use Rattle.scope.specs.Printed.{forceX, forceY, bodyForce, normalForce, shearForce, edgeForce, FixesNormal, FixesShear, deviator, resistance}
+use Rattle.scope.specs.RowNumbers.{sideAt, cornerAt, sideRow, directionRow}
+use Rattle.scope.specs.Printed.{forceX, forceY, bodyForce, normalForce, shearForce, edgeForce, FixesNormal, FixesShear, deviator, resistance, planePlus, planeMinus, planeResistance}
 
 -- ---- a printed row in a field: its left side minus its right side
 
@@ -54,6 +55,18 @@ module _ (m : List ℤ) (s : ℕ → ℤ) (l n : ℤ) where
       deviator (polygonOf (sides m) .radius) d (h m (a .soil)) (s (sx (a .at))) (s (sy (a .at))) (s (t (a .at)))
       -ℤ resistance d (p m (a .soil)) (q m (a .soil)) (cohesion m (a .soil)) n (s (sx (a .at))) (s (sy (a .at)))
 
+  abbrev pub lessPlus : Pair → Point → ℤ
+  lessPlus a v =
+      planePlus v (p m (a .soil)) (q m (a .soil)) (s (sx (a .at))) (s (sy (a .at))) (s (t (a .at)))
+      -ℤ planeResistance (polygonOf (sides m) .radius) v (q m (a .soil)) (cohesion m (a .soil))
+      (cohesionAcross m (a .soil)) n
+
+  abbrev pub lessMinus : Pair → Point → ℤ
+  lessMinus a v =
+      planeMinus v (p m (a .soil)) (q m (a .soil)) (s (sx (a .at))) (s (sy (a .at))) (s (t (a .at)))
+      -ℤ planeResistance (polygonOf (sides m) .radius) v (q m (a .soil)) (cohesion m (a .soil))
+      (cohesionAcross m (a .soil)) n
+
   -- each row's data is the printed row itself, and no multiple of it: left minus right is the same in every field
   pub record RowsPrinted : Type 0 where
     pub balance-x : (e : ℕ) → leftSide s l (balanceX m e) -ℤ rightSide n (balanceX m e) ≡ lessX e
@@ -65,7 +78,14 @@ module _ (m : List ℤ) (s : ℕ → ℤ) (l n : ℤ) where
     pub jump-shear : (j v f : ℕ)
         → leftSide s l (jumpShear m j v f) -ℤ rightSide n (jumpShear m j v f) ≡ lessJumpShear j v f
     pub strength : (a : Pair) (d : Side)
-        → leftSide s l (pairRow m a d) -ℤ rightSide n (pairRow m a d) ≡ lessStrength a d
+        → leftSide s l (sideRow m a d) -ℤ rightSide n (sideRow m a d) ≡ lessStrength a d
+    pub plane-plus : (a : Pair) (v : Point)
+        → leftSide s l (directionRow m a v (q m (a .soil))) -ℤ rightSide n (directionRow m a v (q m (a .soil)))
+        ≡ lessPlus a v
+    pub plane-minus : (a : Pair) (v : Point)
+        → leftSide s l (directionRow m a v (negℤ (q m (a .soil))))
+        -ℤ rightSide n (directionRow m a v (negℤ (q m (a .soil))))
+        ≡ lessMinus a v
 
 -- ---- the columns
 
@@ -89,6 +109,24 @@ module _ (m : List ℤ) (w : ℕ → ℤ) where
   abbrev pub ofPair : ℕ → ℕ → ℤ
   ofPair a k = w (elements m * 2 + edges m * 4 + jumps m * 4 + (a * sides m + k))
 
+  -- multiplier times left minus right over the rows of a pair: side by side; for a soil by direction corner by corner of
+  -- the first half turn
+  unfoldable pub weighedSides : (ℕ → ℤ) → ℤ → ℤ → ℕ → ℤ
+  weighedSides s l n a =
+      sumBelow (λ k. ofPair a k *ℤ lessStrength m s l n (pairAt m a) (sideAt (polygonOf (sides m)) k)) (sides m)
+
+  unfoldable pub weighedPlanes : (ℕ → ℤ) → ℤ → ℤ → ℕ → ℤ
+  weighedPlanes s l n a =
+      sumBelow
+      (λ j.
+      ofPair a (2 * j) *ℤ lessPlus m s l n (pairAt m a) (cornerAt (polygonOf (sides m)) j)
+      +ℤ ofPair a (2 * j + 1) *ℤ lessMinus m s l n (pairAt m a) (cornerAt (polygonOf (sides m)) j))
+      (sides m / 2)
+
+  unfoldable pub weighedPair : (ℕ → ℤ) → ℤ → ℤ → ℕ → ℤ
+  weighedPair s l n a =
+      cond (byDirection m (pairAt m a .soil)) (weighedPlanes s l n a) (weighedSides s l n a)
+
   -- multiplier times left minus right, summed over all rows: elements, edges, jumps, pairs
   unfoldable pub weighedRows : (ℕ → ℤ) → ℤ → ℤ → ℤ
   weighedRows s l n =
@@ -107,10 +145,7 @@ module _ (m : List ℤ) (w : ℕ → ℤ) where
       +ℤ ofJump j 2 *ℤ lessJumpNormal m s l n j (jumpTo m j) (facingTo m j)
       +ℤ ofJump j 3 *ℤ lessJumpShear m s l n j (jumpTo m j) (facingTo m j))
       (jumps m)
-      +ℤ sumBelow
-      (λ a. sumBelow (λ k. ofPair a k *ℤ lessStrength m s l n (pairAt m a) (sideAt (polygonOf (sides m)) k))
-      (sides m))
-      (pairCount m)
+      +ℤ sumBelow (weighedPair s l n) (pairCount m)
 
   -- "For each node and stress, multiplier times coefficient, summed over all rows": a row's coefficient is left minus
   -- right where this stress is 1 and all else is 0

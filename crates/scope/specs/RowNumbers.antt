@@ -1,13 +1,15 @@
--- The numbers of the rows (document 01, 'Rows'; document 02, N6), over the lists of rows. Elements, edges, jumps and
+-- The numbers of the rows (document 01, 'Rows'; document 02, N6 and N14), over the lists of rows. Elements, edges, jumps and
 -- pairs are counted from 0 here, so that document 01's element is `suc e`; rows and sides are counted from 1, as there.
 use mathlib.Core.Path.{_≡_}
+use mathlib.Core.Bool.{cond}
 use mathlib.Core.List.{List}
-use Prim.Native.Nat.{ℕ, suc, _+_, _*_, _-_, _<_}
-use lib.IntN.{ℤ, pos}
+use Prim.Native.Nat.{ℕ, suc, _+_, _*_, _-_, _/_, _%_, _≤_, _<_}
+use lib.IntN.{ℤ, pos, negℤ}
+use lib.Dec.{eqb}
 use lib.ListN.{length, getD}
-use Rattle.scope.specs.Mesh.{elements, edges, sides, jumps, p, q, h, cohesion, fromNode, toNode, jumpFrom, jumpTo, facingFrom, facingTo}
-use Rattle.scope.specs.Polygon.{point, Side, Polygon, polygonSides, polygonOf}
-use Rattle.scope.specs.Rows.{Row, Pair, pairCount, pairAt, balanceX, balanceY, normalRow, shearRow, jumpNormal, jumpShear, strengthRow, equalityRows, strengthRows, rowsOf}
+use Rattle.scope.specs.Mesh.{elements, edges, sides, jumps, p, q, h, cohesion, cohesionAcross, ByDirection, fromNode, toNode, jumpFrom, jumpTo, facingFrom, facingTo}
+use Rattle.scope.specs.Polygon.{Point, point, Side, Polygon, polygonSides, polygonOf}
+use Rattle.scope.specs.Rows.{Row, Pair, pairCount, pairAt, balanceX, balanceY, normalRow, shearRow, jumpNormal, jumpShear, strengthRow, planeRow, equalityRows, strengthRows, rowsOf}
 use Rattle.scope.specs.Tests.{rowAt}
 
 -- row k of a list, counted from 1
@@ -21,10 +23,29 @@ sideAt g k = getD (polygonSides (g .corners)) k (record { from = point (pos 0) (
 abbrev pub sideNumbered : Polygon → ℕ → Side
 sideNumbered g k = sideAt g (k - 1)
 
+-- corner k, likewise
+unfoldable pub cornerAt : Polygon → ℕ → Point
+cornerAt g k = getD (g .corners) k (point (pos 0) (pos 0))
+
+abbrev pub cornerNumbered : Polygon → ℕ → Point
+cornerNumbered g k = cornerAt g (k - 1)
+
 -- the strength row of a pair and a side of the mesh's polygon
-abbrev pub pairRow : List ℤ → Pair → Side → Row
-pairRow m a d = strengthRow (polygonOf (sides m) .radius) (p m (a .soil)) (q m (a .soil)) (h m (a .soil))
+abbrev pub sideRow : List ℤ → Pair → Side → Row
+sideRow m a d = strengthRow (polygonOf (sides m) .radius) (p m (a .soil)) (q m (a .soil)) (h m (a .soil))
     (cohesion m (a .soil)) (a .at) d
+
+-- the strength row of a pair whose soil has kind 1 and a corner of that polygon: pN + kT
+abbrev pub directionRow : List ℤ → Pair → Point → ℤ → Row
+directionRow m a c k = planeRow (polygonOf (sides m) .radius) (p m (a .soil)) (q m (a .soil)) (cohesion m (a .soil))
+    (cohesionAcross m (a .soil)) (a .at) c k
+
+-- row k of such a pair, counted from 0: that of corner k/2, "pN + qT, then pN - qT"
+unfoldable pub plusMinus : ℤ → ℕ → ℤ
+plusMinus q k = cond (eqb (k % 2) 0) q (negℤ q)
+
+abbrev pub directionRowAt : List ℤ → Pair → ℕ → Row
+directionRowAt m a k = directionRow m a (cornerAt (polygonOf (sides m)) (k / 2)) (plusMinus (q m (a .soil)) k)
 
 pub record RowNumbers (m : List ℤ) : Type 0 where
   -- "row 2e-1", "row 2e"
@@ -54,9 +75,16 @@ pub record RowNumbers (m : List ℤ) : Type 0 where
       ≡ jumpShear m j (jumpTo m j) (facingTo m j)
   pub equalities : length (equalityRows m) ≡ 2 * elements m + 4 * edges m + 4 * jumps m
   -- "Its number is (node-1)·sides + k", by pairs: pair `suc a`, side `suc k`
-  pub strength : (a k : ℕ) → a < pairCount m → k < sides m
+  pub strength : (a k : ℕ) → a < pairCount m → k < sides m → ¬ ByDirection m (pairAt m a .soil)
       → rowNumbered (strengthRows m) (a * sides m + suc k)
-      ≡ pairRow m (pairAt m a) (sideNumbered (polygonOf (sides m)) (suc k))
+      ≡ sideRow m (pairAt m a) (sideNumbered (polygonOf (sides m)) (suc k))
+  -- "corner by corner they are pN + qT, then pN - qT" (document 02, N14): corner `suc j` of the first half turn
+  pub plane-plus : (a j : ℕ) → a < pairCount m → 2 * suc j ≤ sides m → ByDirection m (pairAt m a .soil)
+      → rowNumbered (strengthRows m) (a * sides m + (2 * suc j - 1))
+      ≡ directionRow m (pairAt m a) (cornerNumbered (polygonOf (sides m)) (suc j)) (q m (pairAt m a .soil))
+  pub plane-minus : (a j : ℕ) → a < pairCount m → 2 * suc j ≤ sides m → ByDirection m (pairAt m a .soil)
+      → rowNumbered (strengthRows m) (a * sides m + 2 * suc j)
+      ≡ directionRow m (pairAt m a) (cornerNumbered (polygonOf (sides m)) (suc j)) (negℤ (q m (pairAt m a .soil)))
   pub strengths : length (strengthRows m) ≡ pairCount m * sides m
   -- all rows, as multipliers are numbered: the equality rows, then the strength rows
   pub equality-first : (k : ℕ) → k < 2 * elements m + 4 * edges m + 4 * jumps m

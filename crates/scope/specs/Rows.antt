@@ -9,8 +9,8 @@ use lib.Dec.{eqb}
 use lib.ListN.{length, getD}
 use Rattle.integer.specs.Tests.{eqZ}
 use Rattle.scope.specs.Checks.{someBelow}
-use Rattle.scope.specs.Mesh.{nodes, elements, soils, edges, sides, jumps, p, q, h, cohesion, deadX, deadY, liveX, liveY, x, y, corner, elementSoil, edgeEntry, fromNode, toNode, jumpFrom, jumpTo, facingFrom, facingTo}
-use Rattle.scope.specs.Polygon.{Point, Side, Polygon, polygonSides, polygonOf}
+use Rattle.scope.specs.Mesh.{nodes, elements, soils, edges, sides, jumps, p, q, h, cohesion, cohesionAcross, byDirection, deadX, deadY, liveX, liveY, x, y, corner, elementSoil, edgeEntry, fromNode, toNode, jumpFrom, jumpTo, facingFrom, facingTo}
+use Rattle.scope.specs.Polygon.{Point, Side, Polygon, polygonSides, halfTurn, polygonOf}
 
 -- ---- what a row is
 
@@ -252,12 +252,48 @@ strengthRow r p q h C v s =
       right = k *ℤ (pos 2 *ℤ q *ℤ C);
     }
 
--- the rows of one pair, side by side
-unfoldable pub pairRows : Polygon → List ℤ → Pair → List Row
-pairRows g m a =
+-- ---- strength by direction (000, eq. 5 to 10; document 02, N14), on the plane with the normal (a, b)/r
+
+-- "With N = a²sx + 2abt + b²sy and T = ab(sy-sx) + (a²-b²)t .. pN + qT, then pN - qT, each ≤ q·n·(r²·ch + (cv-ch)·a²)":
+-- pN + kT, where k is q or -q
+unfoldable pub planeRow : ℤ → ℤ → ℤ → ℤ → ℤ → ℕ → Point → ℤ → Row
+planeRow r p q ch cv v c k =
+    let aa : ℤ = c .px *ℤ c .px in
+    let ab : ℤ = c .px *ℤ c .py in
+    let bb : ℤ = c .py *ℤ c .py in
+    record {
+      kind = strength;
+      entries =
+          (p *ℤ aa -ℤ k *ℤ ab, sx v)
+          ∷ (p *ℤ bb +ℤ k *ℤ ab, sy v)
+          ∷ (p *ℤ (pos 2 *ℤ ab) +ℤ k *ℤ (aa -ℤ bb), t v)
+          ∷ [];
+      live = pos 0;
+      right = q *ℤ (r *ℤ r *ℤ ch +ℤ (cv -ℤ ch) *ℤ aa);
+    }
+
+-- a corner's two rows: "pN + qT, then pN - qT"
+abbrev pub planeRows : ℤ → ℤ → ℤ → ℤ → ℤ → ℕ → Point → List Row
+planeRows r p q ch cv v c = planeRow r p q ch cv v c q ∷ planeRow r p q ch cv v c (negℤ q) ∷ []
+
+-- ---- the strength rows of a mesh
+
+-- the rows of one pair, side by side; those of a soil by direction, "corner by corner" of the first half turn
+unfoldable pub rowsBySides : Polygon → List ℤ → Pair → List Row
+rowsBySides g m a =
     map
     (strengthRow (g .radius) (p m (a .soil)) (q m (a .soil)) (h m (a .soil)) (cohesion m (a .soil)) (a .at))
     (polygonSides (g .corners))
+
+unfoldable pub rowsByPlanes : Polygon → List ℤ → Pair → List Row
+rowsByPlanes g m a =
+    joined
+    (planeRows (g .radius) (p m (a .soil)) (q m (a .soil)) (cohesion m (a .soil)) (cohesionAcross m (a .soil)) (a .at))
+    (halfTurn (g .corners))
+
+-- by the kind of its soil: "0 as before, 1 by direction"
+unfoldable pub pairRows : Polygon → List ℤ → Pair → List Row
+pairRows g m a = cond (byDirection m (a .soil)) (rowsByPlanes g m a) (rowsBySides g m a)
 
 -- "Its number is (node-1)·sides + k", by pairs: "Strength rows and multiplier lines are numbered by node-and-soil
 -- pairs in that order"

@@ -1,6 +1,6 @@
 -- The verdict on the numbers of a mesh and of a claim (document 01, 'Verdict and report'): the first phase that fails,
 -- and else what is accepted.
-use mathlib.Core.Bool.{cond, _&&_}
+use mathlib.Core.Bool.{cond, not, _&&_}
 use mathlib.Core.List.{List}
 use Prim.Native.Nat.{ℕ, suc}
 use lib.IntN.{ℤ}
@@ -17,6 +17,7 @@ use Rattle.scope.specs.declared.Verdict.the-variants.{Accepted, Refused}
 use Rattle.scope.specs.Phases.{checkSteps, checkPhases}
 use Rattle.scope.specs.Columns.{Rule, hasField, hasMultipliers, n, l}
 use Rattle.scope.specs.Layout.{Group, Layout, groupAt, numbersAt}
+use Rattle.scope.specs.Mesh.{someByDirection}
 use Rattle.scope.specs.Rows as R
 use Rattle.scope.specs.Rows.{rowsOf}
 use Rattle.scope.specs.Sums.{liveSum, limitSum, openRows}
@@ -54,9 +55,10 @@ multipliersCheck es rs columns w = checkPhases (multiplierPhases es rs columns w
 
 -- ---- what an accepted claim reports
 
--- l/n, and W/m
-unfoldable pub lowerLoad : List ℤ → Load
-lowerLoad c = cond (hasField c) (Exact (l c) (n c)) Absent
+-- l/n, and W/m; on a mesh that lists a soil of kind 1, "used or not, the report's lower load reads none" (document 02,
+-- N14)
+unfoldable pub lowerLoad : List ℤ → List ℤ → Load
+lowerLoad m c = cond (hasField c && not (someByDirection m)) (Exact (l c) (n c)) Absent
 
 unfoldable pub upperLoad : List ℤ → List ℤ → Load
 upperLoad m c =
@@ -76,7 +78,7 @@ answer (Fails k at) v = Refused k at
 -- the verdict on the claim c where its mesh m has passed
 unfoldable pub claimVerdict : List ℤ → List ℤ → Verdict
 claimVerdict m c =
-    answer (claimCheck m c) (Accepted (openCount m c) (lowerLoad c) (upperLoad m c))
+    answer (claimCheck m c) (Accepted (openCount m c) (lowerLoad m c) (upperLoad m c))
 
 -- the verdict on a mesh and a claim
 unfoldable pub verdict : List ℤ → List ℤ → Verdict

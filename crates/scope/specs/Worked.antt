@@ -1,6 +1,7 @@
 -- The numbers of document 01's sheet ('A whole sheet, and its neighbours'), of its neighbours, of fill over clay
--- (document 02, N2), and of two blocks on a joint (N6). Each header's sixth number is that of its jumps, 0 on document 01's
--- sheet: "document 01's sheet takes a 0 there".
+-- (document 02, N2), of two blocks on a joint (N6), and of bedded clay (N14). Each header's sixth number is that of its
+-- jumps, 0 on document 01's sheet: "document 01's sheet takes a 0 there". Each soil's last two are its kind and cv, "0 and
+-- 0 on document 01's sheet".
 use mathlib.Core.List.{List, [], _∷_, _++_}
 use Prim.Native.Nat.{ℕ}
 use lib.IntN.{ℤ, pos, negsuc, negℤ, _-ℤ_}
@@ -9,12 +10,12 @@ use lib.ListN.{replicate, getD}
 unfoldable pub zeros : ℕ → List ℤ
 zeros k = replicate k (pos 0)
 
--- "Mesh: 4 1 1 3 12 0 / 0 1 1 10 0 0 0 0 / 0 0 / 1 0 / 1 1 / 0 1 / 1 2 3 4 1 / 3 4 3 0 0 -1 0 / 2 3 3 0 0 0 0 / 4 1 3 0
+-- "Mesh: 4 1 1 3 12 0 / 0 1 1 10 0 0 0 0 0 0 / 0 0 / 1 0 / 1 1 / 0 1 / 1 2 3 4 1 / 3 4 3 0 0 -1 0 / 2 3 3 0 0 0 0 / 4 1 3 0
 -- 0 0 0"
 unfoldable pub workedMesh : List ℤ
 workedMesh =
     (pos 4 ∷ pos 1 ∷ pos 1 ∷ pos 3 ∷ pos 12 ∷ pos 0 ∷ [])
-    ++ (pos 0 ∷ pos 1 ∷ pos 1 ∷ pos 10 ∷ zeros 4)
+    ++ (pos 0 ∷ pos 1 ∷ pos 1 ∷ pos 10 ∷ zeros 6)
     ++ (pos 0 ∷ pos 0 ∷ pos 1 ∷ pos 0 ∷ pos 1 ∷ pos 1 ∷ pos 0 ∷ pos 1 ∷ [])
     ++ (pos 1 ∷ pos 2 ∷ pos 3 ∷ pos 4 ∷ pos 1 ∷ [])
     ++ (pos 3 ∷ pos 4 ∷ pos 3 ∷ pos 0 ∷ pos 0 ∷ negsuc 0 ∷ pos 0 ∷ [])
@@ -71,12 +72,12 @@ nineteenSixths k =
 
 -- ---- meshes that differ in a number of an unfixed part
 
--- "4 1 1 1 12 0 / 0 1 1 10 0 0 0 0 / 0 0 / 1 0 / 1 1 / 0 1 / 1 2 3 4 1 / 2 3 1 0 z 0 0": the edge's shear is unfixed,
+-- "4 1 1 1 12 0 / 0 1 1 10 0 0 0 0 0 0 / 0 0 / 1 0 / 1 1 / 0 1 / 1 2 3 4 1 / 2 3 1 0 z 0 0": the edge's shear is unfixed,
 -- with z as its dead number
 unfoldable pub oneEdge : ℤ → List ℤ
 oneEdge z =
     (pos 4 ∷ pos 1 ∷ pos 1 ∷ pos 1 ∷ pos 12 ∷ pos 0 ∷ [])
-    ++ (pos 0 ∷ pos 1 ∷ pos 1 ∷ pos 10 ∷ zeros 4)
+    ++ (pos 0 ∷ pos 1 ∷ pos 1 ∷ pos 10 ∷ zeros 6)
     ++ (pos 0 ∷ pos 0 ∷ pos 1 ∷ pos 0 ∷ pos 1 ∷ pos 1 ∷ pos 0 ∷ pos 1 ∷ [])
     ++ (pos 1 ∷ pos 2 ∷ pos 3 ∷ pos 4 ∷ pos 1 ∷ [])
     ++ (pos 2 ∷ pos 3 ∷ pos 1 ∷ pos 0 ∷ z ∷ zeros 2)
@@ -85,7 +86,7 @@ oneEdge z =
 unfoldable pub freeShear : ℤ → List ℤ
 freeShear z =
     (pos 4 ∷ pos 1 ∷ pos 1 ∷ pos 3 ∷ pos 12 ∷ pos 0 ∷ [])
-    ++ (pos 0 ∷ pos 1 ∷ pos 1 ∷ pos 10 ∷ zeros 4)
+    ++ (pos 0 ∷ pos 1 ∷ pos 1 ∷ pos 10 ∷ zeros 6)
     ++ (pos 0 ∷ pos 0 ∷ pos 1 ∷ pos 0 ∷ pos 1 ∷ pos 1 ∷ pos 0 ∷ pos 1 ∷ [])
     ++ (pos 1 ∷ pos 2 ∷ pos 3 ∷ pos 4 ∷ pos 1 ∷ [])
     ++ (pos 3 ∷ pos 4 ∷ pos 3 ∷ pos 0 ∷ pos 0 ∷ negsuc 0 ∷ pos 0 ∷ [])
@@ -96,7 +97,7 @@ freeShear z =
 unfoldable pub twoTriangles : List ℤ
 twoTriangles =
     (pos 4 ∷ pos 2 ∷ pos 1 ∷ pos 3 ∷ pos 12 ∷ pos 0 ∷ [])
-    ++ (pos 0 ∷ pos 1 ∷ pos 1 ∷ pos 10 ∷ zeros 4)
+    ++ (pos 0 ∷ pos 1 ∷ pos 1 ∷ pos 10 ∷ zeros 6)
     ++ (pos 0 ∷ pos 0 ∷ pos 1 ∷ pos 0 ∷ pos 1 ∷ pos 1 ∷ pos 0 ∷ pos 1 ∷ [])
     ++ (pos 1 ∷ pos 2 ∷ pos 3 ∷ pos 3 ∷ pos 1 ∷ [])
     ++ (pos 1 ∷ pos 3 ∷ pos 4 ∷ pos 4 ∷ pos 1 ∷ [])
@@ -110,14 +111,14 @@ fieldAlone = (pos 1 ∷ pos 0 ∷ pos 1 ∷ pos 20 ∷ []) ++ workedStresses 20
 
 -- ---- "Soft clay under fill was passed at the fill's strength, since a shared node had one soil" (document 02, N2)
 
--- "6 2 2 1 12 0 / 0 1 1 10 0 0 0 0 / 0 1 1 5 0 10 0 0 / 0 0 / 1 0 / 1 1 / 0 1 / 1 2 / 0 2 / 4 3 5 6 1 / 1 2 3 4 2 / 5 6
+-- "6 2 2 1 12 0 / 0 1 1 10 0 0 0 0 0 0 / 0 1 1 5 0 10 0 0 0 0 / 0 0 / 1 0 / 1 1 / 0 1 / 1 2 / 0 2 / 4 3 5 6 1 / 1 2 3 4 2 / 5 6
 -- 3 0 0 -1 0": the fill is the lower-numbered element and lies over the clay, of half its cohesion; nodes 3 and 4 are
 -- corners of both
 unfoldable pub fillOverClay : List ℤ
 fillOverClay =
     (pos 6 ∷ pos 2 ∷ pos 2 ∷ pos 1 ∷ pos 12 ∷ pos 0 ∷ [])
-    ++ (pos 0 ∷ pos 1 ∷ pos 1 ∷ pos 10 ∷ zeros 4)
-    ++ (pos 0 ∷ pos 1 ∷ pos 1 ∷ pos 5 ∷ pos 0 ∷ pos 10 ∷ zeros 2)
+    ++ (pos 0 ∷ pos 1 ∷ pos 1 ∷ pos 10 ∷ zeros 6)
+    ++ (pos 0 ∷ pos 1 ∷ pos 1 ∷ pos 5 ∷ pos 0 ∷ pos 10 ∷ zeros 4)
     ++ (pos 0 ∷ pos 0 ∷ pos 1 ∷ pos 0 ∷ pos 1 ∷ pos 1 ∷ pos 0 ∷ pos 1 ∷ pos 1 ∷ pos 2 ∷ pos 0 ∷ pos 2 ∷ [])
     ++ (pos 4 ∷ pos 3 ∷ pos 5 ∷ pos 6 ∷ pos 1 ∷ [])
     ++ (pos 1 ∷ pos 2 ∷ pos 3 ∷ pos 4 ∷ pos 2 ∷ [])
@@ -135,13 +136,13 @@ overClay l =
 
 -- ---- two blocks on a joint (document 02, N6)
 
--- "8 2 1 edges 12 jumps / 0 1 1 10 0 0 0 0 / 0 0 / 1 0 / 1 1 / 0 1 / 1 0 / 2 0 / 2 1 / 1 1 / 1 2 3 4 1 / 5 6 7 8 1 /
+-- "8 2 1 edges 12 jumps / 0 1 1 10 0 0 0 0 0 0 / 0 0 / 1 0 / 1 1 / 0 1 / 1 0 / 2 0 / 2 1 / 1 1 / 1 2 3 4 1 / 5 6 7 8 1 /
 -- ..": blocks side by side without a common node, on one upright joint from (1, 0) to (1, 1); the edges and jumps as
 -- they are given
 unfoldable pub blocks : ℕ → ℕ → List ℤ → List ℤ
 blocks edgeCount jumpCount lines =
     (pos 8 ∷ pos 2 ∷ pos 1 ∷ pos edgeCount ∷ pos 12 ∷ pos jumpCount ∷ [])
-    ++ (pos 0 ∷ pos 1 ∷ pos 1 ∷ pos 10 ∷ zeros 4)
+    ++ (pos 0 ∷ pos 1 ∷ pos 1 ∷ pos 10 ∷ zeros 6)
     ++ (pos 0 ∷ pos 0 ∷ pos 1 ∷ pos 0 ∷ pos 1 ∷ pos 1 ∷ pos 0 ∷ pos 1 ∷ [])
     ++ (pos 1 ∷ pos 0 ∷ pos 2 ∷ pos 0 ∷ pos 2 ∷ pos 1 ∷ pos 1 ∷ pos 1 ∷ [])
     ++ (pos 1 ∷ pos 2 ∷ pos 3 ∷ pos 4 ∷ pos 1 ∷ [])
@@ -179,7 +180,7 @@ onJoint z y =
 unfoldable pub sharedBlocks : List ℤ
 sharedBlocks =
     (pos 6 ∷ pos 2 ∷ pos 1 ∷ pos 2 ∷ pos 12 ∷ pos 0 ∷ [])
-    ++ (pos 0 ∷ pos 1 ∷ pos 1 ∷ pos 10 ∷ zeros 4)
+    ++ (pos 0 ∷ pos 1 ∷ pos 1 ∷ pos 10 ∷ zeros 6)
     ++ (pos 0 ∷ pos 0 ∷ pos 1 ∷ pos 0 ∷ pos 1 ∷ pos 1 ∷ pos 0 ∷ pos 1 ∷ pos 2 ∷ pos 0 ∷ pos 2 ∷ pos 1 ∷ [])
     ++ (pos 1 ∷ pos 2 ∷ pos 3 ∷ pos 4 ∷ pos 1 ∷ [])
     ++ (pos 2 ∷ pos 5 ∷ pos 6 ∷ pos 3 ∷ pos 1 ∷ [])
@@ -196,7 +197,7 @@ onShared =
 unfoldable pub cutWithTip : List ℤ
 cutWithTip =
     (pos 7 ∷ pos 2 ∷ pos 1 ∷ pos 2 ∷ pos 12 ∷ pos 1 ∷ [])
-    ++ (pos 0 ∷ pos 1 ∷ pos 1 ∷ pos 10 ∷ zeros 4)
+    ++ (pos 0 ∷ pos 1 ∷ pos 1 ∷ pos 10 ∷ zeros 6)
     ++ (pos 0 ∷ pos 0 ∷ pos 1 ∷ pos 0 ∷ pos 1 ∷ pos 1 ∷ pos 0 ∷ pos 1 ∷ [])
     ++ (pos 2 ∷ pos 0 ∷ pos 2 ∷ pos 1 ∷ pos 1 ∷ pos 1 ∷ [])
     ++ (pos 1 ∷ pos 2 ∷ pos 3 ∷ pos 4 ∷ pos 1 ∷ [])
@@ -212,6 +213,43 @@ onCut =
     (pos 1 ∷ pos 0 ∷ pos 1 ∷ pos 20 ∷ [])
     ++ at (negℤ (pos 30)) ++ at (negℤ (pos 10)) ++ at (negℤ (pos 20)) ++ at (negℤ (pos 20))
     ++ at (pos 10) ++ at (pos 0) ++ at (pos 0)
+
+-- ---- bedded clay (document 02, N14)
+
+-- document 01's square of a soil with ch 10, with this number of sides, this h, and this kind and cv: "4 1 1 3 sides 0 /
+-- 0 1 h 10 0 0 0 0 kind cv / .."
+unfoldable pub beds : ℕ → ℕ → ℕ → ℕ → List ℤ
+beds sideCount h kind cv =
+    (pos 4 ∷ pos 1 ∷ pos 1 ∷ pos 3 ∷ pos sideCount ∷ pos 0 ∷ [])
+    ++ (pos 0 ∷ pos 1 ∷ pos h ∷ pos 10 ∷ zeros 4)
+    ++ (pos kind ∷ pos cv ∷ [])
+    ++ (pos 0 ∷ pos 0 ∷ pos 1 ∷ pos 0 ∷ pos 1 ∷ pos 1 ∷ pos 0 ∷ pos 1 ∷ [])
+    ++ (pos 1 ∷ pos 2 ∷ pos 3 ∷ pos 4 ∷ pos 1 ∷ [])
+    ++ (pos 3 ∷ pos 4 ∷ pos 3 ∷ pos 0 ∷ pos 0 ∷ negsuc 0 ∷ pos 0 ∷ [])
+    ++ (pos 2 ∷ pos 3 ∷ pos 3 ∷ zeros 4)
+    ++ (pos 4 ∷ pos 1 ∷ pos 3 ∷ zeros 4)
+
+-- "1 1 6 l", four times "0 -l 0"; "0 0"; "24 0 0 0 / 0 0 -24 0 / 0 0 0 0"; node 3 "0 0 0 1 0 0 0 0 0 0 1 0": its rows 4
+-- and 11, pN - qT of the plane (4, 3) and pN + qT of the plane (-4, 3), have 12·(sx - sy) each
+unfoldable pub onBeds : ℕ → List ℤ
+onBeds l =
+    (pos 1 ∷ pos 1 ∷ pos 6 ∷ pos l ∷ []) ++ workedStresses l
+    ++ zeros 2 ++ (pos 24 ∷ zeros 5) ++ (negℤ (pos 24) ∷ zeros 29)
+    ++ zeros 3 ++ (pos 1 ∷ zeros 6) ++ (pos 1 ∷ zeros 13)
+
+-- document 01's sheet with a second soil, which is bedded and which no element has: "4 1 2 3 12 0 / 0 1 1 10 0 0 0 0 0 0
+-- / 0 1 1 10 0 0 0 0 1 5 / .."
+unfoldable pub unusedBeds : List ℤ
+unusedBeds =
+    (pos 4 ∷ pos 1 ∷ pos 2 ∷ pos 3 ∷ pos 12 ∷ pos 0 ∷ [])
+    ++ (pos 0 ∷ pos 1 ∷ pos 1 ∷ pos 10 ∷ zeros 6)
+    ++ (pos 0 ∷ pos 1 ∷ pos 1 ∷ pos 10 ∷ zeros 4)
+    ++ (pos 1 ∷ pos 5 ∷ [])
+    ++ (pos 0 ∷ pos 0 ∷ pos 1 ∷ pos 0 ∷ pos 1 ∷ pos 1 ∷ pos 0 ∷ pos 1 ∷ [])
+    ++ (pos 1 ∷ pos 2 ∷ pos 3 ∷ pos 4 ∷ pos 1 ∷ [])
+    ++ (pos 3 ∷ pos 4 ∷ pos 3 ∷ pos 0 ∷ pos 0 ∷ negsuc 0 ∷ pos 0 ∷ [])
+    ++ (pos 2 ∷ pos 3 ∷ pos 3 ∷ zeros 4)
+    ++ (pos 4 ∷ pos 1 ∷ pos 3 ∷ zeros 4)
 
 -- ---- meshes that are refused with 44
 
@@ -243,7 +281,7 @@ sidesApart = blocks 0 1 (pos 4 ∷ pos 1 ∷ pos 7 ∷ pos 6 ∷ [])
 unfoldable pub facingUsed : List ℤ
 facingUsed =
     (pos 12 ∷ pos 3 ∷ pos 1 ∷ pos 0 ∷ pos 12 ∷ pos 2 ∷ [])
-    ++ (pos 0 ∷ pos 1 ∷ pos 1 ∷ pos 10 ∷ zeros 4)
+    ++ (pos 0 ∷ pos 1 ∷ pos 1 ∷ pos 10 ∷ zeros 6)
     ++ (pos 0 ∷ pos 0 ∷ pos 1 ∷ pos 0 ∷ pos 1 ∷ pos 1 ∷ pos 0 ∷ pos 1 ∷ [])
     ++ (pos 1 ∷ pos 0 ∷ pos 2 ∷ pos 0 ∷ pos 2 ∷ pos 1 ∷ pos 1 ∷ pos 1 ∷ [])
     ++ (pos 0 ∷ pos 0 ∷ pos 1 ∷ pos 0 ∷ pos 1 ∷ pos 1 ∷ pos 0 ∷ pos 1 ∷ [])
