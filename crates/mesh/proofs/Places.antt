@@ -7,18 +7,18 @@ use lib.IntN.{ℤ, pos, negsuc, natAbs, negℤ, _-ℤ_}
 use lib.ListN.{length}
 use lib.Signed.{_≤ℤ_}
 use Rattle.integer.specs.Bounds.{Within, Is}
-use Rattle.integer.proofs.BoundLaws.{bounds}
+use Rattle.integer.proofs.BoundLaws.{Within-le, bounds}
 use Rattle.integer.proofs.Linear.{linear, facts, _&_, nothing}
 use Rattle.integer.proofs.Order.{≤ℤ-pos}
 use Rattle.mesh.specs.declared.sizes.Sizes.{Sizes}
 use Rattle.scope.specs.Columns.{at}
 use Rattle.scope.specs.Layout.{groups, numbersBefore, count, entry}
-use Rattle.scope.specs.Mesh.{mostPairs, meshHeaderColumns, soilColumns, nodeColumns, elementColumns, edgeColumns, meshHeader, soilLines, nodeLines, elementLines, edgeLines, meshLayout, meshGroups, nodes, elements, soils, edges, sides, p, q, h, cohesion, soilEntry, x, y, corner, elementSoil, edgeEntry, fromNode, toNode, jumpColumns, jumpLines, jumps, jumpEntry, jumpFrom, jumpTo, facingFrom, facingTo}
+use Rattle.scope.specs.Mesh.{mostPairs, meshHeaderColumns, soilColumns, nodeColumns, elementColumns, edgeColumns, meshHeader, soilLines, nodeLines, elementLines, edgeLines, meshLayout, meshGroups, nodes, elements, soils, edges, sides, p, q, h, cohesion, soilKind, cohesionAcross, soilEntry, x, y, corner, elementSoil, edgeEntry, fromNode, toNode, jumpColumns, jumpLines, jumps, jumpEntry, jumpFrom, jumpTo, facingFrom, facingTo}
 use Rattle.scope.specs.NumberRanges.{Between, MeshFacts, SoilFacts, EdgeFacts, JumpFacts}
 use Rattle.scope.proofs.NumberRanges.{some-sides}
 use Rattle.scope.proofs.PolygonRule.{listed-polygon}
-use Rattle.scope.proofs.SumBounds.{apart}
-use Rattle.scope.proofs.SideLimits.{few-most}
+use Rattle.scope.proofs.SumBounds.{apart, from-0}
+use Rattle.scope.proofs.SideLimits.{few-most, kind-most}
 use Rattle.scope.specs.Rows.{pairCount}
 use Rattle.mesh.specs.MeshContracts.{Sized, SizesAre, HeaderThere, FewThings, NodeAt, FewPairs, nodesFrom, elementsFrom, edgesFrom, jumpsFrom, jumpNode}
 
@@ -112,14 +112,23 @@ bounded {lo} {hi} {z} B l u b =
     linear (l & u & k & j) (search bounds depth 40) (omega arith)
 
 soil-bound : {m : List ℤ} {k : ℕ} → SoilFacts m k → (c : ℕ) → c < soilColumns → Within 10000 (soilEntry m k c)
-unfolding p q h cohesion
+unfolding p q h cohesion soilKind cohesionAcross
 soil-bound f zero l = bounded 10000 (record { le = tt }) (record { le = tt }) (f .pRange)
 soil-bound f (suc zero) l = bounded 10000 (record { le = tt }) (record { le = tt }) (f .qRange)
 soil-bound f (suc (suc zero)) l = bounded 10000 (record { le = tt }) (record { le = tt }) (f .hRange)
 soil-bound f (suc (suc (suc zero))) l = bounded 10000 (record { le = tt }) (record { le = tt }) (f .cohesionRange)
 soil-bound {m} {k} f (suc (suc (suc (suc c)))) l =
     let e : 4 + c ≡ suc (suc (suc (suc c))) = omega arith in
-    subst (λ (i : ℕ). Within 10000 (soilEntry m k i)) e (bounded 10000 (record { le = tt }) (record { le = tt }) (f .forceRange c (omega arith)))
+    subst (λ (i : ℕ). Within 10000 (soilEntry m k i)) e (rest c (omega arith))
+  where
+    rest : (c : ℕ) → c < 6 → Within 10000 (soilEntry m k (4 + c))
+    rest zero h = bounded 10000 (record { le = tt }) (record { le = tt }) (f .forceRange 0 (omega arith))
+    rest (suc zero) h = bounded 10000 (record { le = tt }) (record { le = tt }) (f .forceRange 1 (omega arith))
+    rest (suc (suc zero)) h = bounded 10000 (record { le = tt }) (record { le = tt }) (f .forceRange 2 (omega arith))
+    rest (suc (suc (suc zero))) h = bounded 10000 (record { le = tt }) (record { le = tt }) (f .forceRange 3 (omega arith))
+    rest (suc (suc (suc (suc zero)))) h = Within-le (from-0 (f .kindRange)) (omega (arith, kind-most (sides m)))
+    rest (suc (suc (suc (suc (suc zero))))) h = bounded 10000 (record { le = tt }) (record { le = tt }) (f .acrossRange)
+    rest (suc (suc (suc (suc (suc (suc c)))))) h = absurd (omega arith)
 
 edge-bound : {m : List ℤ} {g : ℕ} → EdgeFacts m g → (c : ℕ) → 2 ≤ c → c < edgeColumns → Within 10000 (edgeEntry m g c)
 edge-bound f zero k l = absurd (omega arith)

@@ -26,6 +26,7 @@ ghost use Rattle.scope.specs.Mesh.{
   corner,
   elementSoil,
   soilEntry,
+  byDirection,
   edgeEntry,
   fromNode,
   toNode,
@@ -71,7 +72,12 @@ pub const PAIRS_FOR_108: usize = 40;
 // The columns of each line: of the header, of a soil, of a node, of an element, of an edge, of a jump.
 pub const MESH_HEADER: usize = 6;
 
-pub const SOIL_COLUMNS: usize = 8;
+pub const SOIL_COLUMNS: usize = 10;
+
+// The places of a soil's kind and of its cv among its columns.
+pub const KIND_AT: usize = 8;
+
+pub const ACROSS_AT: usize = 9;
 
 pub const NODE_COLUMNS: usize = 2;
 
@@ -260,12 +266,20 @@ pub fn element_soil(m: &[i64], s: Sizes, e: usize) -> usize
     thing_in(m, elements_from(s), e, ELEMENT_COLUMNS, 4)
 }
 
-// Column c of a soil: p, q, h, cohesion, dead force x and y, live force x and y.
+// Column c of a soil: p, q, h, cohesion, dead force x and y, live force x and y, kind, cv.
 pub fn soil_entry(m: &[i64], s: Sizes, soil: usize, c: usize) -> i64
     requires { ⌜ Sized (now m) s × (soil < soils (now m)) × (c < soilColumns) ⌝ }
     ensures { λ r. ⌜ Is r (soilEntry (now (m .entry)) soil c) 10000 ⌝ }
 {
     number_in(m, MESH_HEADER, soil, SOIL_COLUMNS, c)
+}
+
+// "1 by direction" (document 02, N14): whether a soil has this kind.
+pub fn by_direction(m: &[i64], s: Sizes, soil: usize) -> bool
+    requires { ⌜ Sized (now m) s × (soil < soils (now m)) ⌝ }
+    ensures { λ r. ⌜ r ≡ byDirection (now (m .entry)) soil ⌝ }
+{
+    soil_entry(m, s, soil, KIND_AT) == 1
 }
 
 // Column c of edge g, from what is fixed on: what is fixed, dead normal, dead shear, live normal, live shear.

@@ -42,6 +42,10 @@ pub strength-most : (k : ℕ) → strengthMultiplier k ≤ mostStrength
 unfolding strengthMultiplier
 strength-most k = at-most {a = strengthFor108} {b = mostStrength} (omega arith) (eqb k mostSides)
 
+pub kind-most : (k : ℕ) → kindWith k ≤ 1
+unfolding kindWith
+kind-most k = at-most {a = 0} {b = 1} (omega arith) (eqb k mostSides)
+
 -- ---- refusals and limits, by whether there are 108 sides
 
 -- a header that is there and can't meet both its limits and its rule
