@@ -201,7 +201,7 @@ numbered-from form = record { formIs = refl; limitIs = refl }
 -- the groups that the definitions tell, by the sizes that the code is handed
 pub mesh-body : {m : List ℤ} {s : Sizes} → SizesAre m s → meshBody s ≡ meshLayout .body m
 unfolding meshLayout meshBody
-mesh-body k = rw (k .nodesAre, k .elementsAre, k .soilsAre, k .edgesAre, k .jumpsAre)
+mesh-body k = rw (k .nodesAre, k .elementsAre, k .soilsAre, k .edgesAre, k .sidesAre, k .jumpsAre)
 
 pub claim-body : {m : List ℤ} {s : Sizes} → Counted m s → (c : List ℤ) → claimBody s (hasField c) (hasMultipliers c) ≡ claimLayout m .body c
 unfolding claimLayout claimBody

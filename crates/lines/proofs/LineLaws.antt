@@ -28,7 +28,7 @@ use Rattle.scope.specs.Columns.{Limit, between, free, within, isOneOf, allWithi
 use Rattle.scope.specs.Claim.{claimHeaderColumns}
 use Rattle.scope.specs.Layout.{Group, Layout, width, groups, lineOf, lineNumbers}
 use Rattle.scope.specs.Verdict.{lineCheck, lineAt, rulesHold}
-use Rattle.scope.specs.Mesh.{mostNodes, mostElements, mostSoils, mostEdges, mostSides, mostStrength, listedSides, nodesFor108, strengthFor108, strengthMultiplier, meshHeaderColumns, soilColumns, elementColumns, edgeColumns, meshLayout, meshHeader, soilLines, edgeLines, mostJumps, jumpColumns}
+use Rattle.scope.specs.Mesh.{mostNodes, mostElements, mostSoils, mostEdges, mostSides, mostStrength, listedSides, nodesFor108, strengthFor108, strengthMultiplier, kindWith, meshHeaderColumns, soilColumns, elementColumns, edgeColumns, meshLayout, meshHeader, soilLines, edgeLines, mostJumps, jumpColumns}
 use Rattle.lines.specs.LineContracts.{ranges, AsMany}
 use Rattle.scope.proofs.Statements.{all-within}
 use Rattle.scope.proofs.Refusals.{line-check-passed}
@@ -143,12 +143,12 @@ pub record SmallAngle (s : List ℤ) : Type 0 where
   pub q : Within 1000 (getD s 1 (pos 0))
   pub h : Within 1000 (getD s 2 (pos 0))
 
-pub small-angle : (s : List ℤ) → soilColumns ≤ length s → allWithin (soilLines 0 .limits) (take soilColumns s) ≡ true → SmallAngle s
+pub small-angle : (k : ℕ) (s : List ℤ) → soilColumns ≤ length s → allWithin (soilLines 0 k .limits) (take soilColumns s) ≡ true → SmallAngle s
 unfolding soilLines allWithin
-small-angle [] l e = absurd (omega arith)
-small-angle (p ∷ []) l e = absurd (omega arith)
-small-angle (p ∷ q ∷ []) l e = absurd (omega arith)
-small-angle (p ∷ q ∷ h ∷ s) l e =
+small-angle k [] l e = absurd (omega arith)
+small-angle k (p ∷ []) l e = absurd (omega arith)
+small-angle k (p ∷ q ∷ []) l e = absurd (omega arith)
+small-angle k (p ∷ q ∷ h ∷ s) l e =
     let a = both-true _ _ e in
     let b = both-true _ _ (a .1) in
     let d = both-true _ _ (b .1) in
@@ -274,6 +274,15 @@ strength-108 e = rw e
 pub strength-fewer : {k : ℕ} → ¬ (k ≡ mostSides) → pos mostStrength ≡ pos (strengthMultiplier k)
 unfolding strengthMultiplier
 strength-fewer {k} f = rw (ne-eqb k mostSides f)
+
+-- and the largest kind of a soil
+pub kind-108 : {k : ℕ} → k ≡ mostSides → pos 0 ≡ pos (kindWith k)
+unfolding kindWith
+kind-108 e = rw e
+
+pub kind-fewer : {k : ℕ} → ¬ (k ≡ mostSides) → pos 1 ≡ pos (kindWith k)
+unfolding kindWith
+kind-fewer {k} f = rw (ne-eqb k mostSides f)
 
 pub both-hold : {a b d : Bool} → d ≡ a && b → a ≡ true → b ≡ true → d ≡ true
 both-hold e f g = e ∙ rw (f, g)

@@ -32,7 +32,7 @@ evenLines count columns a = record { lines = count; limits = replicate columns a
 
 -- lines that have rules of their own: an element names nodes and soils, an edge and a jump nodes
 unfoldable pub ruledLines : Rule → Sizes → ℕ → Group
-ruledLines Soil s count = soilLines count
+ruledLines Soil s count = soilLines count (s .sides)
 ruledLines Element s count = elementLines count (s .nodes) (s .soils)
 ruledLines Edge s count = edgeLines count (s .nodes)
 ruledLines Jump s count = jumpLines count (s .nodes)
@@ -74,7 +74,7 @@ pub record Tabled (s : Sizes) (gs : List Code.Group) (body : List Group) : Type 
 -- ---- the groups after the header, on a mesh with these sizes
 
 unfoldable pub meshBody : Sizes → List Group
-meshBody s = meshLines (s .nodes) (s .elements) (s .soils) (s .edges) (s .jumps)
+meshBody s = meshLines (s .nodes) (s .elements) (s .soils) (s .edges) (s .sides) (s .jumps)
 
 unfoldable pub claimBody : Sizes → Bool → Bool → List Group
 claimBody s = claimLines (s .nodes) (s .elements) (s .edges) (s .jumps) (s .pairs) (s .sides)

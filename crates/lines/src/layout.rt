@@ -23,7 +23,7 @@ ghost use lib.IntN.{pos};
 ghost use Rattle.integer.specs.Bounds.{Is};
 ghost use Rattle.integer.specs.Tests.{eqZ};
 ghost use Rattle.scope.specs.Columns.{at};
-ghost use Rattle.scope.specs.Mesh.{mostStrength, strengthMultiplier};
+ghost use Rattle.scope.specs.Mesh.{mostStrength, strengthMultiplier, kindWith};
 ghost use Rattle.scope.specs.Claim.{ifThere};
 ghost use Rattle.mesh.specs.MeshContracts.{FewThings};
 ghost use Rattle.lines.specs.Table.{Tabled, meshBody, claimBody};
@@ -69,10 +69,26 @@ pub const CLAIM_LEAST: [i64; CLAIM_HEADER] = [0, 0, 0, -100000000];
 
 pub const CLAIM_MOST: [i64; CLAIM_HEADER] = [1, 1, 100000, 100000000];
 
-// The limits of a soil's columns.
-pub const SOIL_LEAST: [i64; SOIL_COLUMNS] = [0, 1, 1, 0, -1000, -1000, -1000, -1000];
+// The largest kind of a soil, and that with the most sides (document 02, N14).
+const KIND_MOST: i64 = 1;
 
-pub const SOIL_MOST: [i64; SOIL_COLUMNS] = [1000, 1000, 1000, 10000, 1000, 1000, 1000, 1000];
+const KIND_FOR_108: i64 = 0;
+
+// The limits of a soil's columns.
+pub const SOIL_LEAST: [i64; SOIL_COLUMNS] = [0, 1, 1, 0, -1000, -1000, -1000, -1000, 0, 0];
+
+pub const SOIL_MOST: [i64; SOIL_COLUMNS] = [
+    1000,
+    1000,
+    1000,
+    10000,
+    1000,
+    1000,
+    1000,
+    1000,
+    KIND_MOST,
+    10000,
+];
 
 // The nodes that an edge names, and the limits of its columns after them.
 pub const EDGE_ENDS: usize = 2;
@@ -170,6 +186,16 @@ fn strength_most(sides: usize) -> i64
         return STRENGTH_FOR_108;
     }
     STRENGTH_MOST
+}
+
+// The largest kind of a soil, of a mesh with so many sides.
+pub fn kind_most(sides: usize) -> i64
+    ensures { λ r. ⌜ Is r (pos (kindWith sides)) 1 ⌝ }
+{
+    if sides == MOST_SIDES {
+        return KIND_FOR_108;
+    }
+    KIND_MOST
 }
 
 // The groups of a claim on a mesh with these sizes and so many pairs, with a field and with multipliers or without.

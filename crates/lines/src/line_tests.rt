@@ -5,9 +5,11 @@ use crate::layout::EDGE_MOST;
 use crate::layout::Rule;
 use crate::layout::SOIL_LEAST;
 use crate::layout::SOIL_MOST;
+use crate::layout::kind_most;
 use mesh::sizes::EDGE_COLUMNS;
 use mesh::sizes::ELEMENT_COLUMNS;
 use mesh::sizes::JUMP_COLUMNS;
+use mesh::sizes::KIND_AT;
 use mesh::sizes::SOIL_COLUMNS;
 use mesh::sizes::Sizes;
 use scope::Outcome;
@@ -80,15 +82,17 @@ fn right_angle(p: i64, q: i64, h: i64) -> bool
 }
 
 // The soil that stands at the front of a list.
-fn check_soil(s: &[i64], form: u32, line: usize) -> Outcome
+fn check_soil(s: &[i64], sides: usize, form: u32, line: usize) -> Outcome
     requires { ⌜ line < 2 ^ 32 ⌝ ∗ ⌜ form ≤ mostForm ⌝ }
     ensures { λ r. ⌜ r
-        ≡ lineCheck (numbered form) (soilLines 0) (take soilColumns (now (s .entry))) (Place.Line line) ⌝ }
+        ≡ lineCheck (numbered form) (soilLines 0 sides) (take soilColumns (now (s .entry))) (Place.Line line) ⌝ }
 {
     if s.len() < SOIL_COLUMNS {
         return refused(form, line);
     }
-    if !limits_hold(&s[0..SOIL_COLUMNS], &SOIL_LEAST, &SOIL_MOST) {
+    let mut most = SOIL_MOST;
+    most[KIND_AT] = kind_most(sides);
+    if !limits_hold(&s[0..SOIL_COLUMNS], &SOIL_LEAST, &most) {
         return refused(form + 1, line);
     }
     if !right_angle(s[0], s[1], s[2]) {
@@ -161,7 +165,7 @@ fn line_check(rule: Rule, s: &[i64], sizes: Sizes, form: u32, line: usize) -> Ou
         (Place.Line line) ⌝ }
 {
     match rule {
-        Rule::Soil => check_soil(s, form, line),
+        Rule::Soil => check_soil(s, sizes.sides, form, line),
         Rule::Element => check_element(s, sizes, form, line),
         Rule::Edge => check_edge(s, sizes, form, line),
         Rule::Jump => check_jump(s, sizes, form, line),

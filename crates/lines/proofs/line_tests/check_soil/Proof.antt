@@ -2,7 +2,7 @@
 use mathlib.Core.Path.{_∙_}
 use native.Mathlib.Omega.{arith}
 use denote.Ref.{now}
-use Rattle.integer.proofs.Machine.{limits}
+use Rattle.integer.proofs.Machine.{limits, Is-read}
 use Rattle.scope.specs.Columns.{upTo, rightAngle}
 use Rattle.scope.specs.Mesh.{soilLines}
 use Rattle.lines.specs.LineContracts.{ranges, numbered}
@@ -19,7 +19,13 @@ returns : tie.Need-returns
 unfolding soilLines numbered
 returns c =
     let a = c .before .before .args in
-    c .refused .ensures ∙ line-short (numbered _) (soilLines 0) (now (a .s)) _ (c .before .if1 .taken)
+    c .refused .ensures ∙ line-short (numbered _) (soilLines 0 _) (now (a .s)) _ (c .before .if1 .taken)
+
+kind-most-requires : tie.Need-kind-most-requires
+kind-most-requires c κs = search needs
+
+array-set-from-most : tie.Need-array-set-from-most
+array-set-from-most c = search needs
 
 sub-limits-hold : tie.Need-sub-limits-hold
 sub-limits-hold c = search needs
@@ -48,8 +54,10 @@ refused-requires-2 c κs = search needs
 returns-2 : tie.Need-returns-2
 unfolding soilLines numbered upTo ranges
 returns-2 c =
-    let a = c .before .before .before .before .before .before .before .args in
-    c .refused2 .ensures ∙ line-outside (numbered _) (soilLines 0) (now (a .s)) _ (omega arith) (not-so (c .before .before .limits-hold .ensures) (c .before .if2 .taken))
+    let a = c .before .before .before .before .before .before .before .before .args in
+    let most = Is-read (c .before .before .before .before .before .before .kind-most .ensures) (omega arith) .same in
+    c .refused2 .ensures
+    ∙ line-outside (numbered _) (soilLines 0 (a .sides)) (now (a .s)) _ (omega arith) (not-so (rw most at (c .before .before .limits-hold .ensures)) (c .before .if2 .taken))
 
 shared-slice-copy-out-right-angle : tie.Need-shared-slice-copy-out-right-angle
 shared-slice-copy-out-right-angle c = search needs
@@ -63,9 +71,11 @@ shared-slice-copy-out-right-angle-3 c = search needs
 right-angle-requires : tie.Need-right-angle-requires
 unfolding soilLines upTo ranges
 right-angle-requires c κs =
-    let a = c .before .before .before .before .before .before .before .before .before .args in
-    let small = small-angle (now (a .s)) (omega arith) (so (c .before .before .before .before .limits-hold .ensures) (c .before .before .before .if2 .left)) in
-    search limits
+    let a = c .before .before .before .before .before .before .before .before .before .before .args in
+    let d = c .before .before .before .before in
+    let most = Is-read (d .before .before .before .before .kind-most .ensures) (omega arith) .same in
+    let small = small-angle (a .sides) (now (a .s)) (omega arith) (so (rw most at (d .limits-hold .ensures)) (c .before .before .before .if2 .left)) in
+    (search limits, (search limits, search limits))
 
 refused-requires-3 : tie.Need-refused-requires-3
 refused-requires-3 c κs = search needs
@@ -73,23 +83,25 @@ refused-requires-3 c κs = search needs
 returns-3 : tie.Need-returns-3
 unfolding soilLines numbered upTo ranges ruleNumber
 returns-3 c =
-    let a = c .before .before .before .before .before .before .before .before .before .before .before .before .args in
+    let a = c .before .before .before .before .before .before .before .before .before .before .before .before .before .args in
     let d = c .before .before .before .before .before .before in
-    let hold = so (d .before .limits-hold .ensures) (d .if2 .left) in
-    let small = small-angle (now (a .s)) (omega arith) hold in
+    let most = Is-read (d .before .before .before .before .before .kind-most .ensures) (omega arith) .same in
+    let hold = so (rw most at (d .before .limits-hold .ensures)) (d .if2 .left) in
+    let small = small-angle (a .sides) (now (a .s)) (omega arith) hold in
     c .refused3 .ensures
     ∙ one-rule-fails rightAngle _ _ (angle-read (now (a .s)) (omega arith) small ∙ not-so (c .before .before .right-angle .ensures) (c .before .if3 .taken))
-    ∙ line-by-rules (numbered _) (soilLines 0) (now (a .s)) _ (omega arith) hold
+    ∙ line-by-rules (numbered _) (soilLines 0 (a .sides)) (now (a .s)) _ (omega arith) hold
 
 returns-4 : tie.Need-returns-4
 unfolding soilLines numbered upTo ranges
 returns-4 c =
-    let a = c .before .before .before .before .before .before .before .before .before .before .before .args in
+    let a = c .before .before .before .before .before .before .before .before .before .before .before .before .args in
     let d = c .before .before .before .before .before in
-    let hold = so (d .before .limits-hold .ensures) (d .if2 .left) in
-    let small = small-angle (now (a .s)) (omega arith) hold in
+    let most = Is-read (d .before .before .before .before .before .kind-most .ensures) (omega arith) .same in
+    let hold = so (rw most at (d .before .limits-hold .ensures)) (d .if2 .left) in
+    let small = small-angle (a .sides) (now (a .s)) (omega arith) hold in
     one-rule-holds rightAngle _ _ (angle-read (now (a .s)) (omega arith) small ∙ so (c .before .right-angle .ensures) (c .if3 .left))
-    ∙ line-by-rules (numbered _) (soilLines 0) (now (a .s)) _ (omega arith) hold
+    ∙ line-by-rules (numbered _) (soilLines 0 (a .sides)) (now (a .s)) _ (omega arith) hold
 
 pub check-soil-spec : {M : Type 1} → statement M
 check-soil-spec =
@@ -97,6 +109,8 @@ check-soil-spec =
     (tie.spec
     refused-requires
     returns
+    kind-most-requires
+    array-set-from-most
     sub-limits-hold
     part-limits-hold-start
     part-limits-hold-end
