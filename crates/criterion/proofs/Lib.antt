@@ -3,3 +3,5 @@ pub mod RowLaws
 pub mod SideLaws
 pub mod ClaimLaws
 pub mod StrengthLaws
+pub mod HalfLaws
+pub mod PlaneChecks

@@ -94,19 +94,19 @@ one-step-more t n k r {a} {b} {d} most l h ea eb ed = record {
 
 -- ---- the sides of a polygon by its corners
 
-origin : Point
+unfoldable pub origin : Point
 origin = point (pos 0) (pos 0)
 
 double-suc : (k : ℕ) → 2 * suc k ≡ suc (suc (2 * k))
 double-suc k = omega arith
 
-x-of-corner : (cs : List Point) (k : ℕ) → at (coordinates cs) (2 * k) ≡ getD cs k origin .px
+pub x-of-corner : (cs : List Point) (k : ℕ) → at (coordinates cs) (2 * k) ≡ getD cs k origin .px
 unfolding coordinates at origin
 x-of-corner [] k = refl
 x-of-corner (v ∷ cs) zero = refl
 x-of-corner (v ∷ cs) (suc k) = rw (double-suc k) (x-of-corner cs k)
 
-y-of-corner : (cs : List Point) (k : ℕ) → at (coordinates cs) (2 * k + 1) ≡ getD cs k origin .py
+pub y-of-corner : (cs : List Point) (k : ℕ) → at (coordinates cs) (2 * k + 1) ≡ getD cs k origin .py
 unfolding coordinates at origin
 y-of-corner [] k = refl
 y-of-corner (v ∷ cs) zero = refl
@@ -116,12 +116,12 @@ y-of-corner (v ∷ cs) (suc k) =
     odd : (k : ℕ) → 2 * suc k + 1 ≡ suc (suc (2 * k + 1))
     odd k = omega arith
 
-length-coordinates : (cs : List Point) → length (coordinates cs) ≡ 2 * length cs
+pub length-coordinates : (cs : List Point) → length (coordinates cs) ≡ 2 * length cs
 unfolding coordinates
 length-coordinates [] = refl
 length-coordinates (v ∷ cs) = omega (arith, length-coordinates cs)
 
-coordinates-within : {B : ℕ} (cs : List Point) → ((v : Point) → v ∈ cs → Within B (v .px) × Within B (v .py)) → (i : ℕ) → i < length (coordinates cs) → Within B (getD (coordinates cs) i (pos 0))
+pub coordinates-within : {B : ℕ} (cs : List Point) → ((v : Point) → v ∈ cs → Within B (v .px) × Within B (v .py)) → (i : ℕ) → i < length (coordinates cs) → Within B (getD (coordinates cs) i (pos 0))
 unfolding coordinates
 coordinates-within [] h i l = absurd (omega arith)
 coordinates-within (v ∷ cs) h zero l = h v (List·Memᴰ·head refl) .0

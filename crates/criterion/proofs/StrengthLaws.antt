@@ -1,7 +1,7 @@
 -- The strength rows of a pair of a node and a soil by its numbers: the identity of the printed inequality's sides with
 -- those of the row, and sums over the sides.
 use mathlib.Core.Path.{_≡_, refl, sym, _∙_, ap, subst}
-use mathlib.Core.Bool.{Bool, true, _&&_}
+use mathlib.Core.Bool.{Bool, true, false, _&&_}
 use mathlib.Core.List.{List, [], _∷_}
 use Prim.Native.Nat.{ℕ, suc, _+_, _*_, _-_, _/_, _%_, _≤_, _<_}
 use native.Mathlib.Nat.{le-refl, suc-mul, mul-le-mul, mul-le-mul-right, div-lt-iff-lt-mul, div-add-mod', mod-lt}
@@ -22,7 +22,7 @@ use Rattle.scope.proofs.SumBounds.{from-0}
 use Rattle.criterion.proofs.RowLaws.{rowOfPair, strength-at}
 use Rattle.integer.specs.Bounds.{Within, Is}
 use Rattle.integer.proofs.Machine.{Is-as, Is-Within}
-use Rattle.scope.specs.Mesh.{nodes, soils, sides, p, q, h, cohesion, mostPairs, mostSides}
+use Rattle.scope.specs.Mesh.{nodes, soils, sides, p, q, h, cohesion, byDirection, mostPairs, mostSides}
 use Rattle.mesh.specs.declared.sizes.Sizes.{Sizes}
 use Rattle.scope.specs.Bounds.{mostFriction, mostCohesion}
 use Rattle.scope.specs.Columns.{at, n, l}
@@ -37,11 +37,11 @@ use Rattle.scope.specs.NumberRanges.{Counts, SoilFacts}
 use Rattle.scope.specs.Tests.{rowAt}
 use Rattle.mesh.specs.MeshContracts.{Sized, PairTable}
 use Rattle.scope.specs.RowNumbers.{sideAt}
-use Rattle.criterion.specs.StrengthContracts.{Listed, SoilNumbers, SoilFits, PairOf, PairNumbers, PairFits, PairState, Steps, MeshSteps, StepsFit, runOf, riseOf, crossOf, sideSlack, pairHolds}
+use Rattle.criterion.specs.StrengthContracts.{Listed, SoilNumbers, SoilFits, PairOf, PairNumbers, PairFits, PairState, Steps, MeshSteps, StepsFit, runOf, riseOf, crossOf, sideSlack, pairRowHolds, pairHolds}
 use Rattle.scope.specs.Phases.{checkPhase}
 use Rattle.scope.specs.Refusals.{strengthsPhase}
 use Rattle.lines.specs.SearchContracts.{firstFailing}
-use Rattle.lines.proofs.Loops.{each-below, all-of-each, all-cong, holds-before, fails-there, phase-at, phase-all}
+use Rattle.lines.proofs.Loops.{each-below, all-of-each, all-cong, search-cong, holds-before, fails-there, phase-at, phase-all}
 
 pub being : {v z : ℤ} {B : ℕ} → v ≡ z → Within B z → Is v z B
 being e h = record { same = e; inside = h }
@@ -110,7 +110,7 @@ sides-listed h = record { listed = rw (h .sidesAre) (h .facts .counts .sidesList
 
 -- ---- a strength row by its slack
 
-leZ-slack : (a b : ℤ) {z : ℤ} → z ≡ b -ℤ a → leZ a b ≡ leZ (pos 0) z
+pub leZ-slack : (a b : ℤ) {z : ℤ} → z ≡ b -ℤ a → leZ a b ≡ leZ (pos 0) z
 leZ-slack a b {z} e = same-test (λ t. yes-leZ (up (leZ-yes t))) (λ t. yes-leZ (down (leZ-yes t)))
   where
     up : a ≤ℤ b → pos 0 ≤ℤ z
@@ -119,7 +119,7 @@ leZ-slack a b {z} e = same-test (λ t. yes-leZ (up (leZ-yes t))) (λ t. yes-leZ 
     down : pos 0 ≤ℤ z → a ≤ℤ b
     down h = linear (e & h) (search facts depth 40) (omega arith)
 
-ltZ-slack : (a b : ℤ) {z : ℤ} → z ≡ b -ℤ a → ltZ a b ≡ ltZ (pos 0) z
+pub ltZ-slack : (a b : ℤ) {z : ℤ} → z ≡ b -ℤ a → ltZ a b ≡ ltZ (pos 0) z
 ltZ-slack a b {z} e = same-test (λ t. yes-ltZ (up (ltZ-yes t))) (λ t. yes-ltZ (down (ltZ-yes t)))
   where
     up : a <ℤ b → pos 0 <ℤ z
@@ -180,16 +180,17 @@ abbrev sideTest : List ℤ → List ℤ → ℕ → Bool
 sideTest d tab k = leZ (pos 0) (sideSlack d tab k)
 
 module _ (m c : List ℤ) (counts : Counts m) where
-  module _ {tab : List ℤ} (steps : MeshSteps m tab) {a : ℕ} {d : List ℤ} (h : a < pairCount m) (state : PairState d m c a) where
-    row-test : (k : ℕ) → k < sides m → strengthTest m c (a * sides m + k) ≡ sideTest d tab k
-    row-test k j = ap (rowHolds (stress m c) (l c) (n c)) (strength-at m (record { listed = counts .sidesListed }) a k h j) ∙ strength-test m c a k state steps j (l c)
+  -- of a pair whose soil is not by direction
+  module _ {tab : List ℤ} (steps : MeshSteps m tab) {a : ℕ} {d : List ℤ} (h : a < pairCount m) (state : PairState d m c a) (no : byDirection m (pairAt m a .soil) ≡ false) where
+    row-test : (k : ℕ) → k < sides m → pairRowHolds m c a k ≡ sideTest d tab k
+    row-test k j = ap (rowHolds (stress m c) (l c) (n c)) (strength-at m (record { listed = counts .sidesListed }) a k h j no) ∙ strength-test m c a k state steps j (l c)
 
     pub pair-holds-is : {s : ℕ} {r : Bool} → s ≡ sides m → r ≡ allBelow (sideTest d tab) s → r ≡ pairHolds m c a
     unfolding pairHolds
-    pair-holds-is e g =
-        g
-        ∙ ap (allBelow (sideTest d tab)) e
-        ∙ sym (all-cong (λ k. strengthTest m c (a * sides m + k)) (sideTest d tab) (sides m) row-test)
+    pair-holds-is e g = g ∙ ap (allBelow (sideTest d tab)) e ∙ sym (all-cong (pairRowHolds m c a) (sideTest d tab) (sides m) row-test)
+
+    pub first-row-is : {s r : ℕ} → s ≡ sides m → r ≡ firstFailing (sideTest d tab) s → r ≡ firstFailing (pairRowHolds m c a) (sides m)
+    first-row-is e g = g ∙ ap (firstFailing (sideTest d tab)) e ∙ sym (search-cong (pairRowHolds m c a) (sideTest d tab) (sides m) row-test)
 
   -- the rows of the pairs that hold
   pair-rows : {a : ℕ} → ((u : ℕ) → u < a → pairHolds m c u ≡ true) → (j : ℕ) → j < a * sides m → strengthTest m c j ≡ true
@@ -200,18 +201,18 @@ module _ (m c : List ℤ) (counts : Counts m) where
       subst (λ i. strengthTest m c i ≡ true) (div-add-mod' j s)
       (each-below (λ k. strengthTest m c (u * s + k)) s (holds u (div-lt-iff-lt-mul (some-sides counts) .1 l)) (j % s) (mod-lt j (some-sides counts)))
 
-  -- a is the lowest pair on which a row fails, and k the lowest of its sides
-  module _ {tab : List ℤ} (steps : MeshSteps m tab) {a k : ℕ} {d : List ℤ} (e : a ≡ firstFailing (pairHolds m c) (pairCount m)) (h : a < pairCount m) (state : PairState d m c a) (f : k ≡ firstFailing (sideTest d tab) (sides m)) where
-    side-there : k < sides m
-    side-there = by (decLt k (sides m))
+  -- a is the lowest pair on which a row fails, and k the lowest of its rows that does
+  module _ {a k : ℕ} (e : a ≡ firstFailing (pairHolds m c) (pairCount m)) (h : a < pairCount m) (f : k ≡ firstFailing (pairRowHolds m c a) (sides m)) where
+    row-there : k < sides m
+    unfolding pairHolds
+    row-there = by (decLt k (sides m))
       where
         by : Dec (k < sides m) → k < sides m
         by (yes j) = j
         by (no j) =
             absurd
             (subst T
-            (sym (all-of-each (sideTest d tab) (sides m) (λ i l. holds-before (sideTest d tab) (sides m) f i (omega arith)))
-            ∙ pair-holds-is steps h state refl refl
+            (sym (all-of-each (pairRowHolds m c a) (sides m) (λ i l. holds-before (pairRowHolds m c a) (sides m) f i (omega arith)))
             ∙ fails-there (pairHolds m c) (pairCount m) e h)
             tt)
 
@@ -224,24 +225,23 @@ module _ (m c : List ℤ) (counts : Counts m) where
             let rest : ℕ = j - a * sides m in
             let same : a * sides m + rest ≡ j = omega arith in
             let low : rest < k = omega arith in
-            subst (λ i. strengthTest m c i ≡ true) same
-            (row-test steps h state rest (omega (arith, side-there)) ∙ holds-before (sideTest d tab) (sides m) f rest low)
+            subst (λ i. strengthTest m c i ≡ true) same (holds-before (pairRowHolds m c a) (sides m) f rest low)
 
     refused : Refused 22 (P.Row (suc (a * sides m + k))) ≡ checkPhase (strengthsPhase (strengthRows m) (stress m c) (l c) (n c))
     unfolding checkPhase
     refused =
         phase-at (strengthTest m c) 22 (λ i. P.Row (suc i)) (length (strengthRows m)) before
-        (omega (arith, strength-count m (counts .sidesListed), mul-le-mul-right (sides m) h, suc-mul a (sides m), side-there))
-        (row-test steps h state k side-there ∙ fails-there (sideTest d tab) (sides m) f side-there)
+        (omega (arith, strength-count m (counts .sidesListed), mul-le-mul-right (sides m) h, suc-mul a (sides m), row-there))
+        (fails-there (pairRowHolds m c a) (sides m) f row-there)
         refl
 
   -- the same by the counts of pairs and of sides that the code has
-  pub strengths-refused : {tab d : List ℤ} {a k count sideCount : ℕ} → MeshSteps m tab → count ≡ pairCount m → sideCount ≡ sides m
-      → a ≡ firstFailing (pairHolds m c) count → a < count → PairState d m c a → k ≡ firstFailing (sideTest d tab) sideCount
+  pub strengths-refused : {a k count sideCount : ℕ} → count ≡ pairCount m → sideCount ≡ sides m
+      → a ≡ firstFailing (pairHolds m c) count → a < count → k ≡ firstFailing (pairRowHolds m c a) (sides m)
       → Refused 22 (P.Row (a * sideCount + k + 1)) ≡ checkPhase (strengthsPhase (strengthRows m) (stress m c) (l c) (n c))
-  strengths-refused {tab} {d} {a} {k} steps en es e h state f =
+  strengths-refused {a} {k} en es e h f =
       ap (λ i. Refused 22 (P.Row i)) (add-one _ ∙ ap (λ i. suc (a * i + k)) es)
-      ∙ refused steps (e ∙ ap (firstFailing (pairHolds m c)) en) (omega arith) state (f ∙ ap (firstFailing (sideTest d tab)) es)
+      ∙ refused (e ∙ ap (firstFailing (pairHolds m c)) en) (omega arith) f
 
   pub strengths-passed : {a count : ℕ} → count ≡ pairCount m → a ≡ firstFailing (pairHolds m c) count → count ≤ a → Passed ≡ checkPhase (strengthsPhase (strengthRows m) (stress m c) (l c) (n c))
   unfolding checkPhase

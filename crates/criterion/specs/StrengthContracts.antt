@@ -1,7 +1,7 @@
 -- What the strength rows hand around: a polygon's sides as numbers, the numbers of a pair of a node and a soil, and a
 -- claim whose lines have passed.
 use mathlib.Core.Path.{_≡_}
-use mathlib.Core.Bool.{Bool, cond}
+use mathlib.Core.Bool.{Bool, true, cond}
 use mathlib.Core.List.{List, [], _∷_}
 use Prim.Native.Nat.{ℕ, _+_, _*_, _≤_, _<_}
 use lib.Dec.{ltb}
@@ -11,8 +11,8 @@ use Rattle.integer.specs.Bounds.{Within, AllWithin, Is}
 use Rattle.mesh.specs.declared.sizes.Sizes.{Sizes}
 use Rattle.criterion.specs.declared.polygons.Corner.{Corner}
 use Rattle.criterion.specs.declared.polygons.Step.{Step}
-use Rattle.scope.specs.Mesh.{mostSides, nodes, sides, p, q, h, cohesion}
-use Rattle.scope.specs.Bounds.{mostFriction, mostRadius, mostStep, mostCross, mostLever, twiceStrength, mostSpread, mostReserve}
+use Rattle.scope.specs.Mesh.{mostSides, nodes, sides, p, q, h, cohesion, byDirection}
+use Rattle.scope.specs.Bounds.{mostFriction, mostScale, mostStress, mostRadius, mostStep, mostCross, mostLever, twiceStrength, mostSpread, mostReserve}
 use Rattle.scope.specs.Columns.{at, hasField, n, l}
 use Rattle.scope.specs.Claim.{ifThere, stress}
 use Rattle.scope.specs.Polygon.{Point, Side, Polygon, polygonOf, SidesListed}
@@ -87,6 +87,16 @@ pub record StepsUpTo (k : ℕ) (r t : List ℤ) (n : ℕ) : Type 0 where
 
 abbrev pub StepsFrom : List ℤ → List ℤ → ℕ → Type 0
 StepsFrom r t n = StepsUpTo n r t n
+
+-- the first k numbers of a table of corners, and then zeros: two numbers for each corner of the first half turn of the
+-- largest polygon of a mesh with a soil by direction
+abbrev pub halfNumbers : ℕ
+halfNumbers = 36
+
+pub record HalfUpTo (k : ℕ) (r t : List ℤ) : Type 0 where
+  pub size : length r ≡ halfNumbers
+  pub same : (i : ℕ) → i < k → getD r i (pos 0) ≡ at t i
+  pub rest : (i : ℕ) → k ≤ i → getD r i (pos 0) ≡ pos 0
 
 -- what a strength row reads of a side
 unfoldable pub runOf : Side → ℤ
@@ -192,7 +202,30 @@ pub record PairState (d m c : List ℤ) (a : ℕ) : Type 0 where
       -ℤ p m (pairAt m a .soil) *ℤ (stress m c (sx (pairAt m a .at)) +ℤ stress m c (sy (pairAt m a .at))))
       mostReserve
 
--- each strength row of pair a holds at the claim's field
+-- strength row k of pair a holds at the claim's field, and each of its rows does
+abbrev pub pairRowHolds : List ℤ → List ℤ → ℕ → ℕ → Bool
+pairRowHolds m c a k = rowHolds (stress m c) (l c) (n c) (rowAt (strengthRows m) (a * sides m + k))
+
 unfoldable pub pairHolds : List ℤ → List ℤ → ℕ → Bool
-pairHolds m c a =
-    allBelow (λ k. rowHolds (stress m c) (l c) (n c) (rowAt (strengthRows m) (a * sides m + k))) (sides m)
+pairHolds m c a = allBelow (pairRowHolds m c a) (sides m)
+
+-- ---- a pair whose soil is by direction (document 02, N14)
+
+-- pair a of a mesh whose lines have passed
+pub record PairThere (m : List ℤ) (s : Sizes) (t : List ℕ) (a : ℕ) : Type 0 where
+  pub sized : Sized m s
+  pub few : FewPairs m
+  pub pairTable : PairTable m t
+  pub there : a < pairCount m
+
+pub record BeddedPair (m : List ℤ) (s : Sizes) (t : List ℕ) (a : ℕ) : Type 0 where
+  pub pair : PairThere m s t a
+  pub direction : byDirection m (pairAt m a .soil) ≡ true
+
+-- the stresses of node v in a claim, and its n
+pub record NodeStresses (d c : List ℤ) (v : ℕ) : Type 0 where
+  pub size : length d ≡ 4
+  pub sxIs : Is (at d 0) (at c (4 + 3 * v)) mostStress
+  pub syIs : Is (at d 1) (at c (4 + 3 * v + 1)) mostStress
+  pub tIs : Is (at d 2) (at c (4 + 3 * v + 2)) mostStress
+  pub scaleIs : Is (at d 3) (at c 2) mostScale

@@ -1,11 +1,13 @@
 // The polygons: their corners as constant tables, and what a strength row reads of each side.
 ghost use mathlib.Core.Path.{_≡_};
-ghost use Prim.Native.Nat.{_+_, _*_, _<_};
+ghost use Prim.Native.Nat.{_+_, _*_, _<_, _≤_};
 ghost use lib.ListN.{length};
 ghost use Rattle.integer.specs.Bounds.{Within, AllWithin, Is};
+ghost use Rattle.scope.specs.Mesh.{kindWith};
 ghost use Rattle.scope.specs.Polygon.{polygonOf};
 ghost use Rattle.scope.specs.Bounds.{mostRadius};
-ghost use Rattle.criterion.specs.StrengthContracts.{Listed, next, Table, CornerIs, SideIs, StepIs, StepsFrom, Steps};
+ghost use Rattle.criterion.specs.StrengthContracts.{Listed, next, Table, CornerIs, SideIs, StepIs, StepsFrom, Steps, halfNumbers, HalfUpTo};
+ghost use Rattle.bedded.specs.PlaneContracts.{HalfTurnIs};
 use crate::polygon_108::ONE_HUNDRED_EIGHT;
 use mesh::sizes::MOST_SIDES;
 use mesh::sizes::number_at;
@@ -159,6 +161,9 @@ const THIRTY_SIX: [i64; 72] = [
 // Three numbers for each side of the largest polygon.
 const STEP_NUMBERS: usize = 3 * MOST_SIDES;
 
+// Two numbers for each corner of the first half turn of 36 sides: with more no soil is by direction (document 02, N14).
+pub const HALF_NUMBERS: usize = 36;
+
 // A corner of a polygon.
 struct Corner {
     x: i64,
@@ -251,6 +256,35 @@ pub fn steps_of(sides: usize) -> [i64; STEP_NUMBERS]
         return steps_from(&THIRTY_SIX, 36);
     }
     steps_from(&ONE_HUNDRED_EIGHT, 108)
+}
+
+// The first numbers of a table of corners, and then zeros.
+fn half_from(table: &[i64], numbers: usize) -> [i64; HALF_NUMBERS]
+    requires { ⌜ numbers ≤ halfNumbers ⌝ ∗ ⌜ numbers ≤ length (now table) ⌝ ∗ ⌜ AllWithin mostRadius (now table) ⌝ }
+    ensures { λ r. ⌜ HalfUpTo numbers r (now (table .entry)) ⌝ }
+{
+    let mut half = [0i64; HALF_NUMBERS];
+    let mut k: usize = 0;
+    while k < numbers {
+        let z = number_at(table, k);
+        half[k] = z;
+        k += 1;
+    }
+    half
+}
+
+// The first half turn of that polygon, where soils may be by direction: as many numbers as sides.
+pub fn half_turn(sides: usize) -> [i64; HALF_NUMBERS]
+    requires { ⌜ Listed sides ⌝ ∗ ⌜ 1 ≤ kindWith sides ⌝ }
+    ensures { λ r. ⌜ HalfTurnIs (polygonOf sides) sides r ⌝ }
+{
+    if sides == 12 {
+        return half_from(&TWELVE, 12);
+    }
+    if sides == 20 {
+        return half_from(&TWENTY, 20);
+    }
+    half_from(&THIRTY_SIX, 36)
 }
 
 // The radius of the circle around that polygon.

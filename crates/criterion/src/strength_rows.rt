@@ -1,14 +1,14 @@
 // The strength rows of a pair of a node and a soil: what they read of the soil, of the node's stresses and of the
 // multipliers, and the sides one by one.
 ghost use mathlib.Core.Path.{_≡_};
-ghost use Prim.Native.Nat.{_+_, _*_, _<_};
+ghost use Prim.Native.Nat.{_+_, _*_, _<_, _≤_};
 ghost use lib.ListN.{length, getD};
 ghost use lib.IntN.{pos, _-ℤ_, _*ℤ_};
 ghost use lib.Signed.{leZ};
 ghost use Rattle.integer.specs.Bounds.{Is, Within, AllWithin};
 ghost use Rattle.scope.specs.Checks.{allBelow};
 ghost use Rattle.scope.specs.Columns.{at};
-ghost use Rattle.scope.specs.Mesh.{mostPairs, soils};
+ghost use Rattle.scope.specs.Mesh.{mostPairs, soils, sides};
 ghost use Rattle.scope.specs.Rows.{pairCount};
 ghost use Rattle.scope.specs.Bounds.{
   mostRadius,
@@ -24,7 +24,10 @@ ghost use Rattle.scope.specs.Bounds.{
   mostSlack,
 };
 ghost use Rattle.mesh.specs.MeshContracts.{Sized};
-ghost use Rattle.criterion.specs.StrengthContracts.{SoilNumbers, SoilFits, PairOf, PairNumbers, PairFits, StepFits, StepsFit, MeshSteps, sideSlack, Judged, PairState, pairHolds};
+ghost use Rattle.criterion.specs.StrengthContracts.{SoilNumbers, SoilFits, PairOf, PairNumbers, PairFits, StepFits, StepsFit, MeshSteps, sideSlack, Judged, PairState, pairRowHolds, pairHolds};
+ghost use Rattle.lines.specs.SearchContracts.{firstFailing};
+use crate::pair_planes::first_by_planes;
+use crate::pair_planes::pair_by_direction;
 use crate::polygons::radius_of;
 use mesh::sizes::Sizes;
 use mesh::sizes::number_at;
@@ -114,7 +117,7 @@ pub fn side_slack(steps: &[i64], k: usize, d: &[i64]) -> i64
 }
 
 // The strength row of side k holds: its right side is not below its left.
-pub fn side_holds(steps: &[i64], k: usize, d: &[i64]) -> bool
+fn side_holds(steps: &[i64], k: usize, d: &[i64]) -> bool
     requires { ⌜ StepFits (now steps) k ⌝ ∗ ⌜ PairFits (now d) ⌝ }
     ensures { λ r. ⌜ r ≡ leZ (pos 0) (sideSlack (now (d .entry)) (now (steps .entry)) k) ⌝ }
 {
@@ -156,6 +159,39 @@ pub fn pair_holds(m: &[i64], c: &[i64], s: Sizes, pairs: &[u8], steps: &[i64], a
         × (a < pairCount (now m)) ⌝ }
     ensures { λ r. ⌜ r ≡ pairHolds (now (m .entry)) (now (c .entry)) a ⌝ }
 {
+    if pair_by_direction(m, s, pairs, a) {
+        return first_by_planes(m, c, s, pairs, a) == s.sides;
+    }
     let d = pair_state(m, c, s, pairs, a);
     sides_hold(steps, s.sides, &d)
+}
+
+// The first side whose strength row fails at a pair with these numbers; where each holds, their count.
+fn first_side(steps: &[i64], sides: usize, d: &[i64]) -> usize
+    requires { ⌜ StepsFit (now steps) sides ⌝ ∗ ⌜ PairFits (now d) ⌝ }
+    ensures { λ r. ⌜ r ≡ firstFailing (λ k. leZ (pos 0) (sideSlack (now (d .entry)) (now (steps .entry)) k)) sides ⌝
+        ∗ ⌜ r ≤ sides ⌝ }
+{
+    let mut k: usize = 0;
+    while k < sides {
+        if !side_holds(steps, k, d) {
+            return k;
+        }
+        k += 1;
+    }
+    sides
+}
+
+// The first of the strength rows of pair a that fails at a claim's field; where each holds, their count.
+pub fn first_row(m: &[i64], c: &[i64], s: Sizes, pairs: &[u8], steps: &[i64], a: usize) -> usize
+    requires { ⌜ Judged (now m) (now c) s (now pairs) × (at (now c) 0 ≡ pos 1) × MeshSteps (now m) (now steps)
+        × (a < pairCount (now m)) ⌝ }
+    ensures { λ r. ⌜ r ≡ firstFailing (pairRowHolds (now (m .entry)) (now (c .entry)) a) (sides (now (m .entry))) ⌝
+        ∗ ⌜ r ≤ sides (now (m .entry)) ⌝ }
+{
+    if pair_by_direction(m, s, pairs, a) {
+        return first_by_planes(m, c, s, pairs, a);
+    }
+    let d = pair_state(m, c, s, pairs, a);
+    first_side(steps, s.sides, &d)
 }

@@ -7,7 +7,7 @@ use native.Mathlib.Numerals.{add-one}
 use native.Mathlib.Decide.{decLt}
 use native.Mathlib.Omega.{arith}
 use lib.Dec.{T, eqb}
-use borrow.Author.Tests.{eq-eqb}
+use borrow.Author.Tests.{eq-eqb, ne-eqb}
 use Rattle.scope.specs.declared.Place.{Place}
 use Rattle.scope.specs.declared.Outcome.{Outcome}
 use Rattle.scope.specs.declared.Outcome.the-variants.{Passed, Refused}
@@ -75,6 +75,22 @@ module _ (holds : ℕ → Bool) (n : ℕ) {r : ℕ} (e : r ≡ firstFailing hold
 
   pub fails-there : r < n → holds r ≡ false
   fails-there l = failing (holds r) (found .passes l)
+
+-- the same tests have the same search, and it ends at n exactly when all hold
+pub search-cong : (f g : ℕ → Bool) (n : ℕ) → ((i : ℕ) → i < n → f i ≡ g i) → firstFailing f n ≡ firstFailing g n
+unfolding firstWhere
+search-cong f g zero h = refl
+search-cong f g (suc n) h =
+    ap₂ (λ (k : ℕ) (b : Bool). elim (eqb k n) [ true ↦ cond (not b) n (suc n) | false ↦ k ]) (search-cong f g n (λ i l. h i (omega arith))) (h n (omega arith))
+
+pub search-all : (f : ℕ → Bool) (n : ℕ) {r : ℕ} → r ≡ firstFailing f n → eqb r n ≡ allBelow f n
+search-all f n {r} e = by (decLt r n)
+  where
+    by : Dec (r < n) → eqb r n ≡ allBelow f n
+    by (yes l) = ne-eqb r n (λ same. omega arith) ∙ sym (all-fails f n l (fails-there f n e l))
+    by (no l) =
+        let last : r ≡ n = omega (arith, found-within f n e) in
+        eq-eqb r n last ∙ sym (all-of-each f n (λ i j. holds-before f n e i (omega arith)))
 
 -- all places before i have been passed, one law for each turn and way out
 module _ (holds : ℕ → Bool) {i : ℕ} (h : firstFailing holds i ≡ i) where

@@ -10,9 +10,9 @@ use borrow.Author.Tests.{not-true, not-false}
 use Rattle.scope.specs.Rows.{firstWhere}
 use Rattle.lines.specs.SearchContracts.{firstFailing}
 use Rattle.lines.proofs.Loops.{search-more, search-stops}
 use Rattle.criterion.specs.StrengthContracts.{sideSlack}
-use Rattle.verdict.proofs.field_checks.first_side.Statement.{statement}
-use Rattle.verdict.proofs.field_checks.first_side.Tie as tie
+use Rattle.criterion.proofs.strength_rows.first_side.Statement.{statement}
+use Rattle.criterion.proofs.strength_rows.first_side.Tie as tie
 
 abbrev test : List ℤ → List ℤ → ℕ → Bool
 test steps d k = leZ (pos 0) (sideSlack d steps k)
