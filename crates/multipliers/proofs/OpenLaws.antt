@@ -13,28 +13,31 @@ use Rattle.integer.specs.Tests.{eqZ}
 use Rattle.integer.proofs.TestLaws.{no-eqZ, yes-ltZ, no-ltZ}
 use Rattle.scope.specs.declared.OpenRows.the-variants.{Absent as NoCount, Count}
 use Rattle.mesh.specs.MeshContracts.{FewPairs}
-use Rattle.scope.specs.Mesh.{mostSides, mostEqualityRows, sides, equalityCount}
+use Rattle.scope.specs.Mesh.{mostSides, mostEqualityRows, sides, byDirection, equalityCount}
+use Rattle.scope.specs.Polygon.{polygonOf}
 use Rattle.scope.specs.Bounds.{mostStrengthRows}
 use Rattle.scope.specs.Columns.{at, hasField, hasMultipliers, n, l}
 use Rattle.scope.specs.Claim.{stress}
 use Rattle.scope.specs.NumberRanges.{Counts, ClaimFacts}
-use Rattle.scope.specs.Rows.{Kind, asked, unfixed, strength, Row, pairCount, equalityRows, rowsOf}
+use Rattle.scope.specs.Rows.{Kind, asked, unfixed, strength, Row, pairCount, pairAt, equalityRows, rowsOf}
 use Rattle.scope.specs.Sums.{leftSide, rightSide, isOpen, openRows}
 use Rattle.scope.specs.Verdict.{openCount}
 use Rattle.scope.proofs.RowCounts.{equality-count, equality-kind}
 use Rattle.scope.proofs.Lists.{row-in}
-use Rattle.criterion.specs.StrengthContracts.{Listed, PairState, MeshSteps, sideSlack, multipliersFrom}
+use Rattle.criterion.specs.StrengthContracts.{Listed, PairState, MeshSteps, sideSlack, multipliersFrom, NodeStresses}
+use Rattle.bedded.specs.PlaneContracts.{BedNumbers, HalfTurnIs, slackAt}
 use Rattle.multipliers.specs.MultiplierContracts.{countBelow}
 use Rattle.multipliers.specs.MultiplierContracts.{pairFirst}
-use Rattle.multipliers.specs.OpenContracts.{oneIfOpen, sideOpen}
+use Rattle.multipliers.specs.OpenContracts.{oneIfOpen, sideOpen, planeOpen, openTest, pairOpen}
 use Rattle.criterion.proofs.RowLaws.{equality-among, row-count}
 use Rattle.multipliers.proofs.LimitLaws.{multiplier-lent}
-use Rattle.multipliers.proofs.PairLaws.{few-rows, next-first, pair-row-at}
+use Rattle.multipliers.proofs.PairLaws.{few-rows, next-first, pair-row-at, plane-row-at}
 use Rattle.criterion.proofs.StrengthLaws.{open-test}
+use Rattle.criterion.proofs.PlaneChecks.{plane-open}
 use Rattle.multipliers.proofs.SumLaws.{one-most, weighed-count, countBelow-next, countBelow-cong, countBelow-add, countBelow-none, countBelow-most}
 use Rattle.scope.specs.Tests.{rowAt}
 
--- ---- one side
+-- ---- one row
 
 pub no-multiplier : {w : ℤ} (z : ℤ) → w ≤ℤ pos 0 → 0 ≡ oneIfOpen w z
 unfolding oneIfOpen
@@ -60,6 +63,11 @@ pub one-more-open : (d t y : List ℤ) (first k : ℕ) {count r : ℕ} {w : ℤ}
 unfolding sideOpen oneIfOpen
 one-more-open d t y first k h e f = ap₂ _+_ h (f ∙ ap (λ z. oneIfOpen z (sideSlack d t k)) e) ∙ sym (countBelow-next _ k)
 
+-- one plane's row more
+pub one-more-plane : (t b d y : List ℤ) (first k : ℕ) {count r : ℕ} {w : ℤ} → count ≡ countBelow (planeOpen t b d y first) k → w ≡ at y (first + k) → r ≡ oneIfOpen w (slackAt t b d k) → count + r ≡ countBelow (planeOpen t b d y first) (k + 1)
+unfolding planeOpen oneIfOpen
+one-more-plane t b d y first k h e f = ap₂ _+_ h (f ∙ ap (λ z. oneIfOpen z (slackAt t b d k)) e) ∙ sym (countBelow-next _ k)
+
 pub sides-counted : (f : ℕ → Bool) (n : ℕ) {r : ℕ} → r ≡ countBelow f n → n ≤ mostSides → r ≤ mostSides
 sides-counted f n {r} e h = omega (arith, e, countBelow-most f n)
 
@@ -75,47 +83,57 @@ never-open s l n w r h = by (r .kind) h
     by strength h = absurd (h refl)
 
 module _ (m c y : List ℤ) where
-  -- whether row k is open
-  abbrev pub openTest : ℕ → Bool
-  openTest k = isOpen (stress m c) (l c) (n c) (at y k, rowAt (rowsOf m) k)
-
-  pub no-pair-open : countBelow openTest (pairFirst m 0) ≡ 0
+  pub no-pair-open : countBelow (openTest m c y) (pairFirst m 0) ≡ 0
   unfolding pairFirst
-  no-pair-open = countBelow-none openTest (pairFirst m 0) (λ k h. none k (omega (arith, zero-mul (sides m))))
+  no-pair-open = countBelow-none (openTest m c y) (pairFirst m 0) (λ k h. none k (omega (arith, zero-mul (sides m))))
     where
-      none : (k : ℕ) → k < equalityCount m → openTest k ≡ false
+      none : (k : ℕ) → k < equalityCount m → openTest m c y k ≡ false
       none k h =
           ap (λ (r : Row). isOpen (stress m c) (l c) (n c) (at y k, r)) (equality-among m k h)
           ∙ never-open (stress m c) (l c) (n c) (at y k) (rowAt (equalityRows m) k) (equality-kind m (rowAt (equalityRows m) k) (row-in (equalityRows m) k (omega (arith, equality-count m))))
 
-  one-pair-open : (a : ℕ) {d tab : List ℤ} {count r : ℕ} → a < pairCount m → Listed (sides m) → PairState d m c a → MeshSteps m tab
-      → count ≡ countBelow openTest (pairFirst m a) → r ≡ countBelow (sideOpen d tab y (pairFirst m a)) (sides m) → count + r ≡ countBelow openTest (pairFirst m (a + 1))
-  unfolding sideOpen
-  one-pair-open a {d} {tab} h listed state steps e f =
-      ap₂ _+_ e (f ∙ countBelow-cong _ _ (sides m) (λ i g. sym (side i g)))
-      ∙ sym (countBelow-add openTest (pairFirst m a) (sides m))
-      ∙ ap (countBelow openTest) (next-first m a)
-    where
-      side : (i : ℕ) → i < sides m → openTest (pairFirst m a + i) ≡ (ltZ (pos 0) (at y (pairFirst m a + i)) && ltZ (pos 0) (sideSlack d tab i))
-      side i g =
-          ap (λ (r : Row). isOpen (stress m c) (l c) (n c) (at y (pairFirst m a + i), r)) (pair-row-at m a h listed i g)
-          ∙ open-test m c a i state steps g (l c) (at y (pairFirst m a + i))
+  -- the rows of a pair by their sides, and by their planes; the number of sides and the place of the first as the code has them
+  module _ (a : ℕ) (h : a < pairCount m) (listed : Listed (sides m)) where
+    pub sides-open : {d tab : List ℤ} {s first r : ℕ} → byDirection m (pairAt m a .soil) ≡ false → PairState d m c a → MeshSteps m tab → s ≡ sides m → first ≡ pairFirst m a
+        → r ≡ countBelow (sideOpen d tab y first) s → r ≡ countBelow (pairOpen m c y a) (sides m)
+    unfolding sideOpen
+    sides-open {d} {tab} plain state steps es ef f =
+        f
+        ∙ ap₂ (λ f n. countBelow (sideOpen d tab y f) n) ef es
+        ∙ countBelow-cong _ _ (sides m) (λ i g. sym (side i g))
+      where
+        side : (i : ℕ) → i < sides m → openTest m c y (pairFirst m a + i) ≡ (ltZ (pos 0) (at y (pairFirst m a + i)) && ltZ (pos 0) (sideSlack d tab i))
+        side i g =
+            ap (λ (r : Row). isOpen (stress m c) (l c) (n c) (at y (pairFirst m a + i), r)) (pair-row-at m a h listed plain i g)
+            ∙ open-test m c a i state steps g (l c) (at y (pairFirst m a + i))
 
-  -- the number of sides and the place of the first as the code has them
-  pub one-more-pair : (a : ℕ) {d tab : List ℤ} {count r s first : ℕ} → a < pairCount m → Listed (sides m) → PairState d m c a → MeshSteps m tab
-      → count ≡ countBelow openTest (pairFirst m a) → s ≡ sides m → first ≡ pairFirst m a → r ≡ countBelow (sideOpen d tab y first) s → count + r ≡ countBelow openTest (pairFirst m (a + 1))
-  one-more-pair a {d} {tab} h listed state steps e es ef f = one-pair-open a h listed state steps e (f ∙ ap₂ (λ f n. countBelow (sideOpen d tab y f) n) ef es)
+    pub planes-open-is : {t b d : List ℤ} {v s first r : ℕ} → Counts m → byDirection m (pairAt m a .soil) ≡ true → HalfTurnIs (polygonOf (sides m)) (sides m) t
+        → BedNumbers b m (pairAt m a .soil) (polygonOf (sides m) .radius) → v ≡ pairAt m a .at → NodeStresses d c v → s ≡ sides m → first ≡ pairFirst m a
+        → r ≡ countBelow (planeOpen t b d y first) s → r ≡ countBelow (pairOpen m c y a) (sides m)
+    unfolding planeOpen
+    planes-open-is {t} {b} {d} counts beds half bed same field es ef f =
+        f
+        ∙ ap₂ (λ f n. countBelow (planeOpen t b d y f) n) ef es
+        ∙ countBelow-cong _ _ (sides m) (λ i g. sym (plane i g))
+      where
+        plane : (i : ℕ) → i < sides m → openTest m c y (pairFirst m a + i) ≡ (ltZ (pos 0) (at y (pairFirst m a + i)) && ltZ (pos 0) (slackAt t b d i))
+        plane i g =
+            ap (λ (r : Row). isOpen (stress m c) (l c) (n c) (at y (pairFirst m a + i), r)) (plane-row-at m a h listed beds i g)
+            ∙ plane-open m c a counts h beds half bed same field i g (at y (pairFirst m a + i))
 
-  pub count-small : Counts m → FewPairs m → (a : ℕ) {count : ℕ} → a ≤ pairCount m → count ≡ countBelow openTest (pairFirst m a) → count ≤ mostEqualityRows + mostStrengthRows
+  pub one-more-pair : (a : ℕ) {count r : ℕ} → count ≡ countBelow (openTest m c y) (pairFirst m a) → r ≡ countBelow (pairOpen m c y a) (sides m) → count + r ≡ countBelow (openTest m c y) (pairFirst m (a + 1))
+  one-more-pair a e f = ap₂ _+_ e f ∙ sym (countBelow-add (openTest m c y) (pairFirst m a) (sides m)) ∙ ap (countBelow (openTest m c y)) (next-first m a)
+
+  pub count-small : Counts m → FewPairs m → (a : ℕ) {count : ℕ} → a ≤ pairCount m → count ≡ countBelow (openTest m c y) (pairFirst m a) → count ≤ mostEqualityRows + mostStrengthRows
   unfolding pairFirst
   count-small counts few a h e =
-      omega (arith, e, countBelow-most openTest (pairFirst m a), few-rows counts few a h, counts .elementsMost, counts .edgesMost, counts .jumpsMost)
+      omega (arith, e, countBelow-most (openTest m c y) (pairFirst m a), few-rows counts few a h, counts .elementsMost, counts .edgesMost, counts .jumpsMost)
 
-  pub all-pairs-open : Listed (sides m) → (a : ℕ) {count : ℕ} → a ≡ pairCount m → count ≡ countBelow openTest (pairFirst m a) → count ≡ openRows (stress m c) (l c) (n c) (at y) (rowsOf m)
+  pub all-pairs-open : Listed (sides m) → (a : ℕ) {count : ℕ} → a ≡ pairCount m → count ≡ countBelow (openTest m c y) (pairFirst m a) → count ≡ openRows (stress m c) (l c) (n c) (at y) (rowsOf m)
   unfolding openRows pairFirst
   all-pairs-open listed a e f =
       f
-      ∙ ap (countBelow openTest) (ap (λ k. equalityCount m + k * sides m) e ∙ sym (row-count m listed))
+      ∙ ap (countBelow (openTest m c y)) (ap (λ k. equalityCount m + k * sides m) e ∙ sym (row-count m listed))
       ∙ sym (weighed-count (isOpen (stress m c) (l c) (n c)) (at y) (rowsOf m))
 
 -- ---- a claim

@@ -1,6 +1,7 @@
 -- The strength rows of a pair of a node and a soil, each times its multiplier: by induction on the sides the sums of
 -- their coefficients are those of the sides, times what the soil gives.
 use mathlib.Core.Path.{_≡_, refl, sym, _∙_, ap, ap₂, subst}
+use mathlib.Core.Bool.{true, false}
 use mathlib.Core.List.{List, [], _∷_}
 use Prim.Native.Nat.{ℕ, zero, suc, _+_, _*_, _≤_, _<_, zero-le}
 use native.Mathlib.Nat.{le-refl, le-trans, add-assoc, zero-mul, suc-mul, mul-le-mul-right}
@@ -12,32 +13,33 @@ use Rattle.integer.proofs.Ring.{ring, terms}
 use Rattle.integer.specs.Bounds.{Within, Is}
 use Rattle.integer.proofs.BoundLaws.{Within-le, Within-+ℤ, Within-*ℤ, AllWithin-le}
 use Rattle.integer.proofs.Machine.{Is-as, Is-Within}
-use Rattle.scope.specs.Mesh.{mostNodes, mostPairs, mostSides, pairsWith, strengthMultiplier, mostEqualityRows, sides, p, q, h, cohesion, equalityCount}
+use Rattle.scope.specs.Mesh.{mostNodes, mostPairs, mostSides, pairsWith, strengthMultiplier, mostEqualityRows, sides, p, q, h, cohesion, byDirection, equalityCount}
 use Rattle.scope.specs.Bounds.{mostStrengthRows, equalityColumns, equalitySums, strengthSum, pairColumn}
 use Rattle.scope.specs.PolygonRule.{ListedPolygon}
 use Rattle.scope.proofs.PolygonRule.{listed-polygon}
 use Rattle.scope.proofs.SideLimits.{strength-most}
+use Rattle.mesh.specs.declared.sizes.Sizes.{Sizes}
 use Rattle.mesh.specs.MeshContracts.{FewPairs}
 use Rattle.mesh.proofs.Places.{most-pairs}
 use Rattle.scope.specs.Columns.{at}
 use Rattle.scope.specs.NumberRanges.{Counts}
 use Rattle.scope.specs.Polygon.{Side, polygonOf}
-use Rattle.scope.specs.Rows.{Row, pairCount, pairAt, sx, sy, t, strengthRow, rowsOf}
+use Rattle.scope.specs.Rows.{Row, pairCount, pairAt, sx, sy, t, strengthRow, strengthRows, rowsOf}
 use Rattle.scope.specs.Sums.{weightedSum, unit, coefficient}
 use Rattle.scope.specs.Tests.{rowAt}
 use Rattle.multipliers.specs.declared.multiplier_sums.Sums.{Sums}
 use Rattle.multipliers.specs.declared.multiplier_sums.SideSums.{SideSums}
 use Rattle.multipliers.specs.declared.multiplier_sums.PairSums.{PairSums}
 use Rattle.scope.specs.PrintedColumns.{sumBelow}
-use Rattle.scope.specs.RowNumbers.{sideAt}
-use Rattle.criterion.specs.StrengthContracts.{Listed, MeshSteps, StepsFit, SoilNumbers, runOf, riseOf, crossOf}
+use Rattle.scope.specs.RowNumbers.{sideAt, directionRowAt}
+use Rattle.criterion.specs.StrengthContracts.{Listed, PairThere, MeshSteps, StepsFit, SoilNumbers, runOf, riseOf, crossOf}
 use Rattle.equality.specs.EqualityContracts.{SumsAre}
 use Rattle.multipliers.specs.MultiplierContracts.{rowSum, partSum}
-use Rattle.multipliers.specs.MultiplierContracts.{Multipliers, SideWeighted, NoSums, SummedTo, Summed, PairsSummed, SideMultipliers, SideSumsFit, SideAdded, sideSum, SideSumsAre, PairSumsAre, PairSumsFit, pairFirst, PairPart, threeAdded, WholeSumsFit}
+use Rattle.multipliers.specs.MultiplierContracts.{Multipliers, RowsGiven, SideWeighted, NoSums, SummedTo, Summed, PairsSummed, SideMultipliers, SideSumsFit, SideAdded, sideSum, SideSumsAre, PairSumsAre, PairSumsFit, pairFirst, PairPart, threeAdded, WholeSumsFit}
 use Rattle.equality.proofs.EntryLaws.{unit-within, sums-within, sums-add}
 use Rattle.multipliers.proofs.SumLaws.{sumBelow-next, sumBelow-cong, sumBelow-add}
 use Rattle.criterion.proofs.SideLaws.{run-within, rise-within, cross-within}
-use Rattle.criterion.proofs.RowLaws.{rowOfPair, strength-at, strength-among}
+use Rattle.criterion.proofs.RowLaws.{rowOfPair, strength-at, plane-at, strength-among}
 use Rattle.multipliers.proofs.MultiplierLaws.{grown-by, nothing-added, grown-is}
 
 -- ---- the sides of a pair, one by one
@@ -70,6 +72,11 @@ module _ (t y : List ℤ) (first : ℕ) where
   -- at most as many sides as a polygon has
   pub sides-fit : {k : ℕ} {a : SideSums} → SideSumsAre a t y first k → k ≤ mostSides → SideSumsFit a
   sides-fit h l = record { run = Is-Within (h .run) (omega arith); rise = Is-Within (h .rise) (omega arith); cross = Is-Within (h .cross) (omega arith) }
+
+-- ---- a pair of those given
+
+pub given-pair : {m : List ℤ} {s : Sizes} {t : List ℕ} {steps y : List ℤ} {a : ℕ} → RowsGiven m s t steps y → a < pairCount m → PairThere m s t a
+given-pair h l = record { sized = h .sized; few = h .few; pairTable = h .pairTable; there = l }
 
 -- ---- all sides of a pair, as its rows have them
 
@@ -167,17 +174,22 @@ side-weighted {t} {k} e h = subst (SideWeighted t k) (sym e) h
 -- ---- the sums of pair a
 
 -- row i of pair a, by its place among all rows
-pub pair-row-at : (m : List ℤ) (a : ℕ) → a < pairCount m → Listed (sides m) → (i : ℕ) → i < sides m → rowAt (rowsOf m) (pairFirst m a + i) ≡ rowOfPair m a (sideAt (polygonOf (sides m)) i)
+row-among : (m : List ℤ) (a i : ℕ) → rowAt (rowsOf m) (pairFirst m a + i) ≡ rowAt (strengthRows m) (a * sides m + i)
 unfolding pairFirst
-pair-row-at m a there listed i l =
-    ap (rowAt (rowsOf m)) (add-assoc (equalityCount m) (a * sides m) i)
-    ∙ strength-among m (a * sides m + i)
-    ∙ strength-at m listed a i there l
+row-among m a i = ap (rowAt (rowsOf m)) (add-assoc (equalityCount m) (a * sides m) i) ∙ strength-among m (a * sides m + i)
 
-module _ (m y : List ℤ) (a : ℕ) (there : a < pairCount m) (listed : Listed (sides m)) where
+-- by the kind of its soil
+module _ (m : List ℤ) (a : ℕ) (there : a < pairCount m) (listed : Listed (sides m)) where
+  pub pair-row-at : byDirection m (pairAt m a .soil) ≡ false → (i : ℕ) → i < sides m → rowAt (rowsOf m) (pairFirst m a + i) ≡ rowOfPair m a (sideAt (polygonOf (sides m)) i)
+  pair-row-at plain i l = row-among m a i ∙ strength-at m listed a i there l plain
+
+  pub plane-row-at : byDirection m (pairAt m a .soil) ≡ true → (i : ℕ) → i < sides m → rowAt (rowsOf m) (pairFirst m a + i) ≡ directionRowAt m (pairAt m a) i
+  plane-row-at beds i l = row-among m a i ∙ plane-at m listed a i there l beds
+
+module _ (m y : List ℤ) (a : ℕ) (there : a < pairCount m) (listed : Listed (sides m)) (plain : byDirection m (pairAt m a .soil) ≡ false) where
   rows-of-pair : (F : Row → ℤ) → partSum F (at y) (rowsOf m) (pairFirst m a) (sides m) ≡ sumBelow (λ i. at y (pairFirst m a + i) *ℤ F (rowOfPair m a (sideAt (polygonOf (sides m)) i))) (sides m)
   unfolding partSum pairFirst
-  rows-of-pair F = sumBelow-cong _ _ (sides m) (λ i l. ap (λ (r : Row). at y (pairFirst m a + i) *ℤ F r) (pair-row-at m a there listed i l))
+  rows-of-pair F = sumBelow-cong _ _ (sides m) (λ i l. ap (λ (r : Row). at y (pairFirst m a + i) *ℤ F r) (pair-row-at m a there listed plain i l))
 
   abbrev weight : ℕ → ℤ
   weight i = at y (pairFirst m a + i)

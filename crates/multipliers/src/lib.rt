@@ -3,3 +3,5 @@
 pub mod multiplier_checks;
 pub mod multiplier_sums;
 pub mod open_rows;
+mod plane_open;
+mod plane_sums;

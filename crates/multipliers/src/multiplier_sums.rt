@@ -11,6 +11,8 @@ ghost use Rattle.mesh.specs.MeshContracts.{Sized};
 ghost use Rattle.equality.specs.EqualityContracts.{SumsAre};
 ghost use Rattle.criterion.specs.StrengthContracts.{SoilFits, StepsFit, StepFits};
 ghost use Rattle.multipliers.specs.MultiplierContracts.{Multipliers, RowsGiven, SumsFit, RowSummed, NoSums, Summed, PairsSummed, SideWeighted, SideMultipliers, SideSumsFit, SideAdded, SideSumsAre, PairSumsAre, PairSumsFit, PairPart, threeAdded};
+use crate::plane_sums::planes_part;
+use criterion::pair_planes::pair_by_direction;
 use criterion::polygons::radius_of;
 use criterion::strength_rows::pair_node;
 use criterion::strength_rows::pair_soil;
@@ -156,6 +158,9 @@ fn pair_part(m: &[i64], s: Sizes, pairs: &[u8], steps: &[i64], y: &[i64], a: usi
 {
     let sides = s.sides;
     let first = equality_count(s) + a * sides;
+    if pair_by_direction(m, s, pairs, a) {
+        return planes_part(m, s, pairs, y, a, first);
+    }
     let over_sides = side_sums(steps, sides, y, first);
     let soil = pair_soil(pairs, a);
     let radius = radius_of(sides);

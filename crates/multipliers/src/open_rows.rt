@@ -1,18 +1,21 @@
 // The open rows: strength rows "with multiplier above 0 and left side below right".
 ghost use mathlib.Core.Path.{_≡_};
+ghost use Prim.Native.Nat.{_<_};
 ghost use lib.IntN.{pos};
 ghost use Rattle.integer.specs.Bounds.{Within};
 ghost use Rattle.scope.specs.Bounds.{mostMultiplier};
 ghost use Rattle.scope.specs.Columns.{at, n, l};
 ghost use Rattle.scope.specs.Claim.{stress};
-ghost use Rattle.scope.specs.Rows.{rowsOf};
+ghost use Rattle.scope.specs.Mesh.{sides};
+ghost use Rattle.scope.specs.Rows.{pairCount, rowsOf};
 ghost use Rattle.scope.specs.Sums.{openRows};
 ghost use Rattle.scope.specs.Verdict.{openCount};
 ghost use Rattle.criterion.specs.StrengthContracts.{Judged, MeshSteps, PairFits, StepFits, StepsFit, sideSlack};
-ghost use Rattle.multipliers.specs.MultiplierContracts.{countBelow};
-ghost use Rattle.multipliers.specs.MultiplierContracts.{Multipliers, SideMultipliers};
-ghost use Rattle.multipliers.specs.OpenContracts.{oneIfOpen, sideOpen};
+ghost use Rattle.multipliers.specs.MultiplierContracts.{countBelow, Multipliers, SideMultipliers, pairFirst};
+ghost use Rattle.multipliers.specs.OpenContracts.{oneIfOpen, sideOpen, pairOpen};
 use crate::multiplier_checks::multipliers_from;
+use crate::plane_open::open_by_planes;
+use criterion::pair_planes::pair_by_direction;
 use criterion::strength_rows::pair_state;
 use criterion::strength_rows::side_slack;
 use mesh::sizes::Sizes;
@@ -50,6 +53,29 @@ fn pair_open(steps: &[i64], sides: usize, d: &[i64], y: &[i64], first: usize) ->
     count
 }
 
+// How many strength rows of pair a are open, whose first multiplier stands at `first`.
+fn open_in_pair(
+    m: &[i64],
+    c: &[i64],
+    s: Sizes,
+    pairs: &[u8],
+    steps: &[i64],
+    y: &[i64],
+    a: usize,
+    first: usize,
+) -> u64
+    requires { ⌜ Judged (now m) (now c) s (now pairs) × (at (now c) 0 ≡ pos 1) ⌝ ∗ ⌜ MeshSteps (now m) (now steps) ⌝
+        ∗ ⌜ Multipliers (now m) (now y) ⌝ ∗ ⌜ (a < pairCount (now m)) × (first ≡ pairFirst (now m) a) ⌝ }
+    ensures { λ r. ⌜ r ≡ countBelow (pairOpen (now (m .entry)) (now (c .entry)) (now (y .entry)) a)
+        (sides (now (m .entry))) ⌝ }
+{
+    if pair_by_direction(m, s, pairs, a) {
+        return open_by_planes(m, c, s, pairs, y, a, first);
+    }
+    let d = pair_state(m, c, s, pairs, a);
+    pair_open(steps, s.sides, &d, y, first)
+}
+
 // The open rows of a claim's field with the multipliers y.
 fn open_count(m: &[i64], c: &[i64], s: Sizes, pairs: &[u8], steps: &[i64], y: &[i64]) -> u64
     requires { ⌜ Judged (now m) (now c) s (now pairs) × (at (now c) 0 ≡ pos 1) ⌝ ∗ ⌜ MeshSteps (now m) (now steps) ⌝
@@ -64,8 +90,7 @@ fn open_count(m: &[i64], c: &[i64], s: Sizes, pairs: &[u8], steps: &[i64], y: &[
     let mut count: u64 = 0;
     let mut a: usize = 0;
     while a < all {
-        let d = pair_state(m, c, s, pairs, a);
-        count += pair_open(steps, sides, &d, y, first + a * sides);
+        count += open_in_pair(m, c, s, pairs, steps, y, a, first + a * sides);
         a += 1;
     }
     count

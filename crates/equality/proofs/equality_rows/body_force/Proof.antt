@@ -14,7 +14,7 @@ element-soil-requires c κs = search needs
 soil-entry-requires : tie.Need-soil-entry-requires
 soil-entry-requires c κs =
     let pre = c .before .pre in
-    (pre .0 .0, subst (λ k. k < soils (c .before .args .m .now)) (sym (c .element-soil .ensures)) (pre .0 .0 .facts .element _ (pre .0 .1) .soilThere), pre .1 .1)
+    (pre .0 .0, subst (λ k. k < soils (c .before .args .m .now)) (sym (c .element-soil .ensures)) (pre .0 .0 .facts .element _ (pre .0 .1) .soilThere), omega (arith, pre .1 .1))
 
 mul-result : tie.Need-mul-result
 mul-result c = fits (search machine depth 30) (omega arith)

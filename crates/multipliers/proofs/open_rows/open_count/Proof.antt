@@ -3,12 +3,10 @@ use mathlib.Core.Path.{_≡_, sym, ap}
 use Prim.Native.Nat.{_*_, _-_, _≤_}
 use native.Mathlib.Omega.{arith}
 use Rattle.mesh.proofs.Places.{most-pairs, few-things}
-use Rattle.multipliers.specs.MultiplierContracts.{countBelow}
-use Rattle.multipliers.specs.MultiplierContracts.{pairFirst}
-use Rattle.criterion.proofs.StrengthLaws.{pair-fits, steps-fit, steps-as, first-row}
-use Rattle.multipliers.proofs.PairLaws.{pair-multipliers}
-use Rattle.multipliers.proofs.OpenLaws.{openTest, no-pair-open, one-more-pair, count-small, sides-counted, all-pairs-open}
-use borrow.Author.Needs.{needs}
+use Rattle.multipliers.specs.MultiplierContracts.{countBelow, pairFirst}
+use Rattle.multipliers.specs.OpenContracts.{openTest}
+use Rattle.criterion.proofs.StrengthLaws.{steps-as, first-row}
+use Rattle.multipliers.proofs.OpenLaws.{no-pair-open, one-more-pair, count-small, sides-counted, all-pairs-open}
 use Rattle.multipliers.proofs.open_rows.open_count.Statement.{statement}
 use Rattle.multipliers.proofs.open_rows.open_count.Tie as tie
 
@@ -24,41 +22,33 @@ equality-count-requires c κs = few-things (c .before .pre .0 .0 .sized)
 loop-holds : tie.Need-loop-holds Inv-loop μ-loop
 loop-holds c = (omega arith, sym (no-pair-open _ _ _))
 
-pair-state-requires : tie.Need-pair-state-requires Inv-loop μ-loop
-pair-state-requires c κs = (c .before .before .before .before .pre .0, omega (arith, c .before .before .before .before .pre .0 .0 .pairsAre, c .loop-test .taken))
-
-slice-aggregate-pair-open : tie.Need-slice-aggregate-pair-open Inv-loop μ-loop
-slice-aggregate-pair-open c = search needs
-
-mul-pair-open : tie.Need-mul-pair-open Inv-loop μ-loop
-mul-pair-open c =
-    let pre = c .before .before .before .before .before .before .pre in
-    let sized = pre .0 .0 .sized in
-    let steps = steps-as (sym (sized .sidesAre)) (pre .1 .0) in
-    let first = first-row {a = c .before .before .before .loop .a} (c .before .before .loop-test .taken) (omega (arith, pre .0 .0 .pairsAre, most-pairs (pre .0 .0 .few))) (steps .most) in
+mul-open-in-pair : tie.Need-mul-open-in-pair Inv-loop μ-loop
+mul-open-in-pair c =
+    let pre = c .before .before .before .before .pre in
+    let steps = steps-as (sym (pre .0 .0 .sized .sidesAre)) (pre .1 .0) in
+    let first = first-row {a = c .before .loop .a} (c .loop-test .taken) (omega (arith, pre .0 .0 .pairsAre, most-pairs (pre .0 .0 .few))) (steps .most) in
     omega arith
 
-add-pair-open : tie.Need-add-pair-open Inv-loop μ-loop
-add-pair-open c =
-    let pre = c .before .before .before .before .before .before .pre in
-    let sized = pre .0 .0 .sized in
-    let steps = steps-as (sym (sized .sidesAre)) (pre .1 .0) in
-    let first = first-row {a = c .before .before .before .loop .a} (c .before .before .loop-test .taken) (omega (arith, pre .0 .0 .pairsAre, most-pairs (pre .0 .0 .few))) (steps .most) in
-    omega (arith, c .before .before .before .before .equality-count .ensures .1)
+add-open-in-pair : tie.Need-add-open-in-pair Inv-loop μ-loop
+add-open-in-pair c =
+    let pre = c .before .before .before .before .pre in
+    let steps = steps-as (sym (pre .0 .0 .sized .sidesAre)) (pre .1 .0) in
+    let first = first-row {a = c .before .loop .a} (c .loop-test .taken) (omega (arith, pre .0 .0 .pairsAre, most-pairs (pre .0 .0 .few))) (steps .most) in
+    omega (arith, c .before .before .equality-count .ensures .1)
 
-pair-open-requires : tie.Need-pair-open-requires Inv-loop μ-loop
-pair-open-requires c κs =
-    let pre = c .before .before .before .before .before .before .pre in
+open-in-pair-requires : tie.Need-open-in-pair-requires Inv-loop μ-loop
+unfolding pairFirst
+open-in-pair-requires c κs =
+    let pre = c .before .before .before .before .pre in
     let sized = pre .0 .0 .sized in
-    let steps = steps-as (sym (sized .sidesAre)) (pre .1 .0) in
-    (steps-fit steps, (pair-fits (c .before .pair-state .ensures), pair-multipliers (c .before .before .before .before .before .before .args .m .now) (c .before .before .before .before .before .before .args .y .now) (c .before .before .before .loop .a) (omega (arith, pre .0 .0 .pairsAre, c .before .before .loop-test .taken)) (sized .facts .counts) (pre .1 .0) (pre .1 .1) (omega (arith, ap (λ k. c .before .before .before .loop .a * k) (sized .sidesAre), c .before .before .before .before .equality-count .ensures .0 _ sized)) (sized .sidesAre)))
+    (pre .0, (pre .1 .0, (pre .1 .1, (omega (arith, pre .0 .0 .pairsAre, c .loop-test .taken), omega (arith, ap (λ k. c .before .loop .a * k) (sized .sidesAre), c .before .before .equality-count .ensures .0 _ sized)))))
 
 add-count : tie.Need-add-count Inv-loop μ-loop
 add-count c =
-    let pre = c .before .before .before .before .before .before .before .pre in
+    let passed = c .before .before .loop in
+    let pre = c .before .before .before .before .before .pre in
     let sized = pre .0 .0 .sized in
-    let steps = steps-as (sym (sized .sidesAre)) (pre .1 .0) in
-    omega (arith, count-small _ _ _ (sized .facts .counts) (pre .0 .0 .few) (c .before .before .before .before .loop .a) (omega (arith, pre .0 .0 .pairsAre)) (c .before .before .before .before .loop .inv .1), sides-counted _ _ (c .pair-open .ensures) (steps .most))
+    omega (arith, count-small _ _ _ (sized .facts .counts) (pre .0 .0 .few) (passed .a) (omega (arith, pre .0 .0 .pairsAre)) (passed .inv .1), sides-counted _ _ (c .open-in-pair .ensures) (pre .1 .0 .most))
 
 add-a : tie.Need-add-a Inv-loop μ-loop
 add-a c = omega arith
@@ -67,11 +57,9 @@ loop-less : tie.Need-loop-less Inv-loop μ-loop
 loop-less c = omega arith
 
 loop-again : tie.Need-loop-again Inv-loop μ-loop
-unfolding pairFirst
 loop-again c =
-    let pre = c .before .before .before .before .before .before .before .pre in
-    let sized = pre .0 .0 .sized in
-    (omega arith, one-more-pair _ _ _ (c .before .before .before .before .loop .a) (omega (arith, pre .0 .0 .pairsAre, c .before .before .before .loop-test .taken)) (record { listed = sized .facts .counts .sidesListed }) (c .before .before .pair-state .ensures) (pre .1 .0) (c .before .before .before .before .loop .inv .1) (sized .sidesAre) (omega (arith, ap (λ k. c .before .before .before .before .loop .a * k) (sized .sidesAre), c .before .before .before .before .before .equality-count .ensures .0 _ sized)) (c .pair-open .ensures))
+    let passed = c .before .before .loop in
+    (omega arith, one-more-pair _ _ _ (passed .a) (passed .inv .1) (c .open-in-pair .ensures))
 
 returns : tie.Need-returns Inv-loop μ-loop
 returns c =
@@ -86,11 +74,9 @@ open-count-spec =
     μ-loop
     equality-count-requires
     loop-holds
-    pair-state-requires
-    slice-aggregate-pair-open
-    mul-pair-open
-    add-pair-open
-    pair-open-requires
+    mul-open-in-pair
+    add-open-in-pair
+    open-in-pair-requires
     add-count
     add-a
     loop-less
