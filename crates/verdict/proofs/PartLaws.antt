@@ -20,6 +20,7 @@ use Rattle.scope.specs.declared.Verdict.{Verdict}
 use Rattle.scope.specs.declared.Verdict.the-variants.{Accepted, Refused}
 use Rattle.scope.specs.Columns.{at, hasField, hasMultipliers, n, l}
 use Rattle.scope.specs.Claim.{stress, multiplier}
+use Rattle.scope.specs.Mesh.{someByDirection}
 use Rattle.scope.specs.Rows.{rowsOf}
 use Rattle.scope.specs.Sums.{liveSum, limitSum, openRows}
 use Rattle.scope.specs.Phases.{ifPart, Phase, checkPhases}
@@ -32,13 +33,18 @@ use Rattle.scope.proofs.Refusals.{parts-checked}
 
 -- ---- the field
 
-pub load-there : (c : List ℤ) {a b : ℤ} → at c 0 ≡ pos 1 → a ≡ at c 3 → b ≡ at c 2 → Exact a b ≡ lowerLoad c
+pub load-there : (m c : List ℤ) {a b : ℤ} → at c 0 ≡ pos 1 → someByDirection m ≡ false → a ≡ at c 3 → b ≡ at c 2 → Exact a b ≡ lowerLoad m c
 unfolding lowerLoad hasField l n
-load-there c e f g = ap₂ Exact f g ∙ sym (rw e)
+load-there m c e h f g = ap₂ Exact f g ∙ sym (rw (e, h))
 
-pub no-load : (c : List ℤ) → ¬ (at c 0 ≡ pos 1) → Absent ≡ lowerLoad c
+pub no-load : (m c : List ℤ) → ¬ (at c 0 ≡ pos 1) → Absent ≡ lowerLoad m c
 unfolding lowerLoad hasField
-no-load c h = let e : eqZ (at c 0) (pos 1) ≡ false = is-false _ (no-eqZ h) in sym (rw e)
+no-load m c h = let e : eqZ (at c 0) (pos 1) ≡ false = is-false _ (no-eqZ h) in sym (rw e)
+
+-- no load is told on a mesh that lists a soil by direction
+pub load-untold : (m c : List ℤ) → someByDirection m ≡ true → Absent ≡ lowerLoad m c
+unfolding lowerLoad
+load-untold m c h = sym (rw (h, and-false (hasField c)))
 
 pub part-there : (c : List ℤ) (fs : List Phase) → at c 0 ≡ pos 1 → checkPhases fs ≡ checkPhases (ifPart (hasField c) fs)
 unfolding hasField
@@ -84,7 +90,7 @@ no-count m c e = by (hasMultipliers c) e
 
 module _ (m c : List ℤ) where
   abbrev partsVerdict : Verdict
-  partsVerdict = answer (checkPhases (partPhases m c)) (Accepted (openCount m c) (lowerLoad c) (upperLoad m c))
+  partsVerdict = answer (checkPhases (partPhases m c)) (Accepted (openCount m c) (lowerLoad m c) (upperLoad m c))
 
   both-say : {o u : Outcome} → checkPhases (fieldPart m c) ≡ o → checkPhases (multiplierPart m c) ≡ u → checkPhases (partPhases m c) ≡ o then u
   both-say e f = parts-checked m c ∙ ap₂ _then_ e f
@@ -106,13 +112,13 @@ module _ (m c : List ℤ) where
   unfolding answer
   limit-refused e f = let g = refused (checkPhases (multiplierPart m c)) (upperLoad m c) f in sym (rw (both-say e g))
 
-  pub limit-absent : {a : Load} → checkPhases (fieldPart m c) ≡ Passed → limitOf (checkPhases (multiplierPart m c)) (upperLoad m c) ≡ L.Absent → a ≡ lowerLoad c → Accepted NoCount a Absent ≡ partsVerdict
+  pub limit-absent : {a : Load} → checkPhases (fieldPart m c) ≡ Passed → limitOf (checkPhases (multiplierPart m c)) (upperLoad m c) ≡ L.Absent → a ≡ lowerLoad m c → Accepted NoCount a Absent ≡ partsVerdict
   unfolding answer
   limit-absent e f g =
       let h = absent (checkPhases (multiplierPart m c)) (upperLoad m c) f in
       sym (rw (both-say e (h .passes), no-count m c (h .load), h .load, g))
 
-  pub limit-exact : {o : OpenRows} {a : Load} {x y x′ y′ : ℤ} → checkPhases (fieldPart m c) ≡ Passed → limitOf (checkPhases (multiplierPart m c)) (upperLoad m c) ≡ L.Exact x y → o ≡ openCount m c → a ≡ lowerLoad c → x′ ≡ x → y′ ≡ y → Accepted o a (Exact x′ y′) ≡ partsVerdict
+  pub limit-exact : {o : OpenRows} {a : Load} {x y x′ y′ : ℤ} → checkPhases (fieldPart m c) ≡ Passed → limitOf (checkPhases (multiplierPart m c)) (upperLoad m c) ≡ L.Exact x y → o ≡ openCount m c → a ≡ lowerLoad m c → x′ ≡ x → y′ ≡ y → Accepted o a (Exact x′ y′) ≡ partsVerdict
   unfolding answer
   limit-exact e f o g ex ey =
       let h = exactly (checkPhases (multiplierPart m c)) (upperLoad m c) f in

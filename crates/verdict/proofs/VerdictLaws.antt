@@ -119,6 +119,6 @@ module _ (m c : List ℤ) where
   unfolding claimVerdict answer
   claim-refused e = sym (rw (claim-checked m c, e))
 
-  pub claim-goes-on : {r : Verdict} → linesCheck (claimLayout m) c ≡ Passed → r ≡ answer (checkPhases (partPhases m c)) (Accepted (openCount m c) (lowerLoad c) (upperLoad m c)) → r ≡ claimVerdict m c
+  pub claim-goes-on : {r : Verdict} → linesCheck (claimLayout m) c ≡ Passed → r ≡ answer (checkPhases (partPhases m c)) (Accepted (openCount m c) (lowerLoad m c) (upperLoad m c)) → r ≡ claimVerdict m c
   unfolding claimVerdict
   claim-goes-on e f = f ∙ sym (rw (claim-checked m c, e))

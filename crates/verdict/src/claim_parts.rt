@@ -3,13 +3,17 @@ ghost use mathlib.Core.Path.{_≡_};
 ghost use Prim.Native.Nat.{_≤_};
 ghost use lib.ListN.{length};
 ghost use Rattle.integer.specs.Bounds.{AllWithin};
+ghost use Rattle.scope.specs.Bounds.{mostStress};
+ghost use Rattle.scope.specs.Mesh.{someByDirection};
 ghost use Rattle.scope.specs.Phases.{checkPhases};
 ghost use Rattle.scope.specs.Refusals.{fieldPart, partPhases};
 ghost use Rattle.scope.specs.Verdict.{openCount, lowerLoad, upperLoad, answer};
+ghost use Rattle.mesh.specs.MeshContracts.{Sized};
 ghost use Rattle.criterion.specs.StrengthContracts.{Judged, MeshSteps};
 use crate::field_checks::field_check;
 use criterion::polygons::steps_of;
 use mesh::sizes::Sizes;
+use mesh::sizes::by_direction;
 use mesh::sizes::number_at;
 use multipliers::multiplier_checks::Limit;
 use multipliers::multiplier_checks::claim_limit;
@@ -19,18 +23,37 @@ use scope::OpenRows;
 use scope::Outcome;
 use scope::Verdict;
 
-// The load l/n of a claim with a field, else none.
-fn lower_load(c: &[i64]) -> Load
-    requires { ⌜ 4 ≤ length (now c) ⌝ ∗ ⌜ AllWithin 1000000000 (now c) ⌝ }
-    ensures { λ r. ⌜ r ≡ lowerLoad (now (c .entry)) ⌝ }
+// Whether a mesh lists a soil by direction, used or not (document 02, N14).
+fn lists_direction(m: &[i64], s: Sizes) -> bool
+    requires { ⌜ Sized (now m) s ⌝ }
+    ensures { λ r. ⌜ r ≡ someByDirection (now (m .entry)) ⌝ }
 {
-    if number_at(c, 0) == 1 {
-        return Load::Exact {
-            num: number_at(c, 3),
-            den: number_at(c, 2),
-        };
+    let soils = s.soils;
+    let mut k: usize = 0;
+    while k < soils {
+        if by_direction(m, s, k) {
+            return true;
+        }
+        k += 1;
     }
-    Load::Absent
+    false
+}
+
+// The load l/n of a claim with a field, where no soil is by direction; else none.
+fn lower_load(m: &[i64], c: &[i64], s: Sizes) -> Load
+    requires { ⌜ Sized (now m) s ⌝ ∗ ⌜ 4 ≤ length (now c) ⌝ ∗ ⌜ AllWithin mostStress (now c) ⌝ }
+    ensures { λ r. ⌜ r ≡ lowerLoad (now (m .entry)) (now (c .entry)) ⌝ }
+{
+    if number_at(c, 0) != 1 {
+        return Load::Absent;
+    }
+    if lists_direction(m, s) {
+        return Load::Absent;
+    }
+    Load::Exact {
+        num: number_at(c, 3),
+        den: number_at(c, 2),
+    }
 }
 
 // 21 and 22, where the claim has a field.
@@ -49,7 +72,7 @@ pub fn parts_verdict(m: &[i64], c: &[i64], s: Sizes, pairs: &[u8]) -> Verdict
     requires { ⌜ Judged (now m) (now c) s (now pairs) ⌝ }
     ensures { λ r. ⌜ r
         ≡ answer (checkPhases (partPhases (now (m .entry)) (now (c .entry))))
-        (Verdict.Accepted (openCount (now (m .entry)) (now (c .entry))) (lowerLoad (now (c .entry)))
+        (Verdict.Accepted (openCount (now (m .entry)) (now (c .entry))) (lowerLoad (now (m .entry)) (now (c .entry)))
         (upperLoad (now (m .entry)) (now (c .entry)))) ⌝ }
 {
     let steps = steps_of(s.sides);
@@ -62,12 +85,12 @@ pub fn parts_verdict(m: &[i64], c: &[i64], s: Sizes, pairs: &[u8]) -> Verdict
         Limit::Refused { number, place } => Verdict::Refused { number, place },
         Limit::Absent => Verdict::Accepted {
             open_rows: OpenRows::Absent,
-            lower: lower_load(c),
+            lower: lower_load(m, c, s),
             upper: Load::Absent,
         },
         Limit::Exact { w, m: den } => Verdict::Accepted {
             open_rows: open_rows(m, c, s, pairs, &steps),
-            lower: lower_load(c),
+            lower: lower_load(m, c, s),
             upper: Load::Exact { num: w, den },
         },
     }

@@ -2,7 +2,6 @@
 ghost use mathlib.Core.Path.{_≡_};
 ghost use Prim.Native.Nat.{_+_, _*_, _<_, _≤_};
 ghost use lib.IntN.{pos};
-ghost use lib.Signed.{leZ};
 ghost use Rattle.scope.specs.Columns.{at, n, l};
 ghost use Rattle.scope.specs.Claim.{stress};
 ghost use Rattle.scope.specs.Mesh.{mostPairs, mostSides, equalityCount};
@@ -12,12 +11,10 @@ ghost use Rattle.scope.specs.Phases.{checkPhase, checkPhases};
 ghost use Rattle.scope.specs.Refusals.{equalitiesPhase, strengthsPhase, fieldPhases};
 ghost use Rattle.scope.specs.Tests.{rowAt};
 ghost use Rattle.mesh.specs.MeshContracts.{Sized};
-ghost use Rattle.lines.specs.SearchContracts.{firstFailing};
-ghost use Rattle.criterion.specs.StrengthContracts.{StepsFit, PairFits, sideSlack, Judged, MeshSteps};
+ghost use Rattle.criterion.specs.StrengthContracts.{Judged, MeshSteps};
 ghost use Rattle.verdict.specs.FieldContracts.{FieldFits};
+use criterion::strength_rows::first_row;
 use criterion::strength_rows::pair_holds;
-use criterion::strength_rows::pair_state;
-use criterion::strength_rows::side_holds;
 use equality::equality_rows::equality_row;
 use equality::row_sums::left_side;
 use mesh::sizes::Sizes;
@@ -68,22 +65,6 @@ fn strength_number(a: usize, sides: usize, k: usize) -> u32
     (a * sides + k + 1) as u32
 }
 
-// The first side whose strength row fails at a pair with these numbers; where each holds, their count.
-fn first_side(steps: &[i64], sides: usize, d: &[i64]) -> usize
-    requires { ⌜ StepsFit (now steps) sides ⌝ ∗ ⌜ PairFits (now d) ⌝ }
-    ensures { λ r. ⌜ r ≡ firstFailing (λ k. leZ (pos 0) (sideSlack (now (d .entry)) (now (steps .entry)) k)) sides ⌝
-        ∗ ⌜ r ≤ sides ⌝ }
-{
-    let mut k: usize = 0;
-    while k < sides {
-        if !side_holds(steps, k, d) {
-            return k;
-        }
-        k += 1;
-    }
-    sides
-}
-
 // 22: the lowest strength row that fails, which is one of the lowest pair that has one.
 fn strengths_check(m: &[i64], c: &[i64], s: Sizes, pairs: &[u8], steps: &[i64]) -> Outcome
     requires { ⌜ Judged (now m) (now c) s (now pairs) × (at (now c) 0 ≡ pos 1) ⌝ ∗ ⌜ MeshSteps (now m) (now steps) ⌝ }
@@ -97,8 +78,7 @@ fn strengths_check(m: &[i64], c: &[i64], s: Sizes, pairs: &[u8], steps: &[i64]) 
     while a < count {
         if !pair_holds(m, c, s, pairs, steps, a) {
             let sides = s.sides;
-            let d = pair_state(m, c, s, pairs, a);
-            let k = first_side(steps, sides, &d);
+            let k = first_row(m, c, s, pairs, steps, a);
             return Outcome::Refused {
                 number: 22,
                 place: Place::Row(strength_number(a, sides, k)),

@@ -44,7 +44,9 @@ enum-told-2 : tie.Need-enum-told-2
 enum-told-2 c = search needs
 
 lower-load-requires : tie.Need-lower-load-requires
-lower-load-requires c κs = (claim-long (c .before .before .before .before .before .before .before .before .before .before .pre .claim), claim-within (c .before .before .before .before .before .before .before .before .before .before .pre .claim))
+lower-load-requires c κs =
+    let judged = c .before .before .before .before .before .before .before .before .before .before .pre in
+    (judged .sized, (claim-long (judged .claim), claim-within (judged .claim)))
 
 enum-known-limit-2 : tie.Need-enum-known-limit-2
 enum-known-limit-2 c = search needs
@@ -58,7 +60,9 @@ open-rows-requires c κs =
     ((start .pre, multipliers-are (start .args .m .now) (start .args .c .now) (sym (c .before .before .before .before .claim-limit .ensures) ∙ c .before .before .limit2 .given .1)), steps-as (start .pre .sized .sidesAre) (c .before .before .before .before .before .before .before .before .before .before .steps-of .ensures))
 
 lower-load-requires-2 : tie.Need-lower-load-requires-2
-lower-load-requires-2 c κs = (claim-long (c .before .before .before .before .before .before .before .before .before .before .before .before .before .pre .claim), claim-within (c .before .before .before .before .before .before .before .before .before .before .before .before .before .pre .claim))
+lower-load-requires-2 c κs =
+    let judged = c .before .before .before .before .before .before .before .before .before .before .before .before .before .pre in
+    (judged .sized, (claim-long (judged .claim), claim-within (judged .claim)))
 
 returns-2 : tie.Need-returns-2
 returns-2 c = limit-refused _ _ (sym (c .before .before .before .before .before .before .before .claim-field .ensures) ∙ c .before .before .before .before .before .enum-told .given .1) (sym (c .before .before .before .claim-limit .ensures) ∙ c .before .limit .given .1)

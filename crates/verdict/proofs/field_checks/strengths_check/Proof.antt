@@ -9,9 +9,8 @@ use Rattle.scope.specs.Rows.{firstWhere}
 use Rattle.lines.specs.SearchContracts.{firstFailing}
 use Rattle.lines.proofs.Loops.{search-more, search-stops}
 use Rattle.criterion.specs.StrengthContracts.{pairHolds}
-use Rattle.criterion.proofs.StrengthLaws.{steps-as, steps-fit, pair-fits, strengths-refused, strengths-passed}
+use Rattle.criterion.proofs.StrengthLaws.{strengths-refused, strengths-passed}
 use Rattle.mesh.proofs.Places.{most-pairs}
-use borrow.Author.Needs.{needs}
 use Rattle.verdict.proofs.field_checks.strengths_check.Statement.{statement}
 use Rattle.verdict.proofs.field_checks.strengths_check.Tie as tie
 
@@ -30,38 +29,28 @@ pair-holds-requires c κs =
     let pre = c .before .before .before .pre in
     (pre .0 .0, pre .0 .1, pre .1, omega (arith, pre .0 .0 .pairsAre, c .loop-test .taken))
 
-pair-state-requires : tie.Need-pair-state-requires Inv-loop μ-loop
-pair-state-requires c κs =
+first-row-requires : tie.Need-first-row-requires Inv-loop μ-loop
+first-row-requires c κs =
     let b = c .before .before in
     let pre = b .before .before .before .pre in
-    (pre .0, omega (arith, pre .0 .0 .pairsAre, b .loop-test .taken))
-
-slice-aggregate-first-side : tie.Need-slice-aggregate-first-side Inv-loop μ-loop
-slice-aggregate-first-side c = search needs
-
-first-side-requires : tie.Need-first-side-requires Inv-loop μ-loop
-first-side-requires c κs =
-    let pre = c .before .before .before .before .before .before .before .pre in
-    let steps = steps-as (sym (pre .0 .0 .sized .sidesAre)) (pre .1) in
-    (steps-fit steps, pair-fits (c .before .pair-state .ensures))
+    (pre .0 .0, pre .0 .1, pre .1, omega (arith, pre .0 .0 .pairsAre, b .loop-test .taken))
 
 strength-number-requires : tie.Need-strength-number-requires Inv-loop μ-loop
 strength-number-requires c κs =
-    let b = c .before .before .before .before .before in
+    let b = c .before .before .before in
     let pre = b .before .before .before .pre in
-    let sized = pre .0 .0 .sized in
-    let steps = steps-as (sym (sized .sidesAre)) (pre .1) in
-    (omega (arith, b .loop-test .taken, pre .0 .0 .pairsAre, most-pairs (pre .0 .0 .few)), steps .most, omega (arith, steps .most, c .first-side .ensures .1))
+    let sides = pre .0 .0 .sized .sidesAre in
+    (omega (arith, b .loop-test .taken, pre .0 .0 .pairsAre, most-pairs (pre .0 .0 .few)), omega (arith, sides, pre .1 .most), omega (arith, sides, pre .1 .most, c .first-row .ensures .1))
 
 returns : tie.Need-returns Inv-loop μ-loop
 returns c =
-    let b = c .before .before .before .before .before .before in
+    let b = c .before .before .before .before in
     let pre = b .before .before .before .pre in
     let sized = pre .0 .0 .sized in
-    let asked = c .before .before .before .before in
+    let asked = c .before .before in
     let stops = search-stops (pairHolds _ _) (b .before .loop .inv .1) (b .before .before .before .args .s .pairs) (b .loop-test .taken) (sym (asked .before .pair-holds .ensures) ∙ not-true _ (asked .if1 .taken)) in
     ap (λ (i : ℕ). Refused 22 (Row i)) (c .strength-number .ensures)
-    ∙ strengths-refused _ _ (sized .facts .counts) (pre .1) (pre .0 .0 .pairsAre) (sized .sidesAre) stops (b .loop-test .taken) (c .before .before .before .pair-state .ensures) (c .before .first-side .ensures .0)
+    ∙ strengths-refused _ _ (sized .facts .counts) (pre .0 .0 .pairsAre) (sized .sidesAre) stops (b .loop-test .taken) (c .before .first-row .ensures .0)
 
 add-a : tie.Need-add-a Inv-loop μ-loop
 add-a c = omega arith
@@ -89,9 +78,7 @@ strengths-check-spec =
     μ-loop
     loop-holds
     pair-holds-requires
-    pair-state-requires
-    slice-aggregate-first-side
-    first-side-requires
+    first-row-requires
     strength-number-requires
     returns
     add-a
