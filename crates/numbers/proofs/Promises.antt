@@ -1,12 +1,13 @@
 -- The promises of the call on numbers hold of every answer: the theorems about the definitions, read off what is returned.
-use mathlib.Core.Path.{_≡_, refl, sym, _∙_, ap, subst, subst₂}
+use mathlib.Core.Path.{_≡_, refl, sym, _∙_, ap, ap₂, subst, subst₂}
 use mathlib.Core.Logic.{_↔_, _⊎_, inl, inr, _≢_}
-use mathlib.Core.Bool.{Bool, true, false, cond}
+use mathlib.Core.Bool.{Bool, true, false, cond, not, _&&_}
 use mathlib.Core.List.{List, List·Memᴰ·head}
-use Prim.Native.Nat.{ℕ, suc, _*_, _≤_}
+use Prim.Native.Nat.{ℕ, _*_, _≤_}
 use native.Mathlib.Omega.{arith}
 use lib.Dec.{T}
 use lib.IntN.{ℤ, pos}
+use lib.Signed.{_<ℤ_, <ℤ-irrefl}
 use borrow.Table.Steps.{cases}
 use Rattle.integer.specs.Fraction.{_over_, _≈ᶠ_, _≤ᶠ_, Positive}
 use Rattle.integer.proofs.FractionLaws.{≤ᶠ-trans, ≈ᶠ→≤ᶠ, ≈ᶠ-sym, ≈ᶠ-trans}
@@ -21,7 +22,7 @@ use Rattle.scope.specs.declared.Verdict.{Verdict}
 use Rattle.scope.specs.declared.Verdict.the-variants.{Accepted, Refused}
 use Rattle.scope.specs.Answer.{placeNumber, placeFor, numberOf, placeOf}
 use Rattle.scope.specs.Columns.{at, hasField, hasMultipliers, n, l}
-use Rattle.scope.specs.Mesh.{nodes, sides}
+use Rattle.scope.specs.Mesh.{nodes, sides, someByDirection, ListsDirection}
 use Rattle.scope.specs.Rows.{rowsOf}
 use Rattle.scope.specs.Sums.{liveSum, limitSum, openRows}
 use Rattle.scope.specs.Claim.{stress, multiplier}
@@ -36,7 +37,10 @@ use Rattle.scope.proofs.PlaceKinds.{place-kind, place-number, mesh-exactly}
 use Rattle.scope.proofs.RefusedRows.{equality-fails, strength-fails, pairs-fail}
 use Rattle.scope.proofs.Exactly.{accepted-exactly, refused-exactly, verdict-cases, returns-zero, claim-by-parts, field-before-multipliers, refused-after-field}
 use Rattle.scope.proofs.Printed.{field-printed}
-use Rattle.scope.proofs.AcceptedField.{accepted-criterion, criterion-around, tractions-agree}
+use Rattle.scope.proofs.AcceptedField.{accepted-criterion, criterion-around, planes-everywhere, tractions-agree}
+use Rattle.scope.proofs.Planes.{plane-meaning, cohesion-meaning}
+use Rattle.scope.proofs.Directions.{lists-direction}
+use Rattle.scope.proofs.Decides.{Decides, equalℤ}
 use Rattle.scope.proofs.Jumps.{sound-jumps, tip-asks-nothing, no-jumps}
 use Rattle.scope.proofs.Pairs.{pairs, sound-pairs}
 use Rattle.scope.proofs.Phases.{join-refused}
@@ -55,13 +59,13 @@ use Rattle.verdict.specs.declared.MeshAnswer.{MeshAnswer}
 use Rattle.numbers.proofs.NumbersListed.{refusal-listed}
 use Rattle.numbers.specs.declared.numbers_answer.NumbersAnswer.{NumbersAnswer}
 use Rattle.numbers.specs.NumbersAnswer.{there, numerator, denominator, counted, answerOf}
-use Rattle.numbers.specs.Promises.{Answers, Returned, ReturnsZero, RefusesExactly, NumbersListed, RowsRefused, TellsField, FieldExactly, MultipliersExactly, FieldReported, MultipliersReported, CriterionForEachPair, PairsAsked, SidesAsked, JumpsAsked, TractionsOnJoints, CallsBracket, TwoAnswers, AnswerAndMultipliers, OpenRowsReported, FractionsBracket, FractionsAndAnswer, FieldInFractions, MeshAnsweredExactly, TrianglesAsked}
+use Rattle.numbers.specs.Promises.{Answers, Returned, ReturnsZero, RefusesExactly, NumbersListed, RowsRefused, TellsField, FieldExactly, MultipliersExactly, FieldReported, MultipliersReported, CriterionForEachPair, DirectionsAsked, PairsAsked, SidesAsked, JumpsAsked, TractionsOnJoints, CallsBracket, TwoAnswers, AnswerAndMultipliers, OpenRowsReported, FractionsBracket, FractionsAndAnswer, FieldInFractions, MeshAnsweredExactly, TrianglesAsked}
 
 -- every answer returns the verdict's number and place
 pub returned : {m c : List ℤ} {r : NumbersAnswer} → Answers m c r → Returned m c (r .number) (r .place)
 returned {m} {c} e = let b = by (verdict m c) e in record { numberIs = b .0; placeIs = b .1 }
   where
-    by : {r : NumbersAnswer} (v : Verdict) → r ≡ answerOf v → (r .number ≡ numberOf v) × (r .place ≡ placeOf v)
+    by : {r : NumbersAnswer} (v : Verdict) → r ≡ answerOf (hasField c) v → (r .number ≡ numberOf v) × (r .place ≡ placeOf v)
     by (Accepted o lower upper) e = (ap (λ (x : NumbersAnswer). x .number) e, ap (λ (x : NumbersAnswer). x .place) e)
     by (Refused k p) e = (ap (λ (x : NumbersAnswer). x .number) e, ap (λ (x : NumbersAnswer). x .place) e)
 
@@ -69,7 +73,7 @@ returned {m} {c} e = let b = by (verdict m c) e in record { numberIs = b .0; pla
 
 -- a verdict with its reason
 abbrev VerdictCases : List ℤ → List ℤ → Type 0
-VerdictCases m c = ((k : ℕ) × (p : Place) × (verdict m c ≡ Refused k p)) ⊎ (verdict m c ≡ Accepted (openCount m c) (lowerLoad c) (upperLoad m c))
+VerdictCases m c = ((k : ℕ) × (p : Place) × (verdict m c ≡ Refused k p)) ⊎ (verdict m c ≡ Accepted (openCount m c) (lowerLoad m c) (upperLoad m c))
 
 refused-not-zero : (m c : List ℤ) {k : ℕ} {p : Place} → verdict m c ≡ Refused k p → k ≢ 0
 refused-not-zero m c e z =
@@ -82,7 +86,7 @@ module _ (m c : List ℤ) (number place : ℕ) (h : Returned m c number place) w
   is-refused : {k : ℕ} {p : Place} → verdict m c ≡ Refused k p → (number ≡ k) × (place ≡ placeNumber p)
   is-refused e = (h .numberIs ∙ ap numberOf e, h .placeIs ∙ ap placeOf e)
 
-  is-zero : verdict m c ≡ Accepted (openCount m c) (lowerLoad c) (upperLoad m c) → (number ≡ 0) × (place ≡ 0)
+  is-zero : verdict m c ≡ Accepted (openCount m c) (lowerLoad m c) (upperLoad m c) → (number ≡ 0) × (place ≡ 0)
   is-zero e = (h .numberIs ∙ ap numberOf e, h .placeIs ∙ ap placeOf e)
 
   -- ==== Demand 2
@@ -169,6 +173,9 @@ module _ (m c : List ℤ) (number place : ℕ) (h : Returned m c number place) w
   pub criterion-for-each-pair : TellsField c number → CriterionForEachPair m c
   criterion-for-each-pair t = record { pairs = accepted-criterion m c (field-told t); around = criterion-around m c (field-told t) }
 
+  pub directions-asked : DirectionsAsked m c number
+  directions-asked = record { planes = plane-meaning; cohesion = cohesion-meaning; accepted = λ t. planes-everywhere m c (field-told t) }
+
   pub tractions-on-joints : TractionsOnJoints m c number
   tractions-on-joints t = tractions-agree m c (field-told t)
 
@@ -213,16 +220,44 @@ module _ {There : Type 0} {number part : ℕ} {top bottom a b : ℤ} where
   reported-none (with-numbers t z e f g) d = absurd (d e)
   reported-none (with-none x e f g) d = (e, f, g)
 
+-- a field with its load: no accepted one is there, its load is not told, or it is
+data FieldCases (m c : List ℤ) (r : NumbersAnswer) : Type 0 where
+  not-there : ¬ (HasField c × (r .number ≡ 0)) → r .field ≡ 0 → r .l ≡ pos 0 → r .n ≡ pos 0 → FieldCases m c r
+  not-told : HasField c → ListsDirection m → r .number ≡ 0 → r .field ≡ 1 → r .l ≡ pos 0 → r .n ≡ pos 0 → FieldCases m c r
+  told : HasField c → ¬ ListsDirection m → r .number ≡ 0 → r .field ≡ 1 → r .l ≡ l c → r .n ≡ n c → FieldCases m c r
+
+no-load : {X : Type 0} {z : ℤ} → z ≡ pos 0 → pos 0 <ℤ z → X
+no-load e h = absurd (<ℤ-irrefl (rw e at h))
+
+module _ {m c : List ℤ} {r : NumbersAnswer} where
+  cases-exactly : FieldCases m c r → (r .field ≡ 1) ↔ (HasField c × (r .number ≡ 0))
+  cases-exactly (not-there x e f g) = (λ d. absurd (omega arith), λ d. absurd (x d))
+  cases-exactly (not-told t y z e f g) = (λ d. (t, z), λ d. e)
+  cases-exactly (told t y z e f g) = (λ d. (t, z), λ d. e)
+
+  cases-told : FieldCases m c r → (r .field ≡ 1 → pos 0 <ℤ n c) → (pos 0 <ℤ r .n) ↔ ((r .field ≡ 1) × (¬ ListsDirection m))
+  cases-told (not-there x e f g) above = (λ d. no-load g d, λ d. absurd (omega (arith, d .0)))
+  cases-told (not-told t y z e f g) above = (λ d. no-load g d, λ d. absurd (d .1 y))
+  cases-told (told t y z e f g) above = (λ d. (e, y), λ d. rw g (above e))
+
+  cases-load : FieldCases m c r → r .field ≡ 1 → ¬ ListsDirection m → (r .l ≡ l c) × (r .n ≡ n c)
+  cases-load (not-there x e f g) d plain = absurd (omega arith)
+  cases-load (not-told t y z e f g) d plain = absurd (plain y)
+  cases-load (told t y z e f g) d plain = (f, g)
+
+  cases-untold : FieldCases m c r → ListsDirection m → (r .l ≡ pos 0) × (r .n ≡ pos 0)
+  cases-untold (not-there x e f g) d = (f, g)
+  cases-untold (not-told t y z e f g) d = (f, g)
+  cases-untold (told t y z e f g) d = absurd (y d)
+
+  cases-none : FieldCases m c r → r .field ≢ 1 → (r .field ≡ 0) × (r .l ≡ pos 0) × (r .n ≡ pos 0)
+  cases-none (not-there x e f g) d = (e, f, g)
+  cases-none (not-told t y z e f g) d = absurd (d e)
+  cases-none (told t y z e f g) d = absurd (d e)
+
 -- a load that is there where a part is, a over b, and else absent
 abbrev LoadOf : Type 0 → Load → ℤ → ℤ → Type 0
 LoadOf There x a b = (There × (x ≡ Exact a b)) ⊎ ((¬ There) × (x ≡ Absent))
-
-lower-load : (c : List ℤ) → LoadOf (HasField c) (lowerLoad c) (l c) (n c)
-unfolding lowerLoad hasField
-lower-load c =
-    cases (eqZ (at c 0) (pos 1))
-    (λ t. inl (eqZ-yes (subst T (sym t) tt), rw t))
-    (λ t. inr (eqZ-no (rw t tt), rw t))
 
 upper-load : (m c : List ℤ) → LoadOf (HasMultipliers c) (upperLoad m c) (limitSum (multiplier m c) (rowsOf m)) (liveSum (multiplier m c) (rowsOf m))
 unfolding upperLoad hasMultipliers
@@ -249,19 +284,23 @@ not-both m c x =
     both (inr f) a b = absurd (f b)
 
 module _ (m c : List ℤ) (r : NumbersAnswer) (h : Answers m c r) where
-  is-answer : {v : Verdict} → verdict m c ≡ v → r ≡ answerOf v
-  is-answer e = h ∙ ap answerOf e
+  is-answer : {v : Verdict} → verdict m c ≡ v → r ≡ answerOf (hasField c) v
+  is-answer e = h ∙ ap (answerOf (hasField c)) e
 
-  field-part : PartReported (HasField c) (r .number) (r .field) (r .l) (r .n) (l c) (n c)
-  field-part = by (verdict-cases m c)
+  field-cases : FieldCases m c r
+  unfolding lowerLoad hasField
+  field-cases = of (verdict-cases m c)
     where
-      by : VerdictCases m c → PartReported (HasField c) (r .number) (r .field) (r .l) (r .n) (l c) (n c)
-      by (inl (k, p, e)) =
+      by : (b d : Bool) → Decides b (HasField c) → Decides d (ListsDirection m) → r ≡ answerOf b (Accepted (openCount m c) (cond (b && not d) (Exact (l c) (n c)) Absent) (upperLoad m c)) → FieldCases m c r
+      by true true f g a = not-told (f .holds tt) (g .holds tt) (ap (λ (x : NumbersAnswer). x .number) a) (ap (λ (x : NumbersAnswer). x .field) a) (ap (λ (x : NumbersAnswer). x .l) a) (ap (λ (x : NumbersAnswer). x .n) a)
+      by true false f g a = told (f .holds tt) (λ h. g .passes h) (ap (λ (x : NumbersAnswer). x .number) a) (ap (λ (x : NumbersAnswer). x .field) a) (ap (λ (x : NumbersAnswer). x .l) a) (ap (λ (x : NumbersAnswer). x .n) a)
+      by false d f g a = not-there (λ h. f .passes (h .0)) (ap (λ (x : NumbersAnswer). x .field) a) (ap (λ (x : NumbersAnswer). x .l) a) (ap (λ (x : NumbersAnswer). x .n) a)
+
+      of : VerdictCases m c → FieldCases m c r
+      of (inl (k, p, e)) =
           let a = is-answer e in
-          with-none (λ t. refused-not-zero m c e (sym (ap (λ (x : NumbersAnswer). x .number) a) ∙ t .1)) (ap (λ (x : NumbersAnswer). x .field) a) (ap (λ (x : NumbersAnswer). x .l) a) (ap (λ (x : NumbersAnswer). x .n) a)
-      by (inr e) =
-          let a = is-answer e in
-          part-of (ap (λ (x : NumbersAnswer). x .number) a) (lower-load c) (ap (λ (x : NumbersAnswer). x .field) a) (ap (λ (x : NumbersAnswer). x .l) a) (ap (λ (x : NumbersAnswer). x .n) a)
+          not-there (λ h. refused-not-zero m c e (sym (ap (λ (x : NumbersAnswer). x .number) a) ∙ h .1)) (ap (λ (x : NumbersAnswer). x .field) a) (ap (λ (x : NumbersAnswer). x .l) a) (ap (λ (x : NumbersAnswer). x .n) a)
+      of (inr e) = by (hasField c) (someByDirection m) (equalℤ (at c 0) (pos 1)) (lists-direction m) (is-answer e)
 
   multiplier-part : PartReported (HasMultipliers c) (r .number) (r .multipliers) (r .w) (r .m) (limitSum (multiplier m c) (rowsOf m)) (liveSum (multiplier m c) (rowsOf m))
   multiplier-part = by (verdict-cases m c)
@@ -276,18 +315,19 @@ module _ (m c : List ℤ) (r : NumbersAnswer) (h : Answers m c r) where
 
   -- the parts that are reported are accepted
   field-of : r .field ≡ 1 → FieldAccepted m c
-  field-of e = let t = reported-exactly field-part .0 e in field-exactly m c (r .number) (r .place) (returned h) .told .1 (t .0, inl (t .1))
+  field-of e = let t = cases-exactly field-cases .0 e in field-exactly m c (r .number) (r .place) (returned h) .told .1 (t .0, inl (t .1))
 
   multipliers-of : r .multipliers ≡ 1 → MultipliersAccepted m c
   multipliers-of e = multipliers-exactly m c (r .number) (r .place) (returned h) .told .0 (reported-exactly multiplier-part .0 e) .0
 
   pub field-reported : FieldReported m c r
   field-reported = record {
-    exactly = reported-exactly field-part;
-    load = reported-numbers field-part;
-    n-above-0 = λ e. rw (reported-numbers field-part e .1) (field-n m c (field-of e));
-    carried = λ e. let i = reported-numbers field-part e in rw (i .0, i .1) (field-printed m (stress m c) (l c) (n c) .0 (field-of e .meets));
-    none = reported-none field-part;
+    exactly = cases-exactly field-cases;
+    carries = λ e. (field-n m c (field-of e), field-printed m (stress m c) (l c) (n c) .0 (field-of e .meets));
+    told = cases-told field-cases (λ e. field-n m c (field-of e));
+    load = cases-load field-cases;
+    untold = cases-untold field-cases;
+    none = cases-none field-cases;
   }
 
   pub multipliers-reported : MultipliersReported m c r
@@ -303,7 +343,7 @@ module _ (m c : List ℤ) (r : NumbersAnswer) (h : Answers m c r) where
 
   open-count : r .field ≡ 1 → r .multipliers ≡ 1 → r .«open_rows» ≡ openRows (stress m c) (l c) (n c) (multiplier m c) (rowsOf m)
   open-count e f =
-      let z = reported-exactly field-part .0 e .1 in
+      let z = cases-exactly field-cases .0 e .1 in
       let a = accepted-exactly m c .1 (returns-zero-exactly m c (r .number) (r .place) (returned h) .exactly .0 z) in
       ap (λ (x : NumbersAnswer). x .«open_rows») (is-answer a)
       ∙ ap counted (open-rows-count m c (field-of e) (multipliers-of f) .both)
@@ -312,7 +352,7 @@ module _ (m c : List ℤ) (r : NumbersAnswer) (h : Answers m c r) where
   none-counted x = by (verdict-cases m c)
     where
       lacks : r .number ≡ 0 → (r .field ≢ 1) ⊎ (r .multipliers ≢ 1) → (¬ HasField c) ⊎ (¬ HasMultipliers c)
-      lacks z (inl e) = inl (λ f. e (reported-exactly field-part .1 (f, z)))
+      lacks z (inl e) = inl (λ f. e (cases-exactly field-cases .1 (f, z)))
       lacks z (inr e) = inr (λ f. e (reported-exactly multiplier-part .1 (f, z)))
 
       by : VerdictCases m c → r .«open_rows» ≡ 0
@@ -326,34 +366,30 @@ module _ (m c : List ℤ) (r : NumbersAnswer) (h : Answers m c r) where
   pub open-rows-reported : OpenRowsReported m c r
   unfolding carried allowed
   open-rows-reported = record {
-    count = λ e f. let i = reported-numbers field-part e in rw (i .0, i .1, open-count e f) (open-rows-count m c (field-of e) (multipliers-of f) .number);
+    count = λ e f. rw (open-count e f) (open-rows-count m c (field-of e) (multipliers-of f) .number);
     closed = λ e f.
-        let i = reported-numbers field-part e in
         let j = reported-numbers multiplier-part f in
-        rw (i .0, i .1, j .0, j .1, open-count e f) (open-rows-count m c (field-of e) (multipliers-of f) .none);
+        rw (j .0, j .1, open-count e f) (open-rows-count m c (field-of e) (multipliers-of f) .none);
     one-part = none-counted;
   }
 
-  pub field-in-fractions : r .field ≡ 1 → FieldInFractions m c r
+  pub field-in-fractions : r .field ≡ 1 → FieldInFractions m c
   field-in-fractions e =
-      let i = reported-numbers field-part e in
-      record {
-        above-0 = field-reported .n-above-0 e;
-        meets = mesh-fractions m (field-of e .mesh) .laws .whole-numbers (r .n) (field-reported .n-above-0 e) (stress m c) (r .l) (rw (i .0, i .1) (field-of e .meets));
-      }
+      let above = field-n m c (field-of e) in
+      record { above-0 = above; meets = mesh-fractions m (field-of e .mesh) .laws .whole-numbers (n c) above (stress m c) (l c) (field-of e .meets) }
 
 -- the field of one call and the multipliers of another, or of the same, on meshes with the same rows
 pub calls-bracket : {m c d k : List ℤ} {r s : NumbersAnswer} → TwoAnswers m c d k r s
 unfolding carried allowed
 calls-bracket {m} {c} {d} {k} {r} {s} h g same e f =
-    let i = reported-numbers (field-part m c r h) e in
     let j = reported-numbers (multiplier-part d k s g) f in
     let b : PartsBracket m c d k = parts-bracket m c d k same (field-of m c r h e) (multipliers-of d k s g f) in
     record {
-      n-above-0 = rw (i .1) (b .n-above-0);
+      n-above-0 = b .n-above-0;
       m-above-0 = rw (j .1) (b .m-above-0);
-      at-most = rw (i .0, i .1, j .0, j .1) (b .at-most);
-      equal = rw (i .0, i .1, j .0, j .1) (b .equal);
+      told = λ no. let i = cases-load (field-cases m c r h) e no in ap₂ _over_ (i .0) (i .1);
+      at-most = rw (j .0, j .1) (b .at-most);
+      equal = rw (j .0, j .1) (b .equal);
     }
 
 pub call-bracket : {m c : List ℤ} {r : NumbersAnswer} → Answers m c r → r .field ≡ 1 → r .multipliers ≡ 1 → CallsBracket m c m c r r

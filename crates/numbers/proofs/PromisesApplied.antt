@@ -26,12 +26,12 @@ use Rattle.scope.specs.AcceptedField.{MeetsCriterion}
 use Rattle.scope.specs.Bracket.{Open, NoneOpen}
 use Rattle.scope.specs.Fractions.{Fraction, FractionField, fieldOver}
 use Rattle.scope.specs.AcceptedFractions.{MeetsMesh}
-use Rattle.scope.specs.Parts.{SameRows, NumberOf, PartsBracket}
+use Rattle.scope.specs.Parts.{carried, SameRows, NumberOf, PartsBracket}
 use Rattle.scope.specs.Worked.{zeros, workedMesh, workedStresses, workedMultipliers, workedClaim, multipliersAlone, sheet, sheet19, sheet29, freeShear, twoTriangles, fieldAlone, fillOverClay, overClay, blocks, blockEdges, joint, twoBlocks, onJoint}
 use Rattle.scope.proofs.Printed.{field-printed}
 use Rattle.scope.proofs.Applied.{free-field, free-rows}
 use Rattle.scope.specs.Tests.{rowAt}
-use Rattle.scope.specs.Mesh.{elements, sides, jumps, corner, elementSoil, jumpFrom, facingFrom}
+use Rattle.scope.specs.Mesh.{elements, sides, jumps, corner, elementSoil, jumpFrom, facingFrom, ByDirection}
 use Rattle.scope.specs.Statements.{MeshSound}
 use Rattle.scope.specs.Triangles.{Triangle}
 use Rattle.scope.specs.Pairs.{SoilAround, rowsBefore}
@@ -39,7 +39,7 @@ use Rattle.scope.specs.Jumps.{SameTraction}
 use Rattle.verdict.specs.declared.MeshAnswer.{MeshAnswer}
 use Rattle.verdict.specs.JudgeContracts.{MeshAnswered}
 use Rattle.numbers.specs.declared.numbers_answer.NumbersAnswer.{NumbersAnswer}
-use Rattle.numbers.specs.Promises.{Answers, returnedNumbers, TellsField, FieldInFractions}
+use Rattle.numbers.specs.Promises.{Answers, Returned, CallsBracket, returnedNumbers, TellsField, FieldInFractions}
 use Rattle.numbers.proofs.Promises.{mesh-answered-exactly, returned, returns-zero-exactly, refuses-exactly, numbers-listed, field-exactly, multipliers-exactly, criterion-for-each-pair, pairs-asked, jumps-asked, tractions-on-joints, rows-refused, field-reported, multipliers-reported, open-rows-reported, field-in-fractions, calls-bracket, call-bracket, accepted-parts, fractions-bracket, triangles-asked}
 
 -- ---- what is answered
@@ -72,8 +72,8 @@ refused-answered = refl
 unfoldable pub secondSoil : List ℤ
 secondSoil =
     (pos 4 ∷ pos 1 ∷ pos 2 ∷ pos 3 ∷ pos 12 ∷ pos 0 ∷ [])
-    ++ (pos 0 ∷ pos 1 ∷ pos 1 ∷ pos 10 ∷ zeros 4)
-    ++ (pos 3 ∷ pos 4 ∷ pos 5 ∷ pos 7 ∷ zeros 4)
+    ++ (pos 0 ∷ pos 1 ∷ pos 1 ∷ pos 10 ∷ zeros 6)
+    ++ (pos 3 ∷ pos 4 ∷ pos 5 ∷ pos 7 ∷ zeros 6)
     ++ (pos 0 ∷ pos 0 ∷ pos 1 ∷ pos 0 ∷ pos 1 ∷ pos 1 ∷ pos 0 ∷ pos 1 ∷ [])
     ++ (pos 1 ∷ pos 2 ∷ pos 3 ∷ pos 4 ∷ pos 1 ∷ [])
     ++ (pos 3 ∷ pos 4 ∷ pos 3 ∷ pos 0 ∷ pos 0 ∷ negsuc 0 ∷ pos 0 ∷ [])
@@ -116,32 +116,47 @@ unfolding computed zeros workedStresses workedMultipliers multipliersAlone
 alone-accepted = multipliers-exactly secondSoil multipliersAlone 0 0 (returned alone-answered) .told .0 (refl, refl) .0
 
 pub sheet-carried : MeetsPrinted workedMesh (stress workedMesh sheet) (pos 20) (pos 1)
-sheet-carried = field-reported workedMesh sheet sheetAnswer sheet-answered .carried refl
+unfolding computed zeros workedStresses workedMultipliers workedClaim sheet
+sheet-carried = field-reported workedMesh sheet sheetAnswer sheet-answered .carries refl .1
 
 -- m = 30, W = 600
 pub sheet-limit : (pos 600 ≡ limitSum (multiplier workedMesh sheet) (rowsOf workedMesh)) × (pos 30 ≡ liveSum (multiplier workedMesh sheet) (rowsOf workedMesh))
 sheet-limit = multipliers-reported workedMesh sheet sheetAnswer sheet-answered .limit refl
 
+no-kind-1 : ¬ ByDirection workedMesh (elementSoil workedMesh 0)
+unfolding computed zeros workedMesh
+no-kind-1 e = let z : _≡_ {A = ℕ} 0 1 = cc in omega arith
+
 pub criterion-at-node-3 : MeetsCriterion workedMesh sheet29 (record { at = 2; soil = 0 })
 unfolding computed zeros workedMesh
-criterion-at-node-3 = criterion-for-each-pair workedMesh sheet29 32 7 (returned refused-answered) tells-field .around 2 0 (omega arith) (2, omega arith, refl)
+criterion-at-node-3 = criterion-for-each-pair workedMesh sheet29 32 7 (returned refused-answered) tells-field .around 2 0 (omega arith) (2, omega arith, refl) no-kind-1
 
 -- ---- demand 3
 
 -- one claim: 20/1 and 600/30 are equal, since no row is open
 pub sheet-closed : pos 20 over pos 1 ≈ᶠ pos 600 over pos 30
+unfolding computed zeros workedStresses workedMultipliers workedClaim sheet carried
 sheet-closed = open-rows-reported workedMesh sheet sheetAnswer sheet-answered .closed refl refl .0 refl
 
+sheet-bracket : CallsBracket workedMesh sheet workedMesh sheet sheetAnswer sheetAnswer
+sheet-bracket = call-bracket sheet-answered refl refl
+
 pub sheet-none-open : NoneOpen (stress workedMesh sheet) (pos 20) (pos 1) (multiplier workedMesh sheet) (rowsOf workedMesh)
-sheet-none-open = call-bracket sheet-answered refl refl .equal .0 sheet-closed
+unfolding computed zeros workedStresses workedMultipliers workedClaim sheet carried
+sheet-none-open = sheet-bracket .equal .0 sheet-closed
 
 -- the two open rows of l 19
 pub nineteen-open : NumberOf (λ k. Open (stress workedMesh sheet19) (pos 19) (pos 1) (multiplier workedMesh sheet19 k) (rowAt (rowsOf workedMesh) k)) (length (rowsOf workedMesh)) 2
+unfolding computed zeros workedStresses workedMultipliers workedClaim sheet19
 nineteen-open = open-rows-reported workedMesh sheet19 answer19 nineteen-answered .count refl refl
 
 -- two claims on two meshes with the same rows
+nineteen-bracket : CallsBracket workedMesh sheet19 secondSoil multipliersAlone answer19 aloneAnswer
+nineteen-bracket = calls-bracket nineteen-answered alone-answered same-rows refl refl
+
 pub nineteen-alone : pos 19 over pos 1 ≤ᶠ pos 600 over pos 30
-nineteen-alone = calls-bracket nineteen-answered alone-answered same-rows refl refl .at-most
+unfolding computed zeros workedStresses workedMultipliers workedClaim sheet19 carried
+nineteen-alone = nineteen-bracket .at-most
 
 -- the field of the refused claim against them
 pub refused-alone : PartsBracket workedMesh sheet29 secondSoil multipliersAlone
@@ -154,6 +169,10 @@ fraction a d = record { value = a over pos (suc d); proper = record { positive =
 unfoldable pub fractions : FractionField
 fractions = record { stress = λ j. fraction (stress workedMesh sheet19 j *ℤ pos (suc j)) j; load = fraction (pos 38) 1 }
 
+nineteen-carried : MeetsPrinted workedMesh (stress workedMesh sheet19) (pos 19) (pos 1)
+unfolding computed zeros workedStresses workedMultipliers workedClaim sheet19
+nineteen-carried = field-reported workedMesh sheet19 answer19 nineteen-answered .carries refl .1
+
 pub fractions-meet : MeetsMesh workedMesh fractions
 unfolding fraction fractions
 fractions-meet = record {
@@ -165,7 +184,7 @@ fractions-meet = record {
     stresses = λ j b. record { cross-≡ = ring (stress workedMesh sheet19 j ∷ pos (suc j) ∷ []) (search terms depth 100) refl };
     load = record { cross-≡ = refl };
   };
-  meets = field-printed workedMesh (stress workedMesh sheet19) (pos 19) (pos 1) .1 (field-reported workedMesh sheet19 answer19 nineteen-answered .carried refl);
+  meets = field-printed workedMesh (stress workedMesh sheet19) (pos 19) (pos 1) .1 nineteen-carried;
 }
 
 pub fractions-at-most : pos 38 over pos 2 ≤ᶠ pos 600 over pos 30
@@ -173,7 +192,7 @@ unfolding fraction fractions
 fractions-at-most = fractions-bracket alone-answered refl workedMesh (sheet-accepted .mesh) same-rows .at-most fractions fractions-meet
 
 -- the field of the sheet itself is one
-pub sheet-in-fractions : FieldInFractions workedMesh sheet sheetAnswer
+pub sheet-in-fractions : FieldInFractions workedMesh sheet
 sheet-in-fractions = field-in-fractions workedMesh sheet sheetAnswer sheet-answered refl
 
 -- two meshes that differ in a number of an unfixed part: the field of l 19 on the one, the sheet's multipliers on the other
@@ -185,14 +204,19 @@ pub free-sheet : Answers (freeShear (pos 5)) sheet sheetAnswer
 unfolding computed zeros freeShear workedStresses workedMultipliers workedClaim sheet
 free-sheet = refl
 
+free-bracket : CallsBracket (freeShear (pos 0)) sheet19 (freeShear (pos 5)) sheet answer19 sheetAnswer
+free-bracket = calls-bracket free-nineteen free-sheet free-rows refl refl
+
 pub free-calls : pos 19 over pos 1 ≤ᶠ pos 600 over pos 30
-free-calls = calls-bracket free-nineteen free-sheet free-rows refl refl .at-most
+unfolding computed zeros workedStresses workedMultipliers workedClaim sheet19 carried
+free-calls = free-bracket .at-most
 
 -- the same field in fractions
 pub free-fractions : pos 19 over pos 1 ≤ᶠ pos 600 over pos 30
+unfolding computed zeros workedStresses workedMultipliers workedClaim sheet19
 free-fractions =
     let field = field-in-fractions (freeShear (pos 0)) sheet19 answer19 free-nineteen refl in
-    fractions-bracket free-sheet refl (freeShear (pos 0)) (free-field .mesh) free-rows .at-most (fieldOver (pos 1) (field .above-0) (stress (freeShear (pos 0)) sheet19) (pos 19)) (field .meets)
+    fractions-bracket {d = freeShear (pos 5)} {k = sheet} {s = sheetAnswer} free-sheet refl (freeShear (pos 0)) (free-field .mesh) free-rows .at-most (fieldOver (pos 1) (field .above-0) (stress (freeShear (pos 0)) sheet19) (pos 19)) (field .meets)
 
 -- ---- a mesh alone
 
@@ -260,7 +284,7 @@ beyond-clay-answered = refl
 -- the row that is not met is that of node 3 with the clay, pair 4, and a row that document 01 did not have
 pub clay-row-fails : ¬ StrengthAt fillOverClay (stress fillOverClay (overClay 20)) (pos 20) (pos 1) (polygonOf (sides fillOverClay) .radius) (record { at = 2; soil = 1 }) (sideNumbered (polygonOf (sides fillOverClay)) 1)
 unfolding computed zeros fillOverClay overClay beyondClay
-clay-row-fails = rows-refused fillOverClay (overClay 20) 22 37 (returned beyond-clay-answered) .strength refl .strength 3 0 (omega arith) (omega arith) refl
+clay-row-fails = rows-refused fillOverClay (overClay 20) 22 37 (returned beyond-clay-answered) .strength refl .strength 3 0 (omega arith) (omega arith) (λ e. let z : _≡_ {A = ℕ} 0 1 = cc in omega arith) refl
 
 -- l 10: accepted, and node 3 meets the criterion with the strength of the fill and with that of the clay
 pub withinClay : NumbersAnswer
@@ -270,11 +294,15 @@ pub within-clay-answered : Answers fillOverClay (overClay 10) withinClay
 unfolding computed zeros fillOverClay overClay withinClay
 within-clay-answered = refl
 
+within-clay : Returned fillOverClay (overClay 10) (withinClay .number) (withinClay .place)
+within-clay = returned within-clay-answered
+
 pub criterion-for-both-soils : MeetsCriterion fillOverClay (overClay 10) (record { at = 2; soil = 0 }) × MeetsCriterion fillOverClay (overClay 10) (record { at = 2; soil = 1 })
 unfolding computed zeros fillOverClay overClay withinClay
 criterion-for-both-soils =
-    let criterion = criterion-for-each-pair fillOverClay (overClay 10) 0 0 (returned within-clay-answered) (refl, inl refl) in
-    (criterion .around 2 0 (omega arith) (1, omega arith, refl), criterion .around 2 1 (omega arith) (2, omega arith, refl))
+    let criterion = criterion-for-each-pair fillOverClay (overClay 10) 0 0 within-clay (refl, inl refl) in
+    let none : (e : ℕ) → pos 0 ≡ pos 1 → ⊥ = λ e d. let z : _≡_ {A = ℕ} 0 1 = cc in omega arith in
+    (criterion .around 2 0 (omega arith) (1, omega arith, refl) (none 0), criterion .around 2 1 (omega arith) (2, omega arith, refl) (none 1))
 
 clay-sound : MeshSound fillOverClay
 unfolding withinClay

@@ -1,5 +1,6 @@
 -- What a solver that hands over numbers is answered (document 01, 'Verdict and report'): document 01's number and
 -- values for each case of the verdict.
+use mathlib.Core.Bool.{Bool, true, false}
 use Prim.Native.Nat.{ℕ}
 use lib.IntN.{ℤ, pos}
 use Rattle.scope.specs.declared.Load.{Load}
@@ -10,6 +11,11 @@ use Rattle.scope.specs.declared.Verdict.{Verdict}
 use Rattle.scope.specs.declared.Verdict.the-variants.{Accepted, Refused}
 use Rattle.scope.specs.Answer.{placeNumber}
 use Rattle.numbers.specs.declared.numbers_answer.NumbersAnswer.{NumbersAnswer}
+
+-- whether a part is there
+abbrev pub flag : Bool → ℕ
+flag true = 1
+flag false = 0
 
 -- whether a load is there, and its two numbers
 abbrev pub there : Load → ℕ
@@ -28,12 +34,13 @@ abbrev pub counted : OpenRows → ℕ
 counted NoCount = 0
 counted (Count k) = k
 
--- "Accepted returns 0, place 0, and reports: 0; the open rows ..; l/n; W/m"; "Refused: number, place, none, none"
-abbrev pub answerOf : Verdict → NumbersAnswer
-answerOf (Accepted o lower upper) = record {
+-- "Accepted returns 0, place 0, and reports: 0; the open rows ..; l/n; W/m"; "Refused: number, place, none, none". An
+-- accepted claim's field is there, whether or not its load is told (document 02, N14)
+abbrev pub answerOf : Bool → Verdict → NumbersAnswer
+answerOf field (Accepted o lower upper) = record {
   number = 0;
   place = 0;
-  field = there lower;
+  field = flag field;
   multipliers = there upper;
   l = numerator lower;
   n = denominator lower;
@@ -41,7 +48,7 @@ answerOf (Accepted o lower upper) = record {
   m = denominator upper;
   «open_rows» = counted o;
 }
-answerOf (Refused k at) = record {
+answerOf field (Refused k at) = record {
   number = k;
   place = placeNumber at;
   field = 0;

@@ -4,15 +4,18 @@
 pub mod numbers_answer;
 
 ghost use mathlib.Core.Path.{_≡_};
+ghost use Rattle.scope.specs.Columns.{hasField};
 ghost use Rattle.scope.specs.Verdict.{verdict};
 ghost use Rattle.numbers.specs.NumbersAnswer.{answerOf};
 use crate::numbers_answer::NumbersAnswer;
 use crate::numbers_answer::answer_of;
+use lines::layout::has_part;
 use verdict::check_numbers;
 
 // The answer to the numbers of a mesh and of a claim.
 pub fn check(m: &[i64], c: &[i64]) -> NumbersAnswer
-    ensures { λ r. ⌜ r ≡ answerOf (verdict (now (m .entry)) (now (c .entry))) ⌝ }
+    ensures { λ r. ⌜ r ≡ answerOf (hasField (now (c .entry))) (verdict (now (m .entry)) (now (c .entry))) ⌝ }
 {
-    answer_of(check_numbers(m, c))
+    let field = has_part(c, 0);
+    answer_of(field, check_numbers(m, c))
 }

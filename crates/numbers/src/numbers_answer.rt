@@ -1,13 +1,14 @@
 // A verdict as C reads it.
 ghost use mathlib.Core.Path.{_≡_};
-ghost use Rattle.numbers.specs.NumbersAnswer.{there, numerator, denominator, counted, answerOf};
+ghost use Rattle.numbers.specs.NumbersAnswer.{flag, there, numerator, denominator, counted, answerOf};
 use scope::Load;
 use scope::OpenRows;
 use scope::Verdict;
 use scope::place_number;
 
 // What a solver that hands over numbers is answered, as C reads it: the verdict's number and place; for an accepted
-// claim which parts are there, the loads l/n and W/m as they stand, and the open rows. What is not there is 0.
+// claim which parts are there, the loads l/n and W/m as they stand, and the open rows. What is not there is 0, and so are
+// l and n of a field on a mesh that lists a soil by direction: its load is not told (document 02, N14).
 #[repr(C)]
 pub struct NumbersAnswer {
     pub number: u32,
@@ -19,6 +20,16 @@ pub struct NumbersAnswer {
     pub w: i64,
     pub m: i64,
     pub open_rows: u64,
+}
+
+// 1 for a part that is there, else 0.
+fn flag(there: bool) -> u32
+    ensures { λ r. ⌜ r ≡ flag «there» ⌝ }
+{
+    if there {
+        return 1;
+    }
+    0
 }
 
 // 1 for a load that is there, else 0.
@@ -58,9 +69,9 @@ fn counted(open_rows: OpenRows) -> u64
     }
 }
 
-// The verdict's number and values, and 0 for what is not there.
-pub fn answer_of(v: Verdict) -> NumbersAnswer
-    ensures { λ r. ⌜ r ≡ answerOf v ⌝ }
+// The verdict's number and values, and 0 for what is not there, on a claim with a field or without.
+pub fn answer_of(field: bool, v: Verdict) -> NumbersAnswer
+    ensures { λ r. ⌜ r ≡ answerOf field v ⌝ }
 {
     match v {
         Verdict::Accepted {
@@ -70,7 +81,7 @@ pub fn answer_of(v: Verdict) -> NumbersAnswer
         } => NumbersAnswer {
             number: 0,
             place: 0,
-            field: there(lower),
+            field: flag(field),
             multipliers: there(upper),
             l: numerator(lower),
             n: denominator(lower),
