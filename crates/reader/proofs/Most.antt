@@ -118,7 +118,7 @@ numbers-most w f most header told bs = by (readLine w (width (f .header)) bs) re
         let count = line-means w (width (f .header)) bs h .0 e .count in
         rw (e, numbersOf) (simp length-append (omega (arith, count, after h count)))
 
-mesh-count : (m : List ℤ) → numberCount (meshLayout .body m) ≡ soils m * width (soilLines 0) + nodes m * width (nodeLines 0) + elements m * width (elementLines 0 0 0) + edges m * width (edgeLines 0 0) + jumps m * width (jumpLines 0 0)
+mesh-count : (m : List ℤ) → numberCount (meshLayout .body m) ≡ soils m * width (soilLines 0 0) + nodes m * width (nodeLines 0) + elements m * width (elementLines 0 0 0) + edges m * width (edgeLines 0 0) + jumps m * width (jumpLines 0 0)
 unfolding numberCount meshLayout soilLines nodeLines elementLines edgeLines jumpLines
 mesh-count m = omega arith
 

@@ -32,11 +32,11 @@ claim-number parts = omega arith
 claim-number (atMost c k d z) = omega arith
 
 pub mesh-regular : Regular meshLayout
-unfolding meshLayout meshHeader groups soilLines nodeLines elementLines edgeLines jumpLines nodes elements soils edges jumps
+unfolding meshLayout meshHeader groups soilLines nodeLines elementLines edgeLines jumpLines nodes elements soils edges sides jumps
 mesh-regular = record {
   oneHeader = refl;
   byHeader = λ h rest e.
-      rw (front h rest 0 (omega arith), front h rest 1 (omega arith), front h rest 2 (omega arith), front h rest 3 (omega arith), front h rest 5 (omega arith));
+      rw (front h rest 0 (omega arith), front h rest 1 (omega arith), front h rest 2 (omega arith), front h rest 3 (omega arith), front h rest 4 (omega arith), front h rest 5 (omega arith));
   someColumns = λ h. omega arith;
   notLimit = omega arith;
   notRule = mesh-number;
