@@ -44,7 +44,7 @@ use Rattle.pechuvo.specs.Check.{mostFileBytes, check}
 -- ---- how long a mesh and a claim can be
 
 -- the bytes of the lines after a mesh's header
-mesh-bytes : (h : List ℤ) → bytesOf 12 (widths (meshLayout .body h)) ≡ soils h * 97 + (nodes h * 25 + (elements h * 61 + (edges h * 85 + jumps h * 49)))
+mesh-bytes : (h : List ℤ) → bytesOf 12 (widths (meshLayout .body h)) ≡ soils h * 121 + (nodes h * 25 + (elements h * 61 + (edges h * 85 + jumps h * 49)))
 unfolding meshLayout soilLines nodeLines elementLines edgeLines jumpLines lineBytes
 mesh-bytes h = simp (group-bytes, no-bytes) (omega arith)
 

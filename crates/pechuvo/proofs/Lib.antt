@@ -1,6 +1,7 @@
 -- The theorems about the whole check.
 pub mod Sheets
 pub mod Sheets108
+pub mod SheetsBeds
 pub mod Check
 pub mod Answers
 pub mod VerdictFits
@@ -13,3 +14,4 @@ pub mod RunApplied
 pub mod SizesPromises
 pub mod SizesApplied
 pub mod PromisesApplied108
+pub mod PromisesAppliedBeds

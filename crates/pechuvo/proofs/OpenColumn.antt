@@ -34,6 +34,6 @@ pub open-column : (d : ℕ) (m c : List ℤ) → d ≤ 7 → ClaimAccepted m c �
 open-column d m c h a f w =
     let parts = claim-by-parts m c .0 a in
     let count = open-rows-count m c (parts .2 f) (parts .3 w) .both in
-    let e : verdict m c ≡ Accepted (Count (openRows (stress m c) (l c) (n c) (multiplier m c) (rowsOf m))) (lowerLoad c) (upperLoad m c) = accepted-exactly m c .1 a ∙ ap (λ (o : OpenRows). Accepted o (lowerLoad c) (upperLoad m c)) count in
+    let e : verdict m c ≡ Accepted (Count (openRows (stress m c) (l c) (n c) (multiplier m c) (rowsOf m))) (lowerLoad m c) (upperLoad m c) = accepted-exactly m c .1 a ∙ ap (λ (o : OpenRows). Accepted o (lowerLoad m c) (upperLoad m c)) count in
     let line = line-says d (verdict m c) h (held m c) in
     line .readSecond ∙ ap some (second (subst (λ (v : Verdict). Says d v (line .first) (line .second) (line .third) (line .fourth)) e (line .says)))

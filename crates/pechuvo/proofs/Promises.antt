@@ -1,7 +1,7 @@
 -- The promises of the check of two files hold of every call: the theorems about the definitions, read off what is returned and written.
 use mathlib.Core.Path.{_≡_, refl, sym, _∙_, ap, subst}
 use mathlib.Core.Logic.{Iff·symm, Iff·trans, _⊎_, inl, inr, _≢_}
-use mathlib.Core.Bool.{true, false}
+use mathlib.Core.Bool.{Bool, true, false}
 use mathlib.Core.List.{List, _∷_, _++_, map, append-nil, List·Memᴰ·head, List·Memᴰ·tail}
 use mathlib.Core.Option.{some}
 use Prim.Native.Nat.{ℕ, suc, _^_, _≤_, _<_}
@@ -28,7 +28,7 @@ use Rattle.scope.specs.declared.Verdict.the-variants.{Accepted, Refused}
 use Rattle.scope.specs.Answer.{placeFor, numberOf, placeOf}
 use Rattle.scope.specs.Members.{_∈_}
 use Rattle.scope.specs.Columns.{at, hasField, hasMultipliers, n, l}
-use Rattle.scope.specs.Mesh.{meshLayout}
+use Rattle.scope.specs.Mesh.{meshLayout, someByDirection, ListsDirection}
 use Rattle.scope.specs.Rows.{rowsOf}
 use Rattle.scope.specs.Sums.{openRows, liveSum, limitSum}
 use Rattle.scope.specs.Claim.{claimLayout, stress, multiplier}
@@ -37,6 +37,8 @@ use Rattle.scope.specs.Statements.{HasField, HasMultipliers}
 use Rattle.scope.specs.Refusals.{meshPhases, claimPhases}
 use Rattle.scope.specs.Accepted.{FieldAccepted, MultipliersAccepted, ClaimAccepted}
 use Rattle.scope.specs.Parts.{carried, allowed}
+use Rattle.scope.proofs.Decides.{Decides}
+use Rattle.scope.proofs.Directions.{lists-direction}
 use Rattle.scope.proofs.Exactly.{accepted-exactly, refused-exactly, verdict-cases, returns-zero, claim-by-parts, each-number}
 use Rattle.scope.proofs.Phases.{EachIn, each-refusal, own-number}
 use Rattle.scope.proofs.Parts.{field-n, open-rows-count}
@@ -45,7 +47,7 @@ use Rattle.numbers.specs.declared.numbers_answer.NumbersAnswer.{NumbersAnswer}
 use Rattle.numbers.specs.NumbersAnswer.{answerOf}
 use Rattle.numbers.specs.Promises as Handed-over
 use Rattle.numbers.specs.Promises.{Returned, TellsField}
-use Rattle.numbers.proofs.Promises.{returned, returns-zero-exactly, refuses-exactly, numbers-listed, rows-refused, field-exactly, multipliers-exactly, pairs-asked, sides-asked, criterion-for-each-pair, jumps-asked, tractions-on-joints, fractions-allowed}
+use Rattle.numbers.proofs.Promises.{returned, returns-zero-exactly, refuses-exactly, numbers-listed, rows-refused, field-exactly, multipliers-exactly, pairs-asked, sides-asked, criterion-for-each-pair, directions-asked, jumps-asked, tractions-on-joints, fractions-allowed}
 use Rattle.report.specs.Text.{Said, number as shows, said}
 use Rattle.report.specs.Report.{reportBytes, reportLine, mostDecimals, Decimals, isDecimals, usualDecimals}
 use Rattle.report.specs.Says.{columnOf, LoadSays, no-load, rounded, Says, says-accepted, says-refused, LineSays}
@@ -133,7 +135,7 @@ not-of-a-verdict x above not-42 not-44 m c = by (verdict-cases m c)
           λ i. (λ k n h l r e. omega (arith, above, own-number {k = 32} refl r), λ i. (λ k n h l r e. omega (arith, above, own-number {k = 33} refl r), λ i. tt)),
         ))
 
-    by : ((k : ℕ) × (p : Place) × (verdict m c ≡ Refused k p)) ⊎ (verdict m c ≡ Accepted (openCount m c) (lowerLoad c) (upperLoad m c)) → numberOf (verdict m c) ≢ x
+    by : ((k : ℕ) × (p : Place) × (verdict m c ≡ Refused k p)) ⊎ (verdict m c ≡ Accepted (openCount m c) (lowerLoad m c) (upperLoad m c)) → numberOf (verdict m c) ≢ x
     by (inl (k, p, e)) = rw e (each-refusal (λ k p. k ≢ x) (meshPhases m ++ claimPhases m c) each (refused-exactly m c k p .0 e .by))
     by (inr e) = rw e (λ y. omega (arith, above))
 
@@ -170,24 +172,31 @@ ceil-says : {d : ℕ} {num den : ℤ} {s : Said} → pos 0 <ℤ den → LoadSays
 ceil-says p (no-load h) = absurd (<ℤ-irrefl (<ℤ-≤ℤ-trans p h))
 ceil-says {d} p (rounded num v den q f) = let b = upper-within d den num v f in (v, refl, b .0, b .1)
 
+none-listed : (m : List ℤ) → ¬ ListsDirection m → someByDirection m ≡ false
+none-listed m h = by (someByDirection m) (lists-direction m)
+  where
+    by : (b : Bool) → Decides b (ListsDirection m) → b ≡ false
+    by true d = absurd (h (d .holds tt))
+    by false d = refl
+
 module _ (m c : List ℤ) where
-  lower-exact : HasField c → lowerLoad c ≡ Exact (l c) (n c)
+  lower-exact : HasField c → ¬ ListsDirection m → lowerLoad m c ≡ Exact (l c) (n c)
   unfolding lowerLoad hasField
-  lower-exact f = rw (is-true (eqZ (at c 0) (pos 1)) (yes-eqZ f))
+  lower-exact f h = rw (is-true (eqZ (at c 0) (pos 1)) (yes-eqZ f), none-listed m h)
 
   upper-exact : HasMultipliers c → upperLoad m c ≡ Exact (limitSum (multiplier m c) (rowsOf m)) (liveSum (multiplier m c) (rowsOf m))
   unfolding upperLoad hasMultipliers
   upper-exact f = rw (is-true (eqZ (at c 1) (pos 1)) (yes-eqZ f))
 
-  accepted : numberOf (verdict m c) ≡ 0 → verdict m c ≡ Accepted (openCount m c) (lowerLoad c) (upperLoad m c)
+  accepted : numberOf (verdict m c) ≡ 0 → verdict m c ≡ Accepted (openCount m c) (lowerLoad m c) (upperLoad m c)
   accepted z = accepted-exactly m c .1 (returns-zero m c .0 z)
 
   module _ (d : ℕ) (h : d ≤ mostDecimals) where
-    prints-lower : numberOf (verdict m c) ≡ 0 → HasField c → LowerPrinted d c (reportLine d (verdict m c))
+    prints-lower : numberOf (verdict m c) ≡ 0 → HasField c → ¬ ListsDirection m → LowerPrinted d c (reportLine d (verdict m c))
     unfolding carried
-    prints-lower z f =
+    prints-lower z f none =
         let line = says-line d h m c in
-        let says : LoadSays Floor d (Exact (l c) (n c)) (line .third) = subst (λ (x : Load). LoadSays Floor d x (line .third)) (lower-exact f) (third-says (subst (λ (v : Verdict). Says d v (line .first) (line .second) (line .third) (line .fourth)) (accepted z) (line .says))) in
+        let says : LoadSays Floor d (Exact (l c) (n c)) (line .third) = subst (λ (x : Load). LoadSays Floor d x (line .third)) (lower-exact f none) (third-says (subst (λ (v : Verdict). Says d v (line .first) (line .second) (line .third) (line .fourth)) (accepted z) (line .says))) in
         let (v, e, a, b) = floor-says (field-n m c (claim-by-parts m c .0 (returns-zero m c .0 z) .2 f)) says in
         let r = line .readThird ∙ ap some e in
         record { units = v; reads = r; at-most = a; within = b; minus = minus-below-zero v d r }
@@ -228,12 +237,12 @@ module _ (m c : List ℤ) where
 
     -- "in the same 28 characters"
     pub texts-fit : ClaimAccepted m c → TextsFit d m c
-    texts-fit a = record { lower = lower-room d (lowerLoad c) h (lower-held m c a); upper = upper-room d (upperLoad m c) h (upper-held m c a) }
+    texts-fit a = record { lower = lower-room d (lowerLoad m c) h (lower-held m c a); upper = upper-room d (upperLoad m c) h (upper-held m c a) }
 
 -- six decimals are millionths
 pub millionths : {m c : List ℤ} {place : ℕ} {line : List ℕ} → Prints 6 m c 0 place line → Millionths m c line
 millionths p = record {
-  lower = λ f. let l = p .lower refl f in (l .units, l .reads, l .at-most, l .within);
+  lower = λ f h. let l = p .lower refl f h in (l .units, l .reads, l .at-most, l .within);
   upper = λ f. let u = p .upper refl f in (u .units, u .reads, u .at-least, u .within);
 }
 
@@ -329,6 +338,7 @@ module _ (mesh claim : List ℕ) (z : ℤ) (before : List ℕ) (number place : �
         pairs = pairs-asked (meshIn mesh) (claimIn mesh claim) number place r;
         sides = sides-asked (meshIn mesh) (claimIn mesh claim) number place r;
         criterion = criterion-for-each-pair (meshIn mesh) (claimIn mesh claim) number place r;
+        directions = directions-asked (meshIn mesh) (claimIn mesh claim) number place r;
         jumps = jumps-asked (meshIn mesh);
         tractions = tractions-on-joints (meshIn mesh) (claimIn mesh claim) number place r;
       }
@@ -404,7 +414,7 @@ fractions-bracket {b} q w z m sound same = fractions-allowed m (meshOf b) (claim
 
 -- numbers handed over as a file of them
 pub as-a-file : {m c : List ℤ} {r : NumbersAnswer} → Handed-over.Answers m c r → AsAFile m c r
-as-a-file {m} {c} h = record { some-width = width-there m c; every-width = λ w x y. h ∙ ap answerOf (sym (numbers-verdict w m c x y)) }
+as-a-file {m} {c} h = record { some-width = width-there m c; every-width = λ w x y. h ∙ ap (answerOf (hasField c)) (sym (numbers-verdict w m c x y)) }
 
 -- ---- the sheets
 

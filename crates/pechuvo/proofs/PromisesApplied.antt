@@ -3,7 +3,7 @@ use mathlib.Core.Path.{_≡_, refl, sym, _∙_, ap, subst}
 use mathlib.Core.Logic.{inl, inr, _≢_}
 use mathlib.Core.List.{List, [], _∷_, _++_, map, List·Memᴰ·head}
 use mathlib.Core.Option.{some}
-use Prim.Native.Nat.{ℕ, _+_, _*_, _<_, _≤_}
+use Prim.Native.Nat.{ℕ, zero, suc, _+_, _*_, _<_, _≤_}
 use native.Mathlib.Omega.{arith}
 use lib.IntN.{ℤ, pos, negsuc}
 use lib.Signed.{<ℤ-irrefl}
@@ -13,7 +13,7 @@ use Rattle.scope.specs.declared.Place.the-variants.{Column}
 use Rattle.scope.proofs.Computed.{computed}
 use Rattle.scope.specs.Members.{_∈_}
 use Rattle.scope.specs.Columns.{n, l}
-use Rattle.scope.specs.Mesh.{meshLayout, nodes, elements, edges, sides, corner, elementSoil, fromNode, jumps}
+use Rattle.scope.specs.Mesh.{meshLayout, nodes, elements, edges, sides, corner, elementSoil, fromNode, jumps, ByDirection, ListsDirection}
 use Rattle.scope.specs.Polygon.{polygonOf}
 use Rattle.scope.specs.Rows.{Pair, pairCount, pairAt, equalityRows, rowsOf, judged}
 use Rattle.scope.specs.RowNumbers.{sideNumbered}
@@ -47,7 +47,7 @@ use Rattle.pechuvo.proofs.Sheets.{computedLine}
 use Rattle.pechuvo.proofs.Promises.{any-call, long-files, on-numbers-read, form-exactly, accepted-files, prints-columns, millionths, texts-fit, prints-open-rows, calls-bracket, accepted-parts, fractions-bracket, as-a-file, starred-written}
 
 -- for proofs by computation: besides the definitions that make a line, those that read its columns and those that say what was handed over
-unfoldable opened : Unit {0}
+unfoldable pub opened : Unit {0}
 unfolding computedLine beforePoint afterPoint decimal saidNumber belowZero saidMinus andSaid signedDecimal isNone said columnOf meshOf claimOf twoThirdsMesh twoThirdsClaim withDecimals
 opened = tt
 
@@ -222,10 +222,15 @@ one-element : (0 < elements (meshIn (at 4 .mesh))) × (corner (meshIn (at 4 .mes
 unfolding opened
 one-element = (omega arith, refl)
 
+no-direction : ¬ ByDirection (meshIn (at 4 .mesh)) (elementSoil (meshIn (at 4 .mesh)) 0)
+unfolding opened
+no-direction e = let z : _≡_ {A = ℕ} 0 1 = cc in omega arith
+
 pub criterion-at-node-3 : MeetsCriterion (meshIn (at 4 .mesh)) (claimIn (at 4 .mesh) (at 4 .claim)) (record { at = 2; soil = elementSoil (meshIn (at 4 .mesh)) 0 })
 criterion-at-node-3 =
     on-numbers-read (at 4 .mesh) (at 4 .claim) (pos 6) room 32 7 (at 4 .line) refused-answered fits .criterion tells-field .around 2 0 (one-element .0)
     (2, omega arith, one-element .1)
+    no-direction
 
 -- node 3 of the seam is a pair with the clay, and the row of 22 is that pair's, which the field does not meet
 abbrev meshOfSeam : List ℤ
@@ -242,10 +247,14 @@ fourth-pair : (3 < pairCount meshOfSeam) × (0 < sides meshOfSeam) × (37 ≡ 3 
 unfolding opened seamMesh seamFault
 fourth-pair = (omega arith, omega arith, refl, refl)
 
+no-bedded-clay : ¬ ByDirection meshOfSeam (pairAt meshOfSeam 3 .soil)
+unfolding opened seamMesh seamFault
+no-bedded-clay e = let z : _≡_ {A = ℕ} 0 1 = cc in omega arith
+
 pub clay-row-fails : ¬ StrengthAt meshOfSeam (stress meshOfSeam claimOfSeam) (l claimOfSeam) (n claimOfSeam) (polygonOf (sides meshOfSeam) .radius) (record { at = 2; soil = 1 }) (sideNumbered (polygonOf (sides meshOfSeam)) 1)
 clay-row-fails =
     subst (λ (a : Pair). ¬ StrengthAt meshOfSeam (stress meshOfSeam claimOfSeam) (l claimOfSeam) (n claimOfSeam) (polygonOf (sides meshOfSeam) .radius) a (sideNumbered (polygonOf (sides meshOfSeam)) 1)) (fourth-pair .3)
-    (on-numbers-read (seamFault .mesh) (seamFault .claim) (pos 6) room 22 37 (seamFault .line) fault-answered fits .rows .strength refl .strength 3 0 (fourth-pair .0) (fourth-pair .1) (fourth-pair .2))
+    (on-numbers-read (seamFault .mesh) (seamFault .claim) (pos 6) room 22 37 (seamFault .line) fault-answered fits .rows .strength refl .strength 3 0 (fourth-pair .0) (fourth-pair .1) no-bedded-clay (fourth-pair .2))
 
 -- the two blocks press on their joint alike
 abbrev meshOfJoint : List ℤ
@@ -284,8 +293,13 @@ pub empty-claim-form : MeshSound (meshIn (at 0 .mesh)) × FormFails fileWidth (c
 empty-claim-form = form-exactly (at 0 .mesh) [] (pos 6) room 11 1 (check (at 0 .mesh) [] (pos 6) room .buffer) empty-claim fits .claim-form 0 .0 (refl, refl)
 
 -- 1/3 as lower 0.333333, as upper 0.333334
+no-bedded-soil : ¬ ListsDirection (meshIn (at 7 .mesh))
+unfolding opened
+no-bedded-soil (zero, h, e) = let z : _≡_ {A = ℕ} 0 1 = cc in omega arith
+no-bedded-soil (suc s, h, e) = absurd (omega arith)
+
 pub third-lower : LowerPrinted 6 (claimIn (at 7 .mesh) (at 7 .claim)) (take reportBytes (at 7 .line))
-third-lower = prints-columns (at 7 .mesh) (at 7 .claim) (pos 6) room 0 0 (at 7 .line) third-answered fits .lower refl (third-parts .0)
+third-lower = prints-columns (at 7 .mesh) (at 7 .claim) (pos 6) room 0 0 (at 7 .line) third-answered fits .lower refl (third-parts .0) no-bedded-soil
 
 pub third-upper : UpperPrinted 6 (meshIn (at 7 .mesh)) (claimIn (at 7 .mesh) (at 7 .claim)) (take reportBytes (at 7 .line))
 third-upper = prints-columns (at 7 .mesh) (at 7 .claim) (pos 6) room 0 0 (at 7 .line) third-answered fits .upper refl (third-parts .1)
@@ -322,8 +336,13 @@ pull-parts : HasField (claimIn (pull 1 .mesh) (pull 1 .claim)) × HasMultipliers
 unfolding opened
 pull-parts = (refl, refl)
 
+pull-told : ¬ ListsDirection (meshIn (pull 1 .mesh))
+unfolding opened
+pull-told (zero, h, e) = let z : _≡_ {A = ℕ} 0 1 = cc in omega arith
+pull-told (suc s, h, e) = absurd (omega arith)
+
 pub pull-lower : LowerPrinted 3 (claimIn (pull 1 .mesh) (pull 1 .claim)) (take reportBytes (pull 1 .line))
-pull-lower = prints-columns (pull 1 .mesh) (pull 1 .claim) (pos 3) room 0 0 (pull 1 .line) pull-answered (fits-with 3 (omega arith)) .lower refl (pull-parts .0)
+pull-lower = prints-columns (pull 1 .mesh) (pull 1 .claim) (pos 3) room 0 0 (pull 1 .line) pull-answered (fits-with 3 (omega arith)) .lower refl (pull-parts .0) pull-told
 
 pub pull-upper : UpperPrinted 3 (meshIn (pull 1 .mesh)) (claimIn (pull 1 .mesh) (pull 1 .claim)) (take reportBytes (pull 1 .line))
 pull-upper = prints-columns (pull 1 .mesh) (pull 1 .claim) (pos 3) room 0 0 (pull 1 .line) pull-answered (fits-with 3 (omega arith)) .upper refl (pull-parts .1)

@@ -11,6 +11,7 @@ use Rattle.judge.specs.Judge.{meshNumbers, claimNumbers, filesVerdict}
 use Rattle.pechuvo.specs.Check.{check}
 use Rattle.pechuvo.specs.Bytes.{bytes, withWord, numbersAfter, numbers}
 use Rattle.pechuvo.specs.Sheets.{sheet, printedWith, printed, workedMesh, pullMesh, pullClaim, starred, unitSquare, seamMesh, seamFault, jointMesh, jointBlocks, noticing, twoThirdsMesh, twoThirdsClaim, withDecimals}
+use Rattle.pechuvo.specs.SheetsBeds.{beddedBlock, beddedHalf, beddedUnused}
 use Rattle.pechuvo.specs.Shipped.{asFiles, shipped}
 
 -- for proofs by computation: every definition between the bytes of two files and the bytes of the line is open
@@ -32,5 +33,5 @@ decimals-sheets = refl
 
 -- the files that ship are the ones that the definition writes
 pub shipped-written : map (λ s. (s .mesh, s .claim)) asFiles ≡ shipped
-unfolding computedLine seamMesh seamFault jointMesh jointBlocks asFiles shipped
+unfolding computedLine seamMesh seamFault jointMesh jointBlocks beddedBlock beddedHalf beddedUnused asFiles shipped
 shipped-written = refl

@@ -1,7 +1,7 @@
 -- Every verdict is one that the line can hold: a refusal's number and place are small, l is within its limit, W fits 64 bits, and no more rows are open than there are.
 use mathlib.Core.Path.{_≡_, sym, subst}
 use mathlib.Core.Logic.{_⊎_, inl, inr}
-use mathlib.Core.Bool.{Bool, true, false, cond, _&&_}
+use mathlib.Core.Bool.{Bool, true, false, cond, not, _&&_}
 use mathlib.Core.List.{List, [], _∷_}
 use Prim.Native.Nat.{ℕ, suc, _+_, _^_, _≤_, _<_}
 use native.Mathlib.Omega.{arith}
@@ -14,6 +14,7 @@ use Rattle.scope.specs.declared.Load.the-variants.{Absent, Exact}
 use Rattle.scope.specs.declared.OpenRows.the-variants.{Absent as NoCount, Count}
 use Rattle.scope.specs.declared.Verdict.the-variants.{Accepted, Refused}
 use Rattle.scope.specs.Columns.{hasField, hasMultipliers, n, l}
+use Rattle.scope.specs.Mesh.{someByDirection}
 use Rattle.scope.specs.Rows.{Row, equalityRows, strengthRows, rowsOf}
 use Rattle.scope.specs.Sums.{weighed, limitSum, liveSum, howMany, isOpen, openRows}
 use Rattle.scope.specs.Claim.{stress, multiplier}
@@ -71,9 +72,9 @@ module _ (m c : List ℤ) (a : ClaimAccepted m c) where
         mesh .counts,
       ))
 
-  pub lower-held : HeldLoad (lowerLoad c)
+  pub lower-held : HeldLoad (lowerLoad m c)
   unfolding lowerLoad
-  lower-held = if-load (hasField c) (l c) (n c) (λ t. omega (arith, between (claim .lRange) .within))
+  lower-held = if-load (hasField c && not (someByDirection m)) (l c) (n c) (λ t. omega (arith, between (claim .lRange) .within))
 
   pub upper-held : HeldLoad (upperLoad m c)
   unfolding upperLoad hasMultipliers
@@ -84,6 +85,6 @@ module _ (m c : List ℤ) (a : ClaimAccepted m c) where
 pub held : (m c : List ℤ) → Held (verdict m c)
 held m c = by (verdict-cases m c)
   where
-    by : ((k : ℕ) × (p : Place) × (verdict m c ≡ Refused k p)) ⊎ (verdict m c ≡ Accepted (openCount m c) (lowerLoad c) (upperLoad m c)) → Held (verdict m c)
+    by : ((k : ℕ) × (p : Place) × (verdict m c ≡ Refused k p)) ⊎ (verdict m c ≡ Accepted (openCount m c) (lowerLoad m c) (upperLoad m c)) → Held (verdict m c)
     by (inl (k, p, e)) = let b = refusal-bounds (refused-exactly m c k p .0 e) in subst Held (sym e) (omega (arith, b .0), omega (arith, b .1))
     by (inr e) = let a = accepted-exactly m c .0 e in subst Held (sym e) (rows-held m c a, lower-held m c a, upper-held m c a)

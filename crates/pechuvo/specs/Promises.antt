@@ -13,8 +13,8 @@ use lib.IntN.{ℤ, pos, natAbs, _+ℤ_, _-ℤ_}
 use lib.Signed.{_<ℤ_}
 use lib.ListN.{length, take, drop, replicate}
 use Rattle.integer.specs.Fraction.{_over_, _≈ᶠ_, _≤ᶠ_, _<ᶠ_}
-use Rattle.scope.specs.Columns.{n, l}
-use Rattle.scope.specs.Mesh.{meshLayout, nodes, elements, edges, sides, jumps}
+use Rattle.scope.specs.Columns.{hasField, n, l}
+use Rattle.scope.specs.Mesh.{meshLayout, nodes, elements, edges, sides, jumps, ListsDirection}
 use Rattle.scope.specs.Answer.{placeFor}
 use Rattle.scope.specs.Rows.{Row, pairCount, balanceRows, sideRows, jumpRows, strengthRows, rowsOf}
 use Rattle.scope.specs.Claim.{claimHeaderColumns, claimLayout, stress, multiplier}
@@ -26,7 +26,7 @@ use Rattle.scope.specs.Tests.{rowAt}
 use Rattle.scope.specs.Verdict.{lowerLoad, upperLoad}
 use Rattle.numbers.specs.declared.numbers_answer.NumbersAnswer.{NumbersAnswer}
 use Rattle.numbers.specs.Promises as Handed-over
-use Rattle.numbers.specs.Promises.{Returned, ReturnsZero, RefusesExactly, NumbersListed, TellsField, RowsRefused, FieldExactly, MultipliersExactly, CriterionForEachPair, PairsAsked, SidesAsked, JumpsAsked, TractionsOnJoints, FractionsBracket}
+use Rattle.numbers.specs.Promises.{Returned, ReturnsZero, RefusesExactly, NumbersListed, TellsField, RowsRefused, FieldExactly, MultipliersExactly, CriterionForEachPair, DirectionsAsked, PairsAsked, SidesAsked, JumpsAsked, TractionsOnJoints, FractionsBracket}
 use Rattle.numbers.specs.NumbersAnswer.{answerOf}
 use Rattle.reader.specs.File.{fileOf, fileWidth, lineBytes}
 use Rattle.reader.specs.WellFormed.{Fit, FormFails}
@@ -81,8 +81,8 @@ pub record LongFiles (mesh claim : List ℕ) (z : ℤ) (before : List ℕ) (numb
 -- ==== Demand 2: what is accepted, what is refused, what is printed; where a line is written (`Room`)
 
 -- 0 exactly when, each refusal with its place exactly when, no number but those of the table, each part accepted
--- exactly when, the pairs with the criterion for each, the jumps with the tractions on their joints, and what goes by
--- the number of sides
+-- exactly when, the pairs with the criterion for each, strength by direction, the jumps with the tractions on their
+-- joints, and what goes by the number of sides
 pub record OnFiles (mesh claim : List ℕ) (number place : ℕ) : Type 0 where
   pub returns-zero : ReturnsZero (meshIn mesh) (claimIn mesh claim) number place
   pub refuses : RefusesExactly (meshIn mesh) (claimIn mesh claim) number place
@@ -93,6 +93,7 @@ pub record OnFiles (mesh claim : List ℕ) (number place : ℕ) : Type 0 where
   pub pairs : PairsAsked (meshIn mesh) number place
   pub sides : SidesAsked (meshIn mesh) number place
   pub criterion : TellsField (claimIn mesh claim) number → CriterionForEachPair (meshIn mesh) (claimIn mesh claim)
+  pub directions : DirectionsAsked (meshIn mesh) (claimIn mesh claim) number
   pub jumps : JumpsAsked (meshIn mesh)
   pub tractions : TractionsOnJoints (meshIn mesh) (claimIn mesh claim) number
 
@@ -132,7 +133,7 @@ pub record UpperPrinted (d : ℕ) (m c : List ℤ) (line : List ℕ) : Type 0 wh
 
 -- the case of six decimals, demand 2's millionth: 0 ≤ l/n - v/10^6 < 10^-6, and 0 ≤ v/10^6 - W/m < 10^-6
 pub record Millionths (m c : List ℤ) (line : List ℕ) : Type 0 where
-  pub lower : HasField c → (v : ℤ)
+  pub lower : HasField c → ¬ ListsDirection m → (v : ℤ)
       × (said (columnOf 2 line) ≡ some (shows v 6)) × (v over pos 1000000 ≤ᶠ carried c)
       × (carried c <ᶠ (v +ℤ pos 1) over pos 1000000)
   pub upper : HasMultipliers c → (v : ℤ)
@@ -141,16 +142,17 @@ pub record Millionths (m c : List ℤ) (line : List ℕ) : Type 0 where
 
 -- "in the same 28 characters": no load of an accepted claim has a longer text
 pub record TextsFit (d : ℕ) (m c : List ℤ) : Type 0 where
-  pub lower : length (lowerText d (lowerLoad c)) ≤ columnBytes
+  pub lower : length (lowerText d (lowerLoad m c)) ≤ columnBytes
   pub upper : length (upperText d (upperLoad m c)) ≤ columnBytes
 
 -- the four columns: "Accepted .. reports: 0; the open rows ..; l/n; W/m"; "Refused: number, place, none, none";
--- "Whichever part the claim lacks gives the four letters none"
+-- "Whichever part the claim lacks gives the four letters none", and so does the lower load on "a mesh that lists" a soil
+-- by direction, "used or not" (document 02, N14)
 pub record Prints (d : ℕ) (m c : List ℤ) (number place : ℕ) (line : List ℕ) : Type 0 where
   pub first : said (columnOf 0 line) ≡ some (shows (pos number) 0)
   pub refused : number ≢ 0 → said (columnOf 1 line) ≡ some (shows (pos place) 0)
-  pub lower : number ≡ 0 → HasField c → LowerPrinted d c line
-  pub lower-none : (said (columnOf 2 line) ≡ some word) ↔ ((number ≢ 0) ⊎ (¬ HasField c))
+  pub lower : number ≡ 0 → HasField c → ¬ ListsDirection m → LowerPrinted d c line
+  pub lower-none : (said (columnOf 2 line) ≡ some word) ↔ ((number ≢ 0) ⊎ ((¬ HasField c) ⊎ ListsDirection m))
   pub upper : number ≡ 0 → HasMultipliers c → UpperPrinted d m c line
   pub upper-none : (said (columnOf 3 line) ≡ some word) ↔ ((number ≢ 0) ⊎ (¬ HasMultipliers c))
   pub rows-none : number ≡ 0 → (said (columnOf 1 line) ≡ some word) ↔ ((¬ HasField c) ⊎ (¬ HasMultipliers c))
@@ -192,7 +194,7 @@ FractionsAndCall b j = Call b j → HasMultipliers (claimOf b) → j ≡ 0 → (
 pub record AsAFile (m c : List ℤ) (r : NumbersAnswer) : Type 0 where
   pub some-width : (w : ℕ) × Fit w m × Fit w c
   pub every-width : (w : ℕ) → Fit w m → Fit w c
-      → r ≡ answerOf (filesVerdict w (fileOf w meshLayout m) (fileOf w (claimLayout m) c))
+      → r ≡ answerOf (hasField c) (filesVerdict w (fileOf w meshLayout m) (fileOf w (claimLayout m) c))
 
 -- ==== The sheets
 
