@@ -67,6 +67,7 @@ weighed_row : (w : ℕ → ℤ) (rs : List Row) {p : ℤ × Row} → p ∈ weigh
 unfolding weighed
 weighed_row w (r ∷ rs) (Memᴰ.head e) = Memᴰ.head (ap (λ p. p.1) e)
 weighed_row w (r ∷ rs) (Memᴰ.tail m) = Memᴰ.tail (weighed_row (λ k. w (suc k)) rs m)
+weighed_row w [] {p = p} x' = elim x' [ ]
 
 module _ (w : ℕ → ℤ) (rs : List Row) (N : ℕ) (within : Columns N rs) (zero_columns : (j : ℕ) → j < N → column_sum w rs j ≡ pos 0) where
   stresses_cancel : (s : ℕ → ℤ) → weighted_sum (λ r. weighted_sum s r.entries) (weighed w rs) ≡ pos 0
@@ -133,6 +134,7 @@ module _ {A : Type 0} (f : A → ℤ) where
   sum_zero (b ∷ l) h e a (Memᴰ.head p) = rw p (both_zero (h b (Memᴰ.head refl)) (sum_nonneg l (λ c k. h c (Memᴰ.tail k))) e).0
   sum_zero (b ∷ l) h e a (Memᴰ.tail m) =
       sum_zero l (λ c k. h c (Memᴰ.tail k)) (both_zero (h b (Memᴰ.head refl)) (sum_nonneg l (λ c k. h c (Memᴰ.tail k))) e).1 a m
+  sum_zero [] h e a x3 = elim x3 [ ]
 
 -- ---- rows by number
 
@@ -140,6 +142,7 @@ of_weighed : (w : ℕ → ℤ) (rs : List Row) {p : ℤ × Row} → p ∈ weighe
 unfolding weighed row_at
 of_weighed w (r ∷ rs) (Memᴰ.head e) = (0, omega arith, e)
 of_weighed w (r ∷ rs) (Memᴰ.tail m) = let (k, h, e) = of_weighed (λ k. w (suc k)) rs m in (suc k, omega arith, e)
+of_weighed w [] {p = p} x' = elim x' [ ]
 
 in_weighed : (w : ℕ → ℤ) (rs : List Row) (k : ℕ) → k < length rs → (w k, row_at rs k) ∈ weighed w rs
 unfolding weighed row_at
@@ -154,6 +157,7 @@ module _ {A : Type 0} (f : A → Bool) where
   unfolding how_many
   none_counted (b ∷ l) e a (Memᴰ.head p) t = absurd (omega (arith, rw (← p, is_true (f a) t) at e))
   none_counted (b ∷ l) e a (Memᴰ.tail m) t = none_counted l (omega arith) a m t
+  none_counted [] e a x3 t = elim x3 [ ]
 
   count_none : (l : List A) → ((a : A) → a ∈ l → ¬ T (f a)) → how_many f l ≡ 0
   unfolding how_many

@@ -57,10 +57,13 @@ unfolding sides_to
 ends c end h (v ∷ []) among s (Memᴰ.head e) = rw e (record { from_corner = among v (Memᴰ.head refl); to_corner = h })
 ends c end h (v ∷ w ∷ rest) among s (Memᴰ.head e) = rw e (record { from_corner = among v (Memᴰ.head refl); to_corner = among w (Memᴰ.tail (Memᴰ.head refl)) })
 ends c end h (v ∷ w ∷ rest) among s (Memᴰ.tail m) = ends c end h (w ∷ rest) (λ u k. among u (Memᴰ.tail k)) s m
+ends c end h [] among s x'' = elim x'' [ ]
+ends c end h (v ∷ []) among s (Memᴰ.tail m) = elim m [ ]
 
 sides_ends : (c : List Point) (s : Side) → s ∈ polygon_sides c → Ends c s
 unfolding polygon_sides
 sides_ends (v ∷ rest) s m = ends (v ∷ rest) v (Memᴰ.head refl) (v ∷ rest) (λ u k. k) s m
+sides_ends [] s m = elim m [ ]
 
 -- along the upper half where P is not below the axis, else along the lower half
 around : (P : Point) (r : ℤ) (c : List Point) → pos 0 <ℤ r → OnceAround r c → Between P (polygon_sides c)

@@ -64,7 +64,7 @@ module _ (f : FractionField) where
   with_one j (suc n) h =
       let small : j ≤ n = omega arith in
       ⊎_elim
-      (λ e. rw (e, eq-eqb n n refl, beyond n n (omega arith)) (ring (all n ∷ den n ∷ []) (search terms depth 100) refl))
+      (λ e. rw (e, eq-eqb n n refl, beyond j n (omega arith)) (ring (all n ∷ den n ∷ []) (search terms depth 100) refl))
       (λ l. rw (ne_eqb j n (omega arith)) (ring_from (den n) (with_one j n l) (ring (all_but j n ∷ all n ∷ den n ∷ den j ∷ []) (search terms depth 100) refl)))
       (eq-or-lt_of_le small)
 

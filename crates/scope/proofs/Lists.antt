@@ -15,6 +15,7 @@ pub in_joined : {A B : Type 0} (f : A → List B) (l : List A) {a : A} {b : B} �
 unfolding joined
 in_joined f (c ∷ l) (Memᴰ.head e) m = Memᴰ.append_left (joined f l) (rw e at m)
 in_joined f (c ∷ l) (Memᴰ.tail k) m = Memᴰ.append_right (f c) (in_joined f l k m)
+in_joined {A = A} {B = B} f [] {a = a} {b = b} x'' m = elim x'' [ ]
 
 pub of_joined : {A B : Type 0} (f : A → List B) (l : List A) {b : B} → b ∈ joined f l → (a : A) × (a ∈ l) × (b ∈ f a)
 unfolding joined
@@ -23,6 +24,7 @@ of_joined f (c ∷ l) m =
     (λ k. (c, Memᴰ.head refl, k))
     (λ k. let (a, j, b) = of_joined f l k in (a, Memᴰ.tail j, b))
     (Memᴰ.append_cases (f c) m)
+of_joined {A = A} {B = B} f [] {b = b} m = elim m [ ]
 
 pub in_count : (k n : ℕ) {i : ℕ} → k ≤ i → i < k + n → i ∈ count_from k n
 unfolding count_from
@@ -34,6 +36,7 @@ pub of_count : (k n : ℕ) {i : ℕ} → i ∈ count_from k n → (k ≤ i) × (
 unfolding count_from
 of_count k (suc n) (Memᴰ.head e) = omega arith
 of_count k (suc n) (Memᴰ.tail m) = let h = of_count (suc k) n m in omega arith
+of_count k zero {i = i} x' = elim x' [ ]
 
 pub count-length : (k n : ℕ) → length (count_from k n) ≡ n
 unfolding count_from
@@ -50,7 +53,7 @@ count_last k (suc n) = ap (λ (l : List ℕ). k ∷ l) (count_last (suc k) n ∙
 
 module _ {A : Type 0} (P : A → Type 0) where
   pub each_nil : (a : A) → a ∈ [] → P a
-  each_nil a m = absurd (Memᴰ.not_nil m)
+  each_nil a m = absurd (Memᴰ.not-nil m)
 
   pub each_cons : {b : A} {l : List A} → P b → ((a : A) → a ∈ l → P a) → (a : A) → a ∈ b ∷ l → P a
   each_cons h f a (Memᴰ.head e) = rw e h
@@ -93,3 +96,4 @@ pub by_place : (P : Row → Type 0) (rs : List Row) → ((k : ℕ) → k < lengt
 unfolding row_at
 by_place P (a ∷ rs) h r (Memᴰ.head e) = rw e (h 0 (omega arith))
 by_place P (a ∷ rs) h r (Memᴰ.tail m) = by_place P rs (λ k b. h (suc k) (omega arith)) r m
+by_place P [] h r x'' = elim x'' [ ]

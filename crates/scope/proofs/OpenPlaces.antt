@@ -56,6 +56,7 @@ module _ (f : ℤ × Row → Bool) where
 
   passes : (w : ℕ → ℤ) (rs : List Row) (i : ℕ) → i ∈ places w rs → (i < length rs) × T (f (w i, row_at rs i))
   unfolding places front row_at
+  passes w [] i m = elim m [ ]
   passes w (r ∷ rs) i m = by (f (w 0, r)) refl (λ k. passes (λ j. w (suc j)) rs k) m
     where
       Here : ℕ → Type 0

@@ -51,7 +51,7 @@ module _ {A : Type 0} (R : A → A → Type 0) where
 
 last_is : (b : Bool) {n i : ℕ} → i ∈ cond b (n ∷ []) [] → (i ≡ n) × T b
 last_is true k = (Memᴰ.eq_of_singleton k, tt)
-last_is false k = absurd (Memᴰ.not_nil k)
+last_is false k = absurd (Memᴰ.not-nil k)
 
 last_in : (b : Bool) (n : ℕ) → T b → n ∈ cond b (n ∷ []) []
 last_in true n t = Memᴰ.head refl
@@ -60,7 +60,7 @@ last_in false n t = absurd t
 module _ (f : ℕ → Bool) where
   of_passing : (n : ℕ) {i : ℕ} → i ∈ passing f n → (i < n) × T (f i)
   unfolding passing
-  of_passing zero k = absurd (Memᴰ.not_nil k)
+  of_passing zero k = absurd (Memᴰ.not-nil k)
   of_passing (suc n) {i} k =
       ⊎_elim
       (λ j. let h = of_passing n j in (omega (arith, h.0), h.1))
@@ -84,7 +84,7 @@ module _ (f : ℕ → Bool) where
       (λ a b j k. omega (arith, (of_passing n j).0, (last_is (f n) k).0))
     where
       one : (b : Bool) → Sorted (λ a b. a < b) (cond b (n ∷ []) [])
-      one true = (λ b k. absurd (Memᴰ.not_nil k), tt)
+      one true = (λ b k. absurd (Memᴰ.not-nil k), tt)
       one false = tt
 
   none_passing : (n : ℕ) → ((i : ℕ) → i < n → ¬ T (f i)) → passing f n ≡ []
@@ -133,7 +133,7 @@ module _ (m : List ℤ) where
 
   of_below : (k : ℕ) {a : Pair} → a ∈ pairs_below m k → (a.at < k) × Around a.at a.soil
   unfolding pairs_below
-  of_below zero j = absurd (Memᴰ.not_nil j)
+  of_below zero j = absurd (Memᴰ.not-nil j)
   of_below (suc k) {a} j =
       ⊎_elim
       (λ i. let h = of_below k i in (omega (arith, h.0), h.1))
@@ -282,7 +282,7 @@ module _ (m : List ℤ) where
       (pair_of_lem f (record { element = 0; there = omega (arith, f.counts.elements_least); has-corner = (0, omega arith, refl); same = refl }))
     where
       some : (l : List Pair) {a : Pair} → a ∈ l → 0 < length l
-      some [] k = absurd (Memᴰ.not_nil k)
+      some [] k = absurd (Memᴰ.not-nil k)
       some (b ∷ l) k = omega arith
 
 -- ---- a mesh that passes

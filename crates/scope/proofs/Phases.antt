@@ -223,6 +223,7 @@ EachIn Q (f ∷ fs) = EachRefusal Q f × (Everywhere f → EachIn Q fs)
 pub each_refusal : (Q : ℕ → Place → Type 0) (fs : List Phase) → EachIn Q fs → {c : ℕ} {p : Place} → RefusedBy fs c p → Q c p
 each_refusal Q (f ∷ fs) e {c} {p} (inl r) = rw (← r.called) (e.0 r.here c r.there r.lower r.fails)
 each_refusal Q (f ∷ fs) e (inr (h, r)) = each_refusal Q fs (e.1 h) r
+each_refusal Q [] e {c = c} {p = p} x'' = elim x'' [ ]
 
 pub each_join : (Q : ℕ → Place → Type 0) (fs gs : List Phase) → EachIn Q fs → (AllPass fs → EachIn Q gs) → EachIn Q (fs ++ gs)
 each_join Q [] gs a b = b tt
@@ -232,6 +233,7 @@ each_join Q (f ∷ fs) gs a b = (a.0, λ h. each_join Q fs gs (a.1 h) (λ r. b (
 pub never_fails : (ss : List Step) (c : ℕ) → AllHold ss → FirstFails ss c → ⊥
 never_fails (s ∷ ss) c h (inl f) = f.0 h.0
 never_fails (s ∷ ss) c h (inr f) = never_fails ss c h.1 f.1
+never_fails [] c h x'' = elim x'' [ ]
 
 pub each_passed : (Q : ℕ → Place → Type 0) (fs : List Phase) → AllPass fs → EachIn Q fs
 each_passed Q [] a = tt

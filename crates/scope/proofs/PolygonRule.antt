@@ -93,6 +93,7 @@ every_yes : {A : Type 0} (f : A → Bool) (l : List A) → T (every f l) → (a 
 unfolding every
 every_yes f (b ∷ l) t a (Memᴰ.head e) = rw e (and_yes (f b) (every f l) t).0
 every_yes f (b ∷ l) t a (Memᴰ.tail m) = every_yes f l (and_yes (f b) (every f l) t).1 a m
+every_yes {A = A} f [] t a x'' = elim x'' [ ]
 
 some_yes : {A : Type 0} (f : A → Bool) (l : List A) → T (some f l) → (a : A) × (a ∈ l) × T (f a)
 unfolding some
