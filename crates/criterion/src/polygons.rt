@@ -28,14 +28,14 @@ const THIRTY_SIX: [i64; 72] = [
 const STEP_NUMBERS: usize = 3 * MOST_SIDES;
 
 // A corner of a polygon.
-#[derive(Drop)]
+#[derive(Clone, Copy)]
 struct Corner {
     x: i64,
     y: i64,
 }
 
 // A side by what its strength row reads: the step (c - a, d - b), and ad - bc.
-#[derive(Drop)]
+#[derive(Clone, Copy)]
 struct Step {
     run: i64,
     rise: i64,

@@ -28,7 +28,7 @@ use mesh::sizes::{
 
 // Coefficients with their columns, as many as `count` says, the coefficient of l on the left, the right side at n = 1,
 // and whether the row asks anything.
-#[derive(Drop)]
+#[derive(Clone, Copy)]
 pub struct EqualityRow {
     pub coefficients: [i64; 8],
     pub columns: [usize; 8],
@@ -39,7 +39,7 @@ pub struct EqualityRow {
 }
 
 // The nodes at the corners of element e, in order.
-#[derive(Drop)]
+#[derive(Clone, Copy)]
 struct Corners {
     a: usize,
     b: usize,
@@ -60,7 +60,7 @@ fn corners_of(m: &[i64], s: Sizes, e: usize) -> Corners
 
 // What the balance rows of an element read of its shape: across corners 0 and 1, the rise and the run from one
 // neighbour to the other. Across corners 2 and 3 they are the opposite.
-#[derive(Drop)]
+#[derive(Clone, Copy)]
 pub struct Span {
     pub rise: i64,
     pub rise_next: i64,
@@ -185,7 +185,7 @@ fn balance_y(m: &[i64], s: Sizes, e: usize) -> EqualityRow
 }
 
 // What the side rows of an edge read of its step (u, w): u², uw, w², and u² + w².
-#[derive(Drop)]
+#[derive(Clone, Copy)]
 pub struct Squares {
     pub uu: i64,
     pub uw: i64,

@@ -23,7 +23,7 @@ use scope::{Outcome, Verdict};
 use verdict::{MeshAnswer, judge_claim, judge_mesh, judge_tabled};
 
 // How many numbers a mesh file has, and what is said of them.
-#[derive(Drop)]
+#[derive(Clone, Copy)]
 pub struct JudgedMesh {
     pub count: usize,
     pub answer: MeshAnswer,

@@ -16,7 +16,7 @@ use scope::{Outcome, place_number};
 // What a mesh asks room for, as C reads it: its refusal, or the rows of each kind, the columns, and the bytes of a
 // claim with a field, with multipliers, and with both.
 #[repr(C)]
-#[derive(Drop)]
+#[derive(Clone, Copy)]
 pub struct MeshSizes {
     pub number: u32,
     pub place: u32,

@@ -75,7 +75,7 @@ pub const FIRST_LAYER: usize = 1001;
 // The lines that have rules of their own: a soil its limits and a right angle, an element the names of its nodes and
 // its soil, and so where there is a table but that the soil may be 0, an edge its limits and the names of its nodes, a
 // jump the names of its nodes, a layer its limits and the name of its soil.
-#[derive(Drop)]
+#[derive(Clone, Copy)]
 pub enum Rule {
     Soil,
     Element,
@@ -86,14 +86,14 @@ pub enum Rule {
 }
 
 // What is asked of a line: rules of its own, or that each of its numbers is from lo to hi.
-#[derive(Drop)]
+#[derive(Clone, Copy)]
 pub enum Kind {
     Ruled(Rule),
     Even { lo: i64, hi: i64 },
 }
 
 // Lines of one kind.
-#[derive(Drop)]
+#[derive(Clone, Copy)]
 pub struct Group {
     pub kind: Kind,
     pub lines: usize,

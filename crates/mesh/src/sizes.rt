@@ -94,7 +94,7 @@ pub const EDGE_ROWS: usize = 4;
 pub const JUMP_ROWS: usize = 4;
 
 // The counts of the header, and how many node-and-soil pairs the mesh has: 0 as long as they are not counted.
-#[derive(Drop)]
+#[derive(Clone, Copy)]
 pub struct Sizes {
     pub nodes: usize,
     pub elements: usize,

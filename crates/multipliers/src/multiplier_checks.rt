@@ -27,7 +27,7 @@ use scope::{Outcome, Place};
 const COLUMNS: usize = 3 * MOST_NODES;
 
 // What a claim's multipliers come to: none are there, the limit w/m, or a refusal.
-#[derive(Drop)]
+#[derive(Clone, Copy)]
 pub enum Limit {
     Absent,
     Exact { w: i64, m: i64 },

@@ -16,7 +16,7 @@ use equality::row_sums::{add_at, add_row};
 use mesh::sizes::{Sizes, equality_count, number_at};
 
 // W and m, so far.
-#[derive(Drop)]
+#[derive(Clone, Copy)]
 pub struct Sums {
     pub w: i64,
     pub m: i64,
@@ -79,7 +79,7 @@ fn equality_sums(m: &[i64], s: Sizes, y: &[i64], columns: &mut [i64]) -> Sums
 // ---- strength rows
 
 // What the multipliers of a pair's sides add up to, each times what a strength row reads of its side.
-#[derive(Drop)]
+#[derive(Clone, Copy)]
 pub struct SideSums {
     pub run: i64,
     pub rise: i64,
@@ -129,7 +129,7 @@ fn side_sums(steps: &[i64], sides: usize, y: &[i64], first: usize) -> SideSums
 
 // What a pair's strength rows add up to, each times its multiplier: for the columns of its node's sx, sy and t, and
 // for W. They add nothing to m.
-#[derive(Drop)]
+#[derive(Clone, Copy)]
 pub struct PairSums {
     pub sx: i64,
     pub sy: i64,

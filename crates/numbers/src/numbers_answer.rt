@@ -7,7 +7,7 @@ use scope::{Load, OpenRows, Verdict, place_number};
 // What a solver that hands over numbers is answered, as C reads it: the verdict's number and place; for an accepted
 // claim which parts are there, the loads l/n and W/m as they stand, and the open rows. What is not there is 0.
 #[repr(C)]
-#[derive(Drop)]
+#[derive(Clone, Copy)]
 pub struct NumbersAnswer {
     pub number: u32,
     pub place: u32,

@@ -13,14 +13,14 @@ const LAST_BYTE: usize = COLUMN_BYTES - 1;
 const FRONT_BYTES: usize = COLUMN_BYTES - 4;
 
 // What is kept of the bytes so far: the phase, which says what they spell, and the value of their digits.
-#[derive(Drop)]
+#[derive(Clone, Copy)]
 struct Kept {
     phase: u64,
     value: u64,
 }
 
 // What a column says.
-#[derive(Drop)]
+#[derive(Clone, Copy)]
 pub enum Reading {
     Number(i64),
     Malformed,

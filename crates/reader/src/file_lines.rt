@@ -24,7 +24,7 @@ use mesh::sizes::{LAYER_COLUMNS, MOST_LAYERS, MOST_SIDES};
 
 // How far a file is read: whether its lines so far are all well formed, the place of its next byte, and how many
 // numbers it has so far.
-#[derive(Drop)]
+#[derive(Clone, Copy)]
 pub struct Progress {
     pub going: bool,
     pub at: usize,

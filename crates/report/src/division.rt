@@ -5,19 +5,19 @@ ghost use Rattle.report.specs.Report.{most_decimals};
 ghost use Rattle.report.specs.Quotient.{parts_of, units_of, next_digit, divide, rounded_to};
 
 // whole·10^d + part units.
-#[derive(Drop)]
+#[derive(Clone, Copy)]
 pub struct Parts {
     pub whole: u64,
     pub part: u64,
 }
 
-#[derive(Drop)]
+#[derive(Clone, Copy)]
 pub struct Digit {
     pub digit: u64,
     pub rest: u64,
 }
 
-#[derive(Drop)]
+#[derive(Clone, Copy)]
 pub struct Quotient {
     pub whole: u64,
     pub part: u64,

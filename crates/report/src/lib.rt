@@ -23,7 +23,7 @@ use load::put_load;
 use scope::{Load, OpenRows, Verdict, place_number};
 
 // Whether the line was written, the buffer has no room for it, or no report has so many decimals.
-#[derive(Drop)]
+#[derive(Clone, Copy)]
 pub enum Reported {
     Written,
     TooShort,

@@ -19,14 +19,14 @@ use scope::{Outcome, Place, Verdict};
 
 // What is returned: the reports written and the claim bytes taken.
 #[repr(C)]
-#[derive(Drop)]
+#[derive(Clone, Copy)]
 pub struct RunAnswer {
     pub reports: u64,
     pub bytes: u64,
 }
 
 // The verdict on the next claim, and how many bytes are its own.
-#[derive(Drop)]
+#[derive(Clone, Copy)]
 struct NextClaim {
     verdict: Verdict,
     bytes: usize,

@@ -6,7 +6,7 @@ ghost use Rattle.scope.specs.Answer.{place_number};
 
 // "A place is a line, a row, a column, a node or an element", each counted from 1; "counted in quarters, a sixth kind of
 // place" (document 02, N8), a height, counted from 0.
-#[derive(Drop)]
+#[derive(Clone, Copy)]
 pub enum Place {
     Line(u32),
     Row(u32),
@@ -31,28 +31,28 @@ pub fn place_number(place: Place) -> u32
 }
 
 // What one check, or a row of checks in order, says.
-#[derive(Drop)]
+#[derive(Clone, Copy)]
 pub enum Outcome {
     Passed,
     Refused { number: u32, place: Place },
 }
 
 // A load as an exact fraction, or none where the claim lacks that part.
-#[derive(Drop)]
+#[derive(Clone, Copy)]
 pub enum Load {
     Absent,
     Exact { num: i64, den: i64 },
 }
 
 // How many strength rows are open, or none where the claim lacks a part.
-#[derive(Drop)]
+#[derive(Clone, Copy)]
 pub enum OpenRows {
     Absent,
     Count(u64),
 }
 
 // What is said of a mesh and a claim: the lower load is l/n, the upper load is W/m.
-#[derive(Drop)]
+#[derive(Clone, Copy)]
 pub enum Verdict {
     Accepted {
         open_rows: OpenRows,

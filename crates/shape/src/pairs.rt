@@ -23,7 +23,7 @@ use scope::{Outcome, Place};
 pub const PAIR_BYTES: usize = 2 * MOST_PAIRS;
 
 // What is said of a mesh, and where it passes, how many pairs it has, and these; a mesh that is refused has none.
-#[derive(Drop)]
+#[derive(Clone, Copy)]
 pub struct Paired {
     pub outcome: Outcome,
     pub count: usize,

@@ -30,7 +30,7 @@ use shape::pairs::PAIR_BYTES;
 
 // What is said of the numbers of a mesh: what they are refused for, 1 to 8, 42, 44, 45 and 46, or that they pass, and then its
 // counts and its pairs of a node and a soil. These are made once a mesh, and lent to the judging of each claim on it.
-#[derive(Drop)]
+#[derive(Clone, Copy)]
 pub struct MeshAnswer {
     pub outcome: Outcome,
     pub sizes: Sizes,
