@@ -1,6 +1,8 @@
 // The desk program: writes the report line of the mesh file and the claim file that its first two arguments name, with
 // the table file that a third one names.
 
+#![tactic(auto)]
+
 ghost use Rattle.std.specs.Prelude.{◌≡◌};
 ghost use Rattle.io.specs.Counts.{IsPrefixLen};
 ghost use Rattle.reader.specs.File.{file_width};

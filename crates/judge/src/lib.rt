@@ -1,6 +1,8 @@
 // Three byte strings into a verdict: the numbers of a mesh file, of a table file and of a claim file are read, and
 // judged by the check of numbers.
 
+#![tactic(auto)]
+
 pub mod room;
 
 ghost use Rattle.std.specs.Prelude.{◌≡◌, true, List, ◌≤◌, ℤ, length};

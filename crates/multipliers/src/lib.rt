@@ -1,5 +1,7 @@
 // What multipliers say: the sums over all rows, the checks of a dual and its limit, and the rows that are open.
 
+#![tactic(auto)]
+
 pub mod multiplier_checks;
 pub mod multiplier_sums;
 pub mod open_rows;

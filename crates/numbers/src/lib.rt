@@ -1,6 +1,8 @@
 // The check of numbers handed over (document 01, 'What the product does': "The row arithmetic serves the solver as
 // well, without the file reader"): a mesh's, a table's and a claim's numbers into the verdict as C reads it.
 
+#![tactic(auto)]
+
 pub mod numbers_answer;
 
 ghost use Rattle.std.specs.Prelude.{◌≡◌};

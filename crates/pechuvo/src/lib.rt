@@ -2,6 +2,8 @@
 // and the verdict's numbers; the check of claims for one mesh, one after another; the check of the numbers themselves;
 // and the room that a mesh asks for. An empty table is none.
 
+#![tactic(auto)]
+
 ghost use Rattle.std.specs.Prelude.{◌≡◌};
 ghost use Rattle.scope.specs.Answer.{number_of, place_of};
 ghost use Rattle.scope.specs.TableVerdict.{tabled_verdict};

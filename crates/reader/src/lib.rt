@@ -1,5 +1,7 @@
 // The bytes of a mesh file, of a table file and of a claim file into numbers: each byte is taken once, front to back,
 // and the numbers stand at the front of a list that the caller lends.
+
+#![tactic(auto)]
 mod column;
 mod file_lines;
 

@@ -1,4 +1,6 @@
 // A verdict into the report line of 113 bytes.
+
+#![tactic(auto)]
 mod column;
 mod division;
 mod load;

@@ -1,5 +1,7 @@
 // Report lines of verdicts, document 01's loads and the widest numbers among them, with six decimals and with others,
 // compared with `stdout`.
+
+#![tactic(auto)]
 use libc::STDOUT_FILENO;
 use report::{USUAL_DECIMALS, write_report};
 use scope::{Load, OpenRows, Place, Verdict};

@@ -1,6 +1,8 @@
 // A solver's run handed over whole: claims for one mesh and its table, written one after another, into their reports in
 // turn. The mesh is read and judged once, and no room grows with the number of claims.
 
+#![tactic(auto)]
+
 ghost use Rattle.std.specs.Prelude.{◌≡◌, ◌||◌, List, ℕ, min, ◌≤◌, eqb, ℤ, length};
 ghost use Rattle.scope.specs.declared.Outcome.TheVariants.{Passed, Refused as Fails};
 ghost use Rattle.mesh.specs.MeshContracts.{Counted};

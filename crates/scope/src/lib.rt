@@ -1,6 +1,8 @@
 // What is answered (document 01, 'Verdict and report'): the enums that the definitions and every crate speak of, and
 // the number of a place.
 
+#![tactic(auto)]
+
 ghost use Rattle.std.specs.Prelude.{◌≡◌};
 ghost use Rattle.scope.specs.Answer.{place_number};
 

@@ -1,5 +1,7 @@
 // The shape of a mesh (document 01, refusals 5 to 8; document 02, 44 and 42), and its pairs of a node and a soil.
 
+#![tactic(auto)]
+
 mod corners;
 mod edges;
 mod joints;

@@ -1,5 +1,7 @@
 // The verdict on the numbers of a mesh and of a claim (document 01, 'Verdict and report').
 
+#![tactic(auto)]
+
 pub mod claim_parts;
 pub mod field_checks;
 
