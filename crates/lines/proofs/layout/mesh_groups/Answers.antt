@@ -1,0 +1,35 @@
+-- `mesh_groups` meets its contract: the table is the definitions' groups, by unfolding both, with the rule of elements as it is told.
+use mathlib.Core.Path.{sym, subst}
+use mathlib.Core.Bool.{Bool, true, false, cond}
+use mathlib.Core.List.{List, [], ◌∷◌}
+use lib.IntN.{pos}
+use Rattle.scope.specs.Mesh.{soil_lines, node_lines, element_lines, edge_lines, jump_lines}
+use Rattle.mesh.specs.declared.sizes.Sizes.{Sizes}
+use Rattle.mesh.specs.MeshContracts.{FewThings}
+use Rattle.lines.specs.declared.layout.Rule.{Rule}
+use Rattle.lines.specs.declared.layout.Rule.TheVariants.{Soil, Element, Tabled as TabledElement, Edge, Jump}
+use Rattle.lines.specs.declared.layout.Kind.TheVariants.{Ruled, Even}
+use Rattle.lines.specs.declared.layout.Group as Code
+use Rattle.lines.specs.Table.{kind_lines, mesh_body, ruled_lines, even_lines, Tabled}
+use borrow.Author.Rules.{rules}
+use Rattle.lines.proofs.layout.mesh_groups.Goals as goal
+
+-- the groups with this rule of elements
+abbrev listed : Sizes → Rule → List Code.Group
+listed s element =
+    record { kind = Ruled Soil; lines = s.soils; columns = 8 }
+    ∷ record { kind = Even (pos 0) (pos 1000); lines = s.nodes; columns = 2 }
+    ∷ record { kind = Ruled element; lines = s.elements; columns = 5 }
+    ∷ record { kind = Ruled Edge; lines = s.edges; columns = 7 }
+    ∷ record { kind = Ruled Jump; lines = s.jumps; columns = 4 }
+    ∷ []
+
+by_rule : (s : Sizes) → FewThings s → (tabled : Bool) → Tabled s (listed s (cond tabled TabledElement Element)) (mesh_body s tabled)
+unfolding kind_lines mesh_body ruled_lines even_lines soil_lines node_lines element_lines edge_lines jump_lines
+by_rule s few true = search rules
+by_rule s few false = search rules
+
+pub returns : goal.returns
+returns c =
+    let a = c.args in
+    subst (λ (r : Rule). Tabled a.s (listed a.s r) (mesh_body a.s a.tabled)) (sym c.element_rule-element.ensures) (by_rule a.s c.requires a.tabled)

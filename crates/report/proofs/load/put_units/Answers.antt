@@ -1,0 +1,13 @@
+-- The pieces are put from the last to the first, each before the one that stands already.
+use native.Mathlib.Omega.{arith}
+use Rattle.report.proofs.LoadLaws.{whole_room, minus_room, units_column}
+use Rattle.report.proofs.load.put_units.Goals as goal
+
+pub put_digits-from-requires : goal.put_digits-from-requires
+put_digits-from-requires c = (search whole_room, omega arith)
+
+pub put_minus-requires : goal.put_minus-requires
+put_minus-requires c = (search minus_room, omega arith)
+
+pub returns : goal.returns
+returns c = search units_column
