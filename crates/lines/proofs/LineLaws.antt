@@ -60,11 +60,11 @@ pub read_within : {lo hi z : ℤ} → SFits w64 lo → SFits w64 hi → SFits w6
 read_within f g h = ap₂ within (read_limit f g) (to_z-of_z h)
 
 -- what a test `!t` says of t, where t is b
-pub not_so : {t b : Bool} → t ≡ b → not t ≡ true → b ≡ false
-not_so {t} e h = sym e ∙ not-true t h
+pub not_so : {t b : Bool} → t ≡ b → t ≡ false → b ≡ false
+not_so e h = sym e ∙ h
 
-pub so : {t b : Bool} → t ≡ b → not t ≡ false → b ≡ true
-so {t} e h = sym e ∙ not-false t h
+pub so : {t b : Bool} → t ≡ b → t ≡ true → b ≡ true
+so e h = sym e ∙ h
 
 -- ---- limits listed number by number
 

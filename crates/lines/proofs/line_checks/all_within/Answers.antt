@@ -7,6 +7,7 @@ use Rattle.scope.specs.Checks.{all_below}
 use Rattle.scope.specs.Columns.{Limit, within, at}
 use Rattle.lines.proofs.Loops.{all_more, all_fails, all_done}
 use Rattle.lines.proofs.LineLaws.{read_limit, read_number, so, not_so}
+use borrow.Author.Rules.{rules}
 use Rattle.lines.proofs.line_checks.all_within.Invariants.{inside}
 use Rattle.lines.proofs.line_checks.all_within.Goals as goal
 
@@ -17,22 +18,19 @@ loop-k-init c = (omega arith, refl)
 pub returns-then-not-is_within : goal.returns-then-not-is_within
 unfolding at
 returns-then-not-is_within c =
-    let d = c in
-    let a = d in
-    let outside = sym (read_number _ (record { sfits = d.is_within-arg-1.given })) ∙ not_so c.is_Within.ensures c.if-not-is_within.true in
-    sym (all_fails (inside _ a.args.s.now) (length a.args.s.now) d.loop-k-test.true outside)
-    ∙ ap (λ (l : Limit). all_below (inside l a.args.s.now) (length a.args.s.now)) (read_limit a.ranges.lo a.ranges.hi)
+    let a = c.args in
+    let outside = sym (read_number _ (search rules)) ∙ not_so c.is_within.ensures c.if-not-is_within.true in
+    sym (all_fails (inside _ a.s.now) (length a.s.now) c.loop-k-test.true outside)
+    ∙ ap (λ (l : Limit). all_below (inside l a.s.now) (length a.s.now)) (read_limit c.ranges.lo c.ranges.hi)
 
 pub loop-k-preserved : goal.loop-k-preserved
 unfolding at
 loop-k-preserved c =
-    let d = c in
-    let a = d in
-    let within = sym (read_number _ (record { sfits = d.is_within-arg-1.given })) ∙ so c.is_Within.ensures c.if-not-is_within.false in
-    (omega arith, all_more (inside _ a.args.s.now) d.loop-k.invariant.1 within)
+    let within = sym (read_number _ (search rules)) ∙ so c.is_within.ensures c.if-not-is_within.false in
+    (omega arith, all_more (inside _ c.args.s.now) c.loop-k.invariant.1 within)
 
 pub returns : goal.returns
 returns c =
-    let a = c in
-    all_done (inside _ a.args.s.now) (length a.args.s.now) c.loop-k.invariant.1 (omega arith) (omega arith)
-    ∙ ap (λ (l : Limit). all_below (inside l a.args.s.now) (length a.args.s.now)) (read_limit a.ranges.lo a.ranges.hi)
+    let a = c.args in
+    all_done (inside _ a.s.now) (length a.s.now) c.loop-k.invariant.1 (omega arith) (omega arith)
+    ∙ ap (λ (l : Limit). all_below (inside l a.s.now) (length a.s.now)) (read_limit c.ranges.lo c.ranges.hi)

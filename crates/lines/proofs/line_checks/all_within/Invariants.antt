@@ -15,7 +15,7 @@ abbrev pub inside : Limit → List ℤ → ℕ → Bool
 inside l s i = within l (at s i)
 
 abbrev pub invariant-loop-k : goal.invariant-loop-k
-invariant-loop-k l = (l.k ≤ length l.s) × (all_below (inside (between (to_z w64 l.lo) (to_z w64 l.hi)) l.s) l.k ≡ true)
+invariant-loop-k l = (l.k ≤ length l.s) × (all_below (inside (between l.fn.lo l.fn.hi) l.s) l.k ≡ true)
 
 abbrev pub decreases-loop-k : goal.decreases-loop-k
 decreases-loop-k l = length l.s - l.k

@@ -11,18 +11,18 @@ use Rattle.lines.proofs.line_checks.claim_lines.Goals as goal
 pub returns-in-Refused : goal.returns-in-Refused
 returns-in-Refused c =
     let cs = c.args.c.now in
-    λ m k. stop_here (claim_starts m cs) (c.claim_header-header.ensures ∙ claim_header_group cs) c.enum_told-1.given.1
+    λ m k. stop_here (claim_starts m cs) (c.claim_header-header.ensures ∙ claim_header_group cs) c.in-Refused.is
 
 pub rest-requires : goal.rest-requires
 rest-requires c =
     let told = c in
     let cs = told.args.c.now in
-    claim_header_there cs (sym told.claim_header-header.ensures ∙ told.enum_told-in_default-1.given.1)
+    claim_header_there cs (sym told.claim_header-header.ensures ∙ c.in_default.is)
 
 pub groups_check-requires : goal.groups_check-requires
 groups_check-requires c =
     let told = c in
-    (c.claim_groups-groups.ensures.table, (told.requires, omega arith))
+    record { fact_1 = c.claim_groups-groups.ensures.table; fact_2 = told.requires; fact_3 = omega arith }
 
 pub returns : goal.returns
 unfolding claim_header has_field has_multipliers
@@ -32,4 +32,4 @@ returns c =
     let cs = told.args.c.now in
     let s = told.args.s in
     let flags = ap₂ (λ (a b : Bool). claim_body s a b) g.has_part.ensures g.has_part-2.ensures in
-    λ m k. go_on (claim_starts m cs) (told.claim_header-header.ensures ∙ claim_header_group cs) told.enum_told-in_default-1.given.1 c.rest.ensures _ (g.claim_groups-groups.ensures.same ∙ flags ∙ claim_body_lem k cs) c.groups_check.ensures
+    λ m k. go_on (claim_starts m cs) (told.claim_header-header.ensures ∙ claim_header_group cs) c.in_default.is c.rest.ensures _ (g.claim_groups-groups.ensures.same ∙ flags ∙ claim_body_lem k cs) c.groups_check.ensures

@@ -3,7 +3,6 @@ use mathlib.Core.Path.{◌∙◌, sym}
 use native.Mathlib.Nat.{div-le_self}
 use native.Mathlib.Omega.{arith}
 use lib.Seq.{length-take-le}
-use borrow.Author.Tests.{not-true, not-false}
 use Rattle.lines.specs.LineContracts.{numbered}
 use Rattle.lines.proofs.GroupLaws.{numbered_from}
 use Rattle.lines.proofs.EvenLaws.{none_outside, first_outside, outside_there, even_outside, even_short, even_passed, whole_there, few_numbers_lem}
@@ -44,7 +43,7 @@ pub returns-then-not-all_within : goal.returns-then-not-all_within
 returns-then-not-all_within c =
     let a = c in
     let whole = c.whole_lines-whole in
-    let some = not-true _ c.if-not-all_within.true in
+    let some = c.if-not-all_within.true in
     let r = first_outside a.args.s.now a.args.count a.args.columns whole.result a.ranges.lo a.ranges.hi a.requires.some_column whole.ensures c.all_within.ensures some c.first_outside-run.ensures.fact_1 in
     let l = outside_there a.args.s.now a.args.count a.args.columns whole.result a.ranges.lo a.ranges.hi a.requires.some_column whole.ensures c.all_within.ensures some c.first_outside-run.ensures.fact_1 in
     c.refused.ensures ∙ even_outside r (numbered _) (numbered_from _) a.args.line l
@@ -53,12 +52,12 @@ pub returns-then-whole-count : goal.returns-then-whole-count
 returns-then-whole-count c =
     let a = c in
     let whole = c.whole_lines-whole in
-    let r = none_outside a.args.s.now a.args.count a.args.columns whole.result a.ranges.lo a.ranges.hi a.requires.some_column whole.ensures c.all_within.ensures (not-false _ c.if-not-all_within.false) in
+    let r = none_outside a.args.s.now a.args.count a.args.columns whole.result a.ranges.lo a.ranges.hi a.requires.some_column whole.ensures c.all_within.ensures c.if-not-all_within.false in
     c.refused-then-whole-count.ensures ∙ even_short r (numbered _) (numbered_from _) a.args.line (omega arith) c.if-whole-count.true
 
 pub returns : goal.returns
 returns c =
     let a = c in
     let whole = c.whole_lines-whole in
-    let r = none_outside a.args.s.now a.args.count a.args.columns whole.result a.ranges.lo a.ranges.hi a.requires.some_column whole.ensures c.all_within.ensures (not-false _ c.if-not-all_within.false) in
+    let r = none_outside a.args.s.now a.args.count a.args.columns whole.result a.ranges.lo a.ranges.hi a.requires.some_column whole.ensures c.all_within.ensures c.if-not-all_within.false in
     even_passed r (numbered _) (numbered_from _) a.args.line (omega arith) c.if-whole-count.false

@@ -22,13 +22,13 @@ pub group_check-outcome-requires : goal.group_check-outcome-requires
 group_check-outcome-requires c =
     let a = c in
     let h = c.loop-i.invariant in
-    (this_good a.requires.fact_1 h _ c.loop-i-test.true, (a.requires.fact_2.0, (a.requires.fact_2.1, omega (arith, h.few_lines, h.most))))
+    record { fact_1 = this_good a.requires.fact_1 h _ c.loop-i-test.true; fact_2 = a.requires.fact_2; fact_3 = a.requires.fact_3; fact_4 = omega (arith, h.few_lines, h.most) }
 
 pub returns-in-Refused : goal.returns-in-Refused
 returns-in-Refused c =
     let l = c in
     let b = l in
-    through_stop b.requires.fact_1 b.loop-i.invariant no_group b.loop-i-test.true l.group_check-outcome.ensures l.rest.ensures c.enum_told-1.given.1
+    through_stop b.requires.fact_1 b.loop-i.invariant no_group b.loop-i-test.true l.group_check-outcome.ensures l.rest.ensures c.in-Refused.is
 
 pub overflow_mul-from : goal.overflow_mul-from
 overflow_mul-from c =
@@ -58,7 +58,7 @@ loop-i-preserved c =
     let told = c in
     let l = told in
     let b = l in
-    through_next b.requires.fact_1 b.loop-i.invariant no_group b.loop-i-test.true l.group_check-outcome.ensures l.rest.ensures told.enum_told-in_default-1.given.1
+    through_next b.requires.fact_1 b.loop-i.invariant no_group b.loop-i-test.true l.group_check-outcome.ensures l.rest.ensures c.in_default.is
 
 pub refused-requires : goal.refused-requires
 refused-requires c =

@@ -1,6 +1,13 @@
 -- `mesh_lines` meets its contract: the header is the first group, and its counts are small where it has passed.
 use mathlib.Core.Path.{◌∙◌, sym}
+use mathlib.Core.Path.{◌≡◌}
+use mathlib.Core.List.{List}
 use native.Mathlib.Omega.{arith}
+use lib.IntN.{ℤ}
+use Rattle.scope.specs.declared.Outcome.{Outcome}
+use Rattle.scope.specs.declared.Outcome.TheVariants.{Passed}
+use Rattle.scope.specs.Mesh.{mesh_layout}
+use Rattle.scope.specs.Verdict.{line_at}
 use Rattle.scope.specs.Mesh.{mesh_header}
 use Rattle.mesh.specs.MeshContracts.{HeaderThere}
 use Rattle.mesh.proofs.Places.{few_sizes}
@@ -8,25 +15,25 @@ use Rattle.lines.proofs.GroupLaws.{header_counts, mesh_starts, mesh_header_group
 use Rattle.lines.proofs.line_checks.mesh_lines.Goals as goal
 
 -- after the header has passed
-header : (c : tie.After-enum_told2) → HeaderThere c.args.m.now
-header c = header_counts c.args.m.now (sym c.mesh_header-header.ensures ∙ c.enum_told-in_default-1.given.1)
+header : (m : List ℤ) {o : Outcome} → o ≡ line_at mesh_layout m 0 → o ≡ Passed → HeaderThere m
+header m e d = header_counts m (sym e ∙ d)
 
 pub returns-in-Refused : goal.returns-in-Refused
 returns-in-Refused c =
     let m = c.args.m.now in
-    stop_here (mesh_starts _ m) (c.mesh_header-header.ensures ∙ mesh_header_group m) c.enum_told-1.given.1
+    stop_here (mesh_starts _ m) (c.mesh_header-header.ensures ∙ mesh_header_group m) c.in-Refused.is
 
 pub header_sizes-s-requires : goal.header_sizes-s-requires
-header_sizes-s-requires c = header c
+header_sizes-s-requires c = header c.args.m.now c.mesh_header-header.ensures c.in_default.is
 
 pub rest-requires : goal.rest-requires
-rest-requires c = (header c).there
+rest-requires c = (header c.args.m.now c.mesh_header-header.ensures c.in_default.is).there
 
 pub mesh_groups-requires : goal.mesh_groups-requires
 mesh_groups-requires c = few_sizes c.header_sizes-s.ensures
 
 pub groups_check-requires : goal.groups_check-requires
-groups_check-requires c = (c.mesh_groups.ensures.table, (few_sizes c.header_sizes-s.ensures, omega arith))
+groups_check-requires c = record { fact_1 = c.mesh_groups.ensures.table; fact_2 = few_sizes c.header_sizes-s.ensures; fact_3 = omega arith }
 
 pub returns : goal.returns
 unfolding mesh_header
@@ -34,4 +41,4 @@ returns c =
     let r = c in
     let told = r in
     let m = told.args.m.now in
-    go_on (mesh_starts _ m) (told.mesh_header-header.ensures ∙ mesh_header_group m) told.enum_told-in_default-1.given.1 r.rest.ensures _ (c.mesh_groups.ensures.same ∙ mesh_body_lem _ r.header_sizes-s.ensures) c.groups_check.ensures
+    go_on (mesh_starts _ m) (told.mesh_header-header.ensures ∙ mesh_header_group m) c.in_default.is r.rest.ensures _ (c.mesh_groups.ensures.same ∙ mesh_body_lem _ r.header_sizes-s.ensures) c.groups_check.ensures

@@ -20,7 +20,7 @@ pub returns-in-Refused : goal.returns-in-Refused
 returns-in-Refused c =
     let l = c in
     let a = l.args in
-    ruled_stops a.rule a.sizes (numbered a.form) a.s.now a.line _ l.loop-k.invariant.1 l.line_at-outcome.ensures a.count l.loop-k-test.true c.enum_told-1.given.1
+    ruled_stops a.rule a.sizes (numbered a.form) a.s.now a.line _ l.loop-k.invariant.1 l.line_at-outcome.ensures a.count l.loop-k-test.true c.in-Refused.is
 
 pub overflow_add-k : goal.overflow_add-k
 overflow_add-k c = omega arith
@@ -32,7 +32,7 @@ pub loop-k-preserved : goal.loop-k-preserved
 loop-k-preserved c =
     let l = c in
     let a = l.args in
-    (omega arith, ruled_more a.rule a.sizes (numbered a.form) a.s.now a.line _ l.loop-k.invariant.1 l.line_at-outcome.ensures c.enum_told-in_default-1.given.1)
+    (omega arith, ruled_more a.rule a.sizes (numbered a.form) a.s.now a.line _ l.loop-k.invariant.1 l.line_at-outcome.ensures c.in_default.is)
 
 pub returns : goal.returns
 returns c =

@@ -11,5 +11,5 @@ returns-then-not-is_sides c =
 pub returns : goal.returns
 returns c =
     let start = c in
-    c.is_Within.ensures
+    c.is_within.ensures
     ∙ sym (second_decides (last_read start.ranges.sides start.ranges.jumps) (so c.is_sides.ensures c.if-not-is_sides.false))

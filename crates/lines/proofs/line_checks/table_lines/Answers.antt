@@ -2,14 +2,21 @@
 use mathlib.Core.Path.{◌≡◌, sym, ◌∙◌, ap}
 use mathlib.Core.Bool.{Bool}
 use Prim.Native.Nat.{ℕ, ◌+◌, ◌*◌}
+use mathlib.Core.List.{List}
+use Prim.Native.Nat.{◌/◌}
 use native.Mathlib.Omega.{arith}
+use lib.IntN.{ℤ}
+use Rattle.std.specs.Prelude.{min}
+use Rattle.scope.specs.declared.Outcome.{Outcome}
+use Rattle.mesh.specs.declared.sizes.Sizes.{Sizes}
 use lib.ListN.{length}
 use borrow.Author.Tests.{le-leb, lt-leb}
 use Rattle.scope.specs.declared.Place.TheVariants.{Line}
 use Rattle.scope.specs.declared.Outcome.TheVariants.{Refused}
 use Rattle.scope.specs.Checks.{demand}
-use Rattle.scope.specs.Layers.{layer_columns}
-use Rattle.scope.specs.Table.{table_lines}
+use Rattle.scope.specs.Layers.{layer_columns, most_layers}
+use Rattle.scope.specs.Table.{layer_lines, table_lines}
+use borrow.Author.Rules.{rules}
 use Rattle.lines.specs.declared.layout.Rule.TheVariants.{Layer}
 use Rattle.lines.specs.LineContracts.{numbered, group_check}
 use Rattle.lines.specs.Table.{ruled_lines}
@@ -18,39 +25,41 @@ use Rattle.lines.proofs.Loops.{then_refuses, then_goes_on}
 use Rattle.lines.proofs.line_checks.table_lines.Goals as goal
 
 -- as many lines as the definition has
-counted : (c : tie.After-table_count) → c.table_count-count.result ≡ table_lines c.args.t.now
+counted : (t : List ℤ) {n : ℕ} → n ≡ min ((length t + 2) / layer_columns) most_layers → n ≡ table_lines t
 unfolding table_lines
-counted c = c.table_count-count.ensures
+counted t e = e
 
 -- what the group says
-group : (c : tie.After-ruled_check) → c.ruled_check-outcome.result ≡ group_check (numbered 1) (ruled_lines Layer c.args.s (table_lines c.args.t.now)) c.args.t.now 1001
-group c = c.ruled_check-outcome.ensures ∙ ap (λ (n : ℕ). group_check (numbered 1) (ruled_lines Layer c.args.s n) c.args.t.now 1001) (counted c)
+group : (t : List ℤ) (s : Sizes) {n : ℕ} {o : Outcome} → o ≡ group_check (numbered 1) (ruled_lines Layer s n) t 1001 → n ≡ table_lines t → o ≡ group_check (numbered 1) (ruled_lines Layer s (table_lines t)) t 1001
+group t s e n = e ∙ ap (λ (n : ℕ). group_check (numbered 1) (ruled_lines Layer s n) t 1001) n
 
 pub returns-in-Refused : goal.returns-in-Refused
 returns-in-Refused c m e =
-    let r = c in
-    let a = r.args in
-    let d = c.enum_told-1.given.1 in
-    d ∙ then_refuses _ (sym (group r) ∙ d) ∙ sym (table_check a.t.now m a.s e)
+    let a = c.args in
+    let d = c.in-Refused.is in
+    let g = group a.t.now a.s c.ruled_check-outcome.ensures (counted a.t.now c.table_count-count.ensures) in
+    d ∙ then_refuses _ (sym g ∙ d) ∙ sym (table_check a.t.now m a.s e)
 
 pub returns-then-count-t : goal.returns-then-count-t
 returns-then-count-t c m e =
-    let told = c in
-    let r = told in
-    let t = r.args.t.now in
-    let n = counted r in
-    then_goes_on (sym (group r) ∙ told.enum_told-in_default-1.given.1)
+    let t = c.args.t.now in
+    let n = counted t c.table_count-count.ensures in
+    let g = group t c.args.s c.ruled_check-outcome.ensures n in
+    then_goes_on (sym g ∙ c.in_default.is)
     (c.refused.ensures
     ∙ ap (λ (k : ℕ). Refused 1 (Line (1001 + k))) n
     ∙ sym (ap (λ (b : Bool). demand b 1 (Line (1001 + table_lines t))) (lt-leb (length t) (table_lines t * layer_columns) (omega (arith, n, c.if-count-t.true)))))
-    ∙ sym (table_check t m r.args.s e)
+    ∙ sym (table_check t m c.args.s e)
 
 pub returns : goal.returns
 returns c m e =
-    let told = c in
-    let r = told in
-    let t = r.args.t.now in
-    let n = counted r in
-    then_goes_on (sym (group r) ∙ told.enum_told-in_default-1.given.1)
+    let t = c.args.t.now in
+    let n = counted t c.table_count-count.ensures in
+    let g = group t c.args.s c.ruled_check-outcome.ensures n in
+    then_goes_on (sym g ∙ c.in_default.is)
     (sym (ap (λ (b : Bool). demand b 1 (Line (1001 + table_lines t))) (le-leb (length t) (table_lines t * layer_columns) (omega (arith, n, c.if-count-t.false)))))
-    ∙ sym (table_check t m r.args.s e)
+    ∙ sym (table_check t m c.args.s e)
+
+pub ruled_check-outcome-requires : goal.ruled_check-outcome-requires
+unfolding ruled_lines layer_lines
+ruled_check-outcome-requires c = search rules

@@ -1,24 +1,29 @@
 -- `limits_hold` meets its contract. The loop's invariant: the numbers passed are within their limits, so that the rest decides.
 use mathlib.Core.Path.{sym, ◌∙◌}
 use Rattle.lines.proofs.LineLaws.{limits_start, limits_go_on, limits_fail, limits_end, read_within, so, not_so}
+use mathlib.Core.Path.{◌≡◌}
+use mathlib.Core.Bool.{Bool}
+use lib.IntN.{ℤ}
+use mir.Syntax.{w64}
+use mir.Val.{to_z, of_z, SFits}
+use Rattle.scope.specs.Columns.{between, within}
+use borrow.Author.Rules.{rules}
 use Rattle.lines.proofs.line_tests.limits_hold.Goals as goal
 
 pub loop-k-init : goal.loop-k-init
 loop-k-init c = limits_start _ _ _
 
+-- the test of number k, of the numbers themselves
+numbers : {lo hi z : ℤ} {b : Bool} → SFits w64 lo → SFits w64 hi → SFits w64 z → within (between (to_z w64 (of_z w64 lo)) (to_z w64 (of_z w64 hi))) (to_z w64 (of_z w64 z)) ≡ b → within (between lo hi) z ≡ b
+numbers f g h e = sym (read_within f g h) ∙ e
+
 pub returns-then-not-is_within : goal.returns-then-not-is_within
 returns-then-not-is_within c =
-    let d = c in
-    let a = d in
-    let e = read_within (record { sfits = c.is_within-arg-in-loop-k-1.given }) (record { sfits = c.is_within-arg-in-loop-k-2-1.given }) (record { sfits = d.is_within-arg-1.given }) in
-    limits_fail a.requires a.loop-k.invariant d.loop-k-test.true (sym e ∙ not_so c.is_Within.ensures c.if-not-is_within.true)
+    limits_fail c.requires c.loop-k.invariant c.loop-k-test.true (numbers (search rules) (search rules) (search rules) (not_so c.is_within.ensures c.if-not-is_within.true))
 
 pub loop-k-preserved : goal.loop-k-preserved
 loop-k-preserved c =
-    let d = c in
-    let a = d in
-    let e = read_within (record { sfits = c.is_within-arg-in-loop-k-1.given }) (record { sfits = c.is_within-arg-in-loop-k-2-1.given }) (record { sfits = d.is_within-arg-1.given }) in
-    limits_go_on a.requires a.loop-k.invariant d.loop-k-test.true (sym e ∙ so c.is_Within.ensures c.if-not-is_within.false)
+    limits_go_on c.requires c.loop-k.invariant c.loop-k-test.true (numbers (search rules) (search rules) (search rules) (so c.is_within.ensures c.if-not-is_within.false))
 
 pub returns : goal.returns
 returns c = limits_end c.requires c.loop-k.invariant c.loop-k-test.false

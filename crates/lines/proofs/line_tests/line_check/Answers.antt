@@ -6,24 +6,24 @@ use Rattle.lines.proofs.line_tests.line_check.Goals as goal
 
 pub returns-in-Soil : goal.returns-in-Soil
 unfolding ruled_lines soil_lines
-returns-in-Soil c = rw c.enum_told-1.given.1 c.check_soil.ensures
+returns-in-Soil c = rw c.in-Soil.is c.check_soil.ensures
 
 pub returns-in-Element : goal.returns-in-Element
 unfolding ruled_lines element_lines
-returns-in-Element c = rw c.enum_told-in-Element-1.given.1 c.check_element.ensures
+returns-in-Element c = rw c.in-Element.is c.check_element.ensures
 
 pub returns-in-Tabled : goal.returns-in-Tabled
 unfolding ruled_lines element_lines
-returns-in-Tabled c = rw c.enum_told-in-Tabled-1.given.1 c.check_element-in-Tabled.ensures
+returns-in-Tabled c = rw c.in-Tabled.is c.check_element-in-Tabled.ensures
 
 pub returns-in-Edge : goal.returns-in-Edge
 unfolding ruled_lines edge_lines
-returns-in-Edge c = rw c.enum_told-in-Edge-1.given.1 c.check_edge.ensures
+returns-in-Edge c = rw c.in-Edge.is c.check_edge.ensures
 
 pub returns-in-Jump : goal.returns-in-Jump
 unfolding ruled_lines jump_lines
-returns-in-Jump c = rw c.enum_told-in-Jump-1.given.1 c.check_jump.ensures
+returns-in-Jump c = rw c.in-Jump.is c.check_jump.ensures
 
 pub returns-in-Layer : goal.returns-in-Layer
 unfolding ruled_lines layer_lines
-returns-in-Layer c = rw c.enum_told-in-Layer-1.given.1 c.check_layer.ensures
+returns-in-Layer c = rw c.in-Layer.is c.check_layer.ensures
