@@ -19,7 +19,7 @@ def scan(c):
 for c in os.listdir(root): scan(c)
 def norm(s):
     s=re.sub(r'_lem\b','',s)
-    s=s.replace('-','_')
+    s=s.replace('-','_').lower()
     return s
 def keyvariants(old):
     o=norm(old)
@@ -70,6 +70,13 @@ for pf in sorted(glob.glob(f'{crate}/proofs/**/Proof.antt',recursive=True)):
     def fix(body,place):
         steps=dict((k,v[-1]) for k,v in allsteps.items())
         if place: steps.update(chain(place))
+        arm=None
+        q=place
+        while q:
+            pp=places.get(q)
+            if not pp: break
+            if re.match(r'in-|in_',pp[2][1]): arm=pp[2][1]; break
+            q=pp[1]
         # aliases of c
         roots={'c','w'}
         for _ in range(4):
@@ -81,18 +88,28 @@ for pf in sorted(glob.glob(f'{crate}/proofs/**/Proof.antt',recursive=True)):
             fs=[f for f in fs if f!='before']
             out=[]
             callee=None
-            for i,f in enumerate(fs):
-                if i==0:
-                    s=steps.get(norm(f))
-                    if s: out.append(s[0]); callee=s[1]
-                    else: out.append(f)
-                    if f in('requires',) : callee='self'
-                elif re.fullmatch(r'\d+',f) and ((fs[i-1]=='ensures' and callee and callee!='self') ):
-                    L=labels.get(callee,{}).get('ensures',[])
-                    out.append(L[int(f)] if len(L)>int(f) and len(L)>1 else f)
-                elif re.fullmatch(r'\d+',f) and i==1 and fs[0]=='requires' and pre and pre.get('fields') and len(pre['fields'])>1 and int(f)<len(pre['fields']):
-                    out.append(pre['fields'][int(f)])
+            i=0
+            if fs:
+                f=fs[0]
+                st=steps.get(norm(f))
+                if st:
+                    out.append(st[0]); callee=st[1]
+                    if re.search(r'-1$',st[0]) and len(fs)>=3 and fs[1]=='given' and fs[2]=='1' and arm:
+                        return '.'.join([r,arm,'is']+fs[3:])
                 else: out.append(f)
+                i=1
+                L=None
+                if f=='requires' and pre and pre.get('fields') and len(pre['fields'])>1: L=pre['fields']
+                if len(fs)>1 and fs[1]=='ensures' and callee:
+                    out.append('ensures'); i=2
+                    L=labels.get(callee,{}).get('ensures',[])
+                if L and len(L)>1:
+                    k=0
+                    while k<len(L)-1 and i<len(fs) and fs[i]=='1': k+=1; i+=1
+                    if k<len(L)-1:
+                        if i<len(fs) and fs[i]=='0': out.append(L[k]); i+=1
+                    else: out.append(L[k])
+                out+=fs[i:]
             return '.'.join([r]+out)
         ident=r"[^\s(){};,.«»`\"\[\]]+"
         return re.sub(r"(?<![^\s(){};,\[\]])("+ident+r")((?:\."+ident+r")+)",path,body)
@@ -146,7 +163,7 @@ for pf in sorted(glob.glob(f'{crate}/proofs/**/Proof.antt',recursive=True)):
                 unknown.append(old); new='UNKNOWN-'+old
             body='\n'.join(b[1:])
             bodyterm=re.sub(r'^(?:unfolding [^\n]*\n)?'+re.escape(name)+r'[^=]*= *','',body).strip()
-            if bodyterm in('search rules','search needs','search (rules)') : continue
+            if bodyterm in('search rules','search needs','search (rules)') and not any(x.startswith('unfolding') for x in b) : continue
             if new in J.get('settled',[]): continue
             place=at.get(new)
             body=re.sub(r'(^|\n)'+re.escape(name)+r'(?=\s)',lambda q:q.group(1)+new,body)
