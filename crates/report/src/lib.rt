@@ -1,6 +1,7 @@
 // A verdict into the report line of 113 bytes.
 
 #![tactic(auto)]
+
 mod column;
 mod division;
 mod load;

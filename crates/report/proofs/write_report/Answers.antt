@@ -1,5 +1,4 @@
 -- Another number of decimals comes first, then a buffer under 113 bytes; each is left as it was. Any other buffer has the line at its front.
-use borrow.Author.Rules.{rules}
 use Rattle.report.proofs.BufferLaws.{other_decimals, too_short, decimals_nonneg, decimals_fit, decimals_most, written}
 use Rattle.report.proofs.write_report.Goals as goal
 
@@ -12,8 +11,8 @@ returns-then-buffer-lt-LINE c = search too_short
 pub overflow_cast-decimals : goal.overflow_cast-decimals
 overflow_cast-decimals c = (search decimals_nonneg, search decimals_fit)
 
-pub write_line-requires : goal.write_line-requires
-write_line-requires c = (search rules, search decimals_most)
+pub write_line-requires-clause-fact_2 : goal.write_line-requires-clause-fact_2
+write_line-requires-clause-fact_2 c = search decimals_most
 
 pub returns : goal.returns
 returns c = search written

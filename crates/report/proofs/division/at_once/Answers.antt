@@ -6,8 +6,8 @@ use Rattle.report.proofs.division.at_once.Goals as goal
 
 pub overflow_mul-units : goal.overflow_mul-units
 overflow_mul-units c =
-    let p = power_small c.args.d c.requires.fact_2.1 in
-    let n = mul-le-mul {m₁ = c.ten_to.result} {n₂ = 1000000000000} {m₂ = 10000000} (le_of_lt c.requires.fact_2.0) (omega (arith, p, c.ten_to.ensures)) in
+    let p = power_small c.args.d c.requires.fact_3 in
+    let n = mul-le-mul {m₁ = c.ten_to.result} {n₂ = 1000000000000} {m₂ = 10000000} (le_of_lt c.requires.fact_2) (omega (arith, p, c.ten_to.ensures)) in
     record { fits = omega (arith, n) }
 
 pub returns : goal.returns

@@ -1,8 +1,8 @@
 -- Each turn adds the rest once more, less the divisor where that is reached.
-use mathlib.Core.Logic.{⊎_elim}
 use native.Mathlib.Omega.{arith}
 use Rattle.report.proofs.DivisionLaws.{adds_none, adds_plain, adds_carry, adds_all}
 use Rattle.report.proofs.division.next_digit.Goals as goal
+use Rattle.report.proofs.division.next_digit.Goals.{then-den-sum, else-den-sum}
 
 pub loop-i-init : goal.loop-i-init
 loop-i-init c = search adds_none
@@ -23,7 +23,10 @@ pub loop-i-preserved : goal.loop-i-preserved
 loop-i-preserved c =
     let p = c.loop-i.invariant in
     let t = c.loop-i-test.true in
-    ⊎_elim (λ w. adds_carry t c.requires.fact_1 p w.0.taken w.1 w.2) (λ w. adds_plain t p w.0.left w.1 w.2) c.if-den-sum.branch
+    elim c.if-den-sum.branch [
+      | then-den-sum w ↦ adds_carry t c.requires.fact_1 p w.if-den-sum.true w.digit-is w.sum-is
+      | else-den-sum w ↦ adds_plain t p w.if-den-sum.false w.digit-is w.sum-is
+    ]
 
 pub returns : goal.returns
 returns c = adds_all c.loop-i-test.false c.loop-i.invariant

@@ -12,7 +12,7 @@ pub next_unit-requires : goal.next_unit-requires
 next_unit-requires c =
     let a = c.args in
     let f = unit_fits a.d a.m a.den c.divided-q.result c.divided-q.ensures c.requires.fact_1 in
-    (f.whole_small, (f.part_short, c.requires.fact_2.1.1))
+    record { fact_1 = f.whole_small; fact_2 = f.part_short; fact_3 = c.requires.fact_4 }
 
 pub returns : goal.returns
 returns c = search rounded_up
