@@ -1,0 +1,10 @@
+-- `lowest_node` meets its contract. The invariant: it is the lowest of the nodes passed.
+use Prim.Native.Nat.{◌≤◌, ◌-◌}
+use Rattle.layers.proofs.HeightLaws.{Extreme, Low}
+use Rattle.layers.proofs.heights.lowest_node.Given as goal
+
+abbrev pub invariant-loop-v : goal.invariant-loop-v
+invariant-loop-v l = (l.v ≤ l.count) × Extreme l.m Low l.v l.low
+
+abbrev pub decreases-loop-v : goal.decreases-loop-v
+decreases-loop-v l = l.count - l.v

@@ -1,0 +1,23 @@
+-- `turns_left` meets its contract: the sign of the cross product of two steps.
+use mathlib.Core.Path.{◌∙◌, ap}
+use native.Mathlib.Omega.{arith}
+use lib.IntN.{pos}
+use lib.Signed.{lt_z}
+use Rattle.integer.proofs.Machine.{Is-read, machine, bounded, decides}
+use Rattle.scope.specs.Tests.{turn}
+use Rattle.shape.proofs.MeshLaws.{cross_from}
+use Rattle.shape.proofs.turns.turns_left.Goals as goal
+
+pub cross-requires : goal.cross-requires
+cross-requires c = (bounded (search machine depth 30) (omega arith), (bounded (search machine depth 30) (omega arith), (bounded (search machine depth 30) (omega arith), bounded (search machine depth 30) (omega arith))))
+
+pub returns : goal.returns
+unfolding turn
+returns c =
+    decides (search machine depth 30) (omega arith)
+    ∙ ap (lt_z (pos 0))
+    (cross_from
+    (Is-read c.run_between-ux.ensures (omega arith))
+    (Is-read c.rise_between-uy.ensures (omega arith))
+    (Is-read c.run_between-vx.ensures (omega arith))
+    (Is-read c.rise_between-vy.ensures (omega arith)))
