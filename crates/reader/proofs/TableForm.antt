@@ -21,7 +21,7 @@ use Rattle.scope.specs.Answer.{place_number}
 use Rattle.scope.specs.Checks.{◌then◌, lowest}
 use Rattle.scope.specs.Phases.{Step, Phase, check_steps, check_phase, check_phases}
 use Rattle.scope.specs.Columns.{Rule}
-use Rattle.scope.specs.Layout.{Group, Layout, width, groups}
+use Rattle.scope.specs.Layout.{Group, Layout, groups}
 use Rattle.scope.specs.Mesh.{soils}
 use Rattle.scope.specs.Layers.{most_layers, layer_columns}
 use Rattle.scope.specs.Refusals.{rule_number, lines_phase, leftover_phase}

@@ -1,18 +1,15 @@
 -- A file that passes is the file of its numbers: line by line, each line that is read is its columns and byte 10.
 use mathlib.Core.Path.{◌≡◌, refl, sym, ◌∙◌, ap, ap₂}
-use mathlib.Core.Bool.{true, false}
 use mathlib.Core.List.{List, [], ◌∷◌, ◌++◌, map, append_assoc}
 use mathlib.Core.Option.{Option, none, some}
-use Prim.Native.Nat.{ℕ, suc, ◌+◌, ◌≤◌}
+use Prim.Native.Nat.{ℕ, suc}
 use native.Mathlib.Omega.{arith}
 use lib.IntN.{ℤ}
-use lib.Dec.{leb}
-use lib.ListN.{length, take, drop, take-append-drop, length-append}
+use lib.ListN.{length, drop, take-append-drop, length-append}
 use lib.Seq.{take_at, drop_at}
 use borrow.Author.Tests.{le-leb}
 use Rattle.scope.specs.declared.Place.TheVariants.{Line}
-use Rattle.scope.specs.declared.Outcome.TheVariants.{Passed, Refused}
-use Rattle.scope.specs.Checks.{◌then◌}
+use Rattle.scope.specs.declared.Outcome.TheVariants.{Passed}
 use Rattle.scope.specs.Layout.{Group, Layout, width, groups}
 use Rattle.scope.proofs.Checks.{passed_is_not_refused, then_passed}
 use Rattle.scope.proofs.InOrder.{lines_of, check_from}

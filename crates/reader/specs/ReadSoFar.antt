@@ -1,5 +1,5 @@
 -- How far a file is read, as the functions that read its lines say it.
-use Rattle.std.specs.Prelude.{◌≡◌, true, false, cond, List, [], ◌∷◌, ◌++◌, ℕ, ◌+◌, ◌≤◌, ℤ, length, take, drop, replicate}
+use Rattle.std.specs.Prelude.{◌≡◌, true, false, cond, List, [], ◌++◌, ℕ, ◌+◌, ◌≤◌, ℤ, length, take, drop, replicate}
 use Rattle.std.proofs.Math.Option.{Option, none, some}
 use Rattle.reader.specs.declared.file_lines.Progress.{Progress}
 use Rattle.lines.specs.declared.layout.Group.{Group}

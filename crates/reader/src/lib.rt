@@ -2,6 +2,7 @@
 // and the numbers stand at the front of a list that the caller lends.
 
 #![tactic(auto)]
+
 mod column;
 mod file_lines;
 

@@ -10,47 +10,35 @@ loop-i-init c = summed_start _
 pub offset_bounds-groups-i : goal.offset_bounds-groups-i
 offset_bounds-groups-i c = omega (arith, c.loop-i-test.true)
 
-pub bounds-groups-i : goal.bounds-groups-i
-bounds-groups-i c = c.loop-i-test.true
-
 pub overflow_mul-sum : goal.overflow_mul-sum
 overflow_mul-sum c =
-    let s = c in
     let h = c.loop-i.invariant in
-    let few = few_bytes (here_good s.requires h no_group c.loop-i-test.true) in
+    let few = few_bytes (here_good c.requires h no_group c.loop-i-test.true) in
     record { fits = omega (arith, few.0) }
 
 pub overflow_add-sum : goal.overflow_add-sum
 overflow_add-sum c =
-    let s = c in
     let h = c.loop-i.invariant in
-    let few = few_bytes (here_good s.requires h no_group c.loop-i-test.true) in
+    let few = few_bytes (here_good c.requires h no_group c.loop-i-test.true) in
     record { fits = omega (arith, few.0) }
 
 pub overflow_mul-sum-in-loop-i : goal.overflow_mul-sum-in-loop-i
 overflow_mul-sum-in-loop-i c =
-    let s = c in
     let h = c.loop-i.invariant in
-    let few = few_bytes (here_good s.requires h no_group c.loop-i-test.true) in
+    let few = few_bytes (here_good c.requires h no_group c.loop-i-test.true) in
     record { fits = omega (arith, few.1) }
 
 pub overflow_add-sum-in-loop-i : goal.overflow_add-sum-in-loop-i
 overflow_add-sum-in-loop-i c =
-    let s = c in
     let h = c.loop-i.invariant in
-    let few = few_bytes (here_good s.requires h no_group c.loop-i-test.true) in
+    let few = few_bytes (here_good c.requires h no_group c.loop-i-test.true) in
     record { fits = omega (arith, few.1, h.few, h.most) }
 
-pub overflow_add-i : goal.overflow_add-i
-overflow_add-i c = omega arith
-
-pub loop-i-smaller : goal.loop-i-smaller
-loop-i-smaller c = omega arith
-
 pub loop-i-preserved : goal.loop-i-preserved
-loop-i-preserved c =
-    let s = c in
-    summed_next s.requires c.loop-i.invariant no_group c.loop-i-test.true
+loop-i-preserved c = summed_next c.requires c.loop-i.invariant no_group c.loop-i-test.true
 
 pub returns : goal.returns
-returns c = (summed_end c.requires c.loop-i.invariant c.loop-i-test.false, omega (arith, c.loop-i.invariant.few, c.loop-i.invariant.most))
+returns c = record {
+  fact_1 = summed_end c.requires c.loop-i.invariant c.loop-i-test.false;
+  fact_2 = omega (arith, c.loop-i.invariant.few, c.loop-i.invariant.most);
+}

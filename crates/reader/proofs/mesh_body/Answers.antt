@@ -10,7 +10,7 @@ pub read_groups-requires : goal.read_groups-requires
 read_groups-requires c =
     let p = c.requires in
     let t = c.mesh_groups-groups.ensures in
-    (p.0, (known t, rw (mesh_lines_lem t c.header_sizes.ensures) p.1.1))
+    record { fact_1 = p.fact_1; fact_2 = known t; fact_3 = rw (mesh_lines_lem t c.header_sizes.ensures) p.fact_3 }
 
 pub returns : goal.returns
 returns c = rw (mesh_lines_lem c.mesh_groups-groups.ensures c.header_sizes.ensures) at c.read_groups.ensures

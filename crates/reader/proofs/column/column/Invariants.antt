@@ -1,4 +1,5 @@
 -- `reader::column::column` meets its contract. The loop's invariant: the state is that after the first i bytes, and the
+-- first one where these are spaces.
 use mathlib.Core.Path.{◌≡◌}
 use mathlib.Core.Bool.{true}
 use Prim.Native.Nat.{◌-◌}

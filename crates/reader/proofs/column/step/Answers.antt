@@ -4,7 +4,7 @@ use Rattle.reader.proofs.OnePass.{entry_digit, stepped}
 use Rattle.reader.proofs.column.step.Goals as goal
 
 pub overflow_add-result : goal.overflow_add-result
-overflow_add-result c = let a = c in omega (arith, entry_digit a.args.table.now a.requires.fact_1 a.args.b (omega arith))
+overflow_add-result c = omega (arith, entry_digit c.args.table.now c.requires.fact_1 c.args.b (omega arith))
 
 pub returns : goal.returns
-returns c = let a = c in stepped a.args.table.now a.requires.fact_1 a.args.b (omega arith) a.args.c
+returns c = stepped c.args.table.now c.requires.fact_1 c.args.b (omega arith) c.args.c

@@ -5,22 +5,20 @@ use borrow.Author.Rules.{rules}
 use Rattle.reader.proofs.file_lines.finish.Goals as goal
 
 pub returns-then-not-p : goal.returns-then-not-p
-returns-then-not-p c = let s = c in whole_stopped _ s.args.p _ s.requires (not-true _ c.if-not-p.true)
+returns-then-not-p c = whole_stopped _ c.args.p _ c.requires (not-true _ c.if-not-p.true)
 
 pub offset_bounds-out-numbers : goal.offset_bounds-out-numbers
 offset_bounds-out-numbers c =
-    let s = c in
-    let l = left_room _ s.args.p _ s.requires (not-false _ c.if-not-p.false) c.if-at-bytes.true in
+    let l = left_room _ c.args.p _ c.requires (not-false _ c.if-not-p.false) c.if-at-bytes.true in
     search rules
 
 pub slice_set_of-out : goal.slice_set_of-out
 slice_set_of-out c =
-    let s = c in
-    let l = left_room _ s.args.p _ s.requires (not-false _ c.if-not-p.false) c.if-at-bytes.true in
+    let l = left_room _ c.args.p _ c.requires (not-false _ c.if-not-p.false) c.if-at-bytes.true in
     search rules
 
 pub returns-then-at-bytes : goal.returns-then-at-bytes
-returns-then-at-bytes c = let s = c in whole_left _ s.args.p _ s.requires (not-false _ c.if-not-p.false) c.if-at-bytes.true
+returns-then-at-bytes c = whole_left _ c.args.p _ c.requires (not-false _ c.if-not-p.false) c.if-at-bytes.true
 
 pub returns : goal.returns
-returns c = let s = c in whole_done _ s.args.p _ s.requires (not-false _ c.if-not-p.false) c.if-at-bytes.false
+returns c = whole_done _ c.args.p _ c.requires (not-false _ c.if-not-p.false) c.if-at-bytes.false

@@ -1,25 +1,23 @@
 -- `reader::file_lines::next_line` meets its contract: the line's numbers are copied where it is well formed.
 use native.Mathlib.Omega.{arith}
-use borrow.Author.Tests.{not-true, not-false}
 use Rattle.reader.proofs.LinesRead.{line_malformed, line_some, line_formed}
 use Rattle.reader.proofs.file_lines.next_line.Goals as goal
 
 pub read_line-requires : goal.read_line-requires
-read_line-requires c = let p = c.requires in (p.0, omega (arith, p.1.1.1.within))
+read_line-requires c = record {
+  fact_1 = c.requires.fact_1;
+  fact_2 = c.requires.fact_4.within;
+  fact_3 = c.requires.fact_3;
+  fact_4 = c.requires.fact_2;
+}
 
 pub returns-then-not-read_line : goal.returns-then-not-read_line
-returns-then-not-read_line c = let s = c in line_malformed _ _ s.args.p _ _ s.read_line.ensures _ (not-true s.read_line.result c.if-not-read_line.true)
+returns-then-not-read_line c = line_malformed _ _ c.args.p _ _ c.read_line.ensures _ c.if-not-read_line.true
 
 pub copy-requires : goal.copy-requires
 copy-requires c =
-    let s = c in
-    let r = s in
-    let a = r in
-    let formed = line_some _ _ a.args.p _ _ r.read_line.ensures (not-false r.read_line.result s.if-not-read_line.false) in
-    (omega arith, a.requires.fact_4.fits _ formed)
+    let formed = line_some _ _ c.args.p _ _ c.read_line.ensures c.if-not-read_line.false in
+    record { fact_1 = omega arith; fact_2 = c.requires.fact_4.fits _ formed }
 
 pub returns : goal.returns
-returns c =
-    let s = c in
-    let r = s in
-    line_formed _ _ r.args.p _ _ r.read_line.ensures (not-false r.read_line.result s.if-not-read_line.false) c.copy.ensures
+returns c = line_formed _ _ c.args.p _ _ c.read_line.ensures c.if-not-read_line.false c.copy.ensures

@@ -6,12 +6,10 @@ use Rattle.reader.proofs.file_lines.read_groups.Goals as goal
 
 pub finish-requires : goal.finish-requires
 finish-requires c =
-    let v = c in
-    let s = v in
-    groups_fit s.requires.fact_2 s.requires.fact_3 v.read_all-q.ensures (omega (arith, v.read_all-q.auto.1))
+    groups_fit c.requires.fact_2 c.requires.fact_3 c.read_all-q.ensures (omega (arith, c.read_all-q.auto.out))
 
 pub returns : goal.returns
 returns c =
-    let f = c in
-    let v = f in
-    listed_after _ _ v.read_all-q.ensures (finish_requires f f.finish.lifetimes).front f.finish.ensures
+    let k = c.requires in
+    let room = groups_fit k.fact_2 k.fact_3 c.read_all-q.ensures (omega (arith, c.read_all-q.auto.out)) in
+    listed_after _ _ c.read_all-q.ensures room.front c.finish.ensures
