@@ -1,4 +1,5 @@
 -- `reader::read_claim` meets its contract: by what the header is, and what its checks say.
+-- Assumes nothing.
 use native.Mathlib.Omega.{arith}
 use borrow.Author.Tests.{not-true, not-false}
 use Rattle.scope.specs.Claim.{claim_layout, claim_header}

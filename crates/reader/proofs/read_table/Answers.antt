@@ -1,4 +1,5 @@
 -- `reader::read_table` meets its contract: the well-formed lines, and one number more where bytes follow them.
+-- Assumes nothing.
 use native.Mathlib.Omega.{arith}
 use Rattle.reader.proofs.TableRead.{table_left_room, table_done, table_left}
 use borrow.Author.Rules.{rules}

@@ -1,4 +1,5 @@
 -- `pair_state` meets its contract: the pair's node and its soil are looked up, and the claim is lent from its first
+-- stress on.
 use mathlib.Core.Path.{◌∙◌, ap}
 use native.Mathlib.Omega.{arith}
 use Rattle.integer.proofs.Machine.{Is-read, Is-Within}

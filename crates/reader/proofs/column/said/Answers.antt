@@ -1,4 +1,5 @@
 -- `reader::column::said` meets its contract: each phase has one of the three answers.
+-- Assumes nothing.
 use native.Mathlib.Omega.{arith}
 use Rattle.integer.proofs.Machine.{machine, casts, fits, exact}
 use Rattle.reader.proofs.OnePass.{said_malformed, said_down, said_up}

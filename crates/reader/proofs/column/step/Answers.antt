@@ -1,4 +1,5 @@
 -- `reader::column::step` meets its contract: the byte's entry tells the next phase and the digit.
+-- Assumes nothing.
 use native.Mathlib.Omega.{arith}
 use Rattle.reader.proofs.OnePass.{entry_digit, stepped}
 use Rattle.reader.proofs.column.step.Goals as goal

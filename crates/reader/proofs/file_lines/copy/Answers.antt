@@ -1,4 +1,5 @@
 -- `reader::file_lines::copy` meets its contract. The loop's invariant: the first j numbers are copied.
+-- Assumes nothing.
 use native.Mathlib.Omega.{arith}
 use mir.Facts.{to_z-of_z}
 use mir.Syntax.{w64}

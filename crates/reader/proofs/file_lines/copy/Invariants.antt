@@ -1,4 +1,5 @@
 -- `reader::file_lines::copy` meets its contract. The loop's invariant: the first j numbers are copied.
+-- Assumes nothing.
 use Prim.Native.Nat.{◌-◌}
 use Rattle.reader.proofs.LinesRead.{Copied}
 use Rattle.reader.proofs.file_lines.copy.Given as goal

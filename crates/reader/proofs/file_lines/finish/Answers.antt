@@ -1,4 +1,5 @@
 -- `reader::file_lines::finish` meets its contract: each return by what the tests say of the bytes left over.
+-- Assumes nothing.
 use borrow.Author.Tests.{not-true, not-false}
 use Rattle.reader.proofs.Whole.{left_room, whole_stopped, whole_left, whole_done}
 use borrow.Author.Rules.{rules}

@@ -1,4 +1,5 @@
 -- `reader::file_lines::next_line` meets its contract: the line's numbers are copied where it is well formed.
+-- Assumes nothing.
 use native.Mathlib.Omega.{arith}
 use Rattle.reader.proofs.LinesRead.{line_malformed, line_some, line_formed}
 use Rattle.reader.proofs.file_lines.next_line.Goals as goal

@@ -1,4 +1,5 @@
 -- `reader::file_lines::read_group` meets its contract. The loop's invariant: i lines are read.
+-- Assumes nothing.
 use mathlib.Core.Path.{refl}
 use native.Mathlib.Omega.{arith}
 use borrow.Author.Tests.{not-true, not-false}

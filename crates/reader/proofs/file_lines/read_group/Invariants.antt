@@ -1,4 +1,5 @@
 -- `reader::file_lines::read_group` meets its contract. The loop's invariant: i lines are read.
+-- Assumes nothing.
 use mathlib.Core.Path.{◌≡◌}
 use Prim.Native.Nat.{◌-◌}
 use lib.ListN.{length}

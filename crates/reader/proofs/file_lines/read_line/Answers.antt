@@ -1,4 +1,5 @@
 -- `reader::file_lines::read_line` meets its contract. The loop's invariant: j columns are read, and what is left follows them.
+-- Assumes nothing.
 use mathlib.Core.Path.{sym, ap, ◌∙◌}
 use native.Mathlib.Omega.{arith}
 use mir.Facts.{to_z-of_z}

@@ -1,4 +1,5 @@
 -- `reader::file_lines::read_line` meets its contract. The loop's invariant: j columns are read, and what is left follows them.
+-- Assumes nothing.
 use Prim.Native.Nat.{◌-◌}
 use Rattle.reader.proofs.InLine.{InLine}
 use Rattle.reader.proofs.file_lines.read_line.Given as goal

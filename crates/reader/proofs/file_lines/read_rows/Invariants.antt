@@ -1,4 +1,5 @@
 -- `reader::file_lines::read_rows` meets its contract. The loop's invariant: k lines are read, or all that are well formed.
+-- Assumes nothing.
 use mathlib.Core.Path.{◌≡◌}
 use Prim.Native.Nat.{◌-◌}
 use lib.ListN.{length}
