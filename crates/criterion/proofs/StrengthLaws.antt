@@ -31,7 +31,7 @@ use Rattle.scope.specs.declared.Outcome.TheVariants.{Passed, Refused}
 use Rattle.scope.specs.Checks.{all_below}
 use Rattle.scope.specs.Claim.{stress}
 use Rattle.scope.specs.Polygon.{Side, Polygon, polygon_of}
-use Rattle.scope.specs.Rows.{Row, pair_count, pair_at, sx, sy, t, cross, strength_row, strength_rows}
+use Rattle.scope.specs.Rows.{pair_count, pair_at, sx, sy, t, strength_row, strength_rows}
 use Rattle.scope.specs.Sums.{weighted_sum, left_side, right_side, row_holds, is_open}
 use Rattle.scope.specs.NumberRanges.{Counts, SoilFacts}
 use Rattle.scope.specs.Tests.{row_at}

@@ -4,7 +4,7 @@ use Rattle.criterion.proofs.SideLaws.{next_inner, next_last}
 use Rattle.criterion.proofs.polygons.after.Goals as goal
 
 pub returns-then-k-sides : goal.returns-then-k-sides
-returns-then-k-sides c = (next_inner _ _ c.if-k-sides.true, c.if-k-sides.true)
+returns-then-k-sides c = record { fact_1 = next_inner _ _ c.if-k-sides.true; fact_2 = c.if-k-sides.true }
 
 pub returns : goal.returns
-returns c = (next_last _ _ c.if-k-sides.false, omega arith)
+returns c = record { fact_1 = next_last _ _ c.if-k-sides.false; fact_2 = omega arith }

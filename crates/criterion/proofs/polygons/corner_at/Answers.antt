@@ -8,6 +8,8 @@ use Rattle.criterion.proofs.polygons.corner_at.Goals as goal
 pub returns : goal.returns
 unfolding at
 returns c =
-    let start = c in
-    let table = start.requires.fact_2 in
-    record { x = Is-read (being c.number_at-x.ensures (table.each _)) (omega arith); y = Is-read (being c.number_at-y.ensures (table.each _)) (omega arith) }
+    let table = c.requires.fact_2 in
+    record {
+      x = Is-read (being c.number_at-x.ensures (table.each _)) (omega arith);
+      y = Is-read (being c.number_at-y.ensures (table.each _)) (omega arith);
+    }

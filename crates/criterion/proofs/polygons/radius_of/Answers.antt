@@ -8,11 +8,13 @@ use Rattle.criterion.proofs.polygons.radius_of.Goals as goal
 
 pub returns-then-sides-eq12 : goal.returns-then-sides-eq12
 unfolding polygon_of twelve twenty thirty_six
-returns-then-sides-eq12 c = is (search machine depth 30) (omega arith) (ap (λ k. (polygon_of k).radius) (sym c.if-sides-eq12.true))
+returns-then-sides-eq12 c =
+    is (search machine depth 30) (omega arith) (ap (λ k. (polygon_of k).radius) (sym c.if-sides-eq12.true))
 
 pub returns-then-sides-eq20 : goal.returns-then-sides-eq20
 unfolding polygon_of twelve twenty thirty_six
-returns-then-sides-eq20 c = is (search machine depth 30) (omega arith) (ap (λ k. (polygon_of k).radius) (sym c.if-sides-eq20.true))
+returns-then-sides-eq20 c =
+    is (search machine depth 30) (omega arith) (ap (λ k. (polygon_of k).radius) (sym c.if-sides-eq20.true))
 
 pub returns : goal.returns
 unfolding polygon_of twelve twenty thirty_six

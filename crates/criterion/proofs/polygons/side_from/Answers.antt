@@ -20,4 +20,8 @@ pub overflow_sub-result-3 : goal.overflow_sub-result-3
 overflow_sub-result-3 c = fits (search machine depth 30) (omega arith)
 
 pub returns : goal.returns
-returns c = record { run = is (search machine depth 30) (omega arith) refl; rise = is (search machine depth 30) (omega arith) refl; cross = is (search machine depth 30) (omega arith) refl }
+returns c = record {
+  run = is (search machine depth 30) (omega arith) refl;
+  rise = is (search machine depth 30) (omega arith) refl;
+  cross = is (search machine depth 30) (omega arith) refl;
+}

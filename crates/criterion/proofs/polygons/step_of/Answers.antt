@@ -8,10 +8,20 @@ pub side_from-requires : goal.side_from-requires
 side_from-requires c =
     let from = c.corner_at-from.ensures in
     let to = c.corner_at-to.ensures in
-    (Is-Within (Is-read from.x (omega arith)) (omega arith), (Is-Within (Is-read from.y (omega arith)) (omega arith), (Is-Within (Is-read to.x (omega arith)) (omega arith), Is-Within (Is-read to.y (omega arith)) (omega arith))))
+    record {
+      fact_1 = Is-Within (Is-read from.x (omega arith)) (omega arith);
+      fact_2 = Is-Within (Is-read from.y (omega arith)) (omega arith);
+      fact_3 = Is-Within (Is-read to.x (omega arith)) (omega arith);
+      fact_4 = Is-Within (Is-read to.y (omega arith)) (omega arith);
+    }
 
 pub returns : goal.returns
 returns c =
     let from = c.corner_at-from.ensures in
     let to = c.corner_at-to.ensures in
-    step_is c.after-next.ensures.fact_1 (Is-read from.x (omega arith)).same (Is-read from.y (omega arith)).same (Is-read to.x (omega arith)).same (Is-read to.y (omega arith)).same c.side_from.ensures
+    step_is c.after-next.ensures.fact_1
+    (Is-read from.x (omega arith)).same
+    (Is-read from.y (omega arith)).same
+    (Is-read to.x (omega arith)).same
+    (Is-read to.y (omega arith)).same
+    c.side_from.ensures

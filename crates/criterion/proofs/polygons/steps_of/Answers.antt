@@ -19,7 +19,8 @@ steps_from-requires-then-sides-eq20 c = table_of (listed_polygon 20 (inr (inl re
 
 pub returns-then-sides-eq20 : goal.returns-then-sides-eq20
 unfolding shown
-returns-then-sides-eq20 c = steps_of _ (listed_polygon 20 (inr (inl refl))) c.if-sides-eq20.true _ c.steps_from-then-sides-eq20.ensures
+returns-then-sides-eq20 c =
+    steps_of _ (listed_polygon 20 (inr (inl refl))) c.if-sides-eq20.true _ c.steps_from-then-sides-eq20.ensures
 
 pub steps_from-requires-2 : goal.steps_from-requires-2
 unfolding shown
@@ -28,5 +29,5 @@ steps_from-requires-2 c = table_of (listed_polygon 36 (inr (inr refl)))
 pub returns : goal.returns
 unfolding shown
 returns c =
-    let start = c in
-    steps_of _ (listed_polygon 36 (inr (inr refl))) (last_listed start.requires c.if-sides-eq12.false c.if-sides-eq20.false) _ c.steps_from-2.ensures
+    let last = last_listed c.requires c.if-sides-eq12.false c.if-sides-eq20.false in
+    steps_of _ (listed_polygon 36 (inr (inr refl))) last _ c.steps_from-2.ensures

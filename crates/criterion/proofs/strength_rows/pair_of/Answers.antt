@@ -33,4 +33,10 @@ returns c =
     let sy = c.requires.within_2_2 in
     let t = c.requires.within_2_3 in
     let n = c.requires.within_2_4 in
-    record { size = refl; lever = is (search machine depth 30) (omega arith) refl; spread = is (search machine depth 30) (omega arith) refl; twist = is (search machine depth 30) (omega arith) refl; reserve = is (search machine depth 30) (omega arith) refl }
+    record {
+      size = refl;
+      lever = is (search machine depth 30) (omega arith) refl;
+      spread = is (search machine depth 30) (omega arith) refl;
+      twist = is (search machine depth 30) (omega arith) refl;
+      reserve = is (search machine depth 30) (omega arith) refl;
+    }

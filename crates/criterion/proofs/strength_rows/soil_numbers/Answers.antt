@@ -10,25 +10,22 @@ use Rattle.criterion.proofs.strength_rows.soil_numbers.Goals as goal
 pub overflow_mul-result : goal.overflow_mul-result
 unfolding p q h cohesion
 overflow_mul-result c =
-    let start = c in
-    let facts = start.requires.fact_1.0.facts.soil start.args.soil start.requires.fact_1.1 in
+    let facts = c.requires.fact_1.0.facts.soil c.args.soil c.requires.fact_1.1 in
     let h = being c.soil_entry-h.ensures.same (h-within facts) in
-    let radius = start.requires.fact_2 in
+    let radius = c.requires.fact_2 in
     fits (search machine depth 30) (omega arith)
 
 pub overflow_mul-result-2 : goal.overflow_mul-result-2
 unfolding p q h cohesion
 overflow_mul-result-2 c =
-    let start = c in
-    let facts = start.requires.fact_1.0.facts.soil start.args.soil start.requires.fact_1.1 in
+    let facts = c.requires.fact_1.0.facts.soil c.args.soil c.requires.fact_1.1 in
     let q = being c.soil_entry-q.ensures.same (q-within facts) in
     fits (search machine depth 30) (omega arith)
 
 pub overflow_mul-result-3 : goal.overflow_mul-result-3
 unfolding p q h cohesion
 overflow_mul-result-3 c =
-    let start = c in
-    let facts = start.requires.fact_1.0.facts.soil start.args.soil start.requires.fact_1.1 in
+    let facts = c.requires.fact_1.0.facts.soil c.args.soil c.requires.fact_1.1 in
     let q = being c.soil_entry-q.ensures.same (q-within facts) in
     let cohesion = being c.soil_entry-cohesion.ensures.same (cohesion-within facts) in
     fits (search machine depth 30) (omega arith)
@@ -36,13 +33,12 @@ overflow_mul-result-3 c =
 pub returns : goal.returns
 unfolding at p q h cohesion
 returns c =
-    let start = c in
-    let facts = start.requires.fact_1.0.facts.soil start.args.soil start.requires.fact_1.1 in
+    let facts = c.requires.fact_1.0.facts.soil c.args.soil c.requires.fact_1.1 in
     let p = being c.soil_entry-p.ensures.same (p-within facts) in
     let q = being c.soil_entry-q.ensures.same (q-within facts) in
     let h = being c.soil_entry-h.ensures.same (h-within facts) in
     let cohesion = being c.soil_entry-cohesion.ensures.same (cohesion-within facts) in
-    let radius = start.requires.fact_2 in
+    let radius = c.requires.fact_2 in
     record {
       size = refl;
       lever = is (search machine depth 30) (omega arith) refl;
