@@ -7,7 +7,7 @@ use Rattle.equality.specs.declared.equality_rows.Span.{Span}
 use Rattle.equality.specs.declared.equality_rows.Squares.{Squares}
 use Rattle.scope.specs.Mesh.{corner}
 use Rattle.scope.specs.Bounds.{most_coordinate, most_square, most_entries, most_coefficient, equality_right}
-use Rattle.scope.specs.Columns.{at, n}
+use Rattle.scope.specs.Columns.{at}
 use Rattle.scope.specs.Rows.{asked, unfixed, Row, rise_across, run_across}
 use Rattle.mesh.specs.MeshContracts.{NodeAt}
 

@@ -3,11 +3,8 @@ use mathlib.Core.Path.{ap}
 use lib.ListN.{set}
 use Rattle.scope.specs.Columns.{at}
 use native.Mathlib.Omega.{arith}
-use Rattle.integer.proofs.Machine.{machine, fits, exact}
+use Rattle.integer.proofs.Machine.{machine, exact}
 use Rattle.equality.proofs.row_sums.add_at.Goals as goal
-
-pub overflow_add-sum : goal.overflow_add-sum
-overflow_add-sum c = fits (search machine depth 30) (omega arith)
 
 pub returns : goal.returns
 unfolding at

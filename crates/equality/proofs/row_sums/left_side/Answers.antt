@@ -13,53 +13,23 @@ pub loop-i-init : goal.loop-i-init
 unfolding weighted_sum with_columns
 loop-i-init c = (omega arith, is (search machine depth 30) (omega arith) refl)
 
-pub offset_bounds-columns-i : goal.offset_bounds-columns-i
-offset_bounds-columns-i c = omega arith
-
-pub bounds-columns-i : goal.bounds-columns-i
-bounds-columns-i c = omega arith
-
-pub offset_bounds-coefficients-i : goal.offset_bounds-coefficients-i
-offset_bounds-coefficients-i c = omega arith
-
-pub bounds-coefficients-i : goal.bounds-coefficients-i
-bounds-coefficients-i c = omega arith
-
-pub offset_bounds-x-j : goal.offset_bounds-x-j
-offset_bounds-x-j c =
-    let h = c.requires.fact_1.columns_fit c.loop-i.i c.loop-i-test.true in
-    omega arith
-
-pub bounds-x-j : goal.bounds-x-j
-bounds-x-j c =
-    let h = c.requires.fact_1.columns_fit c.loop-i.i c.loop-i-test.true in
-    omega arith
-
 pub overflow_mul-sum : goal.overflow_mul-sum
 overflow_mul-sum c = fits (search machine depth 30) (omega arith)
 
 pub overflow_add-sum : goal.overflow_add-sum
 overflow_add-sum c = fits (search machine depth 30) (omega arith)
 
-pub overflow_add-i : goal.overflow_add-i
-overflow_add-i c = omega arith
-
-pub loop-i-smaller : goal.loop-i-smaller
-loop-i-smaller c = omega arith
-
 pub loop-i-preserved : goal.loop-i-preserved
 unfolding at
 loop-i-preserved c =
-    let start = c in
     let loop = c.loop-i in
     let h = loop.invariant.1 in
-    let row = start.requires.fact_1.coefficients_fit in
-    let field = start.requires.fact_2.1.0 in
-    let next = one_entry_more (at start.args.x.now) start.args.coefficients.now start.args.columns.now loop.i (omega arith) (omega arith) in
+    let row = c.requires.fact_1.coefficients_fit in
+    let field = c.requires.fact_3 in
+    let a = c.args in
+    let next =
+    one_entry_more (at a.x.now) a.coefficients.now a.columns.now loop.i (omega arith) (omega arith) in
     (omega arith, is (search machine depth 30) (omega arith) (sym next))
-
-pub overflow_mul-result : goal.overflow_mul-result
-overflow_mul-result c = fits (search machine depth 30) (omega arith)
 
 pub overflow_add-result : goal.overflow_add-result
 overflow_add-result c = fits (search machine depth 30) (omega arith)
@@ -68,4 +38,5 @@ pub returns : goal.returns
 returns c =
     let a = c.args in
     let e : c.loop-i.i ≡ a.count = omega arith in
-    is (search machine depth 30) (omega arith) (ap (λ n. weighted_sum (at a.x.now) (entries_of a.coefficients.now a.columns.now n) +ℤ a.live *ℤ a.l) e)
+    is (search machine depth 30) (omega arith)
+    (ap (λ n. weighted_sum (at a.x.now) (entries_of a.coefficients.now a.columns.now n) +ℤ a.live *ℤ a.l) e)
