@@ -115,12 +115,15 @@ for pf in sorted(glob.glob(f'{crate}/proofs/**/Proof.antt',recursive=True)):
         return re.sub(r"(?<![^\s(){};,\[\]])("+ident+r")((?:\."+ident+r")+)",path,body)
     inv=[];ans=[];helpers=[];misc=[]
     comment=[]
-    header=[l for l in lines if l.startswith('--')][:1]
+    header=[]
+    for l in lines:
+        if not l.startswith('--'): break
+        header.append(l)
     unknown=[]
     for b in bl:
         b=[l for l in b]
         if all(l.lstrip().startswith('--') for l in b):
-            comment=b if not (header and b==header) else []
+            comment=b
             continue
         # leading comments
         i=0

@@ -1,0 +1,19 @@
+-- `zero_if_unfixed` meets its contract: a multiplier that is 0 passes, and another if the row asks something.
+use native.Mathlib.Omega.{arith}
+use Rattle.integer.proofs.Machine.{machine, told, apart}
+use Rattle.scope.specs.Columns.{at}
+use Rattle.criterion.proofs.StrengthLaws.{being}
+use Rattle.multipliers.proofs.LimitLaws.{zero_passes, asked_passes}
+use Rattle.multipliers.proofs.multiplier_checks.zero_if_unfixed.Goals as goal
+
+pub returns-then-w-eq0 : goal.returns-then-w-eq0
+unfolding at
+returns-then-w-eq0 c =
+    let w = being c.number_at-w.ensures (c.requires.fact_3.each c.args.k) in
+    zero_passes _ (told c.if-w-eq0.true (search machine depth 30) (omega arith))
+
+pub returns : goal.returns
+unfolding at
+returns c =
+    let w = being c.number_at-w.ensures (c.requires.fact_3.each c.args.k) in
+    asked_passes _ (apart c.if-w-eq0.false (search machine depth 30) (omega arith)) c.row_asked.ensures
