@@ -1,8 +1,8 @@
 -- A mesh in which the first elements have their layers' soils and the others soil 1: it has all that sound lines say, one element more is one number set, and after the last element it is the filled mesh.
-use mathlib.Core.Path.{◌≡◌, refl, sym, ◌∙◌, ap, subst}
-use mathlib.Core.Bool.{Bool, true, false, cond, not}
+use mathlib.Core.Path.{◌≡◌, sym, ◌∙◌, ap, subst}
+use mathlib.Core.Bool.{Bool, true, false, cond}
 use mathlib.Core.List.{List}
-use Prim.Native.Nat.{ℕ, ◌+◌, ◌*◌, ◌≤◌, ◌<◌}
+use Prim.Native.Nat.{ℕ, ◌+◌, ◌≤◌, ◌<◌}
 use native.Mathlib.Decide.{dec_lt}
 use native.Mathlib.Omega.{arith}
 use lib.Dec.{ltb}
@@ -24,7 +24,7 @@ use Rattle.scope.proofs.Filled.{given-length, given_cong, given_kept, given_set,
 use Rattle.mesh.specs.declared.sizes.Sizes.{Sizes}
 use Rattle.mesh.specs.MeshContracts.{Sized, SizesAre, FewThings}
 use Rattle.mesh.proofs.Places.{as_sizes, few_things}
-use Rattle.layers.specs.LayerContracts.{TableRead, soils_to, Fillable}
+use Rattle.layers.specs.LayerContracts.{soils_to, Fillable}
 
 abbrev one : ℕ → ℤ
 one e = pos 1

@@ -1,5 +1,5 @@
 -- The lowest gap, from top to top: a layer that has a whole height has all heights from there to its top, so all is covered up to a whole height that is in no layer.
-use mathlib.Core.Path.{◌≡◌, refl, sym, ◌∙◌, ap, subst}
+use mathlib.Core.Path.{◌≡◌, sym, ◌∙◌, ap, subst}
 use mathlib.Core.Bool.{true}
 use mathlib.Core.List.{List}
 use Prim.Native.Nat.{ℕ, suc, ◌+◌, ◌-◌, ◌*◌, ◌≤◌, ◌<◌}
@@ -8,14 +8,14 @@ use native.Mathlib.Omega.{arith}
 use lib.Dec.{T, T_not}
 use lib.IntN.{ℤ, pos, ◌*ℤ◌}
 use lib.Signed.{◌≤ℤ◌, ◌<ℤ◌}
-use Rattle.integer.proofs.Linear.{linear, facts, ◌&◌, nothing}
+use Rattle.integer.proofs.Linear.{linear, facts, nothing}
 use Rattle.integer.proofs.Order.{≤ℤ_pos}
 use Rattle.scope.specs.declared.Place.TheVariants.{Height}
 use Rattle.scope.specs.declared.Outcome.TheVariants.{Passed, Refused}
 use Rattle.scope.specs.Phases.{check_phase}
 use Rattle.scope.specs.Rows.{first_where}
-use Rattle.scope.specs.Layers.{layers, bottom, top, quarters, Has, has, InLayer, in_layer, gaps_phase}
-use Rattle.scope.proofs.Decides.{first_where_lem, is_yes, is_no, yes_is, no_is}
+use Rattle.scope.specs.Layers.{layers, top, quarters, Has, has, InLayer, in_layer, gaps_phase}
+use Rattle.scope.proofs.Decides.{first_where_lem, is_yes, is_no, yes_is}
 use Rattle.scope.proofs.Layers.{has_says, in_layer_says}
 use Rattle.lines.proofs.Loops.{phase-at, phase_all}
 

@@ -1,23 +1,21 @@
 -- The lowest node so far: it stands at a node that was passed, and none that was passed is below it. After the last node it is the lowest of all; the highest likewise.
-use mathlib.Core.Path.{◌≡◌, refl, sym, ◌∙◌, ap, ap₂, subst}
+use mathlib.Core.Path.{◌≡◌, sym, ◌∙◌, ap, ap₂, subst}
 use mathlib.Core.Logic.{◌⊎◌, inl, inr}
 use mathlib.Core.List.{List}
-use Prim.Native.Nat.{ℕ, suc, ◌+◌, ◌*◌, ◌≤◌, ◌<◌}
+use Prim.Native.Nat.{ℕ, ◌+◌, ◌≤◌, ◌<◌}
 use native.Mathlib.Numerals.{add-one}
 use native.Mathlib.Omega.{arith}
-use lib.IntN.{ℤ, pos, nat_abs}
+use lib.IntN.{ℤ, pos}
 use lib.Signed.{◌≤ℤ◌}
 use Rattle.scope.specs.Bounds.{most_coordinate}
 use Rattle.scope.specs.Layout.{count}
-use Rattle.scope.specs.Mesh.{nodes, elements, y, corner}
+use Rattle.scope.specs.Mesh.{nodes, y, corner}
 use Rattle.scope.specs.NumberRanges.{MeshFacts}
 use Rattle.scope.specs.Layers.{lowest, highest}
 use Rattle.scope.specs.Filled.{height_of}
-use Rattle.scope.specs.LayerRows.{NodeHeights}
 use Rattle.scope.proofs.Checks.{below_suc}
 use Rattle.scope.proofs.Layers.{node_heights}
 use Rattle.scope.proofs.NumberRanges.{count_range}
-use Rattle.mesh.proofs.Places.{count_nat_abs}
 
 pub height_most : {m : List ℤ} → MeshFacts m → {v : ℕ} → v < nodes m → count (y m v) ≤ most_coordinate
 height_most {m} f {v} l = let r = (f.node v l).y_range in (count_range (y m v) r.least r.most).1

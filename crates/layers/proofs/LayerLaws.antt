@@ -1,20 +1,20 @@
 -- What is read of a layer, the search for the first that has a height, and overlaps by pairs: two layers share a height from lo to hi exactly where both have begun, neither has ended and hi is not passed.
-use mathlib.Core.Path.{◌≡◌, refl, sym, ◌∙◌, ap, subst}
+use mathlib.Core.Path.{◌≡◌, refl, sym, ap, subst}
 use mathlib.Core.Bool.{Bool, true, false, cond, not}
 use mathlib.Core.List.{List}
 use Prim.Native.Nat.{ℕ, ◌+◌, ◌*◌, ◌≤◌, ◌<◌}
 use native.Mathlib.Omega.{arith}
 use lib.Dec.{T}
 use lib.IntN.{ℤ, pos, negsuc, ◌*ℤ◌, nat_abs}
-use lib.Signed.{lt_z, le_z, ◌≤ℤ◌, ◌<ℤ◌, ≤ℤ_refl, lt_z_yes, lt_z_no, clash_ℤ}
+use lib.Signed.{lt_z, ◌≤ℤ◌, ◌<ℤ◌, ≤ℤ_refl, lt_z_yes, lt_z_no, clash_ℤ}
 use Rattle.integer.specs.Bounds.{Is}
 use Rattle.integer.proofs.TestLaws.{same_test, yes_lt_z}
 use Rattle.integer.proofs.Linear.{linear, facts, ◌&◌, nothing}
 use Rattle.integer.proofs.Order.{≤ℤ_trans, <ℤ→≤ℤ, nonneg, ≤ℤ_pos}
 use Rattle.scope.specs.Columns.{at}
 use Rattle.scope.specs.Rows.{first_where}
-use Rattle.scope.specs.Layers.{layer_columns, most_level, bottom, top, soil, Has, has, Apart, apart}
-use Rattle.scope.proofs.Decides.{Decides, First, both, at_mostℤ, belowℤ, is_yes, is_no, yes_is, no_is}
+use Rattle.scope.specs.Layers.{layer_columns, most_level, bottom, top, soil, Has, has, apart}
+use Rattle.scope.proofs.Decides.{Decides, both, at_mostℤ, belowℤ, is_yes, is_no, yes_is, no_is}
 use Rattle.scope.proofs.Layers.{first_is, has_says, apart_says}
 use Rattle.layers.specs.LayerContracts.{TableRead, higher, meeting, meet}
 

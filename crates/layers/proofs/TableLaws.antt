@@ -1,7 +1,7 @@
 -- A table whose lines have passed, as the functions are handed it: each of its numbers is a column of a layer, and so within 2,000.
 use mathlib.Core.Path.{◌≡◌, refl, sym, subst}
 use mathlib.Core.List.{List}
-use Prim.Native.Nat.{ℕ, zero, suc, ◌+◌, ◌*◌, ◌/◌, ◌%◌, ◌≤◌, ◌<◌}
+use Prim.Native.Nat.{ℕ, zero, suc, ◌+◌, ◌*◌, ◌/◌, ◌%◌, ◌<◌}
 use native.Mathlib.Nat.{div-add-mod', mod-lt}
 use native.Mathlib.Decide.{dec_lt}
 use native.Mathlib.Omega.{arith}
@@ -13,7 +13,6 @@ use Rattle.integer.proofs.BoundLaws.{bounds, Within-pos, Within-le}
 use Rattle.integer.proofs.Linear.{linear, ◌&◌}
 use Rattle.integer.proofs.Order.{pos_≤ℤ}
 use Rattle.scope.specs.Columns.{at}
-use Rattle.scope.specs.Mesh.{soils}
 use Rattle.scope.specs.NumberRanges.{Between, Counts}
 use Rattle.scope.specs.Layers.{layer_columns, most_level, layers, bottom, top, soil}
 use Rattle.scope.specs.Table.{TableFacts}

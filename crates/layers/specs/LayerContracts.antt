@@ -1,5 +1,5 @@
 -- What contracts say of a table of layers that is handed around, of two layers that meet, and of a mesh that is filled.
-use Rattle.std.specs.Prelude.{◌≡◌, Bool, true, false, cond, ◌&&◌, List, ℕ, ◌*◌, ◌≤◌, ◌<◌, ℤ, pos, ltb, length, set}
+use Rattle.std.specs.Prelude.{◌≡◌, Bool, cond, ◌&&◌, List, ℕ, ◌*◌, ◌≤◌, ◌<◌, ℤ, pos, ltb, length, set}
 use Rattle.std.specs.Int.Signed.{le_z, lt_z}
 use Rattle.integer.specs.Bounds.{AllWithin}
 use Rattle.integer.specs.Tests.{eq_z}

@@ -12,18 +12,6 @@ take_soil-requires c =
     let p = c.requires in
     (p.0, omega (arith, c.loop-e-test.true, elements_are_lem p.0), c.loop-e.invariant.2)
 
-pub overflow_add-e : goal.overflow_add-e
-overflow_add-e c = omega arith
-
-pub loop-e-smaller : goal.loop-e-smaller
-loop-e-smaller c = omega arith
-
-pub loop-e-preserved : goal.loop-e-preserved
-loop-e-preserved c = (omega arith, omega arith, c.take_soil.ensures)
-
-pub shape_of-out : goal.shape_of-out
-shape_of-out c = c.loop-e.invariant.1
-
 pub returns : goal.returns
 returns c =
     let p = c.requires in

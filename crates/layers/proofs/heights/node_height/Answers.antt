@@ -5,18 +5,10 @@ use lib.IntN.{nat_abs}
 use mir.Syntax.{w64}
 use mir.Val.{to_z, of_z}
 use Rattle.scope.specs.Mesh.{y}
-use Rattle.integer.proofs.Machine.{machine, meets, exact}
+use Rattle.integer.proofs.Machine.{machine, exact}
 use Rattle.mesh.proofs.Places.{count_nat_abs}
 use Rattle.layers.proofs.HeightLaws.{not_negative, height_most}
 use Rattle.layers.proofs.heights.node_height.Goals as goal
-
-pub node_y-requires : goal.node_y-requires
-node_y-requires c = c.requires
-
-pub overflow_cast-result : goal.overflow_cast-result
-overflow_cast-result c =
-    let r = c.node_y.ensures in
-    (meets (search machine depth 30) (omega arith) (not_negative c.requires.0.facts c.requires.1), meets (search machine depth 30) (omega arith) (omega arith))
 
 pub returns : goal.returns
 returns c =
@@ -25,4 +17,4 @@ returns c =
     let a = c.args in
     let z : to_z w64 (of_z w64 c.node_y.result) ≡ y a.m.now a.v = exact (search machine depth 30) (omega arith) in
     let e = ap nat_abs z ∙ count_nat_abs (not_negative p.0.facts p.1) in
-    (e, omega (arith, e, height_most p.0.facts p.1))
+    record { fact_1 = e; fact_2 = omega (arith, e, height_most p.0.facts p.1) }

@@ -1,8 +1,6 @@
 -- `apart_check` meets its contract. The invariant: the layers passed hold.
 use mathlib.Core.Path.{refl, sym, ◌∙◌}
-use mathlib.Core.Bool.{true}
 use native.Mathlib.Omega.{arith}
-use borrow.Author.Tests.{not-true, not-false}
 use Rattle.scope.specs.Checks.{all_below}
 use Rattle.scope.specs.Layers.{layers, layer_line, apart}
 use Rattle.scope.specs.Phases.{check_phase}
@@ -13,30 +11,25 @@ pub loop-i-init : goal.loop-i-init
 unfolding all_below
 loop-i-init c = (omega arith, refl)
 
-pub apart_from_earlier-requires : goal.apart_from_earlier-requires
-apart_from_earlier-requires c = let p = c.requires in (p.0, c.loop-i-test.true, p.1, p.2)
-
-pub refused_line-requires : goal.refused_line-requires
-refused_line-requires c = omega (arith, c.loop-i-test.true, c.requires.0.few)
-
 pub returns-then-not-apart_from_earlier : goal.returns-then-not-apart_from_earlier
 unfolding check_phase
 returns-then-not-apart_from_earlier c =
     let read = c.requires.0 in
     c.refused_line.ensures
-    ∙ phase-at (apart _ _ _) 46 layer_line (layers _) (each_below _ _ c.loop-i.invariant.1) (omega (arith, read.counted, c.loop-i-test.true)) (sym c.apart_from_earlier.ensures ∙ not-true _ c.if-not-apart_from_earlier.true) refl
-
-pub overflow_add-i : goal.overflow_add-i
-overflow_add-i c = omega arith
-
-pub loop-i-smaller : goal.loop-i-smaller
-loop-i-smaller c = omega arith
+    ∙ phase-at (apart _ _ _) 46 layer_line (layers _) (each_below _ _ c.loop-i.invariant.1)
+    (omega (arith, read.counted, c.loop-i-test.true))
+    (sym c.apart_from_earlier.ensures ∙ c.if-not-apart_from_earlier.true)
+    refl
 
 pub loop-i-preserved : goal.loop-i-preserved
-loop-i-preserved c = (omega arith, all_more (apart _ _ _) c.loop-i.invariant.1 (sym c.apart_from_earlier.ensures ∙ not-false _ c.if-not-apart_from_earlier.false))
+loop-i-preserved c =
+    let next = sym c.apart_from_earlier.ensures ∙ c.if-not-apart_from_earlier.false in
+    (omega arith, all_more (apart _ _ _) c.loop-i.invariant.1 next)
 
 pub returns : goal.returns
 unfolding check_phase
 returns c =
     let read = c.requires.0 in
-    phase_all (apart _ _ _) 46 layer_line (layers _) (λ k l. each_below _ _ c.loop-i.invariant.1 k (omega (arith, read.counted, c.loop-i.invariant.0)))
+    let inv = c.loop-i.invariant in
+    phase_all (apart _ _ _) 46 layer_line (layers _)
+    (λ k l. each_below _ _ inv.1 k (omega (arith, read.counted, inv.0)))

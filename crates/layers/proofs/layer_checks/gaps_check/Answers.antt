@@ -1,28 +1,15 @@
 -- `gaps_check` meets its contract. The invariant: all heights from lo to below h are in some layer. The measure: h rises.
 use native.Mathlib.Omega.{arith}
-use Rattle.layers.proofs.GapLaws.{found_has, rises, none_covered, covered_more, gap_here, no_gap}
+use Rattle.layers.proofs.GapLaws.{found_has, rises, covered_more, gap_here, no_gap}
 use Rattle.layers.proofs.layer_checks.gaps_check.Goals as goal
-
-pub loop-h-init : goal.loop-h-init
-loop-h-init c = (omega arith, none_covered _ _)
-
-pub overflow_mul-h : goal.overflow_mul-h
-overflow_mul-h c = omega (arith, c.loop-h-test.true, c.requires.2)
-
-pub layer_of-i-requires : goal.layer_of-i-requires
-layer_of-i-requires c = let p = c.requires in (p.0, omega (arith, c.loop-h-test.true, p.2))
-
-pub overflow_cast-result : goal.overflow_cast-result
-overflow_cast-result c = omega (arith, c.loop-h-test.true, c.requires.2)
-
-pub overflow_mul-result : goal.overflow_mul-result
-overflow_mul-result c = omega (arith, c.loop-h-test.true, c.requires.2)
 
 pub returns-then-i-n : goal.returns-then-i-n
 returns-then-i-n c =
     let p = c.requires in
     let inv = c.loop-h.invariant in
-    gap_here _ _ _ inv.1 _ inv.0 (omega (arith, c.loop-h-test.true)) p.0.counted (omega (arith, c.if-i-n.true, c.layer_of-i.ensures)) (omega arith)
+    gap_here _ _ _ inv.1 _ inv.0 (omega (arith, c.loop-h-test.true)) p.0.counted
+    (omega (arith, c.if-i-n.true, c.layer_of-i.ensures))
+    (omega arith)
 
 pub top_over-h-requires : goal.top_over-h-requires
 top_over-h-requires c = (c.requires.0, c.if-i-n.false, found_has _ _ c.layer_of-i.ensures c.if-i-n.false)
@@ -37,7 +24,9 @@ loop-h-preserved c =
     let p = c.requires in
     let inv = c.loop-h.invariant in
     let has = found_has _ _ c.layer_of-i.ensures c.if-i-n.false in
-    (omega (arith, inv.0, rises _ _ _ has c.top_over-h.ensures), covered_more _ _ _ inv.1 (omega (arith, c.if-i-n.false, p.0.counted)) has c.top_over-h.ensures)
+    let up = rises _ _ _ has c.top_over-h.ensures in
+    let more = covered_more _ _ _ inv.1 (omega (arith, c.if-i-n.false, p.0.counted)) has c.top_over-h.ensures in
+    (omega (arith, inv.0, up), more)
 
 pub returns : goal.returns
 returns c = no_gap _ _ _ c.loop-h.invariant.1 _ (omega (arith, c.loop-h-test.false))

@@ -14,7 +14,8 @@ returns-in-Refused c = then_refuses _ (sym c.tops_check-tops.ensures ∙ c.in-Re
 pub returns-in-Passed : goal.returns-in-Passed
 unfolding check_phases
 returns-in-Passed c =
-    let told = c in
-    let t = told.args.t.now in
-    then_goes_on (sym told.tops_check-tops.ensures ∙ told.in-Passed.is)
-    (c.between_nodes.ensures ∙ ap₂ (λ (lo hi : ℕ). check_phases (apart_phase t lo hi ∷ gaps_phase t lo hi ∷ [])) c.lowest_node-lo.ensures.fact_1 c.highest_node-hi.ensures.fact_1)
+    let t = c.args.t.now in
+    let lo = c.lowest_node-lo.ensures.fact_1 in
+    let hi = c.highest_node-hi.ensures.fact_1 in
+    then_goes_on (sym c.tops_check-tops.ensures ∙ c.in-Passed.is)
+    (c.between_nodes.ensures ∙ ap₂ (λ (l h : ℕ). check_phases (apart_phase t l h ∷ gaps_phase t l h ∷ [])) lo hi)

@@ -10,9 +10,6 @@ use Rattle.scope.specs.Layers.{top}
 use Rattle.layers.proofs.GapLaws.{top_not_negative}
 use Rattle.layers.proofs.layer_checks.top_over.Goals as goal
 
-pub top_of-requires : goal.top_of-requires
-top_of-requires c = (c.requires.0, c.requires.1)
-
 pub overflow_cast-result : goal.overflow_cast-result
 overflow_cast-result c =
     let t = c.top_of.ensures in

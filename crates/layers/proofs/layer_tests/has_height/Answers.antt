@@ -1,15 +1,9 @@
 -- `has_height` meets its contract: "bottom ≤ height < top", in quarters.
 use mathlib.Core.Path.{◌∙◌}
 use native.Mathlib.Omega.{arith}
-use Rattle.integer.proofs.Machine.{machine, casts, fits, told, decides}
+use Rattle.integer.proofs.Machine.{machine, casts, told, decides}
 use Rattle.layers.proofs.LayerLaws.{not_begun, begun_has}
 use Rattle.layers.proofs.layer_tests.has_height.Goals as goal
-
-pub bottom_of-requires : goal.bottom_of-requires
-bottom_of-requires c = (c.requires.0, c.requires.1)
-
-pub overflow_mul-bottom_of : goal.overflow_mul-bottom_of
-overflow_mul-bottom_of c = let b = c.bottom_of.ensures in fits (search (machine, casts) depth 30) (omega arith)
 
 pub returns-then-height-bottom_of : goal.returns-then-height-bottom_of
 returns-then-height-bottom_of c =
@@ -17,15 +11,10 @@ returns-then-height-bottom_of c =
     let u = c.requires.2 in
     not_begun _ _ _ (told c.if-height-bottom_of.true (search (machine, casts) depth 30) (omega arith))
 
-pub top_of-requires : goal.top_of-requires
-top_of-requires c = (c.requires.0, c.requires.1)
-
-pub overflow_mul-result : goal.overflow_mul-result
-overflow_mul-result c = let t = c.top_of.ensures in fits (search (machine, casts) depth 30) (omega arith)
-
 pub returns : goal.returns
 returns c =
     let b = c.bottom_of.ensures in
     let t = c.top_of.ensures in
     let u = c.requires.2 in
-    decides (search (machine, casts) depth 30) (omega arith) ∙ begun_has _ _ _ (told c.if-height-bottom_of.false (search (machine, casts) depth 30) (omega arith))
+    decides (search (machine, casts) depth 30) (omega arith)
+    ∙ begun_has _ _ _ (told c.if-height-bottom_of.false (search (machine, casts) depth 30) (omega arith))

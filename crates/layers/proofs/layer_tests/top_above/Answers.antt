@@ -4,12 +4,6 @@ use Rattle.integer.proofs.Machine.{machine, decides}
 use Rattle.scope.specs.Layers.{top_above}
 use Rattle.layers.proofs.layer_tests.top_above.Goals as goal
 
-pub bottom_of-requires : goal.bottom_of-requires
-bottom_of-requires c = c.requires
-
-pub top_of-requires : goal.top_of-requires
-top_of-requires c = c.requires
-
 pub returns : goal.returns
 unfolding top_above
 returns c = let b = c.bottom_of.ensures in let t = c.top_of.ensures in decides (search machine depth 30) (omega arith)
