@@ -1,12 +1,12 @@
 -- Tables of sides that jumps use: a jump marks its two sides, so that a byte tells whether an element's side is still free; coordinates are equal where their difference is 0.
 use mathlib.Core.Path.{◌≡◌, refl, sym, ◌∙◌, ap, ap₂, subst}
-use mathlib.Core.Bool.{Bool, true, false, cond, not, ◌&&◌, ◌||◌, and-true, and-false}
+use mathlib.Core.Bool.{Bool, true, false, cond, not, ◌&&◌, ◌||◌, and-true}
 use mathlib.Core.List.{List, [], ◌∷◌}
 use Prim.Native.Nat.{ℕ, suc, ◌+◌, ◌*◌, ◌/◌, ◌%◌, ◌<◌}
 use native.Mathlib.Numerals.{add-one}
 use native.Mathlib.Omega.{arith}
 use lib.IntN.{ℤ, pos, ◌-ℤ◌}
-use lib.Dec.{eqb, ltb}
+use lib.Dec.{eqb}
 use lib.Ieee.Bits.{is_true, is_false}
 use lib.ListN.{length}
 use borrow.Author.Tests.{ltb-true, le-ltb, ne_eqb}
@@ -15,7 +15,7 @@ use Rattle.integer.proofs.Ring.{ring, ring_from, terms}
 use Rattle.integer.proofs.TestLaws.{same_test, eq_z_yes, yes_eq_z, no_eq_z}
 use Rattle.mesh.specs.declared.sizes.Sizes.{Sizes}
 use Rattle.scope.specs.Checks.{some_below}
-use Rattle.scope.specs.Mesh.{most_nodes, most_elements, nodes, elements, edges, jumps, x, y, jump_from, jump_to, facing_from, facing_to}
+use Rattle.scope.specs.Mesh.{most_nodes, most_elements, nodes, elements, edges, x, y, jump_from, jump_to, facing_from, facing_to}
 use Rattle.scope.specs.Tests.{has_side, has_ends, outer_side, used_by_jump, free_side, same_point, is_joint}
 use Rattle.mesh.specs.MeshContracts.{Sized, NodeAt, jump_node}
 use Rattle.shape.specs.ShapeContracts.{no_byte, Holds, put, is_none, is_untaken, used_byte, byte_at, at_place, edge_byte, EdgeTable, jump_byte, JumpTable}

@@ -1,48 +1,35 @@
 -- `edges_check` meets its contract. The invariant: the edges passed are outer sides, each once.
 use mathlib.Core.Path.{refl, sym, ◌∙◌, ap}
-use mathlib.Core.Bool.{true}
 use Prim.Native.Nat.{suc}
 use native.Mathlib.Omega.{arith}
-use borrow.Author.Tests.{not-true, not-false}
 use Rattle.scope.specs.declared.Place.TheVariants.{Line}
 use Rattle.scope.specs.Checks.{all_below}
 use Rattle.scope.specs.Mesh.{edges, edge_line}
 use Rattle.scope.specs.Phases.{check_phase}
 use Rattle.scope.specs.Tests.{outer_edge}
 use Rattle.lines.proofs.Loops.{all_more, each_below, phase-at, phase_all}
-use Rattle.shape.proofs.MeshLaws.{edge_line_lem, edge_line_fits}
+use Rattle.shape.proofs.MeshLaws.{edge_line_lem}
 use Rattle.shape.proofs.edges.edges_check.Goals as goal
 
 pub loop-g-init : goal.loop-g-init
 unfolding all_below
 loop-g-init c = (omega arith, refl)
 
-pub outer_edge-requires : goal.outer_edge-requires
-outer_edge-requires c =
-    let pre = c.requires in
-    (pre.0, omega (arith, pre.0.edges_are), pre.1)
-
-pub edge_line_number-requires : goal.edge_line_number-requires
-edge_line_number-requires c = edge_line_fits _ c.requires.0 c.loop-g-test.true
-
 pub returns-then-not-outer_edge : goal.returns-then-not-outer_edge
 unfolding check_phase
 returns-then-not-outer_edge c =
-    let b = c in
-    let sized = b.requires.0 in
-    phase-at (outer_edge _) 8 (λ g. Line (suc (edge_line _ g))) (edges _) (each_below _ _ b.loop-g.invariant.1) (omega (arith, sized.edges_are)) (sym b.outer_edge.ensures ∙ not-true _ b.if-not-outer_edge.true) (ap Line (edge_line_lem _ sized _ c.edge_line_number.ensures))
-
-pub overflow_add-g : goal.overflow_add-g
-overflow_add-g c = omega arith
-
-pub loop-g-smaller : goal.loop-g-smaller
-loop-g-smaller c = omega arith
+    let sized = c.requires.0 in
+    phase-at (outer_edge _) 8 (λ g. Line (suc (edge_line _ g))) (edges _) (each_below _ _ c.loop-g.invariant.1)
+    (omega (arith, sized.edges_are)) (sym c.outer_edge.ensures ∙ c.if-not-outer_edge.true)
+    (ap Line (edge_line_lem _ sized _ c.edge_line_number.ensures))
 
 pub loop-g-preserved : goal.loop-g-preserved
-loop-g-preserved c = (omega arith, all_more (outer_edge _) c.loop-g.invariant.1 (sym c.outer_edge.ensures ∙ not-false _ c.if-not-outer_edge.false))
+loop-g-preserved c =
+    (omega arith, all_more (outer_edge _) c.loop-g.invariant.1 (sym c.outer_edge.ensures ∙ c.if-not-outer_edge.false))
 
 pub returns : goal.returns
 unfolding check_phase
 returns c =
     let sized = c.requires.0 in
-    phase_all (outer_edge _) 8 (λ g. Line (suc (edge_line _ g))) (edges _) (λ k l. each_below _ _ c.loop-g.invariant.1 k (omega (arith, sized.edges_are, c.loop-g.invariant.0)))
+    phase_all (outer_edge _) 8 (λ g. Line (suc (edge_line _ g))) (edges _)
+    (λ k l. each_below _ _ c.loop-g.invariant.1 k (omega (arith, sized.edges_are, c.loop-g.invariant.0)))

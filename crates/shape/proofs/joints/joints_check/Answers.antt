@@ -1,16 +1,14 @@
 -- `joints_check` meets its contract. The invariant: the jumps passed are joints, and have used their sides.
 use mathlib.Core.Path.{refl, sym, ◌∙◌, ap}
-use mathlib.Core.Bool.{true}
 use Prim.Native.Nat.{suc}
 use native.Mathlib.Omega.{arith}
-use borrow.Author.Tests.{not-true, not-false}
 use Rattle.scope.specs.declared.Place.TheVariants.{Line}
 use Rattle.scope.specs.Checks.{all_below}
 use Rattle.scope.specs.Mesh.{jumps, jump_line}
 use Rattle.scope.specs.Phases.{check_phase}
 use Rattle.scope.specs.Tests.{is_joint}
 use Rattle.lines.proofs.Loops.{all_more, each_below, phase-at, phase_all}
-use Rattle.shape.proofs.MeshLaws.{jump_line_lem, jump_line_fits}
+use Rattle.shape.proofs.MeshLaws.{jump_line_lem}
 use Rattle.shape.proofs.JointTables.{no_jump_yet}
 use Rattle.shape.proofs.joints.joints_check.Goals as goal
 
@@ -18,48 +16,26 @@ pub loop-j-init : goal.loop-j-init
 unfolding all_below
 loop-j-init c = (omega arith, refl, refl, no_jump_yet _ c.requires.1)
 
-pub is_joint-requires : goal.is_joint-requires
-is_joint-requires c =
-    let k = c.requires.0 in
-    (k, omega (arith, k.jumps_are), c.loop-j.invariant.3)
-
-pub jump_line_number-requires : goal.jump_line_number-requires
-jump_line_number-requires c = jump_line_fits _ c.requires.0 c.loop-j-test.true
-
-pub shape_of-t-then-not-is_joint : goal.shape_of-t-then-not-is_joint
-shape_of-t-then-not-is_joint c = c.loop-j.invariant.1
-
 pub returns-then-not-is_joint : goal.returns-then-not-is_joint
 unfolding check_phase
 returns-then-not-is_joint c =
-    let test = c in
-    let loop = test in
-    let sized = loop.requires.0 in
-    phase-at (is_joint _) 44 (λ j. Line (suc (jump_line _ j))) (jumps _) (each_below _ _ loop.loop-j.invariant.2) (omega (arith, sized.jumps_are)) (sym test.is_joint.ensures ∙ not-true _ test.if-not-is_joint.true) (ap Line (jump_line_lem _ sized _ c.jump_line_number.ensures))
-
-pub use_sides-requires : goal.use_sides-requires
-use_sides-requires c =
-    let loop = c in
-    let k = loop.requires.0 in
-    (k, omega (arith, k.jumps_are), loop.loop-j.invariant.3)
-
-pub overflow_add-j : goal.overflow_add-j
-overflow_add-j c = omega arith
-
-pub loop-j-smaller : goal.loop-j-smaller
-loop-j-smaller c = omega arith
+    let sized = c.requires.0 in
+    phase-at (is_joint _) 44 (λ j. Line (suc (jump_line _ j))) (jumps _) (each_below _ _ c.loop-j.invariant.2)
+    (omega (arith, sized.jumps_are)) (sym c.is_joint.ensures ∙ c.if-not-is_joint.true)
+    (ap Line (jump_line_lem _ sized _ c.jump_line_number.ensures))
 
 pub loop-j-preserved : goal.loop-j-preserved
-loop-j-preserved c =
-    let test = c in
-    let loop = test in
-    (omega arith, omega arith, all_more (is_joint _) loop.loop-j.invariant.2 (sym test.is_joint.ensures ∙ not-false _ test.if-not-is_joint.false), c.use_sides.ensures)
-
-pub shape_of-t : goal.shape_of-t
-shape_of-t c = c.loop-j.invariant.1
+loop-j-preserved c = (
+  omega arith,
+  omega arith,
+  all_more (is_joint _) c.loop-j.invariant.2
+      (sym c.is_joint.ensures ∙ c.if-not-is_joint.false),
+  c.use_sides.ensures,
+)
 
 pub returns : goal.returns
 unfolding check_phase
 returns c =
     let sized = c.requires.0 in
-    phase_all (is_joint _) 44 (λ j. Line (suc (jump_line _ j))) (jumps _) (λ k l. each_below _ _ c.loop-j.invariant.2 k (omega (arith, sized.jumps_are, c.loop-j.invariant.0)))
+    phase_all (is_joint _) 44 (λ j. Line (suc (jump_line _ j))) (jumps _)
+    (λ k l. each_below _ _ c.loop-j.invariant.2 k (omega (arith, sized.jumps_are, c.loop-j.invariant.0)))

@@ -9,7 +9,9 @@ use Rattle.shape.specs.ShapeContracts.{JumpTable}
 use Rattle.shape.proofs.joints.joints_check.Given as goal
 
 abbrev pub invariant-loop-j : goal.invariant-loop-j
-invariant-loop-j l = (l.j ≤ l.count) × (length l.t ≡ length l.initial.t) × (all_below (is_joint l.m) l.j ≡ true) × JumpTable l.m l.j l.t
+invariant-loop-j l =
+    (l.j ≤ l.count) × (length l.t ≡ length l.initial.t) ×
+    (all_below (is_joint l.m) l.j ≡ true) × JumpTable l.m l.j l.t
 
 abbrev pub decreases-loop-j : goal.decreases-loop-j
 decreases-loop-j l = l.count - l.j

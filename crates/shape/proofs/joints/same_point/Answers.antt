@@ -9,7 +9,8 @@ pub returns-then-run_between-eq0 : goal.returns-then-run_between-eq0
 returns-then-run_between-eq0 c =
     let run = c.run_between.ensures in
     let rise = c.rise_between.ensures in
-    decides (search machine depth 30) (omega arith) ∙ same_x _ _ _ (told c.if-run_between-eq0.true (search machine depth 30) (omega arith))
+    decides (search machine depth 30) (omega arith)
+    ∙ same_x _ _ _ (told c.if-run_between-eq0.true (search machine depth 30) (omega arith))
 
 pub returns : goal.returns
 returns c =

@@ -11,12 +11,12 @@ returns-in-Refused c = then_refuses _ (sym c.sides_check-sides.ensures ∙ c.in-
 pub returns-in-Refused-nodes : goal.returns-in-Refused-nodes
 unfolding check_phases
 returns-in-Refused-nodes c =
-    let passed = sym c.sides_check-sides.ensures ∙ c.in-Refused-nodes.is in
+    let passed = sym c.sides_check-sides.ensures ∙ c.in-Passed.is in
     then_goes_on passed (then_refuses _ (sym c.nodes_check-nodes.ensures ∙ c.in-Refused-nodes.is))
 
 pub returns-in-Passed-nodes : goal.returns-in-Passed-nodes
 unfolding check_phases
 returns-in-Passed-nodes c =
-    let asked = c in
-    let passed = sym asked.sides_check-sides.ensures ∙ asked.in-Passed-nodes.is in
-    then_goes_on passed (then_goes_on (sym asked.nodes_check-nodes.ensures ∙ c.in-Passed-nodes.is) c.edges_and_joints.ensures)
+    let passed = sym c.sides_check-sides.ensures ∙ c.in-Passed.is in
+    then_goes_on passed
+    (then_goes_on (sym c.nodes_check-nodes.ensures ∙ c.in-Passed-nodes.is) c.edges_and_joints.ensures)

@@ -11,5 +11,4 @@ returns-in-Refused c = then_refuses _ (sym c.edges_check-edges.ensures ∙ c.in-
 pub returns-in-Passed : goal.returns-in-Passed
 unfolding check_phases
 returns-in-Passed c =
-    let passed = c in
-    then_goes_on (sym passed.edges_check-edges.ensures ∙ passed.in-Passed.is) c.joints_check.ensures
+    then_goes_on (sym c.edges_check-edges.ensures ∙ c.in-Passed.is) c.joints_check.ensures

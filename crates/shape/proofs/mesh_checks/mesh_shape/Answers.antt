@@ -6,19 +6,16 @@ use Rattle.shape.proofs.mesh_checks.mesh_shape.Goals as goal
 
 pub returns-in-Refused : goal.returns-in-Refused
 returns-in-Refused c =
-    let asked = c in
-    paired_as _ (c.no_pairs.ensures _) (turns_refuse _ (sym asked.turns_check-turns.ensures ∙ asked.in-Refused.is))
+    paired_as _ (c.no_pairs.ensures _) (turns_refuse _ (sym c.turns_check-turns.ensures ∙ c.in-Refused.is))
 
 pub returns-in-Refused-sides : goal.returns-in-Refused-sides
 returns-in-Refused-sides c =
-    let asked = c in
-    let rest = asked in
-    let told = rest in
-    paired_as _ (c.no_pairs-in-Refused-sides.ensures _) (rest_refuses _ (sym told.turns_check-turns.ensures ∙ told.in-Refused-sides.is) (sym rest.sides_to_joints-sides.ensures ∙ asked.in-Refused-sides.is))
+    let turned = sym c.turns_check-turns.ensures ∙ c.in_default.is in
+    paired_as _ (c.no_pairs-in-Refused-sides.ensures _)
+    (rest_refuses _ turned (sym c.sides_to_joints-sides.ensures ∙ c.in-Refused-sides.is))
 
 pub returns : goal.returns
 returns c =
-    let passed = c in
-    let rest = passed in
-    let told = rest in
-    paired_as _ c.pairs_check.ensures (pairs_last _ (sym told.turns_check-turns.ensures ∙ told.in_default-sides.is) (sym rest.sides_to_joints-sides.ensures ∙ passed.in_default-sides.is))
+    let turned = sym c.turns_check-turns.ensures ∙ c.in_default.is in
+    paired_as _ c.pairs_check.ensures
+    (pairs_last _ turned (sym c.sides_to_joints-sides.ensures ∙ c.in_default-sides.is))

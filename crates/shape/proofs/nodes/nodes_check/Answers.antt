@@ -1,10 +1,8 @@
 -- `nodes_check` meets its contract. The invariant: the nodes passed are in an element.
 use mathlib.Core.Path.{refl, sym, ◌∙◌, ap}
-use mathlib.Core.Bool.{true}
 use Prim.Native.Nat.{suc, ◌<◌}
 use native.Mathlib.Numerals.{add-one}
 use native.Mathlib.Omega.{arith}
-use borrow.Author.Tests.{not-true, not-false}
 use Rattle.scope.specs.declared.Place.TheVariants.{Node}
 use Rattle.scope.specs.Checks.{all_below}
 use Rattle.scope.specs.Mesh.{most_nodes, nodes}
@@ -18,46 +16,31 @@ pub loop-v-init : goal.loop-v-init
 unfolding all_below
 loop-v-init c = (omega arith, refl)
 
-pub some_soil-requires : goal.some_soil-requires
-some_soil-requires c =
-    let sized = c.requires.0 in
-    (omega (arith, c.loop-v-test.true, sized.nodes_are, sized.facts.counts.nodes_most), omega (arith, sized.soils_are, sized.facts.counts.soils_most))
-
-pub overflow_cast-result : goal.overflow_cast-result
-overflow_cast-result c =
-    let sized = c.requires.0 in
-    omega (arith, c.loop-v-test.true, sized.nodes_are, sized.facts.counts.nodes_most)
-
-pub overflow_add-result : goal.overflow_add-result
-overflow_add-result c =
-    let sized = c.requires.0 in
-    omega (arith, c.loop-v-test.true, sized.nodes_are, sized.facts.counts.nodes_most)
-
 pub returns-then-not-some_soil : goal.returns-then-not-some_soil
 unfolding check_phase
 returns-then-not-some_soil c =
-    let b = c in
-    let pre = b.requires in
-    let small : b.loop-v.v < most_nodes = omega (arith, b.loop-v-test.true, pre.0.nodes_are, pre.0.facts.counts.nodes_most) in
-    let none = sym (some_mark _ pre.0.facts pre.1 b.loop-v.v small pre.0.soils_are) ∙ sym c.some_soil.ensures ∙ not-true _ c.if-not-some_soil.true in
-    phase-at (in_element _) 7 (λ v. Node (suc v)) (nodes _) (each_below _ _ b.loop-v.invariant.1) (omega (arith, pre.0.nodes_are)) none (ap Node (add-one _))
-
-pub overflow_add-v : goal.overflow_add-v
-overflow_add-v c = omega arith
-
-pub loop-v-smaller : goal.loop-v-smaller
-loop-v-smaller c = omega arith
+    let pre = c.requires in
+    let small : c.loop-v.v < most_nodes =
+    omega (arith, c.loop-v-test.true, pre.0.nodes_are, pre.0.facts.counts.nodes_most) in
+    let none =
+    sym (some_mark _ pre.0.facts pre.1 c.loop-v.v small pre.0.soils_are)
+    ∙ sym c.some_soil.ensures ∙ c.if-not-some_soil.true in
+    phase-at (in_element _) 7 (λ v. Node (suc v)) (nodes _) (each_below _ _ c.loop-v.invariant.1)
+    (omega (arith, pre.0.nodes_are)) none (ap Node (add-one _))
 
 pub loop-v-preserved : goal.loop-v-preserved
 loop-v-preserved c =
-    let b = c in
-    let pre = b.requires in
-    let small : b.loop-v.v < most_nodes = omega (arith, b.loop-v-test.true, pre.0.nodes_are, pre.0.facts.counts.nodes_most) in
-    let some = sym (some_mark _ pre.0.facts pre.1 b.loop-v.v small pre.0.soils_are) ∙ sym c.some_soil.ensures ∙ not-false _ c.if-not-some_soil.false in
-    (omega arith, all_more (in_element _) b.loop-v.invariant.1 some)
+    let pre = c.requires in
+    let small : c.loop-v.v < most_nodes =
+    omega (arith, c.loop-v-test.true, pre.0.nodes_are, pre.0.facts.counts.nodes_most) in
+    let some =
+    sym (some_mark _ pre.0.facts pre.1 c.loop-v.v small pre.0.soils_are)
+    ∙ sym c.some_soil.ensures ∙ c.if-not-some_soil.false in
+    (omega arith, all_more (in_element _) c.loop-v.invariant.1 some)
 
 pub returns : goal.returns
 unfolding check_phase
 returns c =
     let sized = c.requires.0 in
-    phase_all (in_element _) 7 (λ v. Node (suc v)) (nodes _) (λ k l. each_below _ _ c.loop-v.invariant.1 k (omega (arith, sized.nodes_are, c.loop-v.invariant.0)))
+    phase_all (in_element _) 7 (λ v. Node (suc v)) (nodes _)
+    (λ k l. each_below _ _ c.loop-v.invariant.1 k (omega (arith, sized.nodes_are, c.loop-v.invariant.0)))

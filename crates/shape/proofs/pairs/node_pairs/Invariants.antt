@@ -4,7 +4,9 @@ use Rattle.shape.specs.ShapeContracts.{Added, marked_pairs}
 use Rattle.shape.proofs.pairs.node_pairs.Given as goal
 
 abbrev pub invariant-loop-soil : goal.invariant-loop-soil
-invariant-loop-soil l = (l.soil ≤ l.soils) × (l.k ≤ l.count + l.soil) × Added (marked_pairs l.marks l.v l.soil) l.count l.initial.t l.k l.t
+invariant-loop-soil l =
+    (l.soil ≤ l.soils) × (l.k ≤ l.count + l.soil) ×
+    Added (marked_pairs l.marks l.v l.soil) l.count l.initial.t l.k l.t
 
 abbrev pub decreases-loop-soil : goal.decreases-loop-soil
 decreases-loop-soil l = l.soils - l.soil

@@ -6,42 +6,24 @@ use Rattle.shape.proofs.pairs.pairs_check.Goals as goal
 pub loop-v-init : goal.loop-v-init
 loop-v-init c = (omega arith, none_collected _)
 
-pub node_pairs-count-requires : goal.node_pairs-count-requires
-node_pairs-count-requires c =
-    let sized = c.requires.0 in
-    let counts = sized.facts.counts in
-    (omega (arith, c.loop-v-test.true, sized.nodes_are, counts.nodes_most), omega (arith, sized.soils_are, counts.soils_most), c.loop-v.invariant.1.few)
-
-pub overflow_cast-v : goal.overflow_cast-v
-overflow_cast-v c =
-    let b = c in
-    let sized = b.requires.0 in
-    omega (arith, b.loop-v-test.true, sized.nodes_are, sized.facts.counts.nodes_most)
-
-pub overflow_add-v : goal.overflow_add-v
-overflow_add-v c =
-    let b = c in
-    let sized = b.requires.0 in
-    omega (arith, b.loop-v-test.true, sized.nodes_are, sized.facts.counts.nodes_most)
-
 pub returns-then-count-gt-MOST_PAIRS : goal.returns-then-count-gt-MOST_PAIRS
 returns-then-count-gt-MOST_PAIRS c =
-    let b = c in
-    let pre = b.requires in
+    let pre = c.requires in
     paired_as _ (c.no_pairs.ensures _)
-    (brings_101st _ pre.0.facts pre.1 b.loop-v.invariant.1 (omega (arith, b.loop-v-test.true, pre.0.nodes_are)) pre.0.soils_are c.node_pairs-count.ensures c.if-count-gt-MOST_PAIRS.true)
-
-pub overflow_add-v-in-loop-v : goal.overflow_add-v-in-loop-v
-overflow_add-v-in-loop-v c = omega arith
-
-pub loop-v-smaller : goal.loop-v-smaller
-loop-v-smaller c = omega arith
+    (brings_101st _ pre.0.facts pre.1 c.loop-v.invariant.1
+    (omega (arith, c.loop-v-test.true, pre.0.nodes_are))
+    pre.0.soils_are c.node_pairs-count.ensures c.if-count-gt-MOST_PAIRS.true)
 
 pub loop-v-preserved : goal.loop-v-preserved
 loop-v-preserved c =
-    let b = c in
-    let pre = b.requires in
-    (omega arith, more_collected _ pre.0.facts pre.1 b.loop-v.invariant.1 (omega (arith, b.loop-v-test.true, pre.0.nodes_are)) pre.0.soils_are c.node_pairs-count.ensures c.if-count-gt-MOST_PAIRS.false)
+    let pre = c.requires in (
+      omega arith,
+      more_collected _ pre.0.facts pre.1 c.loop-v.invariant.1
+          (omega (arith, c.loop-v-test.true, pre.0.nodes_are))
+          pre.0.soils_are c.node_pairs-count.ensures c.if-count-gt-MOST_PAIRS.false,
+    )
 
 pub returns : goal.returns
-returns c = all_collected _ c.loop-v.invariant.1 (omega (arith, c.requires.0.nodes_are, c.loop-v.invariant.0, c.loop-v-test.false))
+returns c =
+    all_collected _ c.loop-v.invariant.1
+    (omega (arith, c.requires.0.nodes_are, c.loop-v.invariant.0, c.loop-v-test.false))

@@ -9,10 +9,9 @@ side_byte-requires c =
     let p = c.requires in
     side_fits p.0 p.1 c.args.i p.4.room c.corner_around-a.ensures c.corner_around-b.ensures
 
-pub overflow_cast-result : goal.overflow_cast-result
-overflow_cast-result c = omega (arith, c.requires.0.facts.counts.elements_most)
-
 pub returns : goal.returns
 returns c =
     let p = c.requires in
-    own_side_is _ p.0 p.1 (omega (arith, p.2, p.3)) p.4 c.corner_around-a.ensures c.corner_around-b.ensures c.side_byte.ensures
+    own_side_is _ p.0 p.1
+    (omega (arith, p.2, p.3))
+    p.4 c.corner_around-a.ensures c.corner_around-b.ensures c.side_byte.ensures

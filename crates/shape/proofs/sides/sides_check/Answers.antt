@@ -1,10 +1,8 @@
 -- `sides_check` meets its contract. The invariant: the elements passed have sides of their own.
 use mathlib.Core.Path.{refl, sym, ◌∙◌, ap}
-use mathlib.Core.Bool.{true}
 use Prim.Native.Nat.{suc}
 use native.Mathlib.Numerals.{add-one}
 use native.Mathlib.Omega.{arith}
-use borrow.Author.Tests.{not-true, not-false}
 use Rattle.scope.specs.declared.Place.TheVariants.{Element}
 use Rattle.scope.specs.Checks.{all_below}
 use Rattle.scope.specs.Mesh.{elements}
@@ -17,38 +15,20 @@ pub loop-e-init : goal.loop-e-init
 unfolding all_below
 loop-e-init c = (omega arith, refl)
 
-pub own_sides-requires : goal.own_sides-requires
-own_sides-requires c =
-    let pre = c.requires in
-    (pre.0, omega (arith, pre.0.elements_are), pre.1)
-
-pub overflow_cast-result : goal.overflow_cast-result
-overflow_cast-result c =
-    let sized = c.requires.0 in
-    omega (arith, sized.elements_are, sized.facts.counts.elements_most)
-
-pub overflow_add-result : goal.overflow_add-result
-overflow_add-result c =
-    let sized = c.requires.0 in
-    omega (arith, sized.elements_are, sized.facts.counts.elements_most)
-
 pub returns-then-not-own_sides : goal.returns-then-not-own_sides
 unfolding check_phase
 returns-then-not-own_sides c =
     let sized = c.requires.0 in
-    phase-at (own_sides _) 6 (λ e. Element (suc e)) (elements _) (each_below _ _ c.loop-e.invariant.1) (omega (arith, sized.elements_are)) (sym c.own_sides.ensures ∙ not-true _ c.if-not-own_sides.true) (ap Element (add-one _))
-
-pub overflow_add-e : goal.overflow_add-e
-overflow_add-e c = omega arith
-
-pub loop-e-smaller : goal.loop-e-smaller
-loop-e-smaller c = omega arith
+    phase-at (own_sides _) 6 (λ e. Element (suc e)) (elements _) (each_below _ _ c.loop-e.invariant.1)
+    (omega (arith, sized.elements_are)) (sym c.own_sides.ensures ∙ c.if-not-own_sides.true) (ap Element (add-one _))
 
 pub loop-e-preserved : goal.loop-e-preserved
-loop-e-preserved c = (omega arith, all_more (own_sides _) c.loop-e.invariant.1 (sym c.own_sides.ensures ∙ not-false _ c.if-not-own_sides.false))
+loop-e-preserved c =
+    (omega arith, all_more (own_sides _) c.loop-e.invariant.1 (sym c.own_sides.ensures ∙ c.if-not-own_sides.false))
 
 pub returns : goal.returns
 unfolding check_phase
 returns c =
     let sized = c.requires.0 in
-    phase_all (own_sides _) 6 (λ e. Element (suc e)) (elements _) (λ k l. each_below _ _ c.loop-e.invariant.1 k (omega (arith, sized.elements_are, c.loop-e.invariant.0)))
+    phase_all (own_sides _) 6 (λ e. Element (suc e)) (elements _)
+    (λ k l. each_below _ _ c.loop-e.invariant.1 k (omega (arith, sized.elements_are, c.loop-e.invariant.0)))

@@ -4,12 +4,6 @@ use native.Mathlib.Omega.{arith}
 use Rattle.integer.proofs.Machine.{machine, fits, is}
 use Rattle.shape.proofs.turns.cross.Goals as goal
 
-pub overflow_mul-result : goal.overflow_mul-result
-overflow_mul-result c = fits (search machine depth 30) (omega arith)
-
-pub overflow_mul-result-2 : goal.overflow_mul-result-2
-overflow_mul-result-2 c = fits (search machine depth 30) (omega arith)
-
 pub overflow_sub-result : goal.overflow_sub-result
 overflow_sub-result c = fits (search machine depth 30) (omega arith)
 

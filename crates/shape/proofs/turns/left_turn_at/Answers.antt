@@ -4,9 +4,6 @@ use native.Mathlib.Omega.{arith}
 use Rattle.shape.proofs.MeshLaws.{corners_there, around-there, left-turn_from}
 use Rattle.shape.proofs.turns.left_turn_at.Goals as goal
 
-pub overflow_sub-count : goal.overflow_sub-count
-overflow_sub-count c = omega (arith, corners_there c.args.m.now c.args.e c.requires.2)
-
 pub overflow_add-i : goal.overflow_add-i
 overflow_add-i c = omega (arith, corners_there c.args.m.now c.args.e c.requires.2)
 
@@ -17,4 +14,6 @@ turns_left-requires c =
     (c.requires.0, omega (arith, n (i + (c.args.count - 1))), omega (arith, n i), omega (arith, n (i + 1)))
 
 pub returns : goal.returns
-returns c = left-turn_from c.args.m.now c.args.e c.args.i c.requires.2 c.corner_around-a.ensures c.corner_around-b.ensures c.corner_around-c.ensures c.turns_left.ensures
+returns c =
+    left-turn_from c.args.m.now c.args.e c.args.i c.requires.2
+    c.corner_around-a.ensures c.corner_around-b.ensures c.corner_around-c.ensures c.turns_left.ensures

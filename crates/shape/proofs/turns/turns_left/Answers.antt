@@ -3,13 +3,10 @@ use mathlib.Core.Path.{◌∙◌, ap}
 use native.Mathlib.Omega.{arith}
 use lib.IntN.{pos}
 use lib.Signed.{lt_z}
-use Rattle.integer.proofs.Machine.{Is-read, machine, bounded, decides}
+use Rattle.integer.proofs.Machine.{Is-read, machine, decides}
 use Rattle.scope.specs.Tests.{turn}
 use Rattle.shape.proofs.MeshLaws.{cross_from}
 use Rattle.shape.proofs.turns.turns_left.Goals as goal
-
-pub cross-requires : goal.cross-requires
-cross-requires c = (bounded (search machine depth 30) (omega arith), (bounded (search machine depth 30) (omega arith), (bounded (search machine depth 30) (omega arith), bounded (search machine depth 30) (omega arith))))
 
 pub returns : goal.returns
 unfolding turn
