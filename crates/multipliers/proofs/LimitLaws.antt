@@ -21,7 +21,6 @@ use Rattle.integer.proofs.TestLaws.{eq_z_yes, yes_eq_z, no_eq_z, same_test}
 use Rattle.scope.specs.declared.Outcome.TheVariants.{Passed, Refused}
 use Rattle.scope.specs.declared.Place.{Place}
 use Rattle.scope.specs.declared.Place.TheVariants as P
-use Rattle.scope.specs.declared.Load.TheVariants.{Exact}
 use Rattle.scope.specs.Checks.{demand, lowest}
 use Rattle.scope.specs.Bounds.{most_multiplier, strength_multiplier}
 use Rattle.scope.specs.Columns.{between, within, at, has_field, has_multipliers}

@@ -11,7 +11,10 @@ returns-in-Refused c = unfixed_refused _ _ (sym c.unfixed_check-unfixed.ensures 
 pub row_sums-sums-requires : goal.row_sums-sums-requires
 row_sums-sums-requires c =
     let pre = c.requires in
-    (pre, no_sums refl)
+    record {
+      fact_1 = pre;
+      fact_2 = no_sums refl;
+    }
 
 pub overflow_mul-s : goal.overflow_mul-s
 overflow_mul-s c = let counts = c.requires.sized.facts.counts in omega (arith, c.requires.sized.nodes_are)
@@ -22,7 +25,11 @@ sums_limit-requires c =
     let sized = given.sized in
     let counts = sized.facts.counts in
     let summed = c.row_sums-sums.ensures in
-    (omega (arith, sized.nodes_are, summed.size, counts.nodes_most), (omega (arith, sized.nodes_are, counts.nodes_most), whole_room _ _ counts given.few summed))
+    record {
+      fact_1 = omega (arith, sized.nodes_are, summed.size, counts.nodes_most);
+      fact_2 = omega (arith, sized.nodes_are, counts.nodes_most);
+      fact_3 = whole_room _ _ counts given.few summed;
+    }
 
 pub returns : goal.returns
 returns c =

@@ -20,7 +20,11 @@ edge_entry-fixed-requires c =
     (sized, omega (arith, sized.elements_are, sized.edges_are), omega arith, omega arith)
 
 pub fixes-requires : goal.fixes-requires
-fixes-requires c = (Within-le (Within-pos 1) (omega arith), Is-Within (Is-read c.edge_entry-fixed.ensures (omega arith)) (omega arith))
+fixes-requires c =
+    record {
+      fact_1 = Within-le (Within-pos 1) (omega arith);
+      fact_2 = Is-Within (Is-read c.edge_entry-fixed.ensures (omega arith)) (omega arith);
+    }
 
 pub returns-then-k-eq0 : goal.returns-then-k-eq0
 returns-then-k-eq0 c =
@@ -30,7 +34,11 @@ returns-then-k-eq0 c =
     normal_asked start.args.m.now k ((k - start.args.s.elements * 2) / 4) (omega (arith, sized.elements_are, sized.edges_are)) (omega (arith, sized.elements_are)) (omega (arith, sized.elements_are)) (omega arith) (Is-read c.edge_entry-fixed.ensures (omega arith)).same c.fixes.ensures
 
 pub fixes-requires-2 : goal.fixes-requires-2
-fixes-requires-2 c = (Within-le (Within-pos 2) (omega arith), Is-Within (Is-read c.edge_entry-fixed.ensures (omega arith)) (omega arith))
+fixes-requires-2 c =
+    record {
+      fact_1 = Within-le (Within-pos 2) (omega arith);
+      fact_2 = Is-Within (Is-read c.edge_entry-fixed.ensures (omega arith)) (omega arith);
+    }
 
 pub returns : goal.returns
 returns c =

@@ -8,7 +8,12 @@ use Rattle.multipliers.proofs.LimitLaws.{column_refused, live_refused, limit-the
 use Rattle.multipliers.proofs.multiplier_checks.sums_limit.Goals as goal
 
 pub columns_check-answer-requires : goal.columns_check-answer-requires
-columns_check-answer-requires c = (c.requires.fact_1, (c.requires.fact_2, c.requires.fact_3.columns_fit))
+columns_check-answer-requires c =
+    record {
+      fact_1 = c.requires.fact_1;
+      fact_2 = c.requires.fact_2;
+      fact_3 = c.requires.fact_3.columns_fit;
+    }
 
 pub returns-in-Refused : goal.returns-in-Refused
 returns-in-Refused c = column_refused _ _ _ (sym c.columns_check-answer.ensures ∙ c.in-Refused.is)

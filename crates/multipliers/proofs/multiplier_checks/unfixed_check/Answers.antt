@@ -1,7 +1,6 @@
 -- `unfixed_check` meets its contract. The loop's invariant: the rows passed are asked, or have no multiplier.
 use mathlib.Core.Path.{◌≡◌, refl, sym, ◌∙◌, ap}
 use native.Mathlib.Omega.{arith}
-use borrow.Author.Tests.{not-true, not-false}
 use Rattle.scope.specs.Rows.{first_where}
 use Rattle.mesh.proofs.Places.{few_things}
 use Rattle.lines.specs.SearchContracts.{first_failing}
@@ -20,16 +19,20 @@ pub zero_if_unfixed-requires : goal.zero_if_unfixed-requires
 zero_if_unfixed-requires c =
     let rows = c in
     let pre = rows.requires in
-    let all = rows.equality_count-rows.ensures.0 _ pre.0 in
-    ((pre.0, omega (arith, all, c.loop-k-test.true)), (omega (arith, all, c.loop-k-test.true, pre.1.long), pre.1.bounds))
+    let all = rows.equality_count-rows.ensures.0 _ pre.fact_1 in
+    record {
+      fact_1 = (pre.fact_1, omega (arith, all, c.loop-k-test.true));
+      fact_2 = omega (arith, all, c.loop-k-test.true, pre.fact_2.long);
+      fact_3 = pre.fact_2.bounds;
+    }
 
 pub returns-then-not-zero_if_unfixed : goal.returns-then-not-zero_if_unfixed
 returns-then-not-zero_if_unfixed c =
     let b = c in
     let rows = b in
     let pre = rows.requires in
-    let stops = search_stops (unfixed_test _ _) b.loop-k.invariant.1 rows.equality_count-rows.result b.loop-k-test.true (sym c.zero_if_unfixed.ensures ∙ not-true _ c.if-not-zero_if_unfixed.true) in
-    unfixed_fails _ _ stops (rows.equality_count-rows.ensures.0 _ pre.0) b.loop-k-test.true
+    let stops = search_stops (unfixed_test _ _) b.loop-k.invariant.1 rows.equality_count-rows.result b.loop-k-test.true (sym c.zero_if_unfixed.ensures ∙ c.if-not-zero_if_unfixed.true) in
+    unfixed_fails _ _ stops (rows.equality_count-rows.ensures.0 _ pre.fact_1) b.loop-k-test.true
 
 pub overflow_add-k : goal.overflow_add-k
 overflow_add-k c = omega arith
@@ -40,11 +43,11 @@ loop-k-smaller c = omega arith
 pub loop-k-preserved : goal.loop-k-preserved
 loop-k-preserved c =
     let b = c in
-    (omega arith, search_more (unfixed_test _ _) b.loop-k.invariant.1 (sym c.zero_if_unfixed.ensures ∙ not-false _ c.if-not-zero_if_unfixed.false))
+    (omega arith, search_more (unfixed_test _ _) b.loop-k.invariant.1 (sym c.zero_if_unfixed.ensures ∙ c.if-not-zero_if_unfixed.false))
 
 pub returns : goal.returns
 returns c =
     let rows = c in
     let pre = rows.requires in
     let e : c.loop-k.k ≡ rows.equality_count-rows.result = omega (arith, c.loop-k.invariant.0, c.loop-k-test.false) in
-    unfixed_done _ _ (sym (ap (first_failing (unfixed_test _ _)) (sym e) ∙ c.loop-k.invariant.1)) (rows.equality_count-rows.ensures.0 _ pre.0) c.loop-k-test.false
+    unfixed_done _ _ (sym (ap (first_failing (unfixed_test _ _)) (sym e) ∙ c.loop-k.invariant.1)) (rows.equality_count-rows.ensures.0 _ pre.fact_1) c.loop-k-test.false

@@ -22,7 +22,11 @@ unfolding at
 add_row-requires c =
     let start = c in
     let w = being c.number_at-w.ensures (start.requires.fact_3.each start.args.k) in
-    (fits_wider c.equality_row-row.ensures.fits.entries start.requires.fact_4, (start.requires.fact_5.columns_fit, Is-Within (Is-read w (omega arith)) (omega arith)))
+    record {
+      fact_1 = fits_wider c.equality_row-row.ensures.fits.entries start.requires.fact_4;
+      fact_2 = start.requires.fact_5.columns_fit;
+      fact_3 = Is-Within (Is-read w (omega arith)) (omega arith);
+    }
 
 pub add_sums-requires : goal.add_sums-requires
 unfolding at
@@ -31,7 +35,13 @@ add_sums-requires c =
     let w = being c.number_at-w.ensures (start.requires.fact_3.each start.args.k) in
     let row = c.equality_row-row.ensures.fits in
     let sums = start.requires.fact_5 in
-    (search limits, (search limits, (Is-Within (Is-read w (omega arith)) (omega arith), (search limits, search limits))))
+    record {
+      fact_1 = search limits;
+      fact_2 = search limits;
+      fact_3 = Is-Within (Is-read w (omega arith)) (omega arith);
+      fact_4 = search limits;
+      fact_5 = search limits;
+    }
 
 pub returns : goal.returns
 unfolding at coefficient row_of

@@ -10,7 +10,7 @@ use Rattle.multipliers.proofs.multiplier_sums.add_pair.Goals as goal
 pub pair_node-v-requires : goal.pair_node-v-requires
 pair_node-v-requires c =
     let pre = c.requires in
-    (omega (arith, pre.1.0, pre.0.few), pre.0.pair_table.size)
+    (omega (arith, pre.fact_2, pre.fact_1.few), pre.fact_1.pair_table.size)
 
 pub overflow_mul-v : goal.overflow_mul-v
 overflow_mul-v c =
@@ -28,7 +28,11 @@ add_columns-requires c =
     let node = node_read given.pair_table start.args.a start.requires.fact_2 c.pair_node-v.ensures in
     let room = pair_room _ _ counts given.few start.args.a (omega (arith, start.requires.fact_2)) sums in
     let part = c.pair_part-part.ensures in
-    (omega (arith, sums.size, node.1, counts.nodes_most), (room.columns_fit, part.fits))
+    record {
+      fact_1 = omega (arith, sums.size, node.1, counts.nodes_most);
+      fact_2 = room.columns_fit;
+      fact_3 = part.fits;
+    }
 
 pub overflow_add-result : goal.overflow_add-result
 overflow_add-result c =
@@ -54,5 +58,5 @@ returns c =
     let limit = room.limit_fits in
     let live = room.live_fits in
     let right = part.fits.right_fits in
-    one_pair_summed _ _ start.args.a start.requires.fact_3 part added.add_columns.auto.0 (ap (λ v. 3 * v) node.0)
+    one_pair_summed _ _ start.args.a start.requires.fact_3 part added.add_columns.auto.columns (ap (λ v. 3 * v) node.0)
     added.add_columns.ensures (exact (search machine depth 30) (omega arith)) (exact (search machine depth 30) (omega arith))

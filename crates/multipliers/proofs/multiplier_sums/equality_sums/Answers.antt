@@ -17,9 +17,15 @@ pub add_equality-sums-requires : goal.add_equality-sums-requires
 add_equality-sums-requires c =
     let rows = c in
     let pre = rows.requires in
-    let count = rows.equality_count-rows.ensures.0 _ pre.0 in
+    let count = rows.equality_count-rows.ensures.0 _ pre.fact_1 in
     let loop = c.loop-k in
-    ((pre.0, omega arith), (omega (arith, pre.1.0.long), (pre.1.0.bounds, (omega (arith, loop.invariant.1.size), room _ _ loop.invariant.1 (omega (arith, rows.equality_count-rows.ensures.1))))))
+    record {
+      fact_1 = (pre.fact_1, omega arith);
+      fact_2 = omega (arith, pre.fact_2.long);
+      fact_3 = pre.fact_2.bounds;
+      fact_4 = omega (arith, loop.invariant.1.size);
+      fact_5 = room _ _ loop.invariant.1 (omega (arith, rows.equality_count-rows.ensures.1));
+    }
 
 pub overflow_add-k : goal.overflow_add-k
 overflow_add-k c = omega arith
@@ -28,7 +34,7 @@ pub loop-k-smaller : goal.loop-k-smaller
 loop-k-smaller c = omega arith
 
 pub loop-k-preserved : goal.loop-k-preserved
-loop-k-preserved c = (omega arith, one_summed _ _ c.loop-k.k c.loop-k.invariant.1 c.add_equality-sums.auto.1.1.1.1.0 c.add_equality-sums.ensures)
+loop-k-preserved c = (omega arith, one_summed _ _ c.loop-k.k c.loop-k.invariant.1 c.add_equality-sums.auto.columns c.add_equality-sums.ensures)
 
 pub shape_of-columns : goal.shape_of-columns
 shape_of-columns c = c.loop-k.invariant.1.size ∙ sym c.requires.fact_3.size

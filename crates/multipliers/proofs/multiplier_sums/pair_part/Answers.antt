@@ -16,24 +16,27 @@ equality_count-requires c = few_things c.requires.fact_1.sized
 pub overflow_mul-first : goal.overflow_mul-first
 overflow_mul-first c =
     let pre = c.requires in
-    let first = first_row {a = c.args.a} pre.1 pre.0.few pre.0.sides_given.most in
-    omega (arith, ap (λ k. c.args.a * k) pre.0.sized.sides_are)
+    let first = first_row {a = c.args.a} pre.fact_2 pre.fact_1.few pre.fact_1.sides_given.most in
+    omega (arith, ap (λ k. c.args.a * k) pre.fact_1.sized.sides_are)
 
 pub overflow_add-first : goal.overflow_add-first
 overflow_add-first c =
     let pre = c.requires in
-    let first = first_row {a = c.args.a} pre.1 pre.0.few pre.0.sides_given.most in
-    omega (arith, ap (λ k. c.args.a * k) pre.0.sized.sides_are, c.equality_count.ensures.1)
+    let first = first_row {a = c.args.a} pre.fact_2 pre.fact_1.few pre.fact_1.sides_given.most in
+    omega (arith, ap (λ k. c.args.a * k) pre.fact_1.sized.sides_are, c.equality_count.ensures.1)
 
 pub side_sums-over_sides-requires : goal.side_sums-over_sides-requires
 side_sums-over_sides-requires c =
     let sized = c.requires.fact_1.sized in
-    (steps_few sized.sides_are (steps_fit c.requires.fact_1.sides_given), pair_multipliers c.args.m.now c.args.y.now c.args.a c.requires.fact_2 sized.facts.counts c.requires.fact_1.sides_given c.requires.fact_1.multipliers (omega (arith, ap (λ k. c.args.a * k) sized.sides_are, c.equality_count.ensures.0 _ sized)) sized.sides_are)
+    record {
+      fact_1 = steps_few sized.sides_are (steps_fit c.requires.fact_1.sides_given);
+      fact_2 = pair_multipliers c.args.m.now c.args.y.now c.args.a c.requires.fact_2 sized.facts.counts c.requires.fact_1.sides_given c.requires.fact_1.multipliers (omega (arith, ap (λ k. c.args.a * k) sized.sides_are, c.equality_count.ensures.0 _ sized)) sized.sides_are;
+    }
 
 pub pair_soil-soil-requires : goal.pair_soil-soil-requires
 pair_soil-soil-requires c =
     let pre = c.requires in
-    (omega (arith, pre.1, pre.0.few), pre.0.pair_table.size)
+    (omega (arith, pre.fact_2, pre.fact_1.few), pre.fact_1.pair_table.size)
 
 pub radius_of-radius-requires : goal.radius_of-radius-requires
 radius_of-radius-requires c = sides_listed_lem c.requires.fact_1.sized
@@ -42,12 +45,18 @@ pub soil_numbers-k-requires : goal.soil_numbers-k-requires
 soil_numbers-k-requires c =
     let start = c in
     let soil = soil_read start.requires.fact_1.pair_table start.args.a start.requires.fact_2 c.pair_soil-soil.ensures in
-    ((start.requires.fact_1.sized, soil.1), Is-Within (Is-read c.radius_of-radius.ensures (omega arith)) (omega arith))
+    record {
+      fact_1 = (start.requires.fact_1.sized, soil.1);
+      fact_2 = Is-Within (Is-read c.radius_of-radius.ensures (omega arith)) (omega arith);
+    }
 
 pub pair_sums-requires : goal.pair_sums-requires
 pair_sums-requires c =
     let sized = c.requires.fact_1.sized in
-    (sides_fit _ _ _ c.side_sums-over_sides.ensures (omega (arith, sized.sides_are, c.requires.fact_1.sides_given.most)), soil_fits c.soil_numbers-k.ensures)
+    record {
+      fact_1 = sides_fit _ _ _ c.side_sums-over_sides.ensures (omega (arith, sized.sides_are, c.requires.fact_1.sides_given.most));
+      fact_2 = soil_fits c.soil_numbers-k.ensures;
+    }
 
 pub returns : goal.returns
 unfolding pair_first

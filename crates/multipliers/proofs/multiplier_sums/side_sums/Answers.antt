@@ -19,7 +19,11 @@ number_at-w-requires c = omega (arith, c.requires.fact_2.there)
 pub add_side-sums-requires : goal.add_side-sums-requires
 add_side-sums-requires c =
     let w = being c.number_at-w.ensures (c.requires.fact_2.bounds c.loop-k.k c.loop-k-test.true).itself in
-    (c.requires.fact_1.each c.loop-k.k c.loop-k-test.true, (side_weighted (Is-read w (omega arith)).same (c.requires.fact_2.bounds c.loop-k.k c.loop-k-test.true), sides_fit _ _ _ c.loop-k.invariant.1 (omega (arith, c.requires.fact_1.most))))
+    record {
+      fact_1 = c.requires.fact_1.each c.loop-k.k c.loop-k-test.true;
+      fact_2 = side_weighted (Is-read w (omega arith)).same (c.requires.fact_2.bounds c.loop-k.k c.loop-k-test.true);
+      fact_3 = sides_fit _ _ _ c.loop-k.invariant.1 (omega (arith, c.requires.fact_1.most));
+    }
 
 pub overflow_add-k : goal.overflow_add-k
 overflow_add-k c = omega arith

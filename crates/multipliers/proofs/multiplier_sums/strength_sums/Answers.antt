@@ -10,7 +10,11 @@ loop-a-init c = let given = c.requires.fact_1 in (omega arith, no_pairs_summed _
 pub add_pair-sums-requires : goal.add_pair-sums-requires
 add_pair-sums-requires c =
     let pre = c.requires in
-    (pre.0, (omega (arith, pre.0.pairs_are, c.loop-a-test.true), c.loop-a.invariant.1))
+    record {
+      fact_1 = pre.fact_1;
+      fact_2 = omega (arith, pre.fact_1.pairs_are, c.loop-a-test.true);
+      fact_3 = c.loop-a.invariant.1;
+    }
 
 pub overflow_add-a : goal.overflow_add-a
 overflow_add-a c = omega arith

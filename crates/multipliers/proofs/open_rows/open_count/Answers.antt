@@ -16,37 +16,45 @@ pub loop-a-init : goal.loop-a-init
 loop-a-init c = (omega arith, sym (no_pair_open _ _ _))
 
 pub pair_state-d-requires : goal.pair_state-d-requires
-pair_state-d-requires c = (c.requires.fact_1, omega (arith, c.requires.fact_1.0.pairs_are, c.loop-a-test.true))
+pair_state-d-requires c =
+    record {
+      fact_1 = c.requires.fact_1;
+      fact_2 = omega (arith, c.requires.fact_1.0.pairs_are, c.loop-a-test.true);
+    }
 
 pub overflow_mul-a : goal.overflow_mul-a
 overflow_mul-a c =
     let pre = c.requires in
-    let sized = pre.0.0.sized in
-    let steps = steps_as (sym sized.sides_are) pre.1.0 in
-    let first = first_row {a = c.loop-a.a} c.loop-a-test.true (omega (arith, pre.0.0.pairs_are, pre.0.0.few)) steps.most in
+    let sized = pre.fact_1.0.sized in
+    let steps = steps_as (sym sized.sides_are) pre.fact_2 in
+    let first = first_row {a = c.loop-a.a} c.loop-a-test.true (omega (arith, pre.fact_1.0.pairs_are, pre.fact_1.0.few)) steps.most in
     omega arith
 
 pub overflow_add-first : goal.overflow_add-first
 overflow_add-first c =
     let pre = c.requires in
-    let sized = pre.0.0.sized in
-    let steps = steps_as (sym sized.sides_are) pre.1.0 in
-    let first = first_row {a = c.loop-a.a} c.loop-a-test.true (omega (arith, pre.0.0.pairs_are, pre.0.0.few)) steps.most in
+    let sized = pre.fact_1.0.sized in
+    let steps = steps_as (sym sized.sides_are) pre.fact_2 in
+    let first = first_row {a = c.loop-a.a} c.loop-a-test.true (omega (arith, pre.fact_1.0.pairs_are, pre.fact_1.0.few)) steps.most in
     omega (arith, c.equality_count-first.ensures.1)
 
 pub pair_open-count-requires : goal.pair_open-count-requires
 pair_open-count-requires c =
     let pre = c.requires in
-    let sized = pre.0.0.sized in
-    let steps = steps_as (sym sized.sides_are) pre.1.0 in
-    (steps_fit steps, (pair_fits c.pair_state-d.ensures, pair_multipliers c.args.m.now c.args.y.now c.loop-a.a (omega (arith, pre.0.0.pairs_are, c.loop-a-test.true)) sized.facts.counts pre.1.0 pre.1.1 (omega (arith, ap (λ k. c.loop-a.a * k) sized.sides_are, c.equality_count-first.ensures.0 _ sized)) sized.sides_are))
+    let sized = pre.fact_1.0.sized in
+    let steps = steps_as (sym sized.sides_are) pre.fact_2 in
+    record {
+      fact_1 = steps_fit steps;
+      fact_2 = pair_fits c.pair_state-d.ensures;
+      fact_3 = pair_multipliers c.args.m.now c.args.y.now c.loop-a.a (omega (arith, pre.fact_1.0.pairs_are, c.loop-a-test.true)) sized.facts.counts pre.fact_2 pre.fact_3 (omega (arith, ap (λ k. c.loop-a.a * k) sized.sides_are, c.equality_count-first.ensures.0 _ sized)) sized.sides_are;
+    }
 
 pub overflow_add-count : goal.overflow_add-count
 overflow_add-count c =
     let pre = c.requires in
-    let sized = pre.0.0.sized in
-    let steps = steps_as (sym sized.sides_are) pre.1.0 in
-    omega (arith, count_small _ _ _ sized.facts.counts pre.0.0.few c.loop-a.a (omega (arith, pre.0.0.pairs_are)) c.loop-a.invariant.1, sides-counted _ _ c.pair_open-count.ensures steps.most)
+    let sized = pre.fact_1.0.sized in
+    let steps = steps_as (sym sized.sides_are) pre.fact_2 in
+    omega (arith, count_small _ _ _ sized.facts.counts pre.fact_1.0.few c.loop-a.a (omega (arith, pre.fact_1.0.pairs_are)) c.loop-a.invariant.1, sides-counted _ _ c.pair_open-count.ensures steps.most)
 
 pub overflow_add-a : goal.overflow_add-a
 overflow_add-a c = omega arith
@@ -58,8 +66,8 @@ pub loop-a-preserved : goal.loop-a-preserved
 unfolding pair_first
 loop-a-preserved c =
     let pre = c.requires in
-    let sized = pre.0.0.sized in
-    (omega arith, one_more_pair _ _ _ c.loop-a.a (omega (arith, pre.0.0.pairs_are, c.loop-a-test.true)) (record { listed = sized.facts.counts.sides_listed }) c.pair_state-d.ensures pre.1.0 c.loop-a.invariant.1 sized.sides_are (omega (arith, ap (λ k. c.loop-a.a * k) sized.sides_are, c.equality_count-first.ensures.0 _ sized)) c.pair_open-count.ensures)
+    let sized = pre.fact_1.0.sized in
+    (omega arith, one_more_pair _ _ _ c.loop-a.a (omega (arith, pre.fact_1.0.pairs_are, c.loop-a-test.true)) (record { listed = sized.facts.counts.sides_listed }) c.pair_state-d.ensures pre.fact_2 c.loop-a.invariant.1 sized.sides_are (omega (arith, ap (λ k. c.loop-a.a * k) sized.sides_are, c.equality_count-first.ensures.0 _ sized)) c.pair_open-count.ensures)
 
 pub returns : goal.returns
 returns c =

@@ -36,7 +36,11 @@ unfolding at
 open_count-requires c =
     let judged = c.requires.fact_1.0 in
     let flag = being c.number_at.ensures ((claim_within judged.claim).each 0) in
-    ((judged, told c.if-number_at-eq1.true (search machine depth 30) (omega arith)), (c.requires.fact_2, multipliers_lent judged.claim c.requires.fact_1.1 (from_is c.args.m.now c.args.c.now c.args.s.nodes judged.sized.nodes_are c.multipliers_from-from.ensures)))
+    record {
+      fact_1 = (judged, told c.if-number_at-eq1.true (search machine depth 30) (omega arith));
+      fact_2 = c.requires.fact_2;
+      fact_3 = multipliers_lent judged.claim c.requires.fact_1.1 (from_is c.args.m.now c.args.c.now c.args.s.nodes judged.sized.nodes_are c.multipliers_from-from.ensures);
+    }
 
 pub returns-then-number_at-eq1 : goal.returns-then-number_at-eq1
 unfolding at

@@ -22,7 +22,11 @@ number_at-w-requires c = omega (arith, c.requires.fact_3.there)
 pub side_open-count-requires : goal.side_open-count-requires
 side_open-count-requires c =
     let w = being c.number_at-w.ensures (c.requires.fact_3.bounds c.loop-k.k c.loop-k-test.true).itself in
-    (c.requires.fact_1.each c.loop-k.k c.loop-k-test.true, (c.requires.fact_2, Is-Within (Is-read w (omega arith)) (omega arith)))
+    record {
+      fact_1 = c.requires.fact_1.each c.loop-k.k c.loop-k-test.true;
+      fact_2 = c.requires.fact_2;
+      fact_3 = Is-Within (Is-read w (omega arith)) (omega arith);
+    }
 
 pub overflow_add-count : goal.overflow_add-count
 overflow_add-count c =
