@@ -1,0 +1,44 @@
+-- `parts_verdict` meets its contract: the field's check, then the multipliers', then what is accepted.
+use mathlib.Core.Path.{sym, ◌∙◌}
+use native.Mathlib.Omega.{arith}
+use Rattle.integer.proofs.Machine.{machine, unbounded, exact}
+use Rattle.criterion.proofs.ClaimLaws.{claim_within, claim_long}
+use Rattle.verdict.proofs.PartLaws.{field_refused, limit_refused, limit_absent, limit_exact, multipliers_are}
+use Rattle.criterion.proofs.StrengthLaws.{sides_listed_lem, steps_as}
+use Rattle.verdict.proofs.claim_parts.parts_verdict.Goals as goal
+
+pub steps_of-steps-requires : goal.steps_of-steps-requires
+steps_of-steps-requires c = sides_listed_lem c.requires.sized
+
+pub claim_field-field-requires : goal.claim_field-field-requires
+claim_field-field-requires c =
+    let judged = c.requires in
+    (judged, steps_as judged.sized.sides_are c.steps_of-steps.ensures)
+
+pub returns-in-Refused : goal.returns-in-Refused
+returns-in-Refused c = field_refused _ _ (sym c.claim_field-field.ensures ∙ c.in-Refused.is)
+
+pub claim_limit-limit-requires : goal.claim_limit-limit-requires
+claim_limit-limit-requires c =
+    let judged = c.requires in
+    (judged, steps_as judged.sized.sides_are c.steps_of-steps.ensures)
+
+pub lower_load-requires : goal.lower_load-requires
+lower_load-requires c = (claim_long c.requires.claim, claim_within c.requires.claim)
+
+pub open_rows-requires : goal.open_rows-requires
+open_rows-requires c =
+    let start = c in
+    ((start.requires, multipliers_are start.args.m.now start.args.c.now (sym c.claim_limit-limit.ensures ∙ c.in-Exact.is)), steps_as start.requires.sized.sides_are c.steps_of-steps.ensures)
+
+pub lower_load-requires-in-Exact : goal.lower_load-requires-in-Exact
+lower_load-requires-in-Exact c = (claim_long c.requires.claim, claim_within c.requires.claim)
+
+pub returns-in-Refused-limit : goal.returns-in-Refused-limit
+returns-in-Refused-limit c = limit_refused _ _ (sym c.claim_field-field.ensures ∙ c.in-Refused-limit.is) (sym c.claim_limit-limit.ensures ∙ c.in-Refused-limit.is)
+
+pub returns-in-Absent : goal.returns-in-Absent
+returns-in-Absent c = limit_absent _ _ (sym c.claim_field-field.ensures ∙ c.in-Absent.is) (sym c.claim_limit-limit.ensures ∙ c.in-Absent.is) c.lower_load.ensures
+
+pub returns-in-Exact : goal.returns-in-Exact
+returns-in-Exact c = limit_exact _ _ (sym c.claim_field-field.ensures ∙ c.in-Exact.is) (sym c.claim_limit-limit.ensures ∙ c.in-Exact.is) c.open_rows.ensures c.lower_load-in-Exact.ensures (exact (search (machine, unbounded) depth 30) (omega arith)) (exact (search (machine, unbounded) depth 30) (omega arith))

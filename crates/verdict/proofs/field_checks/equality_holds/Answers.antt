@@ -1,0 +1,46 @@
+-- `equality_holds` meets its contract: the row's numbers are those of the definition's row, and the machine's test is the test of the two sides.
+use lib.IntN.{ℤ, ◌+ℤ◌, ◌*ℤ◌}
+use Rattle.integer.specs.Tests.{eq_z}
+use Rattle.scope.specs.Columns.{at}
+use Rattle.scope.specs.Sums.{left_side, weighted_sum}
+use Rattle.equality.specs.EqualityContracts.{row_of, entries_of}
+use Rattle.verdict.proofs.FieldLaws.{load_read, row_asked, row_unfixed}
+use Rattle.equality.proofs.EntryLaws.{fits_wider}
+use mathlib.Core.Path.{◌≡◌, sym, ◌∙◌, ap₂}
+use native.Mathlib.Omega.{arith}
+use mir.Syntax.{w64}
+use mir.Val.{to_z, of_z}
+use Rattle.integer.proofs.Machine.{machine, limits, unread, bounded, fits, decides}
+use Rattle.verdict.proofs.field_checks.equality_holds.Goals as goal
+
+pub left_side-left-requires : goal.left_side-left-requires
+left_side-left-requires c =
+    let start = c in
+    let fit = c.equality_row-row.ensures.fits in
+    let live = fit.live_fits in
+    (fits_wider fit.entries start.requires.fact_2.long, (bounded (search machine depth 30) (omega arith), (start.requires.fact_2.stresses, search limits)))
+
+pub overflow_mul-result : goal.overflow_mul-result
+overflow_mul-result c =
+    let right = c.equality_row-row.ensures.fits.right_fits in
+    let scale = c.requires.fact_2.scale in
+    fits (search machine depth 30) (omega arith)
+
+pub returns-then-row : goal.returns-then-row
+unfolding left_side row_of
+returns-then-row c =
+    let start = c in
+    let a = start.args in
+    let row = c.equality_row-row in
+    let left = c.left_side-left.ensures in
+    let right = row.ensures.fits.right_fits in
+    let scale = start.requires.fact_2.scale in
+    let live = row.ensures.fits.live_fits in
+    let r = row.result in
+    let read : to_z w64 (of_z w64 r.live) ≡ r.live = search unread in
+    decides (search machine depth 30) (omega arith)
+    ∙ ap₂ (λ (v l : ℤ). eq_z (weighted_sum (at a.x.now) (entries_of r.coefficients r.columns r.count) +ℤ v *ℤ l) (r.right *ℤ a.n)) read (load_read start.requires.fact_2)
+    ∙ sym (row_asked (at a.x.now) a.l a.n row.ensures c.if-row.true)
+
+pub returns : goal.returns
+returns c = row_unfixed _ _ _ c.equality_row-row.ensures c.if-row.false

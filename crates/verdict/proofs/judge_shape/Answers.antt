@@ -1,0 +1,22 @@
+-- `judge_shape` meets its contract: the pairs are counted where the shape has passed.
+use mathlib.Core.Path.{sym, ◌∙◌}
+use Rattle.scope.proofs.Refusals.{mesh_checked}
+use Rattle.lines.proofs.Loops.{then_goes_on}
+use Rattle.verdict.proofs.VerdictLaws.{refused_mesh_lem, few_counted, passed_mesh}
+use Rattle.verdict.proofs.judge_shape.Goals as goal
+
+pub returns-in-Refused : goal.returns-in-Refused
+returns-in-Refused c =
+    let asked = c in
+    let shape = asked in
+    refused_mesh_lem (mesh_checked _ ∙ sym (then_goes_on shape.requires.1 (sym asked.in-Refused.is ∙ shape.mesh_shape-shape.ensures.outcome))) c.refused_mesh.ensures
+
+pub with_pairs-sizes-requires : goal.with_pairs-sizes-requires
+with_pairs-sizes-requires c =
+    let shape = c in
+    few_counted shape.requires.1 shape.mesh_shape-shape.ensures c.in_default.is
+
+pub returns : goal.returns
+returns c =
+    let shape = c in
+    passed_mesh shape.requires.0 shape.requires.1 shape.mesh_shape-shape.ensures c.in_default.is c.with_pairs-sizes.ensures
