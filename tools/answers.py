@@ -38,6 +38,50 @@ def blocks(text):
     if cur: out.append(cur)
     # split blocks where several top-level definitions are contiguous is rare; merge comment-only blocks
     return out
+def split_top(t):
+    # the parts of a tuple's inside at its top level
+    out=[];d=0;cur=''
+    for ch in t:
+        if ch in '([{': d+=1
+        if ch in ')]}': d-=1
+        if ch==',' and d==0: out.append(cur); cur=''
+        else: cur+=ch
+    out.append(cur)
+    return [x.strip() for x in out]
+def whole_tuple(t):
+    t=t.strip()
+    if not(t.startswith('(') and t.endswith(')')): return None
+    d=0
+    for i,ch in enumerate(t):
+        if ch in '([{': d+=1
+        if ch in ')]}':
+            d-=1
+            if d==0 and i<len(t)-1: return None
+    parts=[x for x in split_top(t[1:-1]) if x!='']
+    return parts if len(parts)>=2 else None
+def to_record(body,labels):
+    # the term after the last `in` or `=` at the top
+    m=None
+    for q in re.finditer(r'(?:^|\n)[^\n]* =(?=\s)|(?<=\s)in(?=\s)',body):
+        d=0
+        pre=body[:q.end()]
+        if pre.count('(')==pre.count(')') and pre.count('{')==pre.count('}'): m=q
+    if not m: return body
+    head,term=body[:m.end()],body[m.end():]
+    parts=[]
+    t=term
+    for k in range(len(labels)-1):
+        w=whole_tuple(t)
+        if w is None: return body
+        if len(w)>2:
+            # a flat tuple
+            if len(parts)+len(w)==len(labels): parts+=w; t=None; break
+            return body
+        parts.append(w[0]); t=w[1]
+    if t is not None: parts.append(t.strip())
+    if len(parts)!=len(labels): return body
+    keep=[(l,x) for l,x in zip(labels,parts)]
+    return head+' record { '+'; '.join(f'{l} = {x}' for l,x in keep)+' }'
 report=[]
 for pf in sorted(glob.glob(f'{crate}/proofs/**/Proof.antt',recursive=True)):
     rel=os.path.relpath(os.path.dirname(pf),f'{crate}/proofs')
@@ -77,6 +121,7 @@ for pf in sorted(glob.glob(f'{crate}/proofs/**/Proof.antt',recursive=True)):
             if not pp: break
             if re.match(r'in-|in_',pp[2][1]): arm=pp[2][1]; break
             q=pp[1]
+        body=re.sub(r'\(let (\w+) = c(?:\.before)* in c\)','c',body)
         # aliases of c
         roots={'c','w'}
         for _ in range(4):
@@ -112,7 +157,25 @@ for pf in sorted(glob.glob(f'{crate}/proofs/**/Proof.antt',recursive=True)):
                 out+=fs[i:]
             return '.'.join([r]+out)
         ident=r"[^\s(){};,.«»`\"\[\]]+"
-        return re.sub(r"(?<![^\s(){};,\[\]])("+ident+r")((?:\."+ident+r")+)",path,body)
+        body=re.sub(r"(?<![^\s(){};,\[\]])("+ident+r")((?:\."+ident+r")+)",path,body)
+        newcallee={pp[2][1]:pp[3] for pp in J['places']}
+        for m in list(re.finditer(r"let (\S+) = (\S+?)\.(requires|([^\s.]+)\.ensures) in",body)):
+            nm=m.group(1)
+            if m.group(2) not in roots: continue
+            if m.group(3)=='requires': L=pre['fields'] if pre and pre.get('fields') else None
+            else: L=labels.get(newcallee.get(m.group(4)) or '',{}).get('ensures')
+            if not L or len(L)<2: continue
+            def al(q):
+                fs=q.group(1).split('.')[1:]
+                k=0;i=0;out=[]
+                while k<len(L)-1 and i<len(fs) and fs[i]=='1': k+=1; i+=1
+                if k<len(L)-1:
+                    if i<len(fs) and fs[i]=='0': out.append(L[k]); i+=1
+                    else: return q.group(0)
+                else: out.append(L[k])
+                return '.'.join([nm]+out+fs[i:])
+            body=re.sub(r"(?<![^\s(){};,\[\]])"+re.escape(nm)+r"((?:\.[01])(?:\."+ident+r")*)",al,body)
+        return body
     inv=[];ans=[];helpers=[];misc=[]
     comment=[]
     header=[]
@@ -172,6 +235,18 @@ for pf in sorted(glob.glob(f'{crate}/proofs/**/Proof.antt',recursive=True)):
             body=re.sub(r'(^|\n)'+re.escape(name)+r'(?=\s)',lambda q:q.group(1)+new,body)
             body=re.sub(r'(^|\n)('+re.escape(new)+r' c) κs =',r'\1\2 =',body)
             body=fix(body,place)
+            L=None
+            if re.search(r'-requires',new):
+                seg=new.split('-')[0]
+                ck=[k for k in J.get('params',{}) if k.split('::')[-1]==seg]
+                if ck: L=labels.get(ck[0],{}).get('requires')
+            elif new.startswith('returns'):
+                L=labels.get('::'.join([cname]+rel.split('/')),{}).get('ensures')
+            if L and len(L)>1: body=to_record(body,L)
+            callees={k.split('::')[-1] for k in J.get('params',{})}
+            for cal in callees:
+                body=re.sub(r'\(not-(?:true|false) _ ([\w]+\.if-not-'+cal+r'[\w-]*\.(?:true|false))\)',r'\1',body)
+                body=re.sub(r'not-(?:true|false) _ ([\w]+\.if-not-'+cal+r'[\w-]*\.(?:true|false))',r'\1',body)
             ans.append('\n'.join(com+[f'pub {new} : goal.{new}',body]))
             continue
         # helper

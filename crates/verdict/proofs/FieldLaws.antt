@@ -11,6 +11,7 @@ use mir.Syntax.{w64}
 use mir.Val.{to_z, of_z}
 use mir.Facts.{to_z-of_z}
 use Rattle.integer.proofs.Machine.{within-SFits, Is-read}
+use Rattle.lines.proofs.LineLaws.{read}
 use Rattle.integer.specs.Tests.{eq_z}
 use Rattle.scope.specs.declared.Outcome.TheVariants.{Passed, Refused}
 use Rattle.scope.specs.declared.Place.TheVariants as P
@@ -61,23 +62,23 @@ module _ (s : ℕ → ℤ) (l n : ℤ) {r : EqualityRow} {row : Row} {columns : 
 -- ---- the lowest equality row that fails
 
 -- row i holds at the field as the machine reads it
-abbrev pub row_test : List Row → List ℤ → ℕ → ℕ → ℕ → Bool
-row_test rows x l n i = row_holds (at x) (to_z w64 l) (to_z w64 n) (row_at rows i)
+abbrev pub row_test : List Row → List ℤ → ℤ → ℤ → ℕ → Bool
+row_test rows x l n i = row_holds (at x) l n (row_at rows i)
 
-module _ {m x : List ℤ} {l n : ℤ} (h : FieldFits m x l n) {k rows : ℕ} (e : k ≡ first_failing (row_test (equality_rows m) x (of_z w64 l) (of_z w64 n)) rows) (all : rows ≡ equality_count m) where
+module _ {m x : List ℤ} {l n : ℤ} (h : FieldFits m x l n) {k rows : ℕ} (e : k ≡ first_failing (row_test (equality_rows m) x (read l) (read n)) rows) (all : rows ≡ equality_count m) where
   equalities_read : check_phase (equalities_phase (equality_rows m) (at x) (to_z w64 (of_z w64 l)) (to_z w64 (of_z w64 n))) ≡ check_phase (equalities_phase (equality_rows m) (at x) l n)
   equalities_read = ap₂ (λ a b. check_phase (equalities_phase (equality_rows m) (at x) a b)) (load_read h) (scale_read h)
 
   pub equality_fails : k < rows → Refused 21 (P.Row (k + 1)) ≡ check_phase (equalities_phase (equality_rows m) (at x) l n)
   unfolding check_phase
   equality_fails lt =
-      phase_fails (row_test (equality_rows m) x (of_z w64 l) (of_z w64 n)) 21 (λ i. P.Row (suc i)) (length (equality_rows m)) e (all ∙ sym (equality_count_lem m)) lt (ap P.Row (add-one k))
+      phase_fails (row_test (equality_rows m) x (read l) (read n)) 21 (λ i. P.Row (suc i)) (length (equality_rows m)) e (all ∙ sym (equality_count_lem m)) lt (ap P.Row (add-one k))
       ∙ equalities_read
 
   pub equalities_hold : rows ≤ k → Passed ≡ check_phase (equalities_phase (equality_rows m) (at x) l n)
   unfolding check_phase
   equalities_hold le =
-      phase_done (row_test (equality_rows m) x (of_z w64 l) (of_z w64 n)) 21 (λ i. P.Row (suc i)) (length (equality_rows m)) e (all ∙ sym (equality_count_lem m)) le
+      phase_done (row_test (equality_rows m) x (read l) (read n)) 21 (λ i. P.Row (suc i)) (length (equality_rows m)) e (all ∙ sym (equality_count_lem m)) le
       ∙ equalities_read
 
 -- ---- both checks

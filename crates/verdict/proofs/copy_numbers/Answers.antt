@@ -1,7 +1,9 @@
 -- `copy_numbers` meets its contract. The loop's invariant: the first j numbers are copied.
 use mathlib.Core.Path.{refl}
 use native.Mathlib.Omega.{arith}
+use mir.Syntax.{w64}
 use mir.Facts.{to_z-of_z}
+use borrow.Author.Rules.{rules}
 use lib.ListN.{length-set}
 use Rattle.verdict.proofs.TableLaws.{copied_next, copied_all}
 use Rattle.verdict.proofs.copy_numbers.Goals as goal
@@ -31,7 +33,7 @@ pub loop-j-preserved : goal.loop-j-preserved
 loop-j-preserved c =
     let l = c.loop-j in
     let m = c.args.m.now in
-    (omega arith, simp length-set (omega arith), copied_next m l.out l.j l.invariant.2 (omega arith) (omega arith) (to_z-of_z (record { sfits = c.out-1.given })))
+    (omega arith, simp length-set (omega arith), copied_next m l.out l.j l.invariant.2 (omega arith) (omega arith) (to_z-of_z {w = w64} (search rules)))
 
 pub shape_of-out : goal.shape_of-out
 shape_of-out c = omega arith

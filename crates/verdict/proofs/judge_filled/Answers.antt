@@ -1,58 +1,66 @@
 -- `judge_filled` meets its contract: the layers of the mesh with soil 1 for soil 0 are those of the mesh, and where they pass the filled mesh is judged.
 use mathlib.Core.Path.{◌≡◌, sym, ◌∙◌, ap, subst}
 use mathlib.Core.List.{List}
+use Prim.Native.Nat.{ℕ, ◌+◌, ◌/◌}
 use lib.IntN.{ℤ}
-use Rattle.scope.specs.Layers.{layer_phases}
+use lib.ListN.{length}
+use Rattle.std.specs.Prelude.{min}
+use Rattle.scope.specs.declared.Outcome.{Outcome}
+use Rattle.scope.specs.Filled.{with_soils}
+use Rattle.scope.specs.Layers.{layer_columns, layer_phases, most_layers}
 use Rattle.scope.specs.Phases.{check_phases}
 use Rattle.scope.specs.Table.{table_lines}
 use Rattle.scope.specs.Mesh.{mesh_layout}
 use Rattle.scope.specs.Verdict.{lines_check}
+use Rattle.mesh.specs.declared.sizes.Sizes.{Sizes}
 use Rattle.mesh.specs.MeshContracts.{Sized}
-use Rattle.verdict.specs.JudgeContracts.{MeshAnswered}
+use Rattle.verdict.specs.JudgeContracts.{MeshAnswered, TableKnown}
 use Rattle.verdict.proofs.TableLaws.{named_sized, table_known, layers_same, layers_refuse, fillable, filled_passed, filled_sized, filled-answer}
 use Rattle.verdict.proofs.judge_filled.Goals as goal
 
 -- as many layers as the definition has
-counted : (c : tie.After-table_count) → c.table_count-n.result ≡ table_lines c.args.t.now
+counted : (t : List ℤ) {n : ℕ} → n ≡ min ((length t + 2) / layer_columns) most_layers → n ≡ table_lines t
 unfolding table_lines
-counted c = c.table_count-n.ensures
+counted t e = e
 
 -- what the layers say
-checked : (c : tie.After-layers-check) → c.layers_check-layers.result ≡ check_phases (layer_phases c.args.t.now c.args.m.now)
-checked c = let start = c in c.layers_check-layers.ensures ∙ ap (λ (m : List ℤ). check_phases (layer_phases start.args.t.now m)) start.requires.1 ∙ layers_same start.requires.0
+checked :
+    {t m out : List ℤ} {s : Sizes} {o : Outcome}
+    → o ≡ check_phases (layer_phases t out)
+    → TableKnown t m s × (out ≡ with_soils m)
+    → o ≡ check_phases (layer_phases t m)
+checked {t} e known = e ∙ ap (λ (m : List ℤ). check_phases (layer_phases t m)) known.1 ∙ layers_same known.0
 
 pub layers_check-layers-requires : goal.layers_check-layers-requires
 layers_check-layers-requires c =
-    let start = c in
-    (subst (λ (m : List ℤ). Sized m start.args.s) (sym start.requires.1) (named_sized start.requires.0), table_known start.requires.0 (counted c))
+    let r = c.requires in
+    (
+      subst (λ (m : List ℤ). Sized m c.args.s) (sym r.1) (named_sized r.0),
+      table_known r.0 (counted c.args.t.now c.table_count-n.ensures),
+    )
 
 pub returns-in-Refused : goal.returns-in-Refused
 returns-in-Refused c =
-    let asked = c in
-    let k = asked in
-    layers_refuse k.requires.0 (sym (checked k) ∙ asked.in-Refused.is) c.refused_mesh.ensures
+    layers_refuse c.requires.0 (sym (checked c.layers_check-layers.ensures c.requires) ∙ c.in-Refused.is) c.refused_mesh.ensures
 
 pub fill-requires : goal.fill-requires
 fill-requires c =
-    let told = c in
-    let k = told in
-    let start = k in
-    (fillable start.requires.0 (sym (checked k) ∙ told.in_default.is) (counted k), start.requires.1)
+    let r = c.requires in
+    let passed = sym (checked c.layers_check-layers.ensures r) ∙ c.in_default.is in
+    (fillable r.0 passed (counted c.args.t.now c.table_count-n.ensures), r.1)
 
 pub judge_shape-requires : goal.judge_shape-requires
 judge_shape-requires c =
-    let f = c in
-    let told = f in
-    let k = told in
-    let start = k in
-    let e = sym (checked k) ∙ told.in_default.is in (
-      subst (λ (m : List ℤ). Sized m start.args.s) (sym f.fill.ensures) (filled_sized start.requires.0 e),
-      ap (lines_check mesh_layout) f.fill.ensures ∙ filled_passed start.requires.0 e,
+    let r = c.requires in
+    let e = sym (checked c.layers_check-layers.ensures r) ∙ c.in_default.is in
+    (
+      subst (λ (m : List ℤ). Sized m c.args.s) (sym c.fill.ensures) (filled_sized r.0 e),
+      ap (lines_check mesh_layout) c.fill.ensures ∙ filled_passed r.0 e,
     )
 
 pub returns : goal.returns
 returns c =
-    let f = c in
-    let told = f in
-    let k = told in
-    filled-answer k.requires.0 (sym (checked k) ∙ told.in_default.is) (subst (λ (m : List ℤ). MeshAnswered m c.judge_shape.result) f.fill.ensures c.judge_shape.ensures) f.fill.ensures
+    let r = c.requires in
+    let e = sym (checked c.layers_check-layers.ensures r) ∙ c.in_default.is in
+    let answered = subst (λ (m : List ℤ). MeshAnswered m c.judge_shape.result) c.fill.ensures c.judge_shape.ensures in
+    filled-answer r.0 e answered c.fill.ensures

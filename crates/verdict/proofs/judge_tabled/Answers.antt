@@ -10,14 +10,11 @@ use Rattle.verdict.proofs.judge_tabled.Goals as goal
 
 pub returns-in-Refused : goal.returns-in-Refused
 returns-in-Refused c =
-    let asked = c in
-    let k = asked in
-    refused_answer (lines_refuse _ _ k.requires (sym k.mesh_lines-lines.ensures ∙ asked.in-Refused.is)) c.refused_mesh.ensures
+    refused_answer (lines_refuse _ _ c.requires (sym c.mesh_lines-lines.ensures ∙ c.in-Refused.is)) c.refused_mesh.ensures
 
 pub copy_numbers-requires : goal.copy_numbers-requires
 copy_numbers-requires c =
-    let told = c in
-    few_numbers_lem _ (sym told.mesh_lines-lines.ensures ∙ told.in_default.is)
+    few_numbers_lem _ (sym c.mesh_lines-lines.ensures ∙ c.in_default.is)
 
 pub slice_bounds-copy-end : goal.slice_bounds-copy-end
 slice_bounds-copy-end c = omega (arith, simp length-take at (ap length c.copy_numbers.ensures))
@@ -27,18 +24,12 @@ slice_bounds-judge_layers-end c = sym (ap length c.copy_numbers.ensures)
 
 pub judge_layers-requires : goal.judge_layers-requires
 judge_layers-requires c =
-    let copied = c in
-    let told = copied in
-    let k = told in
-    let start = k in
-    let same = copied.copy_numbers.ensures in (
-      subst (λ (m : List ℤ). LinesPassed start.args.t.now m) (sym same) (record { tabled = start.requires; lines = sym k.mesh_lines-lines.ensures ∙ told.in_default.is }),
-      sym same,
-    )
+    let same = c.copy_numbers.ensures in
+    let lines = sym c.mesh_lines-lines.ensures ∙ c.in_default.is in
+    (subst (λ (m : List ℤ). LinesPassed c.args.t.now m) (sym same) (record { tabled = c.requires; lines = lines }), sym same)
 
 pub returns : goal.returns
 returns c =
-    let judged = c in
-    let copied = judged in
-    let start = copied in
-    subst (λ (m : List ℤ). TabledAnswered start.args.t.now m judged.judge_layers.result judged.judge_layers.new.1.1.0) copied.copy_numbers.ensures judged.judge_layers.ensures
+    subst (λ (m : List ℤ). TabledAnswered c.args.t.now m c.judge_layers.result c.judge_layers.new.out)
+    c.copy_numbers.ensures
+    c.judge_layers.ensures

@@ -14,8 +14,7 @@ number_at-requires c = omega (arith, claim_long c.requires.fact_1.claim)
 pub field_check-requires : goal.field_check-requires
 unfolding at
 field_check-requires c =
-    let flag = being c.number_at.ensures ((claim_within c.requires.fact_1.claim).each 0) in
-    ((c.requires.fact_1, told c.if-number_at-eq1.true (search machine depth 30) (omega arith)), c.requires.fact_2)
+    let flag = being c.number_at.ensures ((claim_within c.requires.fact_1.claim).each 0) in record { fact_1 = (c.requires.fact_1, told c.if-number_at-eq1.true (search machine depth 30) (omega arith)); fact_2 = c.requires.fact_2 }
 
 pub returns-then-number_at-eq1 : goal.returns-then-number_at-eq1
 unfolding at

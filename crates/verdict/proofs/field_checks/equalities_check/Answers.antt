@@ -1,9 +1,7 @@
 -- `equalities_check` meets its contract. The loop's invariant: the rows passed hold.
 use mathlib.Core.Path.{◌≡◌, refl, sym, ◌∙◌, ap}
 use native.Mathlib.Omega.{arith}
-use mir.Syntax.{w64}
-use mir.Val.{of_z}
-use borrow.Author.Tests.{not-true, not-false}
+use Rattle.lines.proofs.LineLaws.{read}
 use Rattle.scope.specs.Rows.{first_where, equality_rows}
 use Rattle.mesh.proofs.Places.{few_things}
 use Rattle.lines.specs.SearchContracts.{first_failing}
@@ -20,36 +18,34 @@ loop-k-init c = (omega arith, refl)
 
 pub equality_holds-requires : goal.equality_holds-requires
 equality_holds-requires c =
-    let rows = c in
-    let pre = rows.requires in
-    let all = rows.equality_count-rows.ensures.0 _ pre.0 in
-    ((pre.0, omega (arith, all, c.loop-k-test.true)), field_read pre.1)
+    let r = c.requires in
+    let all = c.equality_count-rows.ensures.0 _ r.fact_1 in
+    record { fact_1 = (r.fact_1, omega (arith, all, c.loop-k-test.true)); fact_2 = field_read r.fact_2 }
 
 pub returns-then-not-equality_holds : goal.returns-then-not-equality_holds
 returns-then-not-equality_holds c =
-    let b = c in
-    let rows = b in
-    let a = rows in
-    let pre = a.requires in
-    let stops = search_stops (row_test (equality_rows a.args.m.now) a.args.x.now (of_z w64 a.args.l) (of_z w64 a.args.n)) b.loop-k.invariant.1 rows.equality_count-rows.result b.loop-k-test.true (sym c.equality_holds.ensures ∙ not-true _ c.if-not-equality_holds.true) in
-    equality_fails pre.1 stops (rows.equality_count-rows.ensures.0 _ pre.0) b.loop-k-test.true
-
-pub overflow_add-k : goal.overflow_add-k
-overflow_add-k c = omega arith
-
-pub loop-k-smaller : goal.loop-k-smaller
-loop-k-smaller c = omega arith
+    let a = c.args in
+    let rows = c.equality_count-rows in
+    let fails = sym c.equality_holds.ensures ∙ c.if-not-equality_holds.true in
+    let stops = search_stops (row_test (equality_rows a.m.now) a.x.now (read a.l) (read a.n)) c.loop-k.invariant.1 rows.result c.loop-k-test.true fails in
+    equality_fails c.requires.fact_2 stops (rows.ensures.0 _ c.requires.fact_1) c.loop-k-test.true
 
 pub loop-k-preserved : goal.loop-k-preserved
 loop-k-preserved c =
-    let b = c in
-    let a = b in
-    (omega arith, search_more (row_test (equality_rows a.args.m.now) a.args.x.now (of_z w64 a.args.l) (of_z w64 a.args.n)) b.loop-k.invariant.1 (sym c.equality_holds.ensures ∙ not-false _ c.if-not-equality_holds.false))
+    let a = c.args in
+    let holds = sym c.equality_holds.ensures ∙ c.if-not-equality_holds.false in
+    (
+      omega arith,
+      search_more (row_test (equality_rows a.m.now) a.x.now (read a.l) (read a.n)) c.loop-k.invariant.1 holds,
+    )
 
 pub returns : goal.returns
 returns c =
-    let rows = c in
-    let a = rows in
-    let pre = a.requires in
-    let e : c.loop-k.k ≡ rows.equality_count-rows.result = omega (arith, c.loop-k.invariant.0, c.loop-k-test.false) in
-    equalities_hold pre.1 (sym (ap (first_failing (row_test (equality_rows a.args.m.now) a.args.x.now (of_z w64 a.args.l) (of_z w64 a.args.n))) (sym e) ∙ c.loop-k.invariant.1)) (rows.equality_count-rows.ensures.0 _ pre.0) c.loop-k-test.false
+    let a = c.args in
+    let rows = c.equality_count-rows in
+    let e : c.loop-k.k ≡ rows.result = omega (arith, c.loop-k.invariant.0, c.loop-k-test.false) in
+    let test = row_test (equality_rows a.m.now) a.x.now (read a.l) (read a.n) in
+    equalities_hold c.requires.fact_2
+    (sym (ap (first_failing test) (sym e) ∙ c.loop-k.invariant.1))
+    (rows.ensures.0 _ c.requires.fact_1)
+    c.loop-k-test.false

@@ -17,8 +17,7 @@ pub left_side-left-requires : goal.left_side-left-requires
 left_side-left-requires c =
     let start = c in
     let fit = c.equality_row-row.ensures.fits in
-    let live = fit.live_fits in
-    (fits_wider fit.entries start.requires.fact_2.long, (bounded (search machine depth 30) (omega arith), (start.requires.fact_2.stresses, search limits)))
+    let live = fit.live_fits in record { fact_1 = fits_wider fit.entries start.requires.fact_2.long; fact_2 = bounded (search machine depth 30) (omega arith); fact_3 = start.requires.fact_2.stresses; fact_4 = search limits }
 
 pub overflow_mul-result : goal.overflow_mul-result
 overflow_mul-result c =

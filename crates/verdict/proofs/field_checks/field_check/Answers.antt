@@ -7,8 +7,7 @@ use Rattle.verdict.proofs.field_checks.field_check.Goals as goal
 
 pub equalities_check-equalities-requires : goal.equalities_check-equalities-requires
 equalities_check-equalities-requires c =
-    let pre = c.requires.fact_1 in
-    (pre.0.sized, field_fits pre.0.claim pre.1 (load_of pre.0.claim c.number_at-l.ensures) (scale_of pre.0.claim c.number_at-n.ensures))
+    let pre = c.requires.fact_1 in record { fact_1 = pre.0.sized; fact_2 = field_fits pre.0.claim pre.1 (load_of pre.0.claim c.number_at-l.ensures) (scale_of pre.0.claim c.number_at-n.ensures) }
 
 pub returns-in-Refused : goal.returns-in-Refused
 unfolding check_phases

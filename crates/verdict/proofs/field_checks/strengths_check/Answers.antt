@@ -2,7 +2,6 @@
 use mathlib.Core.Path.{◌≡◌, refl, sym, ◌∙◌, ap}
 use Prim.Native.Nat.{ℕ}
 use native.Mathlib.Omega.{arith}
-use borrow.Author.Tests.{not-true, not-false}
 use Rattle.scope.specs.declared.Place.TheVariants.{Row}
 use Rattle.scope.specs.declared.Outcome.TheVariants.{Refused}
 use Rattle.scope.specs.Rows.{first_where}
@@ -19,37 +18,35 @@ loop-a-init c = (omega arith, refl)
 pub pair_holds-requires : goal.pair_holds-requires
 pair_holds-requires c =
     let pre = c.requires in
-    (pre.0.0, pre.0.1, pre.1, omega (arith, pre.0.0.pairs_are, c.loop-a-test.true))
+    (pre.fact_1.0, pre.fact_1.1, pre.fact_2, omega (arith, pre.fact_1.0.pairs_are, c.loop-a-test.true))
 
 pub pair_state-d-requires : goal.pair_state-d-requires
 pair_state-d-requires c =
     let b = c in
-    let pre = b.requires in
-    (pre.0, omega (arith, pre.0.0.pairs_are, b.loop-a-test.true))
+    let pre = b.requires in record { fact_1 = pre.fact_1; fact_2 = omega (arith, pre.fact_1.0.pairs_are, b.loop-a-test.true) }
 
 pub first_side-k-requires : goal.first_side-k-requires
 first_side-k-requires c =
     let pre = c.requires in
-    let steps = steps_as (sym pre.0.0.sized.sides_are) pre.1 in
-    (steps_fit steps, pair_fits c.pair_state-d.ensures)
+    let steps = steps_as (sym pre.fact_1.0.sized.sides_are) pre.fact_2 in record { fact_1 = steps_fit steps; fact_2 = pair_fits c.pair_state-d.ensures }
 
 pub strength_number-requires : goal.strength_number-requires
 strength_number-requires c =
     let b = c in
     let pre = b.requires in
-    let sized = pre.0.0.sized in
-    let steps = steps_as (sym sized.sides_are) pre.1 in
-    (omega (arith, b.loop-a-test.true, pre.0.0.pairs_are, pre.0.0.few), steps.most, omega (arith, steps.most, c.first_side-k.ensures.fact_2))
+    let sized = pre.fact_1.0.sized in
+    let steps = steps_as (sym sized.sides_are) pre.fact_2 in
+    (omega (arith, b.loop-a-test.true, pre.fact_1.0.pairs_are, pre.fact_1.0.few), steps.most, omega (arith, steps.most, c.first_side-k.ensures.fact_2))
 
 pub returns-then-not-pair_holds : goal.returns-then-not-pair_holds
 returns-then-not-pair_holds c =
     let b = c in
     let pre = b.requires in
-    let sized = pre.0.0.sized in
+    let sized = pre.fact_1.0.sized in
     let asked = c in
-    let stops = search_stops (pair_holds _ _) b.loop-a.invariant.1 b.args.s.pairs b.loop-a-test.true (sym asked.pair_holds.ensures ∙ not-true _ asked.if-not-pair_holds.true) in
+    let stops = search_stops (pair_holds _ _) b.loop-a.invariant.1 b.args.s.pairs b.loop-a-test.true (sym asked.pair_holds.ensures ∙ asked.if-not-pair_holds.true) in
     ap (λ (i : ℕ). Refused 22 (Row i)) c.strength_number.ensures
-    ∙ strengths_refused _ _ sized.facts.counts pre.1 pre.0.0.pairs_are sized.sides_are stops b.loop-a-test.true c.pair_state-d.ensures c.first_side-k.ensures.fact_1
+    ∙ strengths_refused _ _ sized.facts.counts pre.fact_2 pre.fact_1.0.pairs_are sized.sides_are stops b.loop-a-test.true c.pair_state-d.ensures c.first_side-k.ensures.fact_1
 
 pub overflow_add-a : goal.overflow_add-a
 overflow_add-a c = omega arith
@@ -60,7 +57,7 @@ loop-a-smaller c = omega arith
 pub loop-a-preserved : goal.loop-a-preserved
 loop-a-preserved c =
     let b = c in
-    (omega arith, search_more (pair_holds _ _) b.loop-a.invariant.1 (sym c.pair_holds.ensures ∙ not-false _ c.if-not-pair_holds.false))
+    (omega arith, search_more (pair_holds _ _) b.loop-a.invariant.1 (sym c.pair_holds.ensures ∙ c.if-not-pair_holds.false))
 
 pub returns : goal.returns
 returns c =
