@@ -1,0 +1,42 @@
+-- `own_bytes` meets its contract: the header's numbers, read alone, count the claim's bytes, and no more are there than are left.
+use mathlib.Core.Path.{sym}
+use native.Mathlib.Omega.{arith}
+use lib.ListN.{length-take}
+use lib.Seq.{length-take-le}
+use Rattle.mesh.proofs.Places.{few_sizes}
+use Rattle.judge.proofs.FilesJudged.{fits, as_many}
+use Rattle.run.proofs.NextLaws.{header_room, own_counted}
+use Rattle.run.proofs.own_bytes.Goals as goal
+
+pub slice_bounds-read_claim-end : goal.slice_bounds-read_claim-end
+slice_bounds-read_claim-end c = sym (length-take-le _ _ (omega (arith, c.least-end.ensures)))
+
+pub read_claim-count-requires : goal.read_claim-count-requires
+read_claim-count-requires c =
+    let least = c in
+    let start = least in
+    record {
+      mesh = start.requires.mesh;
+      counted = start.requires.counted;
+      fits = header_room _ _ (omega (arith, length-take least.least-end.result start.args.left.now, least.least-end.ensures));
+    }
+
+pub slice_bounds-header-end : goal.slice_bounds-header-end
+slice_bounds-header-end c =
+    let some = c.requires in
+    fits (c.read_claim-count.ensures.against some.mesh some.counted)
+
+pub slice_bounds-claim_bytes-end : goal.slice_bounds-claim_bytes-end
+slice_bounds-claim_bytes-end c =
+    let some = c.requires in
+    as_many (c.read_claim-count.ensures.against some.mesh some.counted)
+
+pub claim_bytes-bytes-requires : goal.claim_bytes-bytes-requires
+claim_bytes-bytes-requires c = few_sizes c.requires.counted.sizes
+
+pub returns : goal.returns
+returns c =
+    let bytes = c in
+    let read = bytes in
+    let least = read in
+    λ m k. own_counted least.args.left.now k least.least-end.ensures read.read_claim-count.ensures (bytes.claim_bytes-bytes.ensures m k) c.least.ensures
