@@ -1,7 +1,7 @@
 /* Prints the report line of a mesh file and a claim file, and of a table file where there is one. From the
    repository's root:
 
-     rt staticlib pechuvo
+     bash tests/archive
      cc -Iinclude examples/check.c target/staticlib/libpechuvo.a -o target/check
      target/check sheets/worked.mesh sheets/worked.claim
      target/check sheets/table_slope.mesh sheets/table_slope.claim sheets/table_slope.table

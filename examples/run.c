@@ -1,7 +1,7 @@
 /* Prints the reports of claims for one mesh without a table that stand one after another in a file. From the
    repository's root:
 
-     rt staticlib pechuvo
+     bash tests/archive
      cc -Iinclude examples/run.c target/staticlib/libpechuvo.a -o target/run
      target/run sheets/runs/footing_steps.mesh sheets/runs/footing_steps.claims
 

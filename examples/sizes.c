@@ -1,6 +1,6 @@
 /* Prints what a mesh without a table asks room for, before there is any claim. From the repository's root:
 
-     rt staticlib pechuvo
+     bash tests/archive
      cc -Iinclude examples/sizes.c target/staticlib/libpechuvo.a -o target/sizes
      target/sizes sheets/joint_blocks.mesh
 

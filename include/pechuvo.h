@@ -1,6 +1,7 @@
 /* The check of load factor certificates on quadrilateral soil meshes, for C.
 
-   One archive has every call: target/staticlib/libpechuvo.a, which rt staticlib pechuvo builds.
+   One archive has every call: target/staticlib/libpechuvo.a, which tests/archive builds from
+   crates/pechuvo_c.
 
    The calls take every input, whatever its bytes or numbers, and answer in bounded time. They
    read only what is lent, keep nothing from call to call, allocate nothing and write nothing but

@@ -9,24 +9,42 @@ ghost use Rattle.reader.specs.File.{file_width};
 ghost use Rattle.judge.specs.Judge.{files_verdict};
 ghost use Rattle.report.specs.Report.{report_line, usual_decimals};
 
-use libc::STDOUT_FILENO;
 use pechuvo::pechuvo_check;
 use report::{LINE, USUAL_DECIMALS};
+use std::env::Env;
+use std::fs;
+use std::io::Read;
+use std::rt::Files;
+
+// Reads until `bytes` is full, the file ends or a read fails, and answers how many bytes were read.
+fn read_full(file: &mut impl Read, bytes: &mut [u8]) -> usize
+    ensures { IsPrefixLen result bytes.new }
+{
+    let mut done = 0;
+    while done < bytes.len() {
+        match file.read(&mut bytes[done..]) {
+            Ok(0) | Err(_) => break,
+            Ok(count) => done += count,
+        }
+    }
+    done
+}
 
 // Reads the file that argument i names, as far as `bytes` goes, and answers how many bytes it has. "A file that can't
-// be opened counts as empty"; so does a missing argument, whose name is empty.
-fn read_argument(i: usize, bytes: &mut [u8]) -> usize
+// be opened counts as empty"; so does a missing argument, whose name is empty, and a name that isn't UTF-8, by which
+// `std::fs` opens nothing.
+fn read_argument(rt: &(impl Env + Files), i: usize, bytes: &mut [u8]) -> usize
     ensures { IsPrefixLen result bytes.new }
 {
     let mut name = io::buffer();
-    let length = os::arg(i, &mut name);
-    let file = os::open_read(&name[..length]);
-    if file < 0 {
+    let length = rt.arg(i, &mut name).unwrap_or(0);
+    let Ok(name) = str::from_utf8(&name[..length]) else {
         return 0;
+    };
+    match fs::open(rt, name) {
+        Ok(mut file) => read_full(&mut file, bytes),
+        Err(_) => 0,
     }
-    let count = io::read_full(file, bytes);
-    libc::close(file);
-    count
 }
 
 // The report line of three files: "The desk program and N3's runs go on with six". A table of no bytes is none.
@@ -40,17 +58,18 @@ fn report_line(mesh: &[u8], table: &[u8], claim: &[u8]) -> [u8; LINE]
     line
 }
 
-fn main() {
+fn main(rt: HostRuntime) {
     let mut mesh = io::large_buffer();
-    let mesh_count = read_argument(1, &mut mesh);
+    let mesh_count = read_argument(&rt, 1, &mut mesh);
     let mut claim = io::large_buffer();
-    let claim_count = read_argument(2, &mut claim);
+    let claim_count = read_argument(&rt, 2, &mut claim);
     let mut table = io::buffer();
-    let table_count = read_argument(3, &mut table);
+    let table_count = read_argument(&rt, 3, &mut table);
     let line = report_line(
         &mesh[..mesh_count],
         &table[..table_count],
         &claim[..claim_count],
     );
-    io::write_all(STDOUT_FILENO, &line);
+    // A line that can't be written changes nothing of the exit status, which is 0.
+    let _ = rt.write_all(&line);
 }

@@ -1,6 +1,6 @@
-// Every call that C makes: the check of a mesh file, a table file and a claim file, three byte strings into a report line
-// and the verdict's numbers; the check of claims for one mesh, one after another; the check of the numbers themselves;
-// and the room that a mesh asks for. An empty table is none.
+// Every call: the check of a mesh file, a table file and a claim file, three byte strings into a report line and the
+// verdict's numbers; the check of claims for one mesh, one after another; the check of the numbers themselves; and the
+// room that a mesh asks for. An empty table is none. `pechuvo_c` hands each to C.
 
 #![tactic(auto)]
 
@@ -63,8 +63,7 @@ fn answer_of(v: Verdict, reported: Reported) -> Answer
 
 // The report of a mesh file, a table file and a claim file, with so many decimals, at the front of the buffer that is
 // lent.
-#[unsafe(no_mangle)]
-pub extern "C" fn pechuvo_check(
+pub fn pechuvo_check(
     mesh: &[u8],
     table: &[u8],
     claim: &[u8],
@@ -80,13 +79,7 @@ pub extern "C" fn pechuvo_check(
 }
 
 // The reports of claims for one mesh, written one after another, in turn at the front of the buffer that is lent.
-#[unsafe(no_mangle)]
-pub extern "C" fn pechuvo_check_run(
-    mesh: &[u8],
-    table: &[u8],
-    claims: &[u8],
-    reports: &mut [u8],
-) -> RunAnswer
+pub fn pechuvo_check_run(mesh: &[u8], table: &[u8], claims: &[u8], reports: &mut [u8]) -> RunAnswer
     ensures { RunAsked mesh.now table.now claims.now reports.old result
         reports.new }
 {
@@ -94,8 +87,7 @@ pub extern "C" fn pechuvo_check_run(
 }
 
 // The same check of the numbers of a mesh, of a table and of a claim, for a solver that writes no files.
-#[unsafe(no_mangle)]
-pub extern "C" fn pechuvo_check_numbers(m: &[i64], t: &[i64], c: &[i64]) -> NumbersAnswer
+pub fn pechuvo_check_numbers(m: &[i64], t: &[i64], c: &[i64]) -> NumbersAnswer
     ensures { result ≡ answer_of (tabled_verdict t.now m.now c.now) }
 {
     numbers::check(m, t, c)
@@ -103,8 +95,7 @@ pub extern "C" fn pechuvo_check_numbers(m: &[i64], t: &[i64], c: &[i64]) -> Numb
 
 // The rows of each kind, the columns and the bytes of a claim, from the mesh and its table, for a caller who lends the
 // buffers.
-#[unsafe(no_mangle)]
-pub extern "C" fn pechuvo_mesh_sizes(mesh: &[u8], table: &[u8]) -> MeshSizes
+pub fn pechuvo_mesh_sizes(mesh: &[u8], table: &[u8]) -> MeshSizes
     ensures { SizesAsked mesh.now table.now result }
 {
     mesh_sizes(mesh, table)

@@ -1,0 +1,9 @@
+-- What is read so far is within the buffer; each turn reads a byte or more.
+use Rattle.std.proofs.Common.{length, ◌-◌, ◌≤◌}
+use Rattle.desk.proofs.read_full.Given as goal
+
+abbrev pub invariant-loop-done : goal.invariant-loop-done
+invariant-loop-done g l = l.done ≤ length l.bytes
+
+abbrev pub decreases-loop-done : goal.decreases-loop-done
+decreases-loop-done g l = length l.bytes - l.done

@@ -1,0 +1,6 @@
+-- `pechuvo_check` meets its contract: the verdict on the three files is what is reported and answered.
+use Rattle.pechuvo.proofs.Answers.{answers}
+use Rattle.pechuvo.proofs.pechuvo_check.Goals as goal
+
+pub returns : goal.returns
+returns c = search answers
