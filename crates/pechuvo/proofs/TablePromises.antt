@@ -211,6 +211,7 @@ fractions_bracket {b} q w z m sound same = fractions_allowed m (mesh_of b) (clai
 same_at : {A B : Type 0} (f g : A → B) (xs : List A) → map f xs ≡ map g xs → (x : A) → x ∈ xs → f x ≡ g x
 same_at f g (a ∷ xs) e x (Memᴰ.head p) = let h : f a ≡ g a = cc in rw p h
 same_at f g (a ∷ xs) e x (Memᴰ.tail t) = let h : map f xs ≡ map g xs = cc in same_at f g xs h x t
+same_at {A = A} {B = B} f g [] e x x4 = elim x4 [ ]
 
 printed_line : (s : Sheet) → printed s ≡ report_line usual_decimals (files_verdict file_width s.mesh s.table s.claim)
 unfolding printed printed_with check answered is_decimals usual_decimals
