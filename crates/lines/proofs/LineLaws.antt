@@ -11,7 +11,7 @@ use lib.Dec.{T, eqb}
 use lib.Ieee.Bits.{is_true, is_false}
 use lib.ListN.{length, get_or, take, drop, replicate, length-take, drop_of_length-le}
 use lib.Seq.{drop-cons, length-take-le}
-use borrow.Author.Tests.{eq-eqb, ne_eqb, not-true, not-false}
+use borrow.Author.Tests.{eq-eqb, ne_eqb}
 use mir.Syntax.{w64}
 use mir.Val.{SFits, to_z, of_z}
 use mir.Facts.{to_z-of_z, to_z_pos}

@@ -13,7 +13,6 @@ use Rattle.lines.specs.declared.layout.Rule.TheVariants.{Soil, Element, Tabled, 
 use Rattle.lines.specs.declared.layout.Kind.{Kind}
 use Rattle.lines.specs.declared.layout.Kind.TheVariants.{Ruled, Even}
 use Rattle.lines.specs.declared.layout.Group as Code
-use Rattle.scope.specs.Layout.{Group}
 use Rattle.scope.specs.Mesh.{soil_lines, element_lines, edge_lines, jump_lines}
 use Rattle.lines.specs.Table.{most_lines, most_columns, kind_lines, ruled_lines, even_lines, meant, Good, AllGood}
 

@@ -1,5 +1,5 @@
 -- Going through the groups of a table, one after another: what is still to be said is what the check of the groups from group i on says.
-use mathlib.Core.Path.{◌≡◌, refl, sym, ◌∙◌, ap, ap₂, subst}
+use mathlib.Core.Path.{◌≡◌, sym, ◌∙◌, ap, ap₂, subst}
 use mathlib.Core.List.{List, [], ◌∷◌, map}
 use Prim.Native.Nat.{ℕ, ◌+◌, ◌*◌, ◌<◌, ◌≤◌}
 use native.Mathlib.Omega.{arith}
@@ -11,7 +11,7 @@ use Rattle.scope.specs.declared.Place.{Place}
 use Rattle.scope.specs.declared.Place.TheVariants.{Line}
 use Rattle.scope.specs.declared.Outcome.{Outcome}
 use Rattle.scope.specs.declared.Outcome.TheVariants.{Passed, Refused}
-use Rattle.scope.specs.Layout.{Group, Layout, width}
+use Rattle.scope.specs.Layout.{Layout, width}
 use Rattle.mesh.specs.declared.sizes.Sizes.{Sizes}
 use Rattle.lines.specs.declared.layout.Rule.TheVariants.{Soil}
 use Rattle.lines.specs.declared.layout.Kind.TheVariants.{Ruled}

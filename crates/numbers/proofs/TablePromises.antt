@@ -1,20 +1,18 @@
 -- The promises with a table hold of every answer: the verdict came early, by the table, or is the one on the filled mesh.
 use mathlib.Core.Path.{◌≡◌, refl, sym, ◌∙◌, ap, subst, subst₂}
-use mathlib.Core.Logic.{◌↔◌, ◌⊎◌, inl, inr, ◌≢◌}
-use mathlib.Core.List.{List, []}
-use Prim.Native.Nat.{ℕ, ◌≤◌, ◌<◌}
+use mathlib.Core.Logic.{◌⊎◌, inl, inr, ◌≢◌}
+use mathlib.Core.List.{List}
+use Prim.Native.Nat.{ℕ, ◌≤◌}
 use native.Mathlib.Omega.{arith}
 use lib.IntN.{ℤ}
 use Rattle.scope.specs.declared.Place.{Place}
 use Rattle.scope.specs.declared.Verdict.{Verdict}
 use Rattle.scope.specs.declared.Verdict.TheVariants.{Accepted, Refused}
 use Rattle.scope.specs.Answer.{place_number, place_for, number_of, place_of}
-use Rattle.scope.specs.Verdict.{verdict, open_count, lower_load, upper_load}
-use Rattle.scope.specs.Refusals.{Refusal, mesh_phases, claim_phases}
 use Rattle.scope.specs.Table.{mesh_read}
 use Rattle.scope.specs.TableVerdict.{tabled_verdict, TabledRefusal, TablePasses, TableFits}
 use Rattle.scope.specs.Filled.{with_soils}
-use Rattle.scope.proofs.Exactly.{verdict_cases, refused_exactly}
+use Rattle.scope.proofs.Exactly.{refused_exactly}
 use Rattle.scope.proofs.PlaceKinds.{place_kind, place_number_lem}
 use Rattle.scope.proofs.Filled.{element_layer, filled_from_lem, reordered_filled}
 use Rattle.scope.proofs.Table.{named_facts}
@@ -22,7 +20,6 @@ use Rattle.scope.proofs.TableVerdict.{Came, early, late, came, fits_late, tabled
 use Rattle.numbers.proofs.Promises.{refused_not_zero}
 use Rattle.numbers.specs.declared.numbers_answer.NumbersAnswer.{NumbersAnswer}
 use Rattle.numbers.specs.NumbersAnswer.{answer_of}
-use Rattle.numbers.specs.Promises.{Answers}
 use Rattle.numbers.specs.TablePromises.{TableAnswers, TableReturned, TableExactly, AsFilled, FilledMesh}
 
 pub table_returned : {t m c : List ℤ} {r : NumbersAnswer} → TableAnswers t m c r → TableReturned t m c r.number r.place

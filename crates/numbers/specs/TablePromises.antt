@@ -6,11 +6,10 @@ use Rattle.scope.specs.Answer.{place_for, number_of, place_of}
 use Rattle.scope.specs.Accepted.{ClaimAccepted}
 use Rattle.scope.specs.Mesh.{mesh_layout, elements}
 use Rattle.scope.specs.Statements.{LinesSound}
-use Rattle.scope.specs.Layers.{soil, lowest, highest}
-use Rattle.scope.specs.LayerRows.{TableSound, OneLayer, FilledFrom, Reordered}
+use Rattle.scope.specs.LayerRows.{OneLayer, FilledFrom, Reordered}
 use Rattle.scope.specs.Filled.{height_of, filled}
 use Rattle.scope.specs.Table.{mesh_read}
-use Rattle.scope.specs.TableVerdict.{tabled_verdict, TabledRefusal, TablePasses, TableFits}
+use Rattle.scope.specs.TableVerdict.{tabled_verdict, TabledRefusal, TableFits}
 use Rattle.numbers.specs.declared.numbers_answer.NumbersAnswer.{NumbersAnswer}
 use Rattle.numbers.specs.NumbersAnswer.{answer_of}
 use Rattle.numbers.specs.Promises.{Answers}

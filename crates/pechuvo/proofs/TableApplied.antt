@@ -15,7 +15,7 @@ use Rattle.scope.specs.Members.{◌∈◌}
 use Rattle.scope.specs.Columns.{at as number_at}
 use Rattle.scope.specs.Mesh.{elements}
 use Rattle.scope.specs.Rows.{rows_of, judged}
-use Rattle.scope.specs.Filled.{height_of, soil_place, filled}
+use Rattle.scope.specs.Filled.{height_of, soil_place}
 use Rattle.scope.specs.LayerRows.{OneLayer}
 use Rattle.scope.specs.Statements.{HasField, HasMultipliers}
 use Rattle.scope.specs.Table.{has_table}

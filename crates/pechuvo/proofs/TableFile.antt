@@ -7,7 +7,6 @@ use Prim.Native.Nat.{ℕ, zero, suc, ◌+◌, ◌*◌, ◌-◌, ◌≤◌, ◌<�
 use native.Mathlib.Omega.{arith}
 use lib.IntN.{ℤ}
 use lib.ListN.{length, take, drop, replicate, length-append, length-drop, take-append-drop}
-use Rattle.scope.specs.Columns.{at}
 use Rattle.scope.specs.Mesh.{mesh_layout, layout_with, element_lines}
 use Rattle.scope.specs.Layers.{most_layers, layer_columns}
 use Rattle.reader.specs.File.{file_width, line_bytes, read_line, widths, left_over, read_rows, table_numbers_of, columns, write_lines, file_of}

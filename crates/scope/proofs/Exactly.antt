@@ -21,7 +21,6 @@ use Rattle.scope.specs.Layout.{Layout, numbers_at, group_at}
 use Rattle.scope.specs.Mesh.{mesh_layout, nodes}
 use Rattle.scope.specs.Claim.{claim_layout, if_there, stress, multiplier}
 use Rattle.scope.specs.Rows.{equality_rows, strength_rows, rows_of}
-use Rattle.scope.specs.Rows as R
 use Rattle.scope.specs.Verdict.{claim_check, lower_load, upper_load, open_count, answer, claim_verdict, verdict, mesh_check}
 use Rattle.scope.specs.Statements.{LinesSound, MeshSound, HasField, HasMultipliers, RowsMet, ColumnsMet}
 use Rattle.scope.specs.Phases.{FirstFails, AllPass, RefusedBy}

@@ -5,23 +5,20 @@ use mathlib.Core.Bool.{Bool, true, false}
 use mathlib.Core.List.{List, [], ◌∷◌}
 use Prim.Native.Nat.{ℕ, zero, suc, ◌+◌, ◌*◌, ◌-◌, ◌≤◌, ◌<◌}
 use native.Mathlib.Decide.{dec_lt}
-use native.Mathlib.Nat.{zero-add}
 use native.Mathlib.Omega.{arith}
 use lib.IntN.{ℤ, pos}
-use lib.Signed.{◌≤ℤ◌}
-use lib.ListN.{length, get_or, take, drop, replicate, length-take, length-drop}
+use lib.ListN.{length, take, drop, replicate, length-take, length-drop}
 use lib.Seq.{ext_get_or, get_or-take, get_or-drop}
 use Rattle.integer.specs.Tests.{eq_z}
 use Rattle.scope.specs.Columns.{free, at}
 use Rattle.scope.specs.Layout.{Group, Placed, width, groups, line_count, number_count, lines_before, numbers_before, line_of, line_numbers}
 use Rattle.scope.specs.Mesh.{element_columns, mesh_header, soil_lines, node_lines, element_lines, edge_lines, jump_lines, mesh_layout, layout_with, mesh_groups, elements, soils}
 use Rattle.scope.specs.Statements.{AllWithin, AllSay, LineSound, LinesSound}
-use Rattle.scope.specs.NumberRanges.{Between, MeshFacts}
+use Rattle.scope.specs.NumberRanges.{Between}
 use Rattle.scope.specs.Filled.{soil_place, given}
 use Rattle.scope.specs.LayerRows.{Named}
 use Rattle.scope.proofs.Decides.{Decides, equalℤ}
 use Rattle.scope.proofs.Lines.{group, line_in_group}
-use Rattle.scope.proofs.NumberRanges.{mesh_facts}
 use Rattle.scope.proofs.Filled.{NoSoil, given-length, given_other, given_own, given_zero, groups_kept}
 use Rattle.scope.proofs.SoilAllowed.{soil-allowed}
 

@@ -1,9 +1,8 @@
 -- What jump rows mean: normal and shear are the traction turned by the step, whose length is not 0 where the mesh turns left; the sides of a joint by what 44 asks.
 use mathlib.Core.Path.{◌≡◌, refl, sym, ◌∙◌, ap, ap₂, subst, subst₂}
-use mathlib.Core.Logic.{◌⊎◌, inl, inr, ⊎_elim}
+use mathlib.Core.Logic.{◌⊎◌, inl, inr}
 use mathlib.Core.List.{List, [], ◌∷◌, ◌++◌, append-nil}
-use Prim.Native.Nat.{ℕ, zero, suc, ◌+◌, ◌-◌, ◌<◌, ◌≤◌}
-use native.Mathlib.Nat.{eq-or-lt_of_le}
+use Prim.Native.Nat.{ℕ, zero, suc, ◌+◌, ◌-◌, ◌<◌}
 use native.Mathlib.Decide.{dec_lt}
 use native.Mathlib.Omega.{arith}
 use lib.Dec.{lt→ltb}
@@ -12,13 +11,12 @@ use lib.Signed.{◌<ℤ◌, <ℤ_irrefl}
 use Rattle.integer.proofs.Ring.{ring, ring_from, sides as both_sides, terms}
 use Rattle.integer.proofs.Order.{by_pos, square_nonneg, +ℤ_mono_<, *ℤ_pos, *ℤ_cancel}
 use Rattle.scope.specs.Members.{◌∈◌}
-use Rattle.scope.specs.Mesh.{jumps, x, y, corner_count, around, from_node, to_node, jump_from, jump_to, facing_from, facing_to}
+use Rattle.scope.specs.Mesh.{jumps, x, y, corner_count, around, from_node, to_node, jump_from, jump_to}
 use Rattle.scope.specs.Rows.{sx, sy, t, count_from, joined, balance_rows, side_rows, jump_step_x, jump_step_y, agree_row, jump_normal, jump_shear, jump_rows, equality_rows}
 use Rattle.scope.specs.Sums.{weighted_sum, left_side}
 use Rattle.scope.specs.Tests.{turn}
-use Rattle.scope.specs.Statements.{LeftTurns, SideAt, IsSide, OuterSide, UsedByJump, FreeSide, Joint, MeshSound}
-use Rattle.scope.specs.Printed.{NormalAgrees, ShearAgrees, MeetsPrinted}
-use Rattle.scope.specs.Meaning.{traction_x, traction_y}
+use Rattle.scope.specs.Statements.{LeftTurns, SideAt, IsSide, UsedByJump, FreeSide, Joint, MeshSound}
+use Rattle.scope.specs.Printed.{MeetsPrinted}
 use Rattle.scope.specs.Jumps.{JumpMeaning, SameTraction, jump_sides, SoundJumps, TipAsksNothing, NoJumps}
 use Rattle.scope.proofs.Lists.{each_nil, each_cons}
 

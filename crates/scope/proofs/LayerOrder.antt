@@ -1,8 +1,7 @@
 -- "in any order": where the lines of a table stand in another order, each height has the same soil, and the table passes as before; line by line, by the order's own maps.
 use mathlib.Core.Path.{◌≡◌, sym, ◌∙◌, ap, subst}
 use mathlib.Core.List.{List}
-use Prim.Native.Nat.{ℕ, ◌*◌, ◌≤◌, ◌<◌}
-use native.Mathlib.Omega.{arith}
+use Prim.Native.Nat.{ℕ, ◌<◌}
 use lib.IntN.{ℤ, pos, ◌*ℤ◌}
 use lib.Signed.{◌≤ℤ◌, ◌<ℤ◌}
 use Rattle.scope.specs.Layers.{layers, bottom, top, soil, Has, soil_at, InLayer, TopAbove}

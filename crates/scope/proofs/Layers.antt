@@ -1,6 +1,6 @@
 -- 46 and 45: each test decides its plain statement, so each refusal comes exactly when it is said; where both pass, each height from the lowest node to the highest is in exactly one layer.
-use mathlib.Core.Path.{◌≡◌, refl, sym, ◌∙◌, ap, subst}
-use mathlib.Core.Logic.{◌↔◌, ◌⊎◌, inl, inr}
+use mathlib.Core.Path.{◌≡◌, refl, sym, ap, subst}
+use mathlib.Core.Logic.{◌↔◌, inl, inr}
 use mathlib.Core.Bool.{Bool, true, false, not}
 use mathlib.Core.List.{List}
 use Prim.Native.Nat.{ℕ, zero, suc, ◌+◌, ◌-◌, ◌*◌, ◌≤◌, ◌<◌}
@@ -18,7 +18,7 @@ use Rattle.scope.specs.Mesh.{nodes, y}
 use Rattle.scope.specs.Rows.{first_where}
 use Rattle.scope.specs.Bounds.{most_coordinate}
 use Rattle.scope.specs.NumberRanges.{MeshFacts}
-use Rattle.scope.specs.Layers.{layers, bottom, top, soil, layer_line, node_at, none_above, lowest, highest, quarters, Has, has, soil_at, TopAbove, top_above, Apart, apart, InLayer, in_layer, layer_phases}
+use Rattle.scope.specs.Layers.{layers, bottom, top, soil, node_at, none_above, lowest, highest, quarters, Has, has, soil_at, TopAbove, top_above, Apart, apart, InLayer, in_layer, layer_phases}
 use Rattle.scope.specs.LayerRows.{NodeHeights, LowestGap, LayerRow, forty_six, forty_six_else, forty_five, OneLayer, TableSound}
 use Rattle.scope.proofs.Decides.{Decides, First, first_where_lem, both, opposite, said_as, equal, at_most, at_mostℤ, belowℤ, some_below_lem, all_below_lem}
 use Rattle.scope.proofs.Phases.{Exact, Decided, EachIn, each_refusal, one_step, phases_exact}

@@ -9,7 +9,7 @@ use lib.IntN.{ℤ, pos, negsuc, ◌+ℤ◌, ◌*ℤ◌, neg_ℤ}
 use lib.Signed.{◌≤ℤ◌}
 use lib.ListN.{length, get_or}
 use Rattle.integer.proofs.Order.{≤ℤ_pos}
-use Rattle.scope.specs.Columns.{one_of, free, up_to, right_angle, at}
+use Rattle.scope.specs.Columns.{one_of, free, up_to, at}
 use Rattle.scope.specs.Layout.{width, groups, line_count, number_count, lines_before, numbers_before, count, entry}
 use Rattle.scope.specs.Mesh.{mesh_header, soil_lines, node_lines, element_lines, edge_lines, jump_lines, mesh_layout, mesh_groups, nodes, elements, soils, edges, sides, jumps, p, q, h, cohesion, soil_entry, x, y, corner, element_soil, edge_entry, from_node, to_node, jump_entry, jump_from, jump_to, facing_from, facing_to}
 use Rattle.scope.specs.Statements.{Within, LineSound, LinesSound}

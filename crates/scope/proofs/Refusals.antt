@@ -23,7 +23,7 @@ use Rattle.scope.specs.Tests.{row_at}
 use Rattle.scope.specs.Meets.{RowMet, FieldMeets}
 use Rattle.scope.specs.Statements.{AllWithin, AllSay, LineSound, LinesSound, MeshSound, MeetsColumns, HasField, HasMultipliers, RowsMet, ColumnsMet}
 use Rattle.scope.specs.Refusals.{rule_number, rule_steps, line_steps, line_phases, shape_phases, mesh_phases, field_phases, multiplier_phases, field_part, multiplier_part, part_phases, claim_phases, LineRefusal, MeshRefusal, Refusal}
-use Rattle.scope.specs.Verdict.{rules_hold, line_check, line_at, lines_check, mesh_check, claim_check, field_check, multipliers_check}
+use Rattle.scope.specs.Verdict.{line_check, line_at, lines_check, mesh_check, claim_check, field_check, multipliers_check}
 use Rattle.scope.proofs.Decides.{Decides, equal, at_most, equalℤ, belowℤ, Passes, put_as, Refuses}
 use Rattle.scope.proofs.Statements.{all_within_lem, rule_says, left_turns_lem, own_sides_lem, in_element_lem, outer_edge_lem, is_joint_lem, pairs_fit_lem, row_meets, none_on_unfixed}
 use Rattle.scope.proofs.Lists.{each_++, row_in, by_place}

@@ -12,7 +12,7 @@ use Rattle.scope.specs.Mesh.{elements, edges, sides, jumps, from_node, to_node, 
 use Rattle.scope.specs.Polygon.{polygon_sides, polygon_of}
 use Rattle.scope.specs.Rows.{Row, Pair, count_from, joined, balance_x, balance_y, balance_rows, normal_row, shear_row, side_rows, jump_normal, jump_shear, jump_rows, strength_pairs, pair_count, pair_at, pair_rows, strength_rows, equality_rows, rows_of}
 use Rattle.scope.specs.RowNumbers.{side_at, pair_row, RowNumbers}
-use Rattle.scope.proofs.RowCounts.{balance_count, side_count, jump_count, equality_count_lem, polygon_sides_lem, strength_count}
+use Rattle.scope.proofs.RowCounts.{balance_count, side_count, equality_count_lem, polygon_sides_lem, strength_count}
 use Rattle.scope.proofs.Lists.{count-length, at_count, at_map}
 use Rattle.scope.specs.Tests.{row_at}
 

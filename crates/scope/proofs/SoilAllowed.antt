@@ -6,7 +6,7 @@ use Prim.Native.Nat.{ℕ, zero, suc, ◌<◌}
 use native.Mathlib.Omega.{arith}
 use lib.IntN.{ℤ, pos, negsuc}
 use lib.Signed.{◌≤ℤ◌}
-use Rattle.integer.proofs.Order.{pos_≤ℤ, ≤ℤ_pos}
+use Rattle.integer.proofs.Order.{pos_≤ℤ}
 use Rattle.scope.specs.Columns.{at}
 use Rattle.scope.specs.Mesh.{element_lines}
 use Rattle.scope.specs.LayerRows.{Named, SoilAllowed}

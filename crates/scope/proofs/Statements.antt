@@ -7,7 +7,6 @@ use Prim.Native.Nat.{ℕ, zero, suc, ◌+◌, ◌-◌, ◌<◌}
 use native.Mathlib.Omega.{arith}
 use lib.IntN.{ℤ, pos, ◌+ℤ◌, ◌*ℤ◌}
 use Rattle.integer.specs.Tests.{eq_z}
-use Rattle.scope.specs.declared.Place.TheVariants.{Row}
 use Rattle.scope.specs.Checks.{some_below}
 use Rattle.scope.specs.Columns.{Limit, between, one_of, free, is_one_of, within, all_within, Rule, right_angle, naming, parts, names, all_named, at, has_field, has_multipliers, n, l, rule_test}
 use Rattle.scope.specs.Mesh.{elements, edges, x, y, corner, corner_count, around, element_soil, from_node, to_node, jump_from, jump_to, facing_from, facing_to}

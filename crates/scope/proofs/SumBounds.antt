@@ -6,7 +6,6 @@ use Prim.Native.Nat.{ℕ, suc, ◌+◌, ◌*◌, ◌%◌, ◌^◌, ◌<◌, ◌�
 use native.Mathlib.Nat.{mod-lt, zero-add, suc-add, mul_assoc, mul-le-mul, mul-le-mul_right}
 use native.Mathlib.Omega.{arith}
 use lib.IntN.{ℤ, pos, neg_ℤ, ◌+ℤ◌, ◌-ℤ◌, ◌*ℤ◌}
-use lib.Signed.{◌≤ℤ◌}
 use lib.ListN.{length}
 use Rattle.integer.specs.Bounds.{Within}
 use Rattle.integer.proofs.BoundLaws.{Within-le, Within-pos, Within-neg_ℤ, Within-+ℤ, Within--ℤ, Within-*ℤ, ≤ℤ-Within, bounds}

@@ -1,18 +1,17 @@
 -- A table whose lines are sound has layers, each within its limits and with a soil of the mesh; a mesh with a table is refused exactly as its phases say, and where all pass the filled mesh has all that sound lines say. Without a table a mesh is judged as before.
 use mathlib.Core.Path.{◌≡◌, refl, sym, ◌∙◌, ap, subst}
-use mathlib.Core.Bool.{Bool, true, false, cond}
-use mathlib.Core.List.{List, [], ◌∷◌, ◌++◌}
-use Prim.Native.Nat.{ℕ, ◌+◌, ◌-◌, ◌*◌, ◌/◌, ◌≤◌, ◌<◌}
+use mathlib.Core.Bool.{Bool, true, cond}
+use mathlib.Core.List.{List, [], ◌++◌}
+use Prim.Native.Nat.{ℕ, ◌+◌, ◌-◌, ◌*◌, ◌≤◌, ◌<◌}
 use native.Mathlib.Decide.{dec_lt}
 use native.Mathlib.Omega.{arith}
 use lib.IntN.{ℤ, pos, neg_ℤ}
-use lib.Signed.{◌≤ℤ◌}
 use lib.ListN.{length}
 use Rattle.integer.proofs.Order.{pos_≤ℤ}
 use Rattle.scope.specs.Columns.{at}
 use Rattle.scope.specs.Layout.{groups, line_count, number_count, numbers_before, line_of, entry}
 use Rattle.scope.specs.Mesh.{mesh_header, mesh_layout, layout_with, elements, soils}
-use Rattle.scope.specs.Phases.{Phase, AllPass, RefusedBy, if_part, check_phases}
+use Rattle.scope.specs.Phases.{AllPass, RefusedBy, if_part}
 use Rattle.scope.specs.Statements.{LineSound, LinesSound}
 use Rattle.scope.specs.NumberRanges.{Between, Counts, MeshFacts}
 use Rattle.scope.specs.Refusals.{line_phases, shape_phases}
@@ -21,10 +20,10 @@ use Rattle.scope.specs.Layers.{most_layers, layer_columns, most_level, layers, b
 use Rattle.scope.specs.Filled.{height_of, soil_place, given, filled, with_soils}
 use Rattle.scope.specs.LayerRows.{TableSound}
 use Rattle.scope.specs.Table.{layer_lines, table_lines, table_layout, table_line_phases, LayerFacts, TableFacts, has_table, mesh_read, tabled_phases, tabled_check}
-use Rattle.scope.proofs.Phases.{Exact, Decided, phases_exact, decided_join, decided_part, pass_parts}
+use Rattle.scope.proofs.Phases.{Exact, Decided, phases_exact, decided_join, decided_part}
 use Rattle.scope.proofs.Lines.{LineFacts, line_in, at_line_in, line_facts}
 use Rattle.scope.proofs.NumberRanges.{header_counts, mesh_facts}
-use Rattle.scope.proofs.Refusals.{lines_decided, shape_decided, lines_sound}
+use Rattle.scope.proofs.Refusals.{lines_decided, shape_decided}
 use Rattle.scope.proofs.Layers.{layers_decided, soil-at}
 use Rattle.scope.proofs.Filled.{element_layer}
 use Rattle.scope.proofs.GivenLines.{given_lines}

@@ -1,5 +1,5 @@
 -- The verdict with a table: what comes before 5 refuses with its own numbers, and where it passes the verdict is that on the filled mesh, whose lines are sound. So every theorem about a mesh and a claim is one about the filled mesh.
-use mathlib.Core.Path.{◌≡◌, refl, sym, ◌∙◌, ap, ap₂, subst}
+use mathlib.Core.Path.{◌≡◌, refl, sym, ◌∙◌, ap, subst}
 use mathlib.Core.Logic.{◌↔◌, ◌⊎◌, inl, inr}
 use mathlib.Core.Bool.{Bool, true, false, cond}
 use mathlib.Core.List.{List, [], ◌∷◌, ◌++◌, append_assoc}
@@ -10,11 +10,9 @@ use lib.IntN.{ℤ, pos}
 use lib.ListN.{length}
 use borrow.Table.Steps.{cases}
 use Rattle.scope.specs.declared.Place.{Place}
-use Rattle.scope.specs.declared.Place.TheVariants.{Line, Height}
 use Rattle.scope.specs.declared.Outcome.{Outcome}
 use Rattle.scope.specs.declared.Outcome.TheVariants.{Passed, Refused as Fails}
-use Rattle.scope.specs.declared.Verdict.{Verdict}
-use Rattle.scope.specs.declared.Verdict.TheVariants.{Accepted, Refused}
+use Rattle.scope.specs.declared.Verdict.TheVariants.{Refused}
 use Rattle.scope.specs.Answer.{place_number, place_for, number_of}
 use Rattle.scope.specs.Checks.{◌then◌}
 use Rattle.scope.specs.Columns.{Rule, at}
@@ -22,14 +20,13 @@ use Rattle.scope.specs.Layout.{Group, Layout, Placed, width, groups, line_count,
 use Rattle.scope.specs.Mesh.{mesh_header, soil_lines, node_lines, element_lines, edge_lines, jump_lines, mesh_layout, layout_with, elements}
 use Rattle.scope.specs.Bounds.{most_coordinate}
 use Rattle.scope.specs.Phases.{Phase, FirstFails, AllPass, RefusedBy, if_part, check_phases}
-use Rattle.scope.specs.Statements.{LinesSound, MeshSound}
-use Rattle.scope.specs.Refusals.{rule_number, rule_steps, line_steps, line_phases, shape_phases, mesh_phases, claim_phases, Refusal}
+use Rattle.scope.specs.Statements.{LinesSound}
+use Rattle.scope.specs.Refusals.{rule_number, rule_steps, line_steps, line_phases, shape_phases, claim_phases}
 use Rattle.scope.specs.Verdict.{lines_check, mesh_check, claim_check, open_count, lower_load, upper_load, answer, claim_verdict, verdict}
 use Rattle.scope.specs.Accepted.{ClaimAccepted}
 use Rattle.scope.specs.Layers.{most_layers, none_above, soil_at, highest, layer_phases}
 use Rattle.scope.specs.Filled.{height_of, soil_place, filled}
-use Rattle.scope.specs.LayerRows.{TableSound}
-use Rattle.scope.specs.Table.{layer_lines, table_lines, table_layout, above_mesh, table_line_phases, has_table, mesh_read, tabled_phases, tabled_check}
+use Rattle.scope.specs.Table.{layer_lines, table_lines, table_layout, table_line_phases, has_table, mesh_read, tabled_phases, tabled_check}
 use Rattle.scope.specs.TableVerdict.{tabled_verdict, TabledRefusal, TablePasses, TableFits}
 use Rattle.scope.proofs.Checks.{then_assoc, then_passed}
 use Rattle.scope.proofs.Phases.{Exact, exact_as, Decided, decided_part, EachIn, phases_exact, check_join, pass_join, pass_parts, decided_join, each_refusal, each_join, each_part, own_number}

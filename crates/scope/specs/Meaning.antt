@@ -3,7 +3,7 @@
 use Rattle.std.specs.Prelude.{◌≡◌, ◌↔◌, List, ℕ, ◌+◌, ◌≤◌, ◌<◌, ℤ, pos, ◌+ℤ◌, ◌-ℤ◌, ◌*ℤ◌, neg_ℤ, ◌<ℤ◌}
 use Rattle.scope.specs.Mesh.{x, y, corner, corner_count, around, edge_entry, from_node, to_node}
 use Rattle.scope.specs.Polygon.{Point, Side}
-use Rattle.scope.specs.Rows.{sx, sy, t, node, twice_area, step_x, step_y, cross}
+use Rattle.scope.specs.Rows.{sx, sy, t, twice_area, step_x, step_y, cross}
 use Rattle.scope.specs.Tests.{turn}
 use Rattle.scope.specs.Statements.{LeftTurns}
 use Rattle.scope.specs.Printed.{next, corner_sum, force_x, force_y, BalanceX, BalanceY, normal_force, shear_force, NormalAt, deviator, resistance}

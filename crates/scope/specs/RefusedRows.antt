@@ -1,8 +1,6 @@
 -- What the place of 21 and of 22 says (document 01, 'Rows'): the row of that number, as it is printed, is the one that
 -- the field does not meet; and what that of 42 says (document 02, N2).
 use Rattle.std.specs.Prelude.{◌≡◌, List, ℕ, suc, ◌+◌, ◌*◌, ◌-◌, ◌<◌, ℤ}
-use Rattle.scope.specs.declared.Place.{Place}
-use Rattle.scope.specs.declared.Place.TheVariants.{Row}
 use Rattle.scope.specs.Columns.{n, l}
 use Rattle.scope.specs.Mesh.{elements, edges, sides, jumps, from_node, to_node, jump_from, jump_to, facing_from, facing_to}
 use Rattle.scope.specs.Polygon.{polygon_of}

@@ -3,7 +3,6 @@ use Rattle.std.specs.Prelude.{◌≡◌, List, [], ◌∷◌, ◌++◌, ℤ, pos
 use Rattle.scope.specs.declared.Place.TheVariants.{Line, Height}
 use Rattle.scope.specs.declared.Outcome.TheVariants.{Passed, Refused}
 use Rattle.scope.specs.Rows.{joined}
-use Rattle.scope.specs.Verdict.{mesh_check}
 use Rattle.scope.specs.Filled.{filled}
 use Rattle.scope.specs.Table.{tabled_check}
 use Rattle.scope.specs.Worked.{zeros, worked_mesh}

@@ -19,7 +19,7 @@ use Rattle.equality.specs.declared.equality_rows.EqualityRow.{EqualityRow}
 use Rattle.scope.specs.Columns.{at, l, n}
 use Rattle.scope.specs.Claim.{stress}
 use Rattle.scope.specs.Mesh.{equality_count}
-use Rattle.scope.specs.Rows.{Row, asked, equality_rows}
+use Rattle.scope.specs.Rows.{Row, equality_rows}
 use Rattle.scope.specs.Sums.{left_side, right_side, row_holds}
 use Rattle.scope.specs.Phases.{check_phase}
 use Rattle.scope.specs.Refusals.{equalities_phase}

@@ -1,6 +1,6 @@
 -- A mesh with a table judged stage by stage: lines, the table's lines, layers, and the filled mesh; what each function is handed follows from the stages before it, one law for each way out.
 use mathlib.Core.Path.{◌≡◌, refl, sym, ◌∙◌, ap, ap₂, subst}
-use mathlib.Core.Bool.{Bool, true, false}
+use mathlib.Core.Bool.{true, false}
 use mathlib.Core.List.{List, [], ◌∷◌, ◌++◌}
 use Prim.Native.Nat.{ℕ, ◌+◌, ◌*◌, ◌≤◌, ◌<◌}
 use native.Mathlib.Numerals.{add-one}
@@ -15,20 +15,20 @@ use Rattle.scope.specs.declared.Verdict.{Verdict}
 use Rattle.scope.specs.declared.Verdict.TheVariants.{Refused}
 use Rattle.scope.specs.Checks.{◌then◌}
 use Rattle.scope.specs.Layout.{groups, line_count, line_of, line_numbers}
-use Rattle.scope.specs.Mesh.{most_pairs, mesh_header, mesh_layout, layout_with, soils}
+use Rattle.scope.specs.Mesh.{most_pairs, mesh_header, mesh_layout, layout_with}
 use Rattle.scope.specs.NumberRanges.{MeshFacts}
 use Rattle.scope.specs.Phases.{check_phases}
 use Rattle.scope.specs.Refusals.{shape_phases}
 use Rattle.scope.specs.Statements.{LinesSound}
-use Rattle.scope.specs.Layers.{layers, lowest, highest, tops_phase, apart_phase, gaps_phase, layer_phases}
+use Rattle.scope.specs.Layers.{lowest, highest, tops_phase, apart_phase, gaps_phase, layer_phases}
 use Rattle.scope.specs.Filled.{given, filled, with_soils}
 use Rattle.scope.specs.LayerRows.{TableSound}
 use Rattle.scope.specs.Table.{table_lines, table_layout, table_line_phases, TableFacts, has_table, mesh_read, tabled_check}
-use Rattle.scope.specs.TableVerdict.{tabled_verdict, TablePasses}
+use Rattle.scope.specs.TableVerdict.{tabled_verdict}
 use Rattle.scope.specs.Verdict.{line_check, line_at, lines_check, mesh_check, answer, claim_verdict, verdict}
 use Rattle.scope.proofs.Checks.{passed_is_not_refused}
 use Rattle.scope.proofs.NumberRanges.{mesh_facts}
-use Rattle.scope.proofs.Refusals.{lines_passed, line_passed, lines_sound}
+use Rattle.scope.proofs.Refusals.{lines_passed, line_passed}
 use Rattle.scope.proofs.Phases.{phases_exact}
 use Rattle.scope.proofs.Layers.{layers_passed}
 use Rattle.scope.proofs.Filled.{given-length, heights_kept, nodes_kept, elements_kept, soils_kept, edges_kept, sides_kept, jumps_kept}
@@ -41,8 +41,7 @@ use Rattle.lines.proofs.Loops.{then_goes_on}
 use Rattle.layers.specs.LayerContracts.{TableRead, Fillable}
 use Rattle.layers.proofs.TableLaws.{table_read}
 use Rattle.verdict.specs.declared.MeshAnswer.{MeshAnswer}
-use Rattle.shape.specs.ShapeContracts.{PairBytes, pairs_if}
-use Rattle.verdict.specs.JudgeContracts.{no_sizes, sizes_if, AnsweredAs, MeshAnswered, TabledAnswered, LinesPassed, TableKnown, SoundMesh}
+use Rattle.verdict.specs.JudgeContracts.{no_sizes, AnsweredAs, MeshAnswered, TabledAnswered, LinesPassed, TableKnown}
 use Rattle.verdict.proofs.VerdictLaws.{refused_mesh_lem}
 
 -- ---- lines

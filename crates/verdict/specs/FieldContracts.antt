@@ -3,7 +3,6 @@ use Rattle.std.specs.Prelude.{List, ◌*◌, ◌≤◌, ℤ, length}
 use Rattle.integer.specs.Bounds.{Within, AllWithin}
 use Rattle.scope.specs.Mesh.{nodes}
 use Rattle.scope.specs.Bounds.{most_scale, most_load, most_stress}
-use Rattle.scope.specs.Columns.{n, l}
 
 -- ---- a field
 

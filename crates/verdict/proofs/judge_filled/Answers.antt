@@ -33,8 +33,7 @@ checked {t} e known = e ∙ ap (λ (m : List ℤ). check_phases (layer_phases t 
 
 pub layers_check-layers-requires : goal.layers_check-layers-requires
 layers_check-layers-requires c =
-    let r = c.requires in
-    (
+    let r = c.requires in (
       subst (λ (m : List ℤ). Sized m c.args.s) (sym r.1) (named_sized r.0),
       table_known r.0 (counted c.args.t.now c.table_count-n.ensures),
     )
@@ -52,8 +51,7 @@ fill-requires c =
 pub judge_shape-requires : goal.judge_shape-requires
 judge_shape-requires c =
     let r = c.requires in
-    let e = sym (checked c.layers_check-layers.ensures r) ∙ c.in_default.is in
-    (
+    let e = sym (checked c.layers_check-layers.ensures r) ∙ c.in_default.is in (
       subst (λ (m : List ℤ). Sized m c.args.s) (sym c.fill.ensures) (filled_sized r.0 e),
       ap (lines_check mesh_layout) c.fill.ensures ∙ filled_passed r.0 e,
     )

@@ -1,10 +1,8 @@
 -- `judge_layers` meets its contract: the layers are judged only where the lines of the table have passed.
-use mathlib.Core.Path.{◌≡◌, sym, ◌∙◌, ap, subst}
+use mathlib.Core.Path.{sym, ◌∙◌, ap, subst}
 use mathlib.Core.List.{List}
 use lib.IntN.{ℤ}
 use Rattle.scope.specs.Filled.{with_soils}
-use Rattle.scope.specs.Phases.{check_phases}
-use Rattle.scope.specs.Table.{table_line_phases}
 use Rattle.mesh.specs.MeshContracts.{SizesAre}
 use Rattle.mesh.proofs.Places.{few_sizes}
 use Rattle.verdict.proofs.TableLaws.{header_there, refused_answer, table_refuses}
@@ -27,8 +25,7 @@ name_soils-requires c =
 
 pub judge_filled-requires : goal.judge_filled-requires
 judge_filled-requires c =
-    let own = c.table_lines-lines.ensures _ (sym c.header_sizes-s.ensures.soils_are) in
-    (
+    let own = c.table_lines-lines.ensures _ (sym c.header_sizes-s.ensures.soils_are) in (
       record { passed = c.requires.0; sizes = c.header_sizes-s.ensures; table = sym own ∙ c.in_default.is },
       c.name_soils.ensures ∙ ap with_soils c.requires.1,
     )

@@ -1,10 +1,9 @@
 -- `all_within` meets its contract. The loop's invariant: the numbers passed are within the limits.
 use mathlib.Core.Path.{refl, sym, ◌∙◌, ap}
-use mathlib.Core.Bool.{true}
 use native.Mathlib.Omega.{arith}
 use lib.ListN.{length}
 use Rattle.scope.specs.Checks.{all_below}
-use Rattle.scope.specs.Columns.{Limit, within, at}
+use Rattle.scope.specs.Columns.{Limit, at}
 use Rattle.lines.proofs.Loops.{all_more, all_fails, all_done}
 use Rattle.lines.proofs.LineLaws.{read_limit, read_number, so, not_so}
 use borrow.Author.Rules.{rules}

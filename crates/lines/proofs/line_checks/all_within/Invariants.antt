@@ -5,8 +5,6 @@ use mathlib.Core.List.{List}
 use Prim.Native.Nat.{ℕ, ◌-◌, ◌≤◌}
 use lib.IntN.{ℤ}
 use lib.ListN.{length}
-use mir.Syntax.{w64}
-use mir.Val.{to_z}
 use Rattle.scope.specs.Checks.{all_below}
 use Rattle.scope.specs.Columns.{Limit, between, within, at}
 use Rattle.lines.proofs.line_checks.all_within.Given as goal

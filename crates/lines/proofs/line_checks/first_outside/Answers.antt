@@ -2,7 +2,7 @@
 use mathlib.Core.Path.{◌≡◌, refl, sym, ◌∙◌, ap}
 use native.Mathlib.Omega.{arith}
 use Rattle.scope.specs.Rows.{first_where}
-use Rattle.scope.specs.Columns.{Limit, within, at}
+use Rattle.scope.specs.Columns.{Limit, at}
 use Rattle.lines.specs.SearchContracts.{first_failing}
 use Rattle.lines.proofs.Loops.{search_more, search_stops}
 use Rattle.lines.proofs.LineLaws.{read_limit, read_number, so, not_so}
@@ -21,8 +21,8 @@ returns-then-not-is_within c =
     let outside = sym (read_number _ (search rules)) ∙ not_so c.is_within.ensures c.if-not-is_within.true in
     record {
       fact_1 =
-        search_stops (inside _ a.s.now) c.loop-k.invariant.1 a.count c.loop-k-test.true outside
-        ∙ ap (λ (l : Limit). first_failing (inside l a.s.now) a.count) (read_limit c.ranges.lo c.ranges.hi);
+          search_stops (inside _ a.s.now) c.loop-k.invariant.1 a.count c.loop-k-test.true outside
+          ∙ ap (λ (l : Limit). first_failing (inside l a.s.now) a.count) (read_limit c.ranges.lo c.ranges.hi);
       fact_2 = omega (arith, c.loop-k-test.true);
     }
 
@@ -38,7 +38,7 @@ returns c =
     let e : c.loop-k.k ≡ a.count = omega arith in
     record {
       fact_1 =
-        sym (ap (first_failing (inside _ a.s.now)) (sym e) ∙ c.loop-k.invariant.1 ∙ e)
-        ∙ ap (λ (l : Limit). first_failing (inside l a.s.now) a.count) (read_limit c.ranges.lo c.ranges.hi);
+          sym (ap (first_failing (inside _ a.s.now)) (sym e) ∙ c.loop-k.invariant.1 ∙ e)
+          ∙ ap (λ (l : Limit). first_failing (inside l a.s.now) a.count) (read_limit c.ranges.lo c.ranges.hi);
       fact_2 = omega arith;
     }

@@ -4,8 +4,6 @@ use mathlib.Core.Bool.{Bool}
 use mathlib.Core.List.{List}
 use Prim.Native.Nat.{ℕ, ◌-◌, ◌≤◌}
 use lib.IntN.{ℤ}
-use mir.Syntax.{w64}
-use mir.Val.{to_z}
 use Rattle.scope.specs.Columns.{Limit, between, within, at}
 use Rattle.lines.specs.SearchContracts.{first_failing}
 use Rattle.lines.proofs.line_checks.first_outside.Given as goal

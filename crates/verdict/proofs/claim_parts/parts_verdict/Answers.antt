@@ -26,7 +26,6 @@ lower_load-requires c = record { fact_1 = claim_long c.requires.claim; fact_2 = 
 
 pub open_rows-requires : goal.open_rows-requires
 open_rows-requires c =
-    
     record { fact_1 = (c.requires, multipliers_are c.args.m.now c.args.c.now (sym c.claim_limit-limit.ensures ∙ c.in-Exact.is)); fact_2 = steps_as c.requires.sized.sides_are c.steps_of-steps.ensures }
 
 pub lower_load-requires-in-Exact : goal.lower_load-requires-in-Exact

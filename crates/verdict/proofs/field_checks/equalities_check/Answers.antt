@@ -33,8 +33,7 @@ returns-then-not-equality_holds c =
 pub loop-k-preserved : goal.loop-k-preserved
 loop-k-preserved c =
     let a = c.args in
-    let holds = sym c.equality_holds.ensures ∙ c.if-not-equality_holds.false in
-    (
+    let holds = sym c.equality_holds.ensures ∙ c.if-not-equality_holds.false in (
       omega arith,
       search_more (row_test (equality_rows a.m.now) a.x.now (read a.l) (read a.n)) c.loop-k.invariant.1 holds,
     )
