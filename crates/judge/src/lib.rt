@@ -116,6 +116,7 @@ fn judge_files_in(mesh: &[u8], table: &[u8], claim: &[u8], numbers: &mut [i64]) 
 }
 
 // The verdict on a mesh file, a table file and a claim file.
+#[tactic(auto, using(crate::proofs::FilesJudged::mesh_by_length))]
 pub fn judge_files(mesh: &[u8], table: &[u8], claim: &[u8]) -> Verdict
     ensures { result ≡ files_verdict file_width mesh.now table.now claim.now }
 {

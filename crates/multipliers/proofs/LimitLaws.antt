@@ -10,7 +10,10 @@ use native.Mathlib.Omega.{arith}
 use lib.Dec.{T}
 use lib.Ieee.Bits.{is_true, is_false}
 use lib.IntN.{ℤ, pos}
-use lib.Signed.{le_z, le_z_yes, lt_z}
+use lib.Signed.{le_z, le_z_yes, lt_z, mag}
+use mir.Syntax.{w64}
+use mir.Val.{of_z}
+use Rattle.integer.proofs.Machine.{machine, unbounded, told}
 use lib.ListN.{length, take, drop, length-drop}
 use lib.Seq.{get_or-drop}
 use Rattle.integer.specs.Bounds.{Within}
@@ -131,6 +134,10 @@ zero_passes r e = rw e (by r.kind)
     by asked = refl
     by unfixed = refl
     by strength = refl
+
+-- as the code tests it
+pub zero_read : {v w : ℤ} (r : Row) → of_z w64 v ≡ 0 → mag v < 9223372036854775808 → v ≡ w → true ≡ zero_if_unfixed w r
+zero_read r z f e = zero_passes r (sym e ∙ told z (search (machine, unbounded) depth 30) (omega arith))
 
 pub asked_passes : {w : ℤ} {b : Bool} (r : Row) → ¬ (w ≡ pos 0) → b ≡ is_asked r → b ≡ zero_if_unfixed w r
 unfolding zero_if_unfixed is_asked

@@ -7,7 +7,10 @@ use native.Mathlib.Nat.{zero-mul}
 use native.Mathlib.Omega.{arith}
 use lib.Ieee.Bits.{is_true, is_false}
 use lib.IntN.{ℤ, pos}
-use lib.Signed.{lt_z, ◌≤ℤ◌, ◌<ℤ◌}
+use lib.Signed.{le_z, lt_z, mag, ◌≤ℤ◌, ◌<ℤ◌}
+use mir.Syntax.{w64}
+use mir.Val.{to_z, of_z, SFits}
+use Rattle.integer.proofs.Machine.{machine, unbounded, told}
 use lib.ListN.{length, take, drop}
 use Rattle.integer.specs.Tests.{eq_z}
 use Rattle.integer.proofs.TestLaws.{no_eq_z, yes_lt_z, no_lt_z}
@@ -49,6 +52,20 @@ both_above {w} {z} h k =
     let e : lt_z (pos 0) w ≡ true = is_true _ (yes_lt_z h) in
     let f : lt_z (pos 0) z ≡ true = is_true _ (yes_lt_z k) in
     sym (rw (e, f))
+
+-- as the code tests them
+pub both_read :
+    {w z v : ℤ}
+    → le_z (to_z w64 (of_z w64 w)) (pos 0) ≡ false
+    → SFits w64 w
+    → lt_z (pos 0) (to_z w64 (of_z w64 v)) ≡ true
+    → mag v < 9223372036854775808
+    → v ≡ z
+    → 1 ≡ one_if_open w z
+both_read h f k g e =
+    rw (← e) (both_above
+    (told h (search (machine, unbounded) depth 30) (omega arith))
+    (told k (search (machine, unbounded) depth 30) (omega arith)))
 
 pub one_at_most : (w z : ℤ) {r : ℕ} → r ≡ one_if_open w z → r ≤ 1
 unfolding one_if_open

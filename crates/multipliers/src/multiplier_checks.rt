@@ -54,6 +54,7 @@ fn row_asked(m: &[i64], s: Sizes, k: usize) -> bool
 }
 
 // The multiplier of equality row k is 0, or the row asks something.
+#[tactic(auto, using(crate::proofs::LimitLaws::zero_read))]
 pub fn zero_if_unfixed(m: &[i64], s: Sizes, y: &[i64], k: usize) -> bool
     requires fact_1 { Sized m.now s × (k < equality_count m.now) }
     requires fact_2 { k < length y.now }

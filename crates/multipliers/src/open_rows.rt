@@ -18,6 +18,7 @@ use mesh::sizes::{Sizes, equality_count, number_at};
 use scope::OpenRows;
 
 // 1 where side k with the multiplier w is open, else 0.
+#[tactic(auto, using(crate::proofs::OpenLaws::both_read))]
 fn side_open(steps: &[i64], k: usize, d: &[i64], w: i64) -> u64
     requires fact_1 { StepFits steps.now k }
     requires fact_2 { PairFits d.now }

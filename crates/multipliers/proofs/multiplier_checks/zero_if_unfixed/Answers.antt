@@ -6,12 +6,6 @@ use Rattle.criterion.proofs.StrengthLaws.{being}
 use Rattle.multipliers.proofs.LimitLaws.{zero_passes, asked_passes}
 use Rattle.multipliers.proofs.multiplier_checks.zero_if_unfixed.Goals as goal
 
-pub returns-then-w-eq0 : goal.returns-then-w-eq0
-unfolding at
-returns-then-w-eq0 c =
-    let w = being c.number_at-w.ensures (c.requires.fact_3.each c.args.k) in
-    zero_passes _ (told c.if-w-eq0.true (search machine depth 30) (omega arith))
-
 pub returns : goal.returns
 unfolding at
 returns c =

@@ -7,11 +7,6 @@ use Rattle.multipliers.proofs.open_rows.side_open.Goals as goal
 pub returns-then-w-le0 : goal.returns-then-w-le0
 returns-then-w-le0 c = no_multiplier _ (told c.if-w-le0.true (search machine depth 30) (omega arith))
 
-pub returns-then-side_slack-gt0 : goal.returns-then-side_slack-gt0
-returns-then-side_slack-gt0 c =
-    let slack = c.side_slack.ensures in
-    both_above (told c.if-w-le0.false (search machine depth 30) (omega arith)) (told c.if-side_slack-gt0.true (search machine depth 30) (omega arith))
-
 pub returns : goal.returns
 returns c =
     let slack = c.side_slack.ensures in

@@ -12,7 +12,7 @@ returns-then-count-gt-MOST_PAIRS c =
     paired_as _ (c.no_pairs.ensures _)
     (brings_101st _ pre.0.facts pre.1 c.loop-v.invariant.1
     (omega (arith, c.loop-v-test.true, pre.0.nodes_are))
-    pre.0.soils_are c.node_pairs-count.ensures c.if-count-gt-MOST_PAIRS.true)
+    pre.0.soils_are c.node_pairs-count.ensures (omega arith))
 
 pub loop-v-preserved : goal.loop-v-preserved
 loop-v-preserved c =
@@ -20,7 +20,7 @@ loop-v-preserved c =
       omega arith,
       more_collected _ pre.0.facts pre.1 c.loop-v.invariant.1
           (omega (arith, c.loop-v-test.true, pre.0.nodes_are))
-          pre.0.soils_are c.node_pairs-count.ensures c.if-count-gt-MOST_PAIRS.false,
+          pre.0.soils_are c.node_pairs-count.ensures (omega arith),
     )
 
 pub returns : goal.returns
