@@ -12,9 +12,7 @@ use Rattle.judge.proofs.claim_bytes.Goals as goal
 pub returns : goal.returns
 unfolding has_field has_multipliers
 returns c =
-    let g = c in
-    let start = g in
-    let h = start.args.header.now in
-    let s = start.args.s in
-    let flags = ap₂ (λ (a b : Bool). claim_body s a b) g.has_part.ensures g.has_part-2.ensures in
-    λ m k. ap (λ (n : ℕ). (claim_header_columns * file_width + 1) + n) c.body_bytes.ensures.fact_1 ∙ table_bytes h k (subst (λ body. Tabled s g.claim_groups-groups.result body) flags g.claim_groups-groups.ensures)
+    let h = c.args.header.now in
+    let s = c.args.s in
+    let flags = ap₂ (λ (a b : Bool). claim_body s a b) c.has_part.ensures c.has_part-2.ensures in
+    λ m k. ap (λ (n : ℕ). (claim_header_columns * file_width + 1) + n) c.body_bytes.ensures.fact_1 ∙ table_bytes h k (subst (λ body. Tabled s c.claim_groups-groups.result body) flags c.claim_groups-groups.ensures)

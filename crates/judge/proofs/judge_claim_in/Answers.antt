@@ -12,20 +12,14 @@ read_claim-count-requires c =
     record { mesh = _; counted = sound_counted p.fact_1; fits = p.fact_2 }
 
 pub slice_bounds-judge_claim-end : goal.slice_bounds-judge_claim-end
-slice_bounds-judge_claim-end c =
-    let r = c in
-    fits (claim_listed r.requires.fact_1 r.read_claim-count.ensures)
+slice_bounds-judge_claim-end c = fits (claim_listed c.requires.fact_1 c.read_claim-count.ensures)
 
 pub slice_bounds-judge_claim-end-2 : goal.slice_bounds-judge_claim-end-2
-slice_bounds-judge_claim-end-2 c =
-    let r = c in
-    as_many (claim_listed r.requires.fact_1 r.read_claim-count.ensures)
+slice_bounds-judge_claim-end-2 c = as_many (claim_listed c.requires.fact_1 c.read_claim-count.ensures)
 
 pub judge_claim-requires : goal.judge_claim-requires
 judge_claim-requires c = c.requires.fact_1
 
 pub returns : goal.returns
 returns c =
-    let r = c in
-    let start = r in
-    c.judge_claim.ensures ∙ ap (claim_verdict start.args.m.now) (front (claim_listed start.requires.fact_1 r.read_claim-count.ensures))
+    c.judge_claim.ensures ∙ ap (claim_verdict c.args.m.now) (front (claim_listed c.requires.fact_1 c.read_claim-count.ensures))

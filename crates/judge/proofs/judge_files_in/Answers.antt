@@ -3,24 +3,16 @@ use Rattle.judge.proofs.FilesJudged.{judged_fits, judged_many, judged_sound, fil
 use Rattle.judge.proofs.judge_files_in.Goals as goal
 
 pub slice_bounds-m-end : goal.slice_bounds-m-end
-slice_bounds-m-end c =
-    let k = c in
-    judged_fits k.judge_mesh_file-judged.ensures k.requires
+slice_bounds-m-end c = judged_fits c.judge_mesh_file-judged.ensures c.requires
 
 pub slice_bounds-m-end-in-Passed : goal.slice_bounds-m-end-in-Passed
-slice_bounds-m-end-in-Passed c =
-    let k = c in
-    judged_many k.judge_mesh_file-judged.ensures k.requires
+slice_bounds-m-end-in-Passed c = judged_many c.judge_mesh_file-judged.ensures c.requires
 
 pub judge_claim_file-requires : goal.judge_claim_file-requires
-judge_claim_file-requires c =
-    let told = c in
-    judged_sound told.judge_mesh_file-judged.ensures told.in-Passed.is
+judge_claim_file-requires c = judged_sound c.judge_mesh_file-judged.ensures c.in-Passed.is
 
 pub returns-in-Refused : goal.returns-in-Refused
 returns-in-Refused c = files_refused c.judge_mesh_file-judged.ensures _ c.in-Refused.is
 
 pub returns-in-Passed : goal.returns-in-Passed
-returns-in-Passed c =
-    let told = c in
-    files_judged told.judge_mesh_file-judged.ensures _ told.in-Passed.is c.judge_claim_file.ensures
+returns-in-Passed c = files_judged c.judge_mesh_file-judged.ensures _ c.in-Passed.is c.judge_claim_file.ensures

@@ -17,9 +17,7 @@ slice_bounds-judge_mesh-end-then-table-eq0 c = as_many c.read_mesh-count.ensures
 
 pub returns-then-table-eq0 : goal.returns-then-table-eq0
 returns-then-table-eq0 c =
-    let k = c in
-    let read = k in
-    judged_alone k.if-table-eq0.true read.requires read.read_mesh-count.ensures c.judge_mesh-answer.ensures
+    judged_alone c.if-table-eq0.true c.requires c.read_mesh-count.ensures c.judge_mesh-answer.ensures
 
 pub slice_bounds-judge_with-end : goal.slice_bounds-judge_with-end
 slice_bounds-judge_with-end c = fits c.read_mesh-count.ensures

@@ -18,9 +18,7 @@ pub slice_bounds-judge_tabled-end : goal.slice_bounds-judge_tabled-end
 slice_bounds-judge_tabled-end c = as_many c.read_table-count.ensures
 
 pub judge_tabled-requires : goal.judge_tabled-requires
-judge_tabled-requires c =
-    let read = c in
-    subst (λ (t : List ℤ). has_table t ≡ true) (sym (front read.read_table-count.ensures)) read.requires
+judge_tabled-requires c = subst (λ (t : List ℤ). has_table t ≡ true) (sym (front c.read_table-count.ensures)) c.requires
 
 pub returns : goal.returns
 returns c =

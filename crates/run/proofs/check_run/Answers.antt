@@ -5,16 +5,14 @@ use Rattle.run.proofs.check_run.Goals as goal
 
 pub run_in-requires : goal.run_in-requires
 run_in-requires c =
-    let r = c in
-    omega (arith, mesh_by_length r.args.mesh.now, r.most_numbers-room.ensures, c.if-room-le-SMALL_ROOM.true)
+    omega (arith, mesh_by_length c.args.mesh.now, c.most_numbers-room.ensures, c.if-room-le-SMALL_ROOM.true)
 
 pub returns-then-room-le-SMALL_ROOM : goal.returns-then-room-le-SMALL_ROOM
 returns-then-room-le-SMALL_ROOM c = c.run_in.ensures
 
 pub run_in-requires-then-room-le-MIDDLE_MESH : goal.run_in-requires-then-room-le-MIDDLE_MESH
 run_in-requires-then-room-le-MIDDLE_MESH c =
-    let r = c in
-    omega (arith, mesh_by_length r.args.mesh.now, r.most_numbers-room.ensures, c.if-room-le-MIDDLE_MESH.true)
+    omega (arith, mesh_by_length c.args.mesh.now, c.most_numbers-room.ensures, c.if-room-le-MIDDLE_MESH.true)
 
 pub returns-then-room-le-MIDDLE_MESH : goal.returns-then-room-le-MIDDLE_MESH
 returns-then-room-le-MIDDLE_MESH c = c.run_in-then-room-le-MIDDLE_MESH.ensures

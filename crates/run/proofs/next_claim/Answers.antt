@@ -11,13 +11,9 @@ own_bytes-bytes-requires c = record { mesh = _; counted = sound_counted c.requir
 
 pub slice_bounds-judge_claim_file-end : goal.slice_bounds-judge_claim_file-end
 slice_bounds-judge_claim_file-end c =
-    let own = c in
-    let start = own in
-    let m = start.args.m.now in
-    sym (length-take-le _ _ (omega (arith, own.own_bytes-bytes.ensures m (sound_counted start.requires), own_length m start.args.left.now)))
+    let m = c.args.m.now in
+    sym (length-take-le _ _ (omega (arith, c.own_bytes-bytes.ensures m (sound_counted c.requires), own_length m c.args.left.now)))
 
 pub returns : goal.returns
 returns c =
-    let own = c in
-    let start = own in
-    next_claim start.args.left.now (own.own_bytes-bytes.ensures start.args.m.now (sound_counted start.requires)) c.judge_claim_file-verdict.ensures
+    next_claim c.args.left.now (c.own_bytes-bytes.ensures c.args.m.now (sound_counted c.requires)) c.judge_claim_file-verdict.ensures

@@ -13,12 +13,10 @@ slice_bounds-read_claim-end c = sym (length-take-le _ _ (omega (arith, c.least-e
 
 pub read_claim-count-requires : goal.read_claim-count-requires
 read_claim-count-requires c =
-    let least = c in
-    let start = least in
     record {
-      mesh = start.requires.mesh;
-      counted = start.requires.counted;
-      fits = header_room _ _ (omega (arith, length-take least.least-end.result start.args.left.now, least.least-end.ensures));
+      mesh = c.requires.mesh;
+      counted = c.requires.counted;
+      fits = header_room _ _ (omega (arith, length-take c.least-end.result c.args.left.now, c.least-end.ensures));
     }
 
 pub slice_bounds-header-end : goal.slice_bounds-header-end
@@ -36,7 +34,4 @@ claim_bytes-bytes-requires c = few_sizes c.requires.counted.sizes
 
 pub returns : goal.returns
 returns c =
-    let bytes = c in
-    let read = bytes in
-    let least = read in
-    λ m k. own_counted least.args.left.now k least.least-end.ensures read.read_claim-count.ensures (bytes.claim_bytes-bytes.ensures m k) c.least.ensures
+    λ m k. own_counted c.args.left.now k c.least-end.ensures c.read_claim-count.ensures (c.claim_bytes-bytes.ensures m k) c.least.ensures

@@ -15,9 +15,7 @@ pub shape_of-reports-then-at-claims : goal.shape_of-reports-then-at-claims
 shape_of-reports-then-at-claims c = same_size c.loop-reports.invariant
 
 pub returns-then-at-claims : goal.returns-then-at-claims
-returns-then-at-claims c =
-    let top = c in
-    ends_for_claims top.loop-reports.invariant c.if-at-claims.true c.answer_of.ensures
+returns-then-at-claims c = ends_for_claims c.loop-reports.invariant c.if-at-claims.true c.answer_of.ensures
 
 pub slice_bounds-next_claim-count : goal.slice_bounds-next_claim-count
 slice_bounds-next_claim-count c = omega (arith, c.loop-reports.invariant.within)
@@ -35,66 +33,38 @@ pub slice_bounds-write_report-start : goal.slice_bounds-write_report-start
 slice_bounds-write_report-start c = let top = c in omega (arith, same_size top.loop-reports.invariant, top.loop-reports.invariant.room)
 
 pub overflow_add-from : goal.overflow_add-from
-overflow_add-from c =
-    let top = c in
-    omega (arith, same_size top.loop-reports.invariant, top.loop-reports.invariant.room)
+overflow_add-from c = omega (arith, same_size c.loop-reports.invariant, c.loop-reports.invariant.room)
 
 pub overflow_add-count : goal.overflow_add-count
 overflow_add-count c =
-    let top = c in
-    omega (arith, same_size top.loop-reports.invariant, top.loop-reports.invariant.room, top.loop-reports.invariant.places)
+    omega (arith, same_size c.loop-reports.invariant, c.loop-reports.invariant.room, c.loop-reports.invariant.places)
 
 pub shape_of-reports-then-ends_run : goal.shape_of-reports-then-ends_run
-shape_of-reports-then-ends_run c =
-    let back = c in
-    back.reports-1.given.1 ∙ same_size back.loop-reports.invariant
+shape_of-reports-then-ends_run c = c.reports-1.given.1 ∙ same_size c.loop-reports.invariant
 
 pub returns-then-ends_run : goal.returns-then-ends_run
 unfolding usual_decimals
 returns-then-ends_run c =
-    let ends = c in
-    let back = ends in
-    let report = back in
-    let next = report in
-    let other = next in
-    let inside = other in
-    let top = inside in
-    ends_for_claim top.loop-reports.invariant inside.loop-reports-test.true (omega (arith, top.loop-reports.invariant.within, other.if-at-claims.false)) _ next.next_claim-next.ensures report.write_report.ensures back.reports-1.given.0 (sym ends.ends_run.ensures ∙ c.if-ends_run.true) c.answer_of-then-ends_run.ensures
+    ends_for_claim c.loop-reports.invariant c.loop-reports-test.true (omega (arith, c.loop-reports.invariant.within, c.if-at-claims.false)) _ c.next_claim-next.ensures c.write_report.ensures c.reports-1.given.0 (sym c.ends_run.ensures ∙ c.if-ends_run.true) c.answer_of-then-ends_run.ensures
 
 pub overflow_add-at : goal.overflow_add-at
 unfolding usual_decimals
 overflow_add-at c =
-    let ends = c in
-    let back = ends in
-    let report = back in
-    let next = report in
-    let other = next in
-    let inside = other in
-    let top = inside in
-    let good = top.well_formed in
-    omega (arith, taken_within top.loop-reports.invariant inside.loop-reports-test.true (omega (arith, top.loop-reports.invariant.within, other.if-at-claims.false)) _ next.next_claim-next.ensures report.write_report.ensures back.reports-1.given.0)
+    let good = c.well_formed in
+    omega (arith, taken_within c.loop-reports.invariant c.loop-reports-test.true (omega (arith, c.loop-reports.invariant.within, c.if-at-claims.false)) _ c.next_claim-next.ensures c.write_report.ensures c.reports-1.given.0)
 
 pub loop-reports-smaller : goal.loop-reports-smaller
 loop-reports-smaller c =
-    let inside = c in
-    omega (arith, inside.loop-reports-test.true, same_size inside.loop-reports.invariant, inside.loop-reports.invariant.room)
+    omega (arith, c.loop-reports-test.true, same_size c.loop-reports.invariant, c.loop-reports.invariant.room)
 
 pub loop-reports-preserved : goal.loop-reports-preserved
 unfolding usual_decimals
 loop-reports-preserved c =
-    let ends = c in
-    let back = ends in
-    let report = back in
-    let next = report in
-    let other = next in
-    let inside = other in
-    let top = inside in
-    goes_on top.loop-reports.invariant inside.loop-reports-test.true (omega (arith, top.loop-reports.invariant.within, other.if-at-claims.false)) _ next.next_claim-next.ensures report.write_report.ensures back.reports-1.given.0 (sym ends.ends_run.ensures ∙ c.if-ends_run.false)
+    goes_on c.loop-reports.invariant c.loop-reports-test.true (omega (arith, c.loop-reports.invariant.within, c.if-at-claims.false)) _ c.next_claim-next.ensures c.write_report.ensures c.reports-1.given.0 (sym c.ends_run.ensures ∙ c.if-ends_run.false)
 
 pub shape_of-reports : goal.shape_of-reports
 shape_of-reports c = same_size c.loop-reports.invariant
 
 pub returns : goal.returns
 returns c =
-    let top = c in
-    ends_for_room top.loop-reports.invariant (omega (arith, c.loop-reports-test.false, same_size top.loop-reports.invariant)) c.answer_of-2.ensures
+    ends_for_room c.loop-reports.invariant (omega (arith, c.loop-reports-test.false, same_size c.loop-reports.invariant)) c.answer_of-2.ensures

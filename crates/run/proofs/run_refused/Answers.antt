@@ -9,6 +9,4 @@ returns-then-reports-lt-LINE c = λ m claims. no_report _ _ m claims _ c.if-repo
 pub returns : goal.returns
 unfolding usual_decimals
 returns c =
-    let back = c in
-    let report = back in
-    λ m claims. mesh_reported _ _ m claims _ report.if-reports-lt-LINE.false report.write_report.ensures back.reports-1.given c.answer_of-2.ensures
+    λ m claims. mesh_reported _ _ m claims _ c.if-reports-lt-LINE.false c.write_report.ensures c.reports-1.given c.answer_of-2.ensures

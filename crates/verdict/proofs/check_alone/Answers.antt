@@ -7,11 +7,7 @@ pub returns-in-Refused : goal.returns-in-Refused
 returns-in-Refused c = mesh_refused _ _ (sym c.judge_mesh-mesh.ensures.outcome ∙ c.in-Refused.is)
 
 pub judge_claim-requires : goal.judge_claim-requires
-judge_claim-requires c =
-    let told = c in
-    sound_mesh (λ e. e) told.judge_mesh-mesh.ensures told.in_default.is
+judge_claim-requires c = sound_mesh (λ e. e) c.judge_mesh-mesh.ensures c.in_default.is
 
 pub returns : goal.returns
-returns c =
-    let told = c in
-    mesh_goes_on _ _ (sym told.judge_mesh-mesh.ensures.outcome ∙ told.in_default.is) c.judge_claim.ensures
+returns c = mesh_goes_on _ _ (sym c.judge_mesh-mesh.ensures.outcome ∙ c.in_default.is) c.judge_claim.ensures

@@ -10,22 +10,15 @@ use Rattle.verdict.proofs.TableLaws.{tabled_refuses, tabled_goes_on}
 use Rattle.verdict.proofs.check_filled.Goals as goal
 
 pub returns-in-Refused : goal.returns-in-Refused
-returns-in-Refused c =
-    let k = c in
-    tabled_refuses _ _ _ (sym k.judge_layers-mesh.ensures.answer.outcome ∙ c.in-Refused.is)
+returns-in-Refused c = tabled_refuses _ _ _ (sym c.judge_layers-mesh.ensures.answer.outcome ∙ c.in-Refused.is)
 
 pub judge_claim-requires : goal.judge_claim-requires
 judge_claim-requires c =
-    let told = c in
-    let k = told in
-    let a = k.judge_layers-mesh.ensures in
-    subst (λ (m : List ℤ). SoundMesh m k.judge_layers-mesh.result.sizes k.judge_layers-mesh.result.pairs) (sym (a.read (sym a.answer.outcome ∙ told.in_default.is))) (sound_mesh (read_passes _ _) a.answer told.in_default.is)
+    let a = c.judge_layers-mesh.ensures in
+    subst (λ (m : List ℤ). SoundMesh m c.judge_layers-mesh.result.sizes c.judge_layers-mesh.result.pairs) (sym (a.read (sym a.answer.outcome ∙ c.in_default.is))) (sound_mesh (read_passes _ _) a.answer c.in_default.is)
 
 pub returns : goal.returns
 returns c =
-    let told = c in
-    let k = told in
-    let a = k.judge_layers-mesh.ensures in
-    let start = k in
-    let passes = sym a.answer.outcome ∙ told.in_default.is in
-    tabled_goes_on _ _ _ passes (c.judge_claim.ensures ∙ ap (λ (m : List ℤ). claim_verdict m start.args.c.now) (a.read passes))
+    let a = c.judge_layers-mesh.ensures in
+    let passes = sym a.answer.outcome ∙ c.in_default.is in
+    tabled_goes_on _ _ _ passes (c.judge_claim.ensures ∙ ap (λ (m : List ℤ). claim_verdict m c.args.c.now) (a.read passes))

@@ -11,13 +11,10 @@ returns-then-t-eq0 c = c.check_alone.ensures ∙ alone _ _ _ c.if-t-eq0.true
 
 pub returns-in-Refused : goal.returns-in-Refused
 returns-in-Refused c =
-    let k = c in
-    tabled_refuses _ _ _ (lines_refuse _ _ (has_table_lem _ (omega (arith, k.if-t-eq0.false))) (sym k.mesh_lines-lines.ensures ∙ c.in-Refused.is))
+    tabled_refuses _ _ _ (lines_refuse _ _ (has_table_lem _ (omega (arith, c.if-t-eq0.false))) (sym c.mesh_lines-lines.ensures ∙ c.in-Refused.is))
 
 pub copy_numbers-requires : goal.copy_numbers-requires
-copy_numbers-requires c =
-    let told = c in
-    few_numbers_lem _ (sym told.mesh_lines-lines.ensures ∙ told.in_default.is)
+copy_numbers-requires c = few_numbers_lem _ (sym c.mesh_lines-lines.ensures ∙ c.in_default.is)
 
 pub slice_bounds-copy-end : goal.slice_bounds-copy-end
 slice_bounds-copy-end c = omega (arith, simp length-take at (ap length c.copy_numbers.ensures))
@@ -27,7 +24,4 @@ slice_bounds-check_filled-end c = sym (ap length c.copy_numbers.ensures)
 
 pub check_filled-requires : goal.check_filled-requires
 check_filled-requires c =
-    let copied = c in
-    let told = copied in
-    let k = told in
-    (record { tabled = has_table_lem _ (omega (arith, k.if-t-eq0.false)); lines = sym k.mesh_lines-lines.ensures ∙ told.in_default.is }, copied.copy_numbers.ensures)
+    (record { tabled = has_table_lem _ (omega (arith, c.if-t-eq0.false)); lines = sym c.mesh_lines-lines.ensures ∙ c.in_default.is }, c.copy_numbers.ensures)

@@ -9,18 +9,12 @@ claim_lines-lines-requires c = few_things c.requires.sized
 
 pub returns-in-Refused : goal.returns-in-Refused
 returns-in-Refused c =
-    let asked = c in
-    let start = asked in
-    claim_refused _ _ (sym (asked.claim_lines-lines.ensures start.args.m.now (counted start.requires)) ∙ c.in-Refused.is)
+    claim_refused _ _ (sym (c.claim_lines-lines.ensures c.args.m.now (counted c.requires)) ∙ c.in-Refused.is)
 
 pub parts_verdict-requires : goal.parts_verdict-requires
 parts_verdict-requires c =
-    let asked = c in
-    let start = asked in
-    judged start.requires (sym (asked.claim_lines-lines.ensures start.args.m.now (counted start.requires)) ∙ c.in_default.is)
+    judged c.requires (sym (c.claim_lines-lines.ensures c.args.m.now (counted c.requires)) ∙ c.in_default.is)
 
 pub returns : goal.returns
 returns c =
-    let asked = c in
-    let start = asked in
-    claim_goes_on _ _ (sym (asked.claim_lines-lines.ensures start.args.m.now (counted start.requires)) ∙ c.in_default.is) c.parts_verdict.ensures
+    claim_goes_on _ _ (sym (c.claim_lines-lines.ensures c.args.m.now (counted c.requires)) ∙ c.in_default.is) c.parts_verdict.ensures

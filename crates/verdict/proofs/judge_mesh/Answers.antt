@@ -10,8 +10,7 @@ use Rattle.verdict.proofs.judge_mesh.Goals as goal
 
 pub returns-in-Refused : goal.returns-in-Refused
 returns-in-Refused c =
-    let asked = c in
-    refused_mesh_lem (mesh_checked _ ∙ sym (then_refuses _ (sym (plain_lines _) ∙ sym asked.mesh_lines-lines.ensures ∙ asked.in-Refused.is))) c.refused_mesh.ensures
+    refused_mesh_lem (mesh_checked _ ∙ sym (then_refuses _ (sym (plain_lines _) ∙ sym c.mesh_lines-lines.ensures ∙ c.in-Refused.is))) c.refused_mesh.ensures
 
 pub sizes_of-requires : goal.sizes_of-requires
 sizes_of-requires c =
@@ -19,6 +18,4 @@ sizes_of-requires c =
     mesh_facts m ((lines_passed mesh_layout m).says (sym (plain_lines m) ∙ sym c.mesh_lines-lines.ensures ∙ c.in_default.is))
 
 pub judge_shape-requires : goal.judge_shape-requires
-judge_shape-requires c =
-    let told = c in
-    (c.sizes_of.ensures, sym (plain_lines _) ∙ sym told.mesh_lines-lines.ensures ∙ told.in_default.is)
+judge_shape-requires c = (c.sizes_of.ensures, sym (plain_lines _) ∙ sym c.mesh_lines-lines.ensures ∙ c.in_default.is)

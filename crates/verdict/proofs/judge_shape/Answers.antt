@@ -7,16 +7,10 @@ use Rattle.verdict.proofs.judge_shape.Goals as goal
 
 pub returns-in-Refused : goal.returns-in-Refused
 returns-in-Refused c =
-    let asked = c in
-    let shape = asked in
-    refused_mesh_lem (mesh_checked _ ∙ sym (then_goes_on shape.requires.1 (sym asked.in-Refused.is ∙ shape.mesh_shape-shape.ensures.outcome))) c.refused_mesh.ensures
+    refused_mesh_lem (mesh_checked _ ∙ sym (then_goes_on c.requires.1 (sym c.in-Refused.is ∙ c.mesh_shape-shape.ensures.outcome))) c.refused_mesh.ensures
 
 pub with_pairs-sizes-requires : goal.with_pairs-sizes-requires
-with_pairs-sizes-requires c =
-    let shape = c in
-    few_counted shape.requires.1 shape.mesh_shape-shape.ensures c.in_default.is
+with_pairs-sizes-requires c = few_counted c.requires.1 c.mesh_shape-shape.ensures c.in_default.is
 
 pub returns : goal.returns
-returns c =
-    let shape = c in
-    passed_mesh shape.requires.0 shape.requires.1 shape.mesh_shape-shape.ensures c.in_default.is c.with_pairs-sizes.ensures
+returns c = passed_mesh c.requires.0 c.requires.1 c.mesh_shape-shape.ensures c.in_default.is c.with_pairs-sizes.ensures

@@ -13,8 +13,7 @@ returns-in-Refused c =
     refused_answer (lines_refuse _ _ c.requires (sym c.mesh_lines-lines.ensures ∙ c.in-Refused.is)) c.refused_mesh.ensures
 
 pub copy_numbers-requires : goal.copy_numbers-requires
-copy_numbers-requires c =
-    few_numbers_lem _ (sym c.mesh_lines-lines.ensures ∙ c.in_default.is)
+copy_numbers-requires c = few_numbers_lem _ (sym c.mesh_lines-lines.ensures ∙ c.in_default.is)
 
 pub slice_bounds-copy-end : goal.slice_bounds-copy-end
 slice_bounds-copy-end c = omega (arith, simp length-take at (ap length c.copy_numbers.ensures))

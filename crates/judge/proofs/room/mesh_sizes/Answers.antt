@@ -10,19 +10,16 @@ pub judge_mesh_file-judged-requires : goal.judge_mesh_file-judged-requires
 judge_mesh_file-judged-requires c = mesh_fits _
 
 pub sizes_for-requires : goal.sizes_for-requires
-sizes_for-requires c =
-    few_things (read_sound c.judge_mesh_file-judged.ensures c.in-Passed.is).sized
+sizes_for-requires c = few_things (read_sound c.judge_mesh_file-judged.ensures c.in-Passed.is).sized
 
 pub returns-in-Refused : goal.returns-in-Refused
 returns-in-Refused c =
-    let outcome = c in
     c.no_sizes.ensures
     ∙ ap (no_sizes _) c.place_number.ensures
-    ∙ sizes_refused _ _ outcome.judge_mesh_file-judged.ensures.answer outcome.in-Refused.is
+    ∙ sizes_refused _ _ c.judge_mesh_file-judged.ensures.answer c.in-Refused.is
 
 pub returns-in-Passed : goal.returns-in-Passed
 returns-in-Passed c =
-    let told = c in
-    let judged = told.judge_mesh_file-judged.ensures in
-    let passed = told.in-Passed.is in
+    let judged = c.judge_mesh_file-judged.ensures in
+    let passed = c.in-Passed.is in
     sizes_passed _ _ judged.answer passed (c.sizes_for.ensures _ (sound_counted (read_sound judged passed)))

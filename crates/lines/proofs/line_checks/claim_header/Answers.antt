@@ -7,6 +7,7 @@ use Rattle.scope.specs.Claim.{claim_layout, claim_header}
 use Rattle.lines.specs.LineContracts.{ranges}
 use Rattle.lines.proofs.LineLaws.{line_short, line_outside, line_by_rules, one_rule_fails, one_rule_holds, parts_read, so, not_so}
 use Rattle.scope.specs.Refusals.{rule_number}
+use borrow.Author.Rules.{rules}
 use Rattle.lines.proofs.line_checks.claim_header.Goals as goal
 
 pub returns-then-c-lt-CLAIM_HEADER : goal.returns-then-c-lt-CLAIM_HEADER
@@ -22,18 +23,16 @@ returns-then-not-limits_hold c =
 pub returns-then-not-parts_fit : goal.returns-then-not-parts_fit
 unfolding claim_header claim_layout up_to ranges rule_number
 returns-then-not-parts_fit c =
-    let a = c in
-    let rule = parts_read a.args.c.now (omega arith) (record { sfits = a.parts_fit-arg-1.given }) (record { sfits = a.parts_fit-arg-2-1.given }) (record { sfits = a.parts_fit-arg-3-1.given }) (record { sfits = a.parts_fit-arg-4-1.given }) in
-    let hold = so a.limits_hold.ensures a.if-not-limits_hold.false in
+    let rule = parts_read c.args.c.now (omega arith) (search rules) (search rules) (search rules) (search rules) in
+    let hold = so c.limits_hold.ensures c.if-not-limits_hold.false in
     c.refused-then-not-parts_fit.ensures
     ∙ one_rule_fails parts _ _ (rule ∙ not_so c.parts_fit.ensures c.if-not-parts_fit.true)
-    ∙ line_by_rules (claim_layout []) claim_header a.args.c.now _ (omega arith) hold
+    ∙ line_by_rules (claim_layout []) claim_header c.args.c.now _ (omega arith) hold
 
 pub returns : goal.returns
 unfolding claim_header claim_layout up_to ranges
 returns c =
-    let a = c in
-    let rule = parts_read a.args.c.now (omega arith) (record { sfits = a.parts_fit-arg-1.given }) (record { sfits = a.parts_fit-arg-2-1.given }) (record { sfits = a.parts_fit-arg-3-1.given }) (record { sfits = a.parts_fit-arg-4-1.given }) in
-    let hold = so a.limits_hold.ensures a.if-not-limits_hold.false in
+    let rule = parts_read c.args.c.now (omega arith) (search rules) (search rules) (search rules) (search rules) in
+    let hold = so c.limits_hold.ensures c.if-not-limits_hold.false in
     one_rule_holds parts _ _ (rule ∙ so c.parts_fit.ensures c.if-not-parts_fit.false)
-    ∙ line_by_rules (claim_layout []) claim_header a.args.c.now _ (omega arith) hold
+    ∙ line_by_rules (claim_layout []) claim_header c.args.c.now _ (omega arith) hold

@@ -15,21 +15,17 @@ returns-in-Refused c =
 
 pub rest-requires : goal.rest-requires
 rest-requires c =
-    let told = c in
-    let cs = told.args.c.now in
-    claim_header_there cs (sym told.claim_header-header.ensures ∙ c.in_default.is)
+    let cs = c.args.c.now in
+    claim_header_there cs (sym c.claim_header-header.ensures ∙ c.in_default.is)
 
 pub groups_check-requires : goal.groups_check-requires
 groups_check-requires c =
-    let told = c in
-    record { fact_1 = c.claim_groups-groups.ensures.table; fact_2 = told.requires; fact_3 = omega arith }
+    record { fact_1 = c.claim_groups-groups.ensures.table; fact_2 = c.requires; fact_3 = omega arith }
 
 pub returns : goal.returns
 unfolding claim_header has_field has_multipliers
 returns c =
-    let g = c in
-    let told = g in
-    let cs = told.args.c.now in
-    let s = told.args.s in
-    let flags = ap₂ (λ (a b : Bool). claim_body s a b) g.has_part.ensures g.has_part-2.ensures in
-    λ m k. go_on (claim_starts m cs) (told.claim_header-header.ensures ∙ claim_header_group cs) c.in_default.is c.rest.ensures _ (g.claim_groups-groups.ensures.same ∙ flags ∙ claim_body_lem k cs) c.groups_check.ensures
+    let cs = c.args.c.now in
+    let s = c.args.s in
+    let flags = ap₂ (λ (a b : Bool). claim_body s a b) c.has_part.ensures c.has_part-2.ensures in
+    λ m k. go_on (claim_starts m cs) (c.claim_header-header.ensures ∙ claim_header_group cs) c.in_default.is c.rest.ensures _ (c.claim_groups-groups.ensures.same ∙ flags ∙ claim_body_lem k cs) c.groups_check.ensures

@@ -10,54 +10,46 @@ use Rattle.lines.proofs.line_checks.even_check.Goals as goal
 
 pub overflow_mul-end : goal.overflow_mul-end
 overflow_mul-end c =
-    let a = c in
-    let few = few_numbers_lem a.args.s.now a.args.count a.args.columns _ a.requires.few_lines a.requires.few_columns c.whole_lines-whole.ensures in
+    let few = few_numbers_lem c.args.s.now c.args.count c.args.columns _ c.requires.few_lines c.requires.few_columns c.whole_lines-whole.ensures in
     record { fits = omega arith }
 
 pub slice_bounds-all_within-end : goal.slice_bounds-all_within-end
 slice_bounds-all_within-end c =
-    let a = c in
-    sym (length-take-le _ a.args.s.now (whole_there a.args.s.now a.args.count a.args.columns _ a.requires.some_column c.whole_lines-whole.ensures))
+    sym (length-take-le _ c.args.s.now (whole_there c.args.s.now c.args.count c.args.columns _ c.requires.some_column c.whole_lines-whole.ensures))
 
 pub first_outside-run-requires : goal.first_outside-run-requires
 first_outside-run-requires c =
-    let a = c in
-    let there = whole_there a.args.s.now a.args.count a.args.columns _ a.requires.some_column c.whole_lines-whole.ensures in
+    let there = whole_there c.args.s.now c.args.count c.args.columns _ c.requires.some_column c.whole_lines-whole.ensures in
     there
 
 pub overflow_add-line : goal.overflow_add-line
 overflow_add-line c =
-    let a = c in
-    let few = few_numbers_lem a.args.s.now a.args.count a.args.columns _ a.requires.few_lines a.requires.few_columns c.whole_lines-whole.ensures in
+    let few = few_numbers_lem c.args.s.now c.args.count c.args.columns _ c.requires.few_lines c.requires.few_columns c.whole_lines-whole.ensures in
     let low = c.first_outside-run.ensures.fact_2 in
-    omega (arith, div-le_self c.first_outside-run.result a.args.columns)
+    omega (arith, div-le_self c.first_outside-run.result c.args.columns)
 
 pub refused-requires : goal.refused-requires
 refused-requires c =
-    let a = c in
-    let few = few_numbers_lem a.args.s.now a.args.count a.args.columns _ a.requires.few_lines a.requires.few_columns c.whole_lines-whole.ensures in
+    let few = few_numbers_lem c.args.s.now c.args.count c.args.columns _ c.requires.few_lines c.requires.few_columns c.whole_lines-whole.ensures in
     let low = c.first_outside-run.ensures.fact_2 in
-    omega (arith, div-le_self c.first_outside-run.result a.args.columns)
+    omega (arith, div-le_self c.first_outside-run.result c.args.columns)
 
 pub returns-then-not-all_within : goal.returns-then-not-all_within
 returns-then-not-all_within c =
-    let a = c in
     let whole = c.whole_lines-whole in
     let some = c.if-not-all_within.true in
-    let r = first_outside a.args.s.now a.args.count a.args.columns whole.result a.ranges.lo a.ranges.hi a.requires.some_column whole.ensures c.all_within.ensures some c.first_outside-run.ensures.fact_1 in
-    let l = outside_there a.args.s.now a.args.count a.args.columns whole.result a.ranges.lo a.ranges.hi a.requires.some_column whole.ensures c.all_within.ensures some c.first_outside-run.ensures.fact_1 in
-    c.refused.ensures ∙ even_outside r (numbered _) (numbered_from _) a.args.line l
+    let r = first_outside c.args.s.now c.args.count c.args.columns whole.result c.ranges.lo c.ranges.hi c.requires.some_column whole.ensures c.all_within.ensures some c.first_outside-run.ensures.fact_1 in
+    let l = outside_there c.args.s.now c.args.count c.args.columns whole.result c.ranges.lo c.ranges.hi c.requires.some_column whole.ensures c.all_within.ensures some c.first_outside-run.ensures.fact_1 in
+    c.refused.ensures ∙ even_outside r (numbered _) (numbered_from _) c.args.line l
 
 pub returns-then-whole-count : goal.returns-then-whole-count
 returns-then-whole-count c =
-    let a = c in
     let whole = c.whole_lines-whole in
-    let r = none_outside a.args.s.now a.args.count a.args.columns whole.result a.ranges.lo a.ranges.hi a.requires.some_column whole.ensures c.all_within.ensures c.if-not-all_within.false in
-    c.refused-then-whole-count.ensures ∙ even_short r (numbered _) (numbered_from _) a.args.line (omega arith) c.if-whole-count.true
+    let r = none_outside c.args.s.now c.args.count c.args.columns whole.result c.ranges.lo c.ranges.hi c.requires.some_column whole.ensures c.all_within.ensures c.if-not-all_within.false in
+    c.refused-then-whole-count.ensures ∙ even_short r (numbered _) (numbered_from _) c.args.line (omega arith) c.if-whole-count.true
 
 pub returns : goal.returns
 returns c =
-    let a = c in
     let whole = c.whole_lines-whole in
-    let r = none_outside a.args.s.now a.args.count a.args.columns whole.result a.ranges.lo a.ranges.hi a.requires.some_column whole.ensures c.all_within.ensures c.if-not-all_within.false in
-    even_passed r (numbered _) (numbered_from _) a.args.line (omega arith) c.if-whole-count.false
+    let r = none_outside c.args.s.now c.args.count c.args.columns whole.result c.ranges.lo c.ranges.hi c.requires.some_column whole.ensures c.all_within.ensures c.if-not-all_within.false in
+    even_passed r (numbered _) (numbered_from _) c.args.line (omega arith) c.if-whole-count.false

@@ -13,11 +13,10 @@ use Rattle.lines.proofs.line_checks.group_check.Goals as goal
 pub ruled_check-requires : goal.ruled_check-requires
 unfolding kind_lines
 ruled_check-requires c =
-    let a = c in
-    let g = a.requires.fact_1 in
-    let z = a.args.sizes in
-    let columns = ap (λ (k : Kind). width (kind_lines k z a.args.g.lines a.args.g.columns)) c.in-Ruled.is in (
-      record { things = a.requires.fact_2; few = record { few_lines = g.few_lines; some_column = g.some_column; few_columns = g.few_columns; form_most = a.requires.fact_3; line_most = a.requires.fact_4 } },
+    let g = c.requires.fact_1 in
+    let z = c.args.sizes in
+    let columns = ap (λ (k : Kind). width (kind_lines k z c.args.g.lines c.args.g.columns)) c.in-Ruled.is in (
+      record { things = c.requires.fact_2; few = record { few_lines = g.few_lines; some_column = g.some_column; few_columns = g.few_columns; form_most = c.requires.fact_3; line_most = c.requires.fact_4 } },
       g.wide ∙ columns ∙ ruled_width _ z _,
     )
 

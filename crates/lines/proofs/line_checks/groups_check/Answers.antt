@@ -20,32 +20,26 @@ rest-requires c = c.loop-i.invariant.there
 
 pub group_check-outcome-requires : goal.group_check-outcome-requires
 group_check-outcome-requires c =
-    let a = c in
     let h = c.loop-i.invariant in
-    record { fact_1 = this_good a.requires.fact_1 h _ c.loop-i-test.true; fact_2 = a.requires.fact_2; fact_3 = a.requires.fact_3; fact_4 = omega (arith, h.few_lines, h.most) }
+    record { fact_1 = this_good c.requires.fact_1 h _ c.loop-i-test.true; fact_2 = c.requires.fact_2; fact_3 = c.requires.fact_3; fact_4 = omega (arith, h.few_lines, h.most) }
 
 pub returns-in-Refused : goal.returns-in-Refused
 returns-in-Refused c =
-    let l = c in
-    let b = l in
-    through_stop b.requires.fact_1 b.loop-i.invariant no_group b.loop-i-test.true l.group_check-outcome.ensures l.rest.ensures c.in-Refused.is
+    through_stop c.requires.fact_1 c.loop-i.invariant no_group c.loop-i-test.true c.group_check-outcome.ensures c.rest.ensures c.in-Refused.is
 
 pub overflow_mul-from : goal.overflow_mul-from
 overflow_mul-from c =
-    let b = c in
-    record { fits = omega (arith, few_in (this_good b.requires.fact_1 b.loop-i.invariant no_group b.loop-i-test.true)) }
+    record { fits = omega (arith, few_in (this_good c.requires.fact_1 c.loop-i.invariant no_group c.loop-i-test.true)) }
 
 pub overflow_add-from : goal.overflow_add-from
 overflow_add-from c =
-    let b = c in
-    let h = b.loop-i.invariant in
-    record { fits = omega (arith, few_in (this_good b.requires.fact_1 h no_group b.loop-i-test.true), h.few_numbers, h.most) }
+    let h = c.loop-i.invariant in
+    record { fits = omega (arith, few_in (this_good c.requires.fact_1 h no_group c.loop-i-test.true), h.few_numbers, h.most) }
 
 pub overflow_add-line : goal.overflow_add-line
 overflow_add-line c =
-    let b = c in
-    let h = b.loop-i.invariant in
-    record { fits = omega (arith, (this_good b.requires.fact_1 h no_group b.loop-i-test.true).few_lines, h.few_lines, h.most) }
+    let h = c.loop-i.invariant in
+    record { fits = omega (arith, (this_good c.requires.fact_1 h no_group c.loop-i-test.true).few_lines, h.few_lines, h.most) }
 
 pub overflow_add-i : goal.overflow_add-i
 overflow_add-i c = omega arith
@@ -55,10 +49,7 @@ loop-i-smaller c = omega arith
 
 pub loop-i-preserved : goal.loop-i-preserved
 loop-i-preserved c =
-    let told = c in
-    let l = told in
-    let b = l in
-    through_next b.requires.fact_1 b.loop-i.invariant no_group b.loop-i-test.true l.group_check-outcome.ensures l.rest.ensures c.in_default.is
+    through_next c.requires.fact_1 c.loop-i.invariant no_group c.loop-i-test.true c.group_check-outcome.ensures c.rest.ensures c.in_default.is
 
 pub refused-requires : goal.refused-requires
 refused-requires c =
@@ -68,10 +59,7 @@ refused-requires c =
 pub returns-then-from-s : goal.returns-then-from-s
 unfolding numbered
 returns-then-from-s c =
-    let b = c in
-    c.refused.ensures ∙ through_left b.requires.fact_1 b.loop-i.invariant b.loop-i-test.false c.if-from-s.true
+    c.refused.ensures ∙ through_left c.requires.fact_1 c.loop-i.invariant c.loop-i-test.false c.if-from-s.true
 
 pub returns : goal.returns
-returns c =
-    let b = c in
-    through_end b.requires.fact_1 b.loop-i.invariant b.loop-i-test.false c.if-from-s.false
+returns c = through_end c.requires.fact_1 c.loop-i.invariant c.loop-i-test.false c.if-from-s.false

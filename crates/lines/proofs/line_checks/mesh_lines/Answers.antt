@@ -38,7 +38,5 @@ groups_check-requires c = record { fact_1 = c.mesh_groups.ensures.table; fact_2 
 pub returns : goal.returns
 unfolding mesh_header
 returns c =
-    let r = c in
-    let told = r in
-    let m = told.args.m.now in
-    go_on (mesh_starts _ m) (told.mesh_header-header.ensures ∙ mesh_header_group m) c.in_default.is r.rest.ensures _ (c.mesh_groups.ensures.same ∙ mesh_body_lem _ r.header_sizes-s.ensures) c.groups_check.ensures
+    let m = c.args.m.now in
+    go_on (mesh_starts _ m) (c.mesh_header-header.ensures ∙ mesh_header_group m) c.in_default.is c.rest.ensures _ (c.mesh_groups.ensures.same ∙ mesh_body_lem _ c.header_sizes-s.ensures) c.groups_check.ensures

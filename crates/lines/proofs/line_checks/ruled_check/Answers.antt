@@ -18,9 +18,8 @@ line_at-outcome-requires c =
 
 pub returns-in-Refused : goal.returns-in-Refused
 returns-in-Refused c =
-    let l = c in
-    let a = l.args in
-    ruled_stops a.rule a.sizes (numbered a.form) a.s.now a.line _ l.loop-k.invariant.1 l.line_at-outcome.ensures a.count l.loop-k-test.true c.in-Refused.is
+    let a = c.args in
+    ruled_stops a.rule a.sizes (numbered a.form) a.s.now a.line _ c.loop-k.invariant.1 c.line_at-outcome.ensures a.count c.loop-k-test.true c.in-Refused.is
 
 pub overflow_add-k : goal.overflow_add-k
 overflow_add-k c = omega arith
@@ -30,9 +29,8 @@ loop-k-smaller c = omega arith
 
 pub loop-k-preserved : goal.loop-k-preserved
 loop-k-preserved c =
-    let l = c in
-    let a = l.args in
-    (omega arith, ruled_more a.rule a.sizes (numbered a.form) a.s.now a.line _ l.loop-k.invariant.1 l.line_at-outcome.ensures c.in_default.is)
+    let a = c.args in
+    (omega arith, ruled_more a.rule a.sizes (numbered a.form) a.s.now a.line _ c.loop-k.invariant.1 c.line_at-outcome.ensures c.in_default.is)
 
 pub returns : goal.returns
 returns c =

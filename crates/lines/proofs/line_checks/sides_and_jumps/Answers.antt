@@ -5,11 +5,9 @@ use Rattle.lines.proofs.line_checks.sides_and_jumps.Goals as goal
 
 pub returns-then-not-is_sides : goal.returns-then-not-is_sides
 returns-then-not-is_sides c =
-    let start = c in
-    sym (first_fails _ (last_read start.ranges.sides start.ranges.jumps) (not_so c.is_sides.ensures c.if-not-is_sides.true))
+    sym (first_fails _ (last_read c.ranges.sides c.ranges.jumps) (not_so c.is_sides.ensures c.if-not-is_sides.true))
 
 pub returns : goal.returns
 returns c =
-    let start = c in
     c.is_within.ensures
-    ∙ sym (second_decides (last_read start.ranges.sides start.ranges.jumps) (so c.is_sides.ensures c.if-not-is_sides.false))
+    ∙ sym (second_decides (last_read c.ranges.sides c.ranges.jumps) (so c.is_sides.ensures c.if-not-is_sides.false))

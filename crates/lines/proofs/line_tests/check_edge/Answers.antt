@@ -26,17 +26,15 @@ pub returns-then-not-limits_hold-2 : goal.returns-then-not-limits_hold-2
 unfolding edge_lines numbered up_to ranges rule_number
 returns-then-not-limits_hold-2 c =
     let a = c.args in
-    let d = c in
     c.refused-then-not-limits_hold-2.ensures
     ∙ one_rule_fails _ _ _ (edge_names a.sizes.nodes (omega arith) a.s.now (omega arith) ∙ not_so c.limits_hold-2.ensures c.if-not-limits_hold-2.true)
     ∙ line_by_rules (numbered _) (edge_lines 0 a.sizes.nodes) a.s.now _ (omega arith)
-    (edge_limits a.sizes.nodes a.s.now (omega arith) ∙ so d.limits_hold.ensures d.if-not-limits_hold.false)
+    (edge_limits a.sizes.nodes a.s.now (omega arith) ∙ so c.limits_hold.ensures c.if-not-limits_hold.false)
 
 pub returns : goal.returns
 unfolding edge_lines numbered up_to ranges
 returns c =
     let a = c.args in
-    let d = c in
     one_rule_holds _ _ _ (edge_names a.sizes.nodes (omega arith) a.s.now (omega arith) ∙ so c.limits_hold-2.ensures c.if-not-limits_hold-2.false)
     ∙ line_by_rules (numbered _) (edge_lines 0 a.sizes.nodes) a.s.now _ (omega arith)
-    (edge_limits a.sizes.nodes a.s.now (omega arith) ∙ so d.limits_hold.ensures d.if-not-limits_hold.false)
+    (edge_limits a.sizes.nodes a.s.now (omega arith) ∙ so c.limits_hold.ensures c.if-not-limits_hold.false)

@@ -32,8 +32,7 @@ pub returns-then-not-right_angle : goal.returns-then-not-right_angle
 unfolding soil_lines numbered up_to ranges rule_number
 returns-then-not-right_angle c =
     let a = c.args in
-    let d = c in
-    let hold = so d.limits_hold.ensures d.if-not-limits_hold.false in
+    let hold = so c.limits_hold.ensures c.if-not-limits_hold.false in
     let small = small_angle a.s.now (omega arith) hold in
     c.refused-then-not-right_angle.ensures
     ∙ one_rule_fails right_angle _ _ (angle_read a.s.now (omega arith) small ∙ not_so c.right_angle.ensures c.if-not-right_angle.true)
@@ -43,8 +42,7 @@ pub returns : goal.returns
 unfolding soil_lines numbered up_to ranges
 returns c =
     let a = c.args in
-    let d = c in
-    let hold = so d.limits_hold.ensures d.if-not-limits_hold.false in
+    let hold = so c.limits_hold.ensures c.if-not-limits_hold.false in
     let small = small_angle a.s.now (omega arith) hold in
     one_rule_holds right_angle _ _ (angle_read a.s.now (omega arith) small ∙ so c.right_angle.ensures c.if-not-right_angle.false)
     ∙ line_by_rules (numbered _) (soil_lines 0) a.s.now _ (omega arith) hold

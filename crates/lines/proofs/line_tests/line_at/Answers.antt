@@ -15,10 +15,8 @@ overflow_mul-from c =
 pub returns-then-s-from : goal.returns-then-s-from
 unfolding numbered
 returns-then-s-from c =
-    let a = c in
-    c.refused.ensures ∙ line_missing (numbered a.args.form) (ruled_lines a.args.rule a.args.sizes 0) a.args.s.now a.args.k _ a.requires.1 refl a.requires.0.few.some_column c.if-s-from.true
+    c.refused.ensures ∙ line_missing (numbered c.args.form) (ruled_lines c.args.rule c.args.sizes 0) c.args.s.now c.args.k _ c.requires.1 refl c.requires.0.few.some_column c.if-s-from.true
 
 pub returns : goal.returns
 returns c =
-    let a = c in
-    line_left (numbered a.args.form) (ruled_lines a.args.rule a.args.sizes 0) a.args.s.now a.args.k _ a.requires.1 refl c.line_check.ensures
+    line_left (numbered c.args.form) (ruled_lines c.args.rule c.args.sizes 0) c.args.s.now c.args.k _ c.requires.1 refl c.line_check.ensures

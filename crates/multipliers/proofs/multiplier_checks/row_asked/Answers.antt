@@ -11,8 +11,7 @@ returns-then-k-first c = balance_asked c.args.m.now c.args.k (omega (arith, c.re
 
 pub returns-then-first-s : goal.returns-then-first-s
 returns-then-first-s c =
-    let start = c in
-    jump_asked start.args.m.now start.args.k (omega (arith, start.requires.0.elements_are, start.requires.0.edges_are)) start.requires.1
+    jump_asked c.args.m.now c.args.k (omega (arith, c.requires.0.elements_are, c.requires.0.edges_are)) c.requires.1
 
 pub edge_entry-fixed-requires : goal.edge_entry-fixed-requires
 edge_entry-fixed-requires c =
@@ -28,10 +27,9 @@ fixes-requires c =
 
 pub returns-then-k-eq0 : goal.returns-then-k-eq0
 returns-then-k-eq0 c =
-    let start = c in
-    let sized = start.requires.0 in
-    let k = start.args.k in
-    normal_asked start.args.m.now k ((k - start.args.s.elements * 2) / 4) (omega (arith, sized.elements_are, sized.edges_are)) (omega (arith, sized.elements_are)) (omega (arith, sized.elements_are)) (omega arith) (Is-read c.edge_entry-fixed.ensures (omega arith)).same c.fixes.ensures
+    let sized = c.requires.0 in
+    let k = c.args.k in
+    normal_asked c.args.m.now k ((k - c.args.s.elements * 2) / 4) (omega (arith, sized.elements_are, sized.edges_are)) (omega (arith, sized.elements_are)) (omega (arith, sized.elements_are)) (omega arith) (Is-read c.edge_entry-fixed.ensures (omega arith)).same c.fixes.ensures
 
 pub fixes-requires-2 : goal.fixes-requires-2
 fixes-requires-2 c =
@@ -42,7 +40,6 @@ fixes-requires-2 c =
 
 pub returns : goal.returns
 returns c =
-    let start = c in
-    let sized = start.requires.0 in
-    let k = start.args.k in
-    shear_asked start.args.m.now k ((k - start.args.s.elements * 2) / 4) (omega (arith, sized.elements_are, sized.edges_are)) (omega (arith, sized.elements_are)) (omega (arith, sized.elements_are)) (omega arith) (Is-read c.edge_entry-fixed.ensures (omega arith)).same c.fixes-2.ensures
+    let sized = c.requires.0 in
+    let k = c.args.k in
+    shear_asked c.args.m.now k ((k - c.args.s.elements * 2) / 4) (omega (arith, sized.elements_are, sized.edges_are)) (omega (arith, sized.elements_are)) (omega (arith, sized.elements_are)) (omega arith) (Is-read c.edge_entry-fixed.ensures (omega arith)).same c.fixes-2.ensures

@@ -17,9 +17,8 @@ loop-k-init c = (omega arith, refl)
 
 pub zero_if_unfixed-requires : goal.zero_if_unfixed-requires
 zero_if_unfixed-requires c =
-    let rows = c in
-    let pre = rows.requires in
-    let all = rows.equality_count-rows.ensures.0 _ pre.fact_1 in
+    let pre = c.requires in
+    let all = c.equality_count-rows.ensures.0 _ pre.fact_1 in
     record {
       fact_1 = (pre.fact_1, omega (arith, all, c.loop-k-test.true));
       fact_2 = omega (arith, all, c.loop-k-test.true, pre.fact_2.long);
@@ -28,11 +27,9 @@ zero_if_unfixed-requires c =
 
 pub returns-then-not-zero_if_unfixed : goal.returns-then-not-zero_if_unfixed
 returns-then-not-zero_if_unfixed c =
-    let b = c in
-    let rows = b in
-    let pre = rows.requires in
-    let stops = search_stops (unfixed_test _ _) b.loop-k.invariant.1 rows.equality_count-rows.result b.loop-k-test.true (sym c.zero_if_unfixed.ensures ∙ c.if-not-zero_if_unfixed.true) in
-    unfixed_fails _ _ stops (rows.equality_count-rows.ensures.0 _ pre.fact_1) b.loop-k-test.true
+    let pre = c.requires in
+    let stops = search_stops (unfixed_test _ _) c.loop-k.invariant.1 c.equality_count-rows.result c.loop-k-test.true (sym c.zero_if_unfixed.ensures ∙ c.if-not-zero_if_unfixed.true) in
+    unfixed_fails _ _ stops (c.equality_count-rows.ensures.0 _ pre.fact_1) c.loop-k-test.true
 
 pub overflow_add-k : goal.overflow_add-k
 overflow_add-k c = omega arith
@@ -42,12 +39,10 @@ loop-k-smaller c = omega arith
 
 pub loop-k-preserved : goal.loop-k-preserved
 loop-k-preserved c =
-    let b = c in
-    (omega arith, search_more (unfixed_test _ _) b.loop-k.invariant.1 (sym c.zero_if_unfixed.ensures ∙ c.if-not-zero_if_unfixed.false))
+    (omega arith, search_more (unfixed_test _ _) c.loop-k.invariant.1 (sym c.zero_if_unfixed.ensures ∙ c.if-not-zero_if_unfixed.false))
 
 pub returns : goal.returns
 returns c =
-    let rows = c in
-    let pre = rows.requires in
-    let e : c.loop-k.k ≡ rows.equality_count-rows.result = omega (arith, c.loop-k.invariant.0, c.loop-k-test.false) in
-    unfixed_done _ _ (sym (ap (first_failing (unfixed_test _ _)) (sym e) ∙ c.loop-k.invariant.1)) (rows.equality_count-rows.ensures.0 _ pre.fact_1) c.loop-k-test.false
+    let pre = c.requires in
+    let e : c.loop-k.k ≡ c.equality_count-rows.result = omega (arith, c.loop-k.invariant.0, c.loop-k-test.false) in
+    unfixed_done _ _ (sym (ap (first_failing (unfixed_test _ _)) (sym e) ∙ c.loop-k.invariant.1)) (c.equality_count-rows.ensures.0 _ pre.fact_1) c.loop-k-test.false

@@ -1,9 +1,9 @@
 -- `zero_if_unfixed` meets its contract: a multiplier that is 0 passes, and another if the row asks something.
 use native.Mathlib.Omega.{arith}
-use Rattle.integer.proofs.Machine.{machine, told, apart}
+use Rattle.integer.proofs.Machine.{machine, apart}
 use Rattle.scope.specs.Columns.{at}
 use Rattle.criterion.proofs.StrengthLaws.{being}
-use Rattle.multipliers.proofs.LimitLaws.{zero_passes, asked_passes}
+use Rattle.multipliers.proofs.LimitLaws.{asked_passes}
 use Rattle.multipliers.proofs.multiplier_checks.zero_if_unfixed.Goals as goal
 
 pub returns : goal.returns

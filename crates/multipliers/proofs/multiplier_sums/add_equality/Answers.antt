@@ -13,28 +13,25 @@ use Rattle.multipliers.proofs.multiplier_sums.add_equality.Goals as goal
 pub returns-then-w-eq0 : goal.returns-then-w-eq0
 unfolding at
 returns-then-w-eq0 c =
-    let start = c in
-    let w = being c.number_at-w.ensures (start.requires.fact_3.each start.args.k) in
+    let w = being c.number_at-w.ensures (c.requires.fact_3.each c.args.k) in
     zero_summed _ _ _ _ _ (told c.if-w-eq0.true (search machine depth 30) (omega arith))
 
 pub add_row-requires : goal.add_row-requires
 unfolding at
 add_row-requires c =
-    let start = c in
-    let w = being c.number_at-w.ensures (start.requires.fact_3.each start.args.k) in
+    let w = being c.number_at-w.ensures (c.requires.fact_3.each c.args.k) in
     record {
-      fact_1 = fits_wider c.equality_row-row.ensures.fits.entries start.requires.fact_4;
-      fact_2 = start.requires.fact_5.columns_fit;
+      fact_1 = fits_wider c.equality_row-row.ensures.fits.entries c.requires.fact_4;
+      fact_2 = c.requires.fact_5.columns_fit;
       fact_3 = Is-Within (Is-read w (omega arith)) (omega arith);
     }
 
 pub add_sums-requires : goal.add_sums-requires
 unfolding at
 add_sums-requires c =
-    let start = c in
-    let w = being c.number_at-w.ensures (start.requires.fact_3.each start.args.k) in
+    let w = being c.number_at-w.ensures (c.requires.fact_3.each c.args.k) in
     let row = c.equality_row-row.ensures.fits in
-    let sums = start.requires.fact_5 in
+    let sums = c.requires.fact_5 in
     record {
       fact_1 = search limits;
       fact_2 = search limits;
@@ -46,7 +43,6 @@ add_sums-requires c =
 pub returns : goal.returns
 unfolding at coefficient row_of
 returns c =
-    let start = c in
-    let w = being c.number_at-w.ensures (start.requires.fact_3.each start.args.k) in
+    let w = being c.number_at-w.ensures (c.requires.fact_3.each c.args.k) in
     let row = c.equality_row-row.ensures in
-    row_summed _ _ _ row (equality_among _ _ start.requires.fact_1.1) (Is-read w (omega arith)) (Is-read (Is-within row.fits.right_fits) (omega arith)) (Is-read (Is-within row.fits.live_fits) (omega arith)) c.add_row.ensures c.add_sums.ensures.0 c.add_sums.ensures.1
+    row_summed _ _ _ row (equality_among _ _ c.requires.fact_1.1) (Is-read w (omega arith)) (Is-read (Is-within row.fits.right_fits) (omega arith)) (Is-read (Is-within row.fits.live_fits) (omega arith)) c.add_row.ensures c.add_sums.ensures.0 c.add_sums.ensures.1

@@ -14,19 +14,17 @@ pair_node-v-requires c =
 
 pub overflow_mul-v : goal.overflow_mul-v
 overflow_mul-v c =
-    let start = c in
-    let given = start.requires.fact_1 in
-    let node = node_read given.pair_table start.args.a start.requires.fact_2 c.pair_node-v.ensures in
+    let given = c.requires.fact_1 in
+    let node = node_read given.pair_table c.args.a c.requires.fact_2 c.pair_node-v.ensures in
     omega (arith, node.1, given.sized.facts.counts.nodes_most)
 
 pub add_columns-requires : goal.add_columns-requires
 add_columns-requires c =
-    let start = c in
-    let given = start.requires.fact_1 in
-    let sums = start.requires.fact_3 in
+    let given = c.requires.fact_1 in
+    let sums = c.requires.fact_3 in
     let counts = given.sized.facts.counts in
-    let node = node_read given.pair_table start.args.a start.requires.fact_2 c.pair_node-v.ensures in
-    let room = pair_room _ _ counts given.few start.args.a (omega (arith, start.requires.fact_2)) sums in
+    let node = node_read given.pair_table c.args.a c.requires.fact_2 c.pair_node-v.ensures in
+    let room = pair_room _ _ counts given.few c.args.a (omega (arith, c.requires.fact_2)) sums in
     let part = c.pair_part-part.ensures in
     record {
       fact_1 = omega (arith, sums.size, node.1, counts.nodes_most);
@@ -36,27 +34,22 @@ add_columns-requires c =
 
 pub overflow_add-result : goal.overflow_add-result
 overflow_add-result c =
-    let summed = c in
-    let start = summed in
-    let given = start.requires.fact_1 in
+    let given = c.requires.fact_1 in
     let counts = given.sized.facts.counts in
-    let room = pair_room _ _ counts given.few start.args.a (omega (arith, start.requires.fact_2)) start.requires.fact_3 in
+    let room = pair_room _ _ counts given.few c.args.a (omega (arith, c.requires.fact_2)) c.requires.fact_3 in
     let limit = room.limit_fits in
-    let right = summed.pair_part-part.ensures.fits.right_fits in
+    let right = c.pair_part-part.ensures.fits.right_fits in
     fits (search machine depth 30) (omega arith)
 
 pub returns : goal.returns
 returns c =
-    let added = c in
-    let named = added in
-    let start = named in
-    let given = start.requires.fact_1 in
+    let given = c.requires.fact_1 in
     let counts = given.sized.facts.counts in
-    let part = named.pair_part-part.ensures in
-    let node = node_read given.pair_table start.args.a start.requires.fact_2 named.pair_node-v.ensures in
-    let room = pair_room _ _ counts given.few start.args.a (omega (arith, start.requires.fact_2)) start.requires.fact_3 in
+    let part = c.pair_part-part.ensures in
+    let node = node_read given.pair_table c.args.a c.requires.fact_2 c.pair_node-v.ensures in
+    let room = pair_room _ _ counts given.few c.args.a (omega (arith, c.requires.fact_2)) c.requires.fact_3 in
     let limit = room.limit_fits in
     let live = room.live_fits in
     let right = part.fits.right_fits in
-    one_pair_summed _ _ start.args.a start.requires.fact_3 part added.add_columns.auto.columns (ap (λ v. 3 * v) node.0)
-    added.add_columns.ensures (exact (search machine depth 30) (omega arith)) (exact (search machine depth 30) (omega arith))
+    one_pair_summed _ _ c.args.a c.requires.fact_3 part c.add_columns.auto.columns (ap (λ v. 3 * v) node.0)
+    c.add_columns.ensures (exact (search machine depth 30) (omega arith)) (exact (search machine depth 30) (omega arith))

@@ -15,16 +15,15 @@ loop-k-init c = (omega arith, none_summed _ _ c.requires.fact_3 refl refl)
 
 pub add_equality-sums-requires : goal.add_equality-sums-requires
 add_equality-sums-requires c =
-    let rows = c in
-    let pre = rows.requires in
-    let count = rows.equality_count-rows.ensures.0 _ pre.fact_1 in
+    let pre = c.requires in
+    let count = c.equality_count-rows.ensures.0 _ pre.fact_1 in
     let loop = c.loop-k in
     record {
       fact_1 = (pre.fact_1, omega arith);
       fact_2 = omega (arith, pre.fact_2.long);
       fact_3 = pre.fact_2.bounds;
       fact_4 = omega (arith, loop.invariant.1.size);
-      fact_5 = room _ _ loop.invariant.1 (omega (arith, rows.equality_count-rows.ensures.1));
+      fact_5 = room _ _ loop.invariant.1 (omega (arith, c.equality_count-rows.ensures.1));
     }
 
 pub overflow_add-k : goal.overflow_add-k
@@ -41,8 +40,6 @@ shape_of-columns c = c.loop-k.invariant.1.size ∙ sym c.requires.fact_3.size
 
 pub returns : goal.returns
 returns c =
-    let rows = c in
-    let start = rows in
     let loop = c.loop-k in
-    let e : loop.k ≡ equality_count start.args.m.now = omega (arith, rows.equality_count-rows.ensures.0 _ start.requires.fact_1) in
-    subst (λ k. Summed start.args.m.now start.args.y.now k loop.columns loop.sums) e loop.invariant.1
+    let e : loop.k ≡ equality_count c.args.m.now = omega (arith, c.equality_count-rows.ensures.0 _ c.requires.fact_1) in
+    subst (λ k. Summed c.args.m.now c.args.y.now k loop.columns loop.sums) e loop.invariant.1

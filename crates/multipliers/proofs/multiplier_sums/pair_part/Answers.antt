@@ -43,10 +43,9 @@ radius_of-radius-requires c = sides_listed_lem c.requires.fact_1.sized
 
 pub soil_numbers-k-requires : goal.soil_numbers-k-requires
 soil_numbers-k-requires c =
-    let start = c in
-    let soil = soil_read start.requires.fact_1.pair_table start.args.a start.requires.fact_2 c.pair_soil-soil.ensures in
+    let soil = soil_read c.requires.fact_1.pair_table c.args.a c.requires.fact_2 c.pair_soil-soil.ensures in
     record {
-      fact_1 = (start.requires.fact_1.sized, soil.1);
+      fact_1 = (c.requires.fact_1.sized, soil.1);
       fact_2 = Is-Within (Is-read c.radius_of-radius.ensures (omega arith)) (omega arith);
     }
 
@@ -61,14 +60,12 @@ pair_sums-requires c =
 pub returns : goal.returns
 unfolding pair_first
 returns c =
-    let named = c in
-    let start = named in
-    let given = start.requires.fact_1 in
+    let given = c.requires.fact_1 in
     let sized = given.sized in
-    let soil = soil_read given.pair_table start.args.a start.requires.fact_2 named.pair_soil-soil.ensures in
+    let soil = soil_read given.pair_table c.args.a c.requires.fact_2 c.pair_soil-soil.ensures in
     let radius = (Is-read c.radius_of-radius.ensures (omega arith)).same in
-    let rows = named.equality_count.ensures.0 _ sized in
-    pair_part_of start.args.m.now start.args.y.now start.args.a start.requires.fact_2
-    (record { listed = sized.facts.counts.sides_listed }) (omega (arith, ap (λ k. start.args.a * k) sized.sides_are, rows))
-    sized.sides_are named.side_sums-over_sides.ensures given.sides_given c.soil_numbers-k.ensures
+    let rows = c.equality_count.ensures.0 _ sized in
+    pair_part_of c.args.m.now c.args.y.now c.args.a c.requires.fact_2
+    (record { listed = sized.facts.counts.sides_listed }) (omega (arith, ap (λ k. c.args.a * k) sized.sides_are, rows))
+    sized.sides_are c.side_sums-over_sides.ensures given.sides_given c.soil_numbers-k.ensures
     soil.0 (radius ∙ ap (λ k. (polygon_of k).radius) sized.sides_are) c.pair_sums.ensures

@@ -1,7 +1,7 @@
 -- `side_open` meets its contract: two tests in turn.
 use native.Mathlib.Omega.{arith}
 use Rattle.integer.proofs.Machine.{machine, told}
-use Rattle.multipliers.proofs.OpenLaws.{no_multiplier, both_above, no_slack}
+use Rattle.multipliers.proofs.OpenLaws.{no_multiplier, no_slack}
 use Rattle.multipliers.proofs.open_rows.side_open.Goals as goal
 
 pub returns-then-w-le0 : goal.returns-then-w-le0

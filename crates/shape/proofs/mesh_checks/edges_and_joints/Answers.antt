@@ -10,5 +10,4 @@ returns-in-Refused c = then_refuses _ (sym c.edges_check-edges.ensures ∙ c.in-
 
 pub returns-in-Passed : goal.returns-in-Passed
 unfolding check_phases
-returns-in-Passed c =
-    then_goes_on (sym c.edges_check-edges.ensures ∙ c.in-Passed.is) c.joints_check.ensures
+returns-in-Passed c = then_goes_on (sym c.edges_check-edges.ensures ∙ c.in-Passed.is) c.joints_check.ensures

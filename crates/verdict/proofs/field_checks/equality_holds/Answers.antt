@@ -15,9 +15,8 @@ use Rattle.verdict.proofs.field_checks.equality_holds.Goals as goal
 
 pub left_side-left-requires : goal.left_side-left-requires
 left_side-left-requires c =
-    let start = c in
     let fit = c.equality_row-row.ensures.fits in
-    let live = fit.live_fits in record { fact_1 = fits_wider fit.entries start.requires.fact_2.long; fact_2 = bounded (search machine depth 30) (omega arith); fact_3 = start.requires.fact_2.stresses; fact_4 = search limits }
+    let live = fit.live_fits in record { fact_1 = fits_wider fit.entries c.requires.fact_2.long; fact_2 = bounded (search machine depth 30) (omega arith); fact_3 = c.requires.fact_2.stresses; fact_4 = search limits }
 
 pub overflow_mul-result : goal.overflow_mul-result
 overflow_mul-result c =
@@ -28,17 +27,16 @@ overflow_mul-result c =
 pub returns-then-row : goal.returns-then-row
 unfolding left_side row_of
 returns-then-row c =
-    let start = c in
-    let a = start.args in
+    let a = c.args in
     let row = c.equality_row-row in
     let left = c.left_side-left.ensures in
     let right = row.ensures.fits.right_fits in
-    let scale = start.requires.fact_2.scale in
+    let scale = c.requires.fact_2.scale in
     let live = row.ensures.fits.live_fits in
     let r = row.result in
     let read : to_z w64 (of_z w64 r.live) ≡ r.live = search unread in
     decides (search machine depth 30) (omega arith)
-    ∙ ap₂ (λ (v l : ℤ). eq_z (weighted_sum (at a.x.now) (entries_of r.coefficients r.columns r.count) +ℤ v *ℤ l) (r.right *ℤ a.n)) read (load_read start.requires.fact_2)
+    ∙ ap₂ (λ (v l : ℤ). eq_z (weighted_sum (at a.x.now) (entries_of r.coefficients r.columns r.count) +ℤ v *ℤ l) (r.right *ℤ a.n)) read (load_read c.requires.fact_2)
     ∙ sym (row_asked (at a.x.now) a.l a.n row.ensures c.if-row.true)
 
 pub returns : goal.returns

@@ -12,19 +12,17 @@ equalities_check-equalities-requires c =
 pub returns-in-Refused : goal.returns-in-Refused
 unfolding check_phases
 returns-in-Refused c =
-    let start = c in
-    let claim = start.requires.fact_1.0.claim in
-    let m = start.args.m.now in
-    let d = start.args.c.now in
+    let claim = c.requires.fact_1.0.claim in
+    let m = c.args.m.now in
+    let d = c.args.c.now in
     let same = c.equalities_check-equalities.ensures ∙ equalities_of m d (load_of claim c.number_at-l.ensures) (scale_of claim c.number_at-n.ensures) in
     then_refuses _ (sym same ∙ c.in-Refused.is)
 
 pub returns : goal.returns
 unfolding check_phases
 returns c =
-    let start = c in
-    let claim = start.requires.fact_1.0.claim in
-    let m = start.args.m.now in
-    let d = start.args.c.now in
+    let claim = c.requires.fact_1.0.claim in
+    let m = c.args.m.now in
+    let d = c.args.c.now in
     let same = c.equalities_check-equalities.ensures ∙ equalities_of m d (load_of claim c.number_at-l.ensures) (scale_of claim c.number_at-n.ensures) in
     then_goes_on (sym same ∙ c.in_default.is) c.strengths_check.ensures

@@ -17,8 +17,7 @@ side_holds-requires c =
 
 pub returns-then-not-side_holds : goal.returns-then-not-side_holds
 returns-then-not-side_holds c =
-    let b = c in
-    let a = b.args in record { fact_1 = search_stops (test _ _) b.loop-k.invariant.1 a.sides b.loop-k-test.true (sym c.side_holds.ensures ∙ c.if-not-side_holds.true); fact_2 = omega (arith, b.loop-k-test.true) }
+    let a = c.args in record { fact_1 = search_stops (test _ _) c.loop-k.invariant.1 a.sides c.loop-k-test.true (sym c.side_holds.ensures ∙ c.if-not-side_holds.true); fact_2 = omega (arith, c.loop-k-test.true) }
 
 pub overflow_add-k : goal.overflow_add-k
 overflow_add-k c = omega arith
@@ -28,8 +27,7 @@ loop-k-smaller c = omega arith
 
 pub loop-k-preserved : goal.loop-k-preserved
 loop-k-preserved c =
-    let b = c in
-    (omega arith, search_more (test _ _) b.loop-k.invariant.1 (sym c.side_holds.ensures ∙ c.if-not-side_holds.false))
+    (omega arith, search_more (test _ _) c.loop-k.invariant.1 (sym c.side_holds.ensures ∙ c.if-not-side_holds.false))
 
 pub returns : goal.returns
 returns c =

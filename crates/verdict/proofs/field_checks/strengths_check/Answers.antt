@@ -22,8 +22,7 @@ pair_holds-requires c =
 
 pub pair_state-d-requires : goal.pair_state-d-requires
 pair_state-d-requires c =
-    let b = c in
-    let pre = b.requires in record { fact_1 = pre.fact_1; fact_2 = omega (arith, pre.fact_1.0.pairs_are, b.loop-a-test.true) }
+    let pre = c.requires in record { fact_1 = pre.fact_1; fact_2 = omega (arith, pre.fact_1.0.pairs_are, c.loop-a-test.true) }
 
 pub first_side-k-requires : goal.first_side-k-requires
 first_side-k-requires c =
@@ -32,21 +31,18 @@ first_side-k-requires c =
 
 pub strength_number-requires : goal.strength_number-requires
 strength_number-requires c =
-    let b = c in
-    let pre = b.requires in
+    let pre = c.requires in
     let sized = pre.fact_1.0.sized in
     let steps = steps_as (sym sized.sides_are) pre.fact_2 in
-    (omega (arith, b.loop-a-test.true, pre.fact_1.0.pairs_are, pre.fact_1.0.few), steps.most, omega (arith, steps.most, c.first_side-k.ensures.fact_2))
+    (omega (arith, c.loop-a-test.true, pre.fact_1.0.pairs_are, pre.fact_1.0.few), steps.most, omega (arith, steps.most, c.first_side-k.ensures.fact_2))
 
 pub returns-then-not-pair_holds : goal.returns-then-not-pair_holds
 returns-then-not-pair_holds c =
-    let b = c in
-    let pre = b.requires in
+    let pre = c.requires in
     let sized = pre.fact_1.0.sized in
-    let asked = c in
-    let stops = search_stops (pair_holds _ _) b.loop-a.invariant.1 b.args.s.pairs b.loop-a-test.true (sym asked.pair_holds.ensures ∙ asked.if-not-pair_holds.true) in
+    let stops = search_stops (pair_holds _ _) c.loop-a.invariant.1 c.args.s.pairs c.loop-a-test.true (sym c.pair_holds.ensures ∙ c.if-not-pair_holds.true) in
     ap (λ (i : ℕ). Refused 22 (Row i)) c.strength_number.ensures
-    ∙ strengths_refused _ _ sized.facts.counts pre.fact_2 pre.fact_1.0.pairs_are sized.sides_are stops b.loop-a-test.true c.pair_state-d.ensures c.first_side-k.ensures.fact_1
+    ∙ strengths_refused _ _ sized.facts.counts pre.fact_2 pre.fact_1.0.pairs_are sized.sides_are stops c.loop-a-test.true c.pair_state-d.ensures c.first_side-k.ensures.fact_1
 
 pub overflow_add-a : goal.overflow_add-a
 overflow_add-a c = omega arith
@@ -56,12 +52,10 @@ loop-a-smaller c = omega arith
 
 pub loop-a-preserved : goal.loop-a-preserved
 loop-a-preserved c =
-    let b = c in
-    (omega arith, search_more (pair_holds _ _) b.loop-a.invariant.1 (sym c.pair_holds.ensures ∙ c.if-not-pair_holds.false))
+    (omega arith, search_more (pair_holds _ _) c.loop-a.invariant.1 (sym c.pair_holds.ensures ∙ c.if-not-pair_holds.false))
 
 pub returns : goal.returns
 returns c =
-    let a = c in
-    let judged = a.requires.fact_1.0 in
-    let e : c.loop-a.a ≡ a.args.s.pairs = omega (arith, c.loop-a.invariant.0, c.loop-a-test.false) in
+    let judged = c.requires.fact_1.0 in
+    let e : c.loop-a.a ≡ c.args.s.pairs = omega (arith, c.loop-a.invariant.0, c.loop-a-test.false) in
     strengths_passed _ _ judged.sized.facts.counts judged.pairs_are (sym (ap (first_failing (pair_holds _ _)) (sym e) ∙ c.loop-a.invariant.1)) c.loop-a-test.false
