@@ -1,5 +1,5 @@
 -- Bounds of whole numbers (`Within`, `AllWithin`): laws for sums, differences, signs, products, quotients, remainders, and sums over lists; a bound from two inequalities and back.
--- What a bound is for, the needs of 64-bit arithmetic, is `Machine.antt`.
+-- What a bound is for, the goals of 64-bit arithmetic, is `Machine.antt`.
 -- `linear` takes bounds among its facts, and proves one, with the set `bounds` for `facts`.
 -- Example (`example_middle`, checked after `bounds`): y is within 1010, from h : x within 1000, k : x < y and l : y ≤ x + 10:
 --     linear (h & k & l) (search bounds depth 40) (omega arith)

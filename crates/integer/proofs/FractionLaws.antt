@@ -1,7 +1,7 @@
 -- The order of fractions by cross products: `≤ᶠ` is reflexive, total, decidable, transitive between positive
 -- denominators, and two fractions are each at most the other exactly when their cross products are equal.
 -- Example (`example_third_below`, checked after `≤ᶠ_trans`): f ≤ 2/5, from p : f has a denominator above 0 and h : f ≤ 1/3, where literals are compared by `le_z_yes tt`:
---     ≤ᶠ-trans p (record { positive = lt_z_yes tt }) (record { positive = lt_z_yes tt }) h (record { cross-≤ = le_z_yes tt })
+--     ≤ᶠ_trans p (record { positive = lt_z_yes tt }) (record { positive = lt_z_yes tt }) h (record { cross-≤ = le_z_yes tt })
 use mathlib.Core.Path.{refl, sym}
 use mathlib.Core.List.{[], ◌∷◌}
 use mathlib.Core.Logic.{◌⊎◌, inl, inr, ⊎_elim}

@@ -1,10 +1,10 @@
 -- Signed 64-bit arithmetic in a function's proof: that an operation fits, the exact value of its result, its bound, and what a test says.
 --
--- How numbers stand there. In a contract an `i64` is a ℤ. In a need it is what the machine reads back from bits: a parameter is `to_z w64 (of_z w64 a)`, a sum
--- `to_z w64 (of_z w64 (x +ℤ y))`, an element `to_z w64 (of_z w64 (get_or l i (pos 0)))`, a variable that a loop changes `to_z w64 s` with its bits s : ℕ, and -x is `pos 0 -ℤ x`.
+-- How numbers stand there. In a contract and in an invariant an `i64` is a ℤ. In a goal it may stand as the machine reads it back from bits: a parameter is `to_z w64 (of_z w64 a)`, a sum
+-- `to_z w64 (of_z w64 (x +ℤ y))`, an element `to_z w64 (of_z w64 (get_or l i (pos 0)))`, a variable that a loop changes `s` itself, and -x is `pos 0 -ℤ x`.
 --
--- How a function is proved. Its `requires` bounds the numbers, `Within B a` and `AllWithin B (now s)`. Its `ensures` says `Is r z B`: r is the number z, within B. An invariant
--- says `Is (to_z w64 s) z B`, where B may name a counter, as `i * 1000000`. Then each need is one line. With S for `(search machine depth 30)`, which reads the machine's terms
+-- How a function is proved. Its `requires` bounds the numbers, `Within B a` and `AllWithin B s.now`. Its `ensures` says `Is r z B`: r is the number z, within B. An invariant
+-- says `Is l.s z B`, where B may name a counter, as `l.i * 1000000`. Then each goal is one line. With S for `(search machine depth 30)`, which reads the machine's terms
 -- from the facts in reach, and `(omega arith)` for what is left of the bounds:
 --     an operation fits          fits S (omega arith)
 --     `Is v z B`                 is S (omega arith) e, where e : (the value as it was computed) ≡ z, often `refl`
@@ -12,15 +12,15 @@
 --     `Within B v`               bounded S (omega arith)
 --     `P v`                      by_value P S (omega arith) p, where p : P (the value)
 --     `b ≡ test`                 decides S (omega arith)
---     a branch's fact            told c.if1.taken S (omega arith), of type p <ℤ q, p ≤ℤ q or p ≡ q; also with `.left`
---     `a == b` that failed       apart c.if1.left S (omega arith), of type ¬ (p ≡ q)
+--     a branch's fact            told c.if-a-b.true S (omega arith), of type p <ℤ q, p ≤ℤ q or p ≡ q; also with `.false`
+--     `a == b` that failed       apart c.if-a-b.false S (omega arith), of type ¬ (p ≡ q)
 --     a division                 (meets S (omega arith) n, fits S (omega arith)), where n : ¬ (divisor ≡ pos 0)
 --     a cast to unsigned         (meets S (omega arith) p, meets S (omega arith) (omega arith)), where p : pos 0 ≤ℤ value
---     what a callee requires     search limits, or (search limits, (search limits, ..)) for several clauses
+--     what a callee requires     search limits, or record { fact_1 = search limits; .. } for several clauses
 -- For a number with no bound S is `(search (machine, unbounded) depth 30)`, and for an unsigned number that was cast to `i64` it is `(search (machine, casts) depth 30)`.
 -- A callee's `ensures` speaks of its arguments as the machine read them: there e is `search unread`.
 -- Where z is a definition of `specs/` the answer says `unfolding` of it. Where `search` stops at its count, it wants `fits 10000` after `depth 30`; where it breaks off, among many calls,
--- bind its facts first: `let h = c.term.ensures in fits S (omega arith)`.
+-- bind its facts first: `let h = c.f.ensures in fits S (omega arith)`.
 --
 -- Example (`example_fits`, checked after `fits`): the difference of a·b and c, as the machine has it, fits 64 bits, from bounds of a, b and c:
 --     fits (search machine depth 30) (omega arith)

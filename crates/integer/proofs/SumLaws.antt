@@ -1,7 +1,7 @@
 -- Sums over lists: of a list put together from parts, of a mapped list, of a sum and a multiple of functions, of a sum
 -- within a sum, and comparison member by member.
 -- Example (`example_taken_apart`, checked after `sum_of_*ℤ`): Σ(k·f + c·g) + c = k·Σf + c·(Σg + 1), taken apart by `simp` and closed by `ring`:
---     simp (sumOf-+ℤ, sumOf-*ℤ) (ring (k ∷ c ∷ sum_of f l ∷ sum_of g l ∷ []) (search terms depth 100) refl)
+--     simp (sum_of_+ℤ, sum_of_*ℤ) (ring (k ∷ c ∷ sum_of f l ∷ sum_of g l ∷ []) (search terms depth 100) refl)
 use mathlib.Core.Path.{◌≡◌, refl, sym, ◌∙◌, ap, ap₂}
 use mathlib.Core.List.{List, [], ◌∷◌, ◌++◌, map, Memᴰ}
 use Prim.Native.Nat.{ℕ}

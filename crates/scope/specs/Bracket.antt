@@ -48,7 +48,7 @@ pub record Open (s : ℕ → ℤ) (l n : ℤ) (c : ℤ) (r : Row) : Type 0 where
 abbrev pub NoneOpen : (ℕ → ℤ) → ℤ → ℤ → (ℕ → ℤ) → List Row → Type 0
 NoneOpen s l n w rs = (k : ℕ) → k < length rs → ¬ Open s l n (w k) (row_at rs k)
 
--- with m = liveSum w rs and W = limitSum w rs
+-- with m = live_sum w rs and W = limit_sum w rs
 pub record Bracket (s : ℕ → ℤ) (l n : ℤ) (w : ℕ → ℤ) (rs : List Row) : Type 0 where
   -- W·n - l·m is the sum over strength rows of multiplier times strength to spare
   pub gap : limit_sum w rs *ℤ n -ℤ l *ℤ live_sum w rs ≡ weighted_sum (to_spare s l n) (weighed w rs)

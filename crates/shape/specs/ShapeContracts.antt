@@ -37,7 +37,7 @@ byte_below none has value n =
     let k : ℕ = first_where has n in
     cond (eqb k n) none (value k)
 
--- ---- marks: `most_soils` bytes for each node, and that of node v and soil s stands at v·mostSoils + s
+-- ---- marks: `most_soils` bytes for each node, and that of node v and soil s stands at v·most_soils + s
 
 -- an element below e has node v as a corner, and the soil s: `has_soil` once all are passed
 abbrev pub soil_below : List ℤ → ℕ → ℕ → ℕ → Bool
@@ -52,7 +52,7 @@ MarkTable m e t = Holds (most_nodes * most_soils) (λ p. mark_byte (soil_below m
 abbrev pub is_marked : List ℕ → ℕ → ℕ → Bool
 is_marked t v s = eqb (get_or t (v * most_soils + s) 0) 1
 
--- ---- tables of sides: `most_nodes` bytes for each node, and the byte of the side a to b stands at a·mostNodes + b
+-- ---- tables of sides: `most_nodes` bytes for each node, and the byte of the side a to b stands at a·most_nodes + b
 
 abbrev pub byte_at : List ℕ → ℕ → ℕ → ℕ
 byte_at t a b = get_or t (a * most_nodes + b) 0
