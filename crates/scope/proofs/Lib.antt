@@ -2,6 +2,7 @@
 pub mod Computed
 pub mod Checks
 pub mod Decides
+pub mod Ranges
 pub mod Lines
 pub mod Statements
 pub mod Phases
