@@ -1,7 +1,7 @@
-// The lines of a mesh, of a claim and of a borehole table, as one table: the limits of the headers, then groups of lines, and of each its
-// kind, how many lines it has and how many columns each.
+// The lines of a mesh, of a claim and of a borehole table, as one table: the limits of the headers, then groups of
+// lines, and of each its kind, how many lines it has and how many columns each.
 // Whatever goes through a file's lines goes through this table: the reader, the checks of lines, the bytes of a claim.
-ghost use Rattle.std.specs.Prelude.{◌≡◌, cond, pos};
+ghost use Rattle.std.specs.Prelude.{◌≡◌, cond, pos, neg_ℤ};
 ghost use Rattle.integer.specs.Tests.{eq_z};
 ghost use Rattle.scope.specs.Columns.{at};
 ghost use Rattle.scope.specs.Claim.{if_there};
@@ -100,14 +100,40 @@ pub struct Group {
     pub columns: usize,
 }
 
+// Lines with rules of their own.
+fn ruled(rule: Rule, lines: usize, columns: usize) -> Group
+    ensures { result ≡ record { kind = Kind.Ruled rule; lines = lines; columns = columns } }
+{
+    Group {
+        kind: Kind::Ruled(rule),
+        lines,
+        columns,
+    }
+}
+
+// Lines whose numbers are from lo to hi.
+fn even(lo: i64, hi: i64, lines: usize, columns: usize) -> Group
+    ensures { result ≡ record { kind = Kind.Even lo hi; lines = lines; columns = columns } }
+{
+    Group {
+        kind: Kind::Even { lo, hi },
+        lines,
+        columns,
+    }
+}
+
+// Lines whose numbers are from -k to k.
+fn up_to(k: u32, lines: usize, columns: usize) -> Group
+    ensures { result ≡ record { kind = Kind.Even (neg_ℤ (pos k)) (pos k); lines = lines; columns = columns } }
+{
+    even(-i64::from(k), i64::from(k), lines, columns)
+}
+
 // The lines of elements, where there is a table and where there is none.
 fn element_rule(tabled: bool) -> Rule
     ensures { result ≡ cond tabled Rule.Tabled Rule.Element }
 {
-    if tabled {
-        return Rule::Tabled;
-    }
-    Rule::Element
+    if tabled { Rule::Tabled } else { Rule::Element }
 }
 
 // The groups of a mesh with these sizes, that has a table or has none.
@@ -115,33 +141,12 @@ pub fn mesh_groups(s: Sizes, tabled: bool) -> [Group; GROUPS]
     requires { FewThings s }
     ensures { Tabled s result (mesh_body s tabled) }
 {
-    let element = element_rule(tabled);
     [
-        Group {
-            kind: Kind::Ruled(Rule::Soil),
-            lines: s.soils,
-            columns: SOIL_COLUMNS,
-        },
-        Group {
-            kind: Kind::Even { lo: 0, hi: 1000 },
-            lines: s.nodes,
-            columns: NODE_COLUMNS,
-        },
-        Group {
-            kind: Kind::Ruled(element),
-            lines: s.elements,
-            columns: ELEMENT_COLUMNS,
-        },
-        Group {
-            kind: Kind::Ruled(Rule::Edge),
-            lines: s.edges,
-            columns: EDGE_COLUMNS,
-        },
-        Group {
-            kind: Kind::Ruled(Rule::Jump),
-            lines: s.jumps,
-            columns: JUMP_COLUMNS,
-        },
+        ruled(Rule::Soil, s.soils, SOIL_COLUMNS),
+        even(0, 1000, s.nodes, NODE_COLUMNS),
+        ruled(element_rule(tabled), s.elements, ELEMENT_COLUMNS),
+        ruled(Rule::Edge, s.edges, EDGE_COLUMNS),
+        ruled(Rule::Jump, s.jumps, JUMP_COLUMNS),
     ]
 }
 
@@ -149,23 +154,15 @@ pub fn mesh_groups(s: Sizes, tabled: bool) -> [Group; GROUPS]
 pub fn has_part(c: &[i64], k: usize) -> bool
     ensures { result ≡ eq_z (at c.now k) (pos 1) }
 {
-    if c.len() <= k {
-        return false;
-    }
-    if c[k] == 1 {
-        return true;
-    }
-    false
+    c.get(k) == Some(&1)
 }
 
 // k where the part is there.
+#[tactic(auto, unfolding(scope::specs::Claim::if_there))]
 pub fn if_there(there: bool, k: usize) -> usize
     ensures { result ≡ if_there there k }
 {
-    if there {
-        return k;
-    }
-    0
+    if there { k } else { 0 }
 }
 
 // The groups of a claim on a mesh with these sizes and so many pairs, with a field and with multipliers or without.
@@ -174,42 +171,10 @@ pub fn claim_groups(s: Sizes, field: bool, multipliers: bool) -> [Group; GROUPS]
     ensures { Tabled s result (claim_body s field multipliers) }
 {
     [
-        Group {
-            kind: Kind::Even {
-                lo: -1000000000,
-                hi: 1000000000,
-            },
-            lines: if_there(field, s.nodes),
-            columns: STRESS_COLUMNS,
-        },
-        Group {
-            kind: Kind::Even {
-                lo: -100000,
-                hi: 100000,
-            },
-            lines: if_there(multipliers, s.elements),
-            columns: ELEMENT_ROWS,
-        },
-        Group {
-            kind: Kind::Even {
-                lo: -100000,
-                hi: 100000,
-            },
-            lines: if_there(multipliers, s.edges),
-            columns: EDGE_ROWS,
-        },
-        Group {
-            kind: Kind::Even {
-                lo: -100000,
-                hi: 100000,
-            },
-            lines: if_there(multipliers, s.jumps),
-            columns: JUMP_ROWS,
-        },
-        Group {
-            kind: Kind::Even { lo: 0, hi: 10000 },
-            lines: if_there(multipliers, s.pairs),
-            columns: s.sides,
-        },
+        up_to(1000000000, if_there(field, s.nodes), STRESS_COLUMNS),
+        up_to(100000, if_there(multipliers, s.elements), ELEMENT_ROWS),
+        up_to(100000, if_there(multipliers, s.edges), EDGE_ROWS),
+        up_to(100000, if_there(multipliers, s.jumps), JUMP_ROWS),
+        even(0, 10000, if_there(multipliers, s.pairs), s.sides),
     ]
 }

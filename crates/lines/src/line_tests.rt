@@ -1,22 +1,11 @@
 // One line at a time: the limits of its columns, and the lines of a mesh that have rules of their own.
-ghost use Rattle.std.specs.Prelude.{◌≡◌, ◌<◌, ◌≤◌, ◌^◌, take, ◌+ℤ◌, ◌*ℤ◌};
+ghost use Rattle.std.specs.Prelude.{◌≡◌, ◌<◌, ◌≤◌, ◌^◌, true, length, ◌+ℤ◌, ◌*ℤ◌};
 ghost use Rattle.integer.specs.Bounds.{Within};
 ghost use Rattle.integer.specs.Tests.{eq_z};
 ghost use Rattle.scope.specs.Columns.{between, within, all_within};
 ghost use Rattle.scope.specs.Layout.{width};
-ghost use Rattle.scope.specs.Verdict.{line_check};
-ghost use Rattle.scope.specs.Mesh.{
-  soil_columns,
-  element_columns,
-  edge_columns,
-  jump_columns,
-  soil_lines,
-  element_lines,
-  edge_lines,
-  jump_lines,
-};
-ghost use Rattle.scope.specs.Layers.{layer_columns};
-ghost use Rattle.scope.specs.Table.{layer_lines};
+ghost use Rattle.scope.specs.Checks.{demand};
+ghost use Rattle.scope.specs.Verdict.{line_check, rules_hold};
 ghost use Rattle.mesh.specs.MeshContracts.{FewThings};
 ghost use Rattle.lines.specs.Table.{ruled_lines};
 ghost use Rattle.lines.specs.LineContracts.{ranges, AsMany, numbered, line_step, most_form, FewLines};
@@ -25,19 +14,14 @@ use crate::layout::{
     EDGE_ENDS, EDGE_LEAST, EDGE_MOST, LAYER_LEAST, LAYER_LIMITS, LAYER_MOST, Rule, SOIL_LEAST,
     SOIL_MOST,
 };
-use mesh::sizes::{
-    EDGE_COLUMNS, ELEMENT_COLUMNS, JUMP_COLUMNS, LAYER_COLUMNS, SOIL_COLUMNS, Sizes,
-};
+use mesh::sizes::Sizes;
 use scope::{Outcome, Place};
 
 // z is from lo to hi.
 pub fn is_within(z: i64, lo: i64, hi: i64) -> bool
     ensures { result ≡ within (between lo hi) z }
 {
-    if z < lo {
-        return false;
-    }
-    z <= hi
+    (lo..=hi).contains(&z)
 }
 
 // Number k of a list is from number k of lo to number k of hi, for each k.
@@ -45,14 +29,10 @@ pub fn limits_hold(s: &[i64], lo: &[i64], hi: &[i64]) -> bool
     requires { AsMany lo.now hi.now s.now }
     ensures { result ≡ all_within (ranges lo.now hi.now) s.now }
 {
-    let mut k: usize = 0;
-    while k < s.len() {
-        if !is_within(s[k], lo[k], hi[k]) {
-            return false;
-        }
-        k += 1;
-    }
-    true
+    s.iter()
+        .zip(lo)
+        .zip(hi)
+        .all(|((z, lo), hi)| is_within(*z, *lo, *hi))
 }
 
 // A refusal at a line.
@@ -68,134 +48,72 @@ pub fn refused(number: u32, line: usize) -> Outcome
 
 // p² + q² is h².
 fn right_angle(p: i64, q: i64, h: i64) -> bool
-    requires fact_1 { Within 1000 p }
-    requires fact_2 { Within 1000 q }
-    requires fact_3 { Within 1000 h }
+    requires small_p { Within 1000 p }
+    requires small_q { Within 1000 q }
+    requires small_h { Within 1000 h }
     ensures { result ≡ eq_z (p *ℤ p +ℤ q *ℤ q) (h *ℤ h) }
 {
     p * p + q * q == h * h
 }
 
-// The soil that stands at the front of a list.
-fn check_soil(s: &[i64], form: u32, line: usize) -> Outcome
-    requires fact_1 { line < 2 ^ 32 }
-    requires fact_2 { form ≤ most_form }
-    ensures { result
-        ≡ line_check (numbered form) (soil_lines 0) (take soil_columns s.now) (Place.Line line) }
+// A test that is asked of a line.
+pub fn demand(holds: bool, number: u32, line: usize) -> Outcome
+    requires { line < 2 ^ 32 }
+    ensures { result ≡ demand holds number (Place.Line line) }
 {
-    if s.len() < SOIL_COLUMNS {
-        return refused(form, line);
+    if holds {
+        Outcome::Passed
+    } else {
+        refused(number, line)
     }
-    if !limits_hold(&s[0..SOIL_COLUMNS], &SOIL_LEAST, &SOIL_MOST) {
-        return refused(form + 1, line);
-    }
-    if !right_angle(s[0], s[1], s[2]) {
-        return refused(3, line);
-    }
-    Outcome::Passed
 }
 
-// The element that stands at the front of a list; its soil is `least` or more.
-fn check_element(s: &[i64], sizes: Sizes, least: usize, form: u32, line: usize) -> Outcome
-    requires fact_1 { FewThings sizes }
-    requires fact_2 { least ≤ 1 }
-    requires fact_3 { line < 2 ^ 32 }
-    ensures { result
-        ≡ line_check (numbered form) (element_lines 0 sizes.nodes least sizes.soils)
-        (take element_columns s.now) (Place.Line line) }
-{
-    if s.len() < ELEMENT_COLUMNS {
-        return refused(form, line);
-    }
-    let n = sizes.nodes as i64;
-    let soils = sizes.soils as i64;
-    let lo = [1, 1, 1, 1, least as i64];
-    let most = [n, n, n, n, soils];
-    if !limits_hold(&s[0..ELEMENT_COLUMNS], &lo, &most) {
-        return refused(4, line);
-    }
-    Outcome::Passed
-}
-
-// The edge that stands at the front of a list.
-fn check_edge(s: &[i64], sizes: Sizes, form: u32, line: usize) -> Outcome
-    requires fact_1 { FewThings sizes }
-    requires fact_2 { line < 2 ^ 32 }
-    requires fact_3 { form ≤ most_form }
-    ensures { result
-        ≡ line_check (numbered form) (edge_lines 0 sizes.nodes) (take edge_columns s.now)
-        (Place.Line line) }
-{
-    if s.len() < EDGE_COLUMNS {
-        return refused(form, line);
-    }
-    if !limits_hold(&s[EDGE_ENDS..EDGE_COLUMNS], &EDGE_LEAST, &EDGE_MOST) {
-        return refused(form + 1, line);
-    }
-    let n = sizes.nodes as i64;
-    if !limits_hold(&s[0..EDGE_ENDS], &[1; EDGE_ENDS], &[n; EDGE_ENDS]) {
-        return refused(4, line);
-    }
-    Outcome::Passed
-}
-
-// The jump that stands at the front of a list.
-fn check_jump(s: &[i64], sizes: Sizes, form: u32, line: usize) -> Outcome
-    requires fact_1 { FewThings sizes }
-    requires fact_2 { line < 2 ^ 32 }
-    ensures { result
-        ≡ line_check (numbered form) (jump_lines 0 sizes.nodes) (take jump_columns s.now)
-        (Place.Line line) }
-{
-    if s.len() < JUMP_COLUMNS {
-        return refused(form, line);
-    }
-    let n = sizes.nodes as i64;
-    if !limits_hold(&s[0..JUMP_COLUMNS], &[1; JUMP_COLUMNS], &[n; JUMP_COLUMNS]) {
-        return refused(4, line);
-    }
-    Outcome::Passed
-}
-
-// The layer that stands at the front of a list.
-fn check_layer(s: &[i64], sizes: Sizes, form: u32, line: usize) -> Outcome
-    requires fact_1 { FewThings sizes }
-    requires fact_2 { line < 2 ^ 32 }
-    requires fact_3 { form ≤ most_form }
-    ensures { result
-        ≡ line_check (numbered form) (layer_lines 0 sizes.soils) (take layer_columns s.now)
-        (Place.Line line) }
-{
-    if s.len() < LAYER_COLUMNS {
-        return refused(form, line);
-    }
-    if !limits_hold(&s[0..LAYER_LIMITS], &LAYER_LEAST, &LAYER_MOST) {
-        return refused(form + 1, line);
-    }
-    let soils = sizes.soils as i64;
-    if !limits_hold(&s[LAYER_LIMITS..LAYER_COLUMNS], &[1], &[soils]) {
-        return refused(4, line);
-    }
-    Outcome::Passed
-}
-
-// The line that stands at the front of a list.
-fn line_check(rule: Rule, s: &[i64], sizes: Sizes, form: u32, line: usize) -> Outcome
-    requires fact_1 { FewThings sizes }
-    requires fact_2 { line < 2 ^ 32 }
-    requires fact_3 { form ≤ most_form }
-    ensures { result
-        ≡ line_check (numbered form) (ruled_lines rule sizes 0) (take (width (ruled_lines rule sizes 0)) s.now)
-        (Place.Line line) }
+// The numbers of a line are within the limits of their columns: the names of nodes and of soils have none.
+fn within_limits(rule: Rule, s: &[i64]) -> bool
+    requires whole { (z : Sizes) → length s.now ≡ width (ruled_lines rule z 0) }
+    ensures { (z : Sizes) → result ≡ all_within (ruled_lines rule z 0).limits s.now }
 {
     match rule {
-        Rule::Soil => check_soil(s, form, line),
-        Rule::Element => check_element(s, sizes, 1, form, line),
-        Rule::Tabled => check_element(s, sizes, 0, form, line),
-        Rule::Edge => check_edge(s, sizes, form, line),
-        Rule::Jump => check_jump(s, sizes, form, line),
-        Rule::Layer => check_layer(s, sizes, form, line),
+        Rule::Soil => limits_hold(s, &SOIL_LEAST, &SOIL_MOST),
+        Rule::Edge => limits_hold(&s[EDGE_ENDS..], &EDGE_LEAST, &EDGE_MOST),
+        Rule::Layer => limits_hold(&s[..LAYER_LIMITS], &LAYER_LEAST, &LAYER_MOST),
+        Rule::Element | Rule::Tabled | Rule::Jump => true,
     }
+}
+
+// The rule of a line whose numbers are within their limits: a soil's right angle, or that what the line names is there.
+fn rule_check(rule: Rule, s: &[i64], sizes: Sizes, line: usize) -> Outcome
+    requires few_things { FewThings sizes }
+    requires small_line { line < 2 ^ 32 }
+    requires whole { (z : Sizes) → length s.now ≡ width (ruled_lines rule z 0) }
+    requires in_limits { all_within (ruled_lines rule sizes 0).limits s.now ≡ true }
+    ensures { result ≡ rules_hold (ruled_lines rule sizes 0).rules s.now (Place.Line line) }
+{
+    let n = sizes.nodes as i64;
+    let soils = sizes.soils as i64;
+    let corners_and_soil = [n, n, n, n, soils];
+    match rule {
+        Rule::Soil => demand(right_angle(s[0], s[1], s[2]), 3, line),
+        Rule::Element => demand(limits_hold(s, &[1, 1, 1, 1, 1], &corners_and_soil), 4, line),
+        Rule::Tabled => demand(limits_hold(s, &[1, 1, 1, 1, 0], &corners_and_soil), 4, line),
+        Rule::Edge => demand(limits_hold(&s[..EDGE_ENDS], &[1, 1], &[n, n]), 4, line),
+        Rule::Jump => demand(limits_hold(s, &[1, 1, 1, 1], &[n, n, n, n]), 4, line),
+        Rule::Layer => demand(limits_hold(&s[LAYER_LIMITS..], &[1], &[soils]), 4, line),
+    }
+}
+
+// The numbers of a line, of which none is missing.
+fn line_check(rule: Rule, s: &[i64], sizes: Sizes, form: u32, line: usize) -> Outcome
+    requires few_things { FewThings sizes }
+    requires small_line { line < 2 ^ 32 }
+    requires small_form { form ≤ most_form }
+    requires whole { (z : Sizes) → length s.now ≡ width (ruled_lines rule z 0) }
+    ensures { result ≡ line_check (numbered form) (ruled_lines rule sizes 0) s.now (Place.Line line) }
+{
+    if !within_limits(rule, s) {
+        return refused(form + 1, line);
+    }
+    rule_check(rule, s, sizes, line)
 }
 
 // Line k of some lines of one kind at the front of a list, the first of them in line `line` of the file.
@@ -212,8 +130,9 @@ pub fn line_at(
     ensures { result ≡ line_step (numbered form) (ruled_lines rule sizes 0) s.now line k }
 {
     let from = k * columns;
-    if s.len() < from {
+    let end = from + columns;
+    if s.len() < end {
         return refused(form, line + k);
     }
-    line_check(rule, &s[from..], sizes, form, line + k)
+    line_check(rule, &s[from..end], sizes, form, line + k)
 }

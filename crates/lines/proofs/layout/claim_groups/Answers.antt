@@ -1,38 +1,72 @@
 -- `claim_groups` meets its contract: the table is the definitions' groups, by unfolding both.
-use mathlib.Core.Path.{sym}
+use mathlib.Core.Path.{refl, sym}
+use mathlib.Core.Bool.{Bool}
+use mathlib.Core.List.{List, [], ◌∷◌}
+use Prim.Native.Nat.{ℕ, ◌<◌, ◌≤◌}
 use native.Mathlib.Omega.{arith}
+use lib.IntN.{ℤ, pos, negsuc}
 use lib.ListN.{length-replicate}
 use Rattle.scope.specs.Columns.{up_to}
-use Rattle.scope.specs.Claim.{stress_lines, element_multipliers, edge_multipliers, jump_multipliers, strength_multipliers}
-use Rattle.lines.specs.Table.{kind_lines, claim_body, even_lines}
+use Rattle.scope.specs.Claim.{if_there, stress_lines, element_multipliers, edge_multipliers, jump_multipliers}
+use Rattle.scope.specs.Claim.{strength_multipliers}
+use Rattle.mesh.specs.declared.sizes.Sizes.{Sizes}
+use Rattle.mesh.specs.MeshContracts.{FewThings}
+use Rattle.lines.specs.declared.layout.Kind.TheVariants.{Even}
+use Rattle.lines.specs.declared.layout.Group as Code
+use Rattle.lines.specs.Table.{most_lines, most_columns, kind_lines, claim_body, even_lines, Good, Tabled}
 use Rattle.lines.proofs.GroupLaws.{few_there}
 use Rattle.lines.proofs.layout.claim_groups.Goals as goal
 
-pub returns : goal.returns
-unfolding kind_lines claim_body even_lines stress_lines element_multipliers edge_multipliers jump_multipliers strength_multipliers up_to
-returns c =
-    let p = c.requires in
-    let a = c.if_there.ensures in
-    let b = c.if_there-2.ensures in
-    let d = c.if_there-3.ensures in
-    let j = c.if_there-4.ensures in
-    let e = c.if_there-5.ensures in
+abbrev even : ℤ → ℤ → ℕ → ℕ → Code.Group
+even lo hi lines columns = record { kind = Even lo hi; lines = lines; columns = columns }
+
+part : (s : Sizes) (lo hi : ℤ) {n : ℕ} (w : ℕ) (there : Bool) → n ≤ most_lines → 0 < w → w ≤ most_columns →
+    Good s (even lo hi (if_there there n) w)
+unfolding kind_lines even_lines
+part s lo hi w there n some few =
     record {
-      same = rw (a, b, d, j, e);
-      table = record {
-        size = omega arith;
-        good = (
-          record { wide = omega arith; few_lines = few_there _ a p.few_nodes; some_column = omega arith; few_columns = omega arith },
-          (
-            record { wide = omega arith; few_lines = few_there _ b p.few_elements; some_column = omega arith; few_columns = omega arith },
-            (
-              record { wide = omega arith; few_lines = few_there _ d (omega (arith, p.few_edges)); some_column = omega arith; few_columns = omega arith },
-              (
-                record { wide = omega arith; few_lines = few_there _ j (omega (arith, p.few_jumps)); some_column = omega arith; few_columns = omega arith },
-                (record { wide = sym (length-replicate _ _); few_lines = few_there _ e (omega (arith, p.few_pairs)); some_column = p.some_side; few_columns = p.few_sides }, tt),
-              ),
-            ),
-          ),
-        );
-      };
+      wide = sym (length-replicate _ _);
+      few_lines = few_there there refl n;
+      some_column = some;
+      few_columns =
+          few;
     }
+
+abbrev listed : Sizes → Bool → Bool → List Code.Group
+listed s field multipliers =
+    even (negsuc 999999999) (pos 1000000000) (if_there field s.nodes) 3
+    ∷ even (negsuc 99999) (pos 100000) (if_there multipliers s.elements) 2
+    ∷ even (negsuc 99999) (pos 100000) (if_there multipliers s.edges) 4
+    ∷ even (negsuc 99999) (pos 100000) (if_there multipliers s.jumps) 4
+    ∷ even (pos 0) (pos 10000) (if_there multipliers s.pairs) s.sides
+    ∷ []
+
+all_good : (s : Sizes) → FewThings s → (f m : Bool) → Tabled s (listed s f m) (claim_body s f m)
+unfolding kind_lines claim_body even_lines stress_lines element_multipliers edge_multipliers jump_multipliers
+    strength_multipliers up_to
+all_good s p f m = record {
+  same = refl;
+  table = record {
+    size = refl;
+    good = (
+      part s _ _ _ f p.few_nodes (omega arith) (omega arith),
+      (
+        part s _ _ _ m p.few_elements (omega arith) (omega arith),
+        (
+          part s _ _ _ m (omega (arith, p.few_edges)) (omega arith) (omega arith),
+          (
+            part s _ _ _ m (omega (arith, p.few_jumps)) (omega arith) (omega arith),
+            (part s _ _ _ m (omega (arith, p.few_pairs)) p.some_side p.few_sides, tt),
+          ),
+        ),
+      ),
+    );
+  };
+}
+
+pub returns : goal.returns
+returns c =
+    let a = c.args in
+    rw (c.up_to.ensures, c.up_to-2.ensures, c.up_to-3.ensures, c.up_to-4.ensures, c.even.ensures)
+    (rw (c.if_there.ensures, c.if_there-2.ensures, c.if_there-3.ensures, c.if_there-4.ensures, c.if_there-5.ensures)
+    (all_good a.s c.requires a.field a.multipliers))

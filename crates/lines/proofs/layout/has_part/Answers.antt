@@ -1,23 +1,23 @@
 -- `has_part` meets its contract: a header that is too short to say that a part is there says that it is not.
-use mathlib.Core.Path.{sym, ap}
-use native.Mathlib.Omega.{arith}
-use lib.IntN.{ℤ, pos}
+use Rattle.std.proofs.Common.{◌≡◌, refl, sym, ap, ◌∙◌, ℕ, ◌<◌, ◌≤◌, List, length, ℤ, pos, Option, Some, None}
+use Rattle.std.specs.Option.{option_eq, MatchOption}
+use Rattle.std.specs.Ordering.{int_eq}
+use Rattle.std.specs.List.{HoldsAt}
+use Rattle.std.proofs.lemmas.Bool.Decides.{same_from_decides, Decides-int_eq}
+use denote.Bor.{Bor}
 use lib.ListN.{get_or-eq_default}
-use lib.Ieee.Bits.{is_true, is_false}
-use Rattle.integer.proofs.Machine.{machine, unbounded, told, apart}
 use Rattle.integer.specs.Tests.{eq_z}
-use Rattle.integer.proofs.TestLaws.{yes_eq_z, no_eq_z}
 use Rattle.scope.specs.Columns.{at}
+use Rattle.lines.proofs.LineLaws.{Decides-eq_z}
 use Rattle.lines.proofs.layout.has_part.Goals as goal
 
-pub returns-then-c-k : goal.returns-then-c-k
+found : (s : List ℤ) (k : ℕ) (one : Bor ℤ) → one.now ≡ pos 1 → (o : Option (Bor ℤ)) →
+    MatchOption o (length s ≤ k) (λ x. (k < length s) × HoldsAt (λ y. x.now ≡ y) s k) →
+    option_eq (λ x y. int_eq x.now y.now) o (Some one) ≡ eq_z (at s k) (pos 1)
 unfolding at
-returns-then-c-k c = sym (ap (λ (z : ℤ). eq_z z (pos 1)) (get_or-eq_default c.args.c.now (pos 0) c.if-c-k.true))
-
-pub returns-then-c-k-eq1 : goal.returns-then-c-k-eq1
-unfolding at
-returns-then-c-k-eq1 c = sym (is_true _ (yes_eq_z (told c.if-c-k-eq1.true (search (machine, unbounded) depth 30) (omega arith))))
+found s k one e None h = sym (ap (λ (z : ℤ). eq_z z (pos 1)) (get_or-eq_default s (pos 0) h))
+found s k one e (Some x) h = same_from_decides _ _ (Decides-int_eq x.now one.now) (Decides-eq_z x.now one.now)
+    ∙ rw (e, h.1 (pos 0))
 
 pub returns : goal.returns
-unfolding at
-returns c = sym (is_false _ (no_eq_z (apart c.if-c-k-eq1.false (search (machine, unbounded) depth 30) (omega arith))))
+returns c = c.eq.ensures ∙ found c.args.c.now c.args.k _ refl c.get.result c.get.ensures.lookup.3

@@ -1,5 +1,5 @@
--- `mesh_groups` meets its contract: the table is the definitions' groups, by unfolding both, with the rule of elements as it is told.
-use mathlib.Core.Path.{sym, subst}
+-- `mesh_groups` meets its contract: the table is the definitions' groups, by unfolding both, with the rule of elements
+-- as it is told.
 use mathlib.Core.Bool.{Bool, true, false, cond}
 use mathlib.Core.List.{List, [], ◌∷◌}
 use lib.IntN.{pos}
@@ -24,7 +24,8 @@ listed s element =
     ∷ record { kind = Ruled Jump; lines = s.jumps; columns = 4 }
     ∷ []
 
-by_rule : (s : Sizes) → FewThings s → (tabled : Bool) → Tabled s (listed s (cond tabled TabledElement Element)) (mesh_body s tabled)
+by_rule : (s : Sizes) → FewThings s → (tabled : Bool) →
+    Tabled s (listed s (cond tabled TabledElement Element)) (mesh_body s tabled)
 unfolding kind_lines mesh_body ruled_lines even_lines soil_lines node_lines element_lines edge_lines jump_lines
 by_rule s few true = search rules
 by_rule s few false = search rules
@@ -32,4 +33,5 @@ by_rule s few false = search rules
 pub returns : goal.returns
 returns c =
     let a = c.args in
-    subst (λ (r : Rule). Tabled a.s (listed a.s r) (mesh_body a.s a.tabled)) (sym c.element_rule-element.ensures) (by_rule a.s c.requires a.tabled)
+    rw (c.ruled.ensures, c.even.ensures, c.ruled-2.ensures, c.ruled-3.ensures, c.ruled-4.ensures)
+    (rw c.element_rule.ensures (by_rule a.s c.requires a.tabled))

@@ -1,44 +1,42 @@
--- `first_outside` meets its contract. The loop's invariant: the numbers passed are within the limits.
-use mathlib.Core.Path.{◌≡◌, refl, sym, ◌∙◌, ap}
-use native.Mathlib.Omega.{arith}
-use Rattle.scope.specs.Rows.{first_where}
-use Rattle.scope.specs.Columns.{Limit, at}
+-- `first_outside` meets its contract: the first place at which the test of a number fails.
+use Rattle.std.proofs.Common.{◌≡◌, ◌∙◌, sym, ap, ℕ, ◌<◌, ◌≤◌, true, false, List, Option, Some, None, ℤ, pos, length}
+use Rattle.std.proofs.Common.{get_or, take, rules, tests, arith}
+use Rattle.std.specs.List.{HoldsAt, AllWithin}
+use Rattle.std.specs.Option.{MatchOption, unwrap_or}
+use Rattle.std.proofs.lemmas.Iterator.{YieldsList-from_slice, IsFirst-from_position}
+use lib.Seq.{get_or-take, length-take-le}
+use Rattle.scope.specs.Columns.{Limit, between, within, at}
 use Rattle.lines.specs.SearchContracts.{first_failing}
-use Rattle.lines.proofs.Loops.{search_more, search_stops}
-use Rattle.lines.proofs.LineLaws.{read_limit, read_number, so, not_so}
-use borrow.Author.Rules.{rules}
-use Rattle.lines.proofs.line_checks.first_outside.Invariants.{inside}
+use Rattle.lines.proofs.Loops.{first_is}
 use Rattle.lines.proofs.line_checks.first_outside.Goals as goal
 
-pub loop-k-init : goal.loop-k-init
-unfolding first_where
-loop-k-init c = (omega arith, refl)
+module _ (l : Limit) (s : List ℤ) (n : ℕ) (h : n ≤ length s) where
+  long : length (take n s) ≡ n
+  long = length-take-le n s h
 
-pub returns-then-not-is_within : goal.returns-then-not-is_within
-unfolding at
-returns-then-not-is_within c =
+  there : (k : ℕ) → k < n → within l (get_or (take n s) k (pos 0)) ≡ within l (at s k)
+  unfolding at
+  there k b = ap (within l) (get_or-take n s k (pos 0) b)
+
+  lowest : (o : Option ℕ) →
+      MatchOption o (AllWithin (λ z. within l z ≡ true) (take n s) 0 (length (take n s)))
+      (λ i. (i < length (take n s)) × HoldsAt (λ z. within l z ≡ false) (take n s) i × AllWithin
+      (λ z. within l z ≡ true) (take n s) 0 i) →
+      unwrap_or o n ≡ first_failing (λ k. within l (at s k)) n
+  lowest None r =
+      first_is (λ k. within l (at s k)) n (omega arith)
+      (λ k b. sym (there k b) ∙ r k (pos 0) (omega arith) (omega (arith, long))) (λ b. absurd (omega arith))
+  lowest (Some i) r =
+      first_is (λ k. within l (at s k)) n (omega (arith, r.0, long))
+      (λ k b. sym (there k (omega (arith, r.0, long))) ∙ r.2 k (pos 0) (omega arith) b)
+      (λ b. sym (there i b) ∙ r.1 (pos 0))
+
+pub returns-clause-fact_1 : goal.returns-clause-fact_1
+returns-clause-fact_1 c =
     let a = c.args in
-    let outside = sym (read_number _ (search rules)) ∙ not_so c.is_within.ensures c.if-not-is_within.true in
-    record {
-      fact_1 =
-          search_stops (inside _ a.s.now) c.loop-k.invariant.1 a.count c.loop-k-test.true outside
-          ∙ ap (λ (l : Limit). first_failing (inside l a.s.now) a.count) (read_limit c.ranges.lo c.ranges.hi);
-      fact_2 = omega (arith, c.loop-k-test.true);
-    }
-
-pub loop-k-preserved : goal.loop-k-preserved
-unfolding at
-loop-k-preserved c =
-    let within = sym (read_number _ (search rules)) ∙ so c.is_within.ensures c.if-not-is_within.false in
-    (omega arith, search_more (inside _ c.args.s.now) c.loop-k.invariant.1 within)
-
-pub returns : goal.returns
-returns c =
-    let a = c.args in
-    let e : c.loop-k.k ≡ a.count = omega arith in
-    record {
-      fact_1 =
-          sym (ap (first_failing (inside _ a.s.now)) (sym e) ∙ c.loop-k.invariant.1 ∙ e)
-          ∙ ap (λ (l : Limit). first_failing (inside l a.s.now) a.count) (read_limit c.ranges.lo c.ranges.hi);
-      fact_2 = omega arith;
-    }
+    let l = between a.lo a.hi in
+    c.unwrap_or.ensures
+    ∙ lowest l a.s.now a.count c.requires c.position.result
+    (IsFirst-from_position _ _ _ (λ z. within l z ≡ false) (λ z. within l z ≡ true) c.position.ensures.ran
+    (YieldsList-from_slice (take a.count a.s.now) cc) (λ x q k. search (rules, tests))
+    (λ x q k. search (rules, tests)))

@@ -1,5 +1,5 @@
 -- `group_check` meets its contract: lines with rules of their own one by one, and others in one go.
-use mathlib.Core.Path.{◌∙◌, ap}
+use mathlib.Core.Path.{sym, ◌∙◌, ap}
 use mir.Syntax.{w64}
 use mir.Val.{SFits}
 use mir.Facts.{to_z-of_z}
@@ -7,17 +7,28 @@ use borrow.Author.Rules.{rules}
 use Rattle.scope.specs.Layout.{width}
 use Rattle.lines.specs.declared.layout.Kind.{Kind}
 use Rattle.lines.specs.Table.{kind_lines}
-use Rattle.lines.proofs.GroupLaws.{ruled_width}
+use Rattle.lines.proofs.LineLaws.{width_is}
 use Rattle.lines.proofs.line_checks.group_check.Goals as goal
 
 pub ruled_check-requires : goal.ruled_check-requires
 unfolding kind_lines
 ruled_check-requires c =
-    let g = c.requires.fact_1 in
+    let g = c.requires.good in
     let z = c.args.sizes in
     let columns = ap (λ (k : Kind). width (kind_lines k z c.args.g.lines c.args.g.columns)) c.in-Ruled.is in (
-      record { things = c.requires.fact_2; few = record { few_lines = g.few_lines; some_column = g.some_column; few_columns = g.few_columns; form_most = c.requires.fact_3; line_most = c.requires.fact_4 } },
-      g.wide ∙ columns ∙ ruled_width _ z _,
+      record {
+        things = c.requires.few_things;
+        few =
+            record {
+              few_lines = g.few_lines;
+              some_column = g.some_column;
+              few_columns = g.few_columns;
+              form_most =
+                  c.requires.small_form;
+              line_most = c.requires.small_line;
+            };
+      },
+      g.wide ∙ columns ∙ width_is _ z _ ∙ sym (width_is _ z 0),
     )
 
 pub returns-in-Ruled : goal.returns-in-Ruled

@@ -3,6 +3,7 @@ use mathlib.Core.Path.{◌∙◌, sym}
 use mathlib.Core.Path.{◌≡◌}
 use mathlib.Core.List.{List}
 use native.Mathlib.Omega.{arith}
+use Rattle.std.proofs.lemmas.List.{take_rest}
 use lib.IntN.{ℤ}
 use Rattle.scope.specs.declared.Outcome.{Outcome}
 use Rattle.scope.specs.declared.Outcome.TheVariants.{Passed}
@@ -26,17 +27,26 @@ returns-in-Refused c =
 pub header_sizes-s-requires : goal.header_sizes-s-requires
 header_sizes-s-requires c = header c.args.m.now c.mesh_header-header.ensures c.in_default.is
 
-pub rest-requires : goal.rest-requires
-rest-requires c = (header c.args.m.now c.mesh_header-header.ensures c.in_default.is).there
+pub slice_bounds-groups_check-count : goal.slice_bounds-groups_check-count
+slice_bounds-groups_check-count c = (header c.args.m.now c.mesh_header-header.ensures c.in_default.is).there
+
+pub slice_bounds-groups_check-start : goal.slice_bounds-groups_check-start
+slice_bounds-groups_check-start c = (header c.args.m.now c.mesh_header-header.ensures c.in_default.is).there
 
 pub mesh_groups-requires : goal.mesh_groups-requires
 mesh_groups-requires c = few_sizes c.header_sizes-s.ensures
 
 pub groups_check-requires : goal.groups_check-requires
-groups_check-requires c = record { fact_1 = c.mesh_groups.ensures.table; fact_2 = few_sizes c.header_sizes-s.ensures; fact_3 = omega arith }
+groups_check-requires c = record {
+  table = c.mesh_groups.ensures.table;
+  few_things = few_sizes c.header_sizes-s.ensures;
+  small_form = omega arith;
+}
 
 pub returns : goal.returns
 unfolding mesh_header
 returns c =
     let m = c.args.m.now in
-    go_on (mesh_starts _ m) (c.mesh_header-header.ensures ∙ mesh_header_group m) c.in_default.is c.rest.ensures _ (c.mesh_groups.ensures.same ∙ mesh_body_lem _ c.header_sizes-s.ensures) c.groups_check.ensures
+    go_on (mesh_starts _ m) (c.mesh_header-header.ensures ∙ mesh_header_group m) c.in_default.is
+    (take_rest c.args.m.now _) _ (c.mesh_groups.ensures.same ∙ mesh_body_lem _ c.header_sizes-s.ensures)
+    c.groups_check.ensures

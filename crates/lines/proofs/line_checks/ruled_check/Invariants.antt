@@ -1,6 +1,5 @@
 -- `ruled_check` meets its contract. The loop's invariant: the lines before line k have passed.
 use mathlib.Core.Path.{◌≡◌}
-use Prim.Native.Nat.{◌-◌, ◌≤◌}
 use Rattle.scope.specs.declared.Outcome.TheVariants.{Passed}
 use Rattle.scope.specs.Checks.{lowest}
 use Rattle.lines.specs.LineContracts.{numbered, line_step}
@@ -8,7 +7,4 @@ use Rattle.lines.specs.Table.{ruled_lines}
 use Rattle.lines.proofs.line_checks.ruled_check.Given as goal
 
 abbrev pub invariant-loop-k : goal.invariant-loop-k
-invariant-loop-k l = (l.k ≤ l.count) × (lowest (line_step (numbered l.form) (ruled_lines l.rule l.sizes 0) l.s l.line) l.k ≡ Passed)
-
-abbrev pub decreases-loop-k : goal.decreases-loop-k
-decreases-loop-k l = l.count - l.k
+invariant-loop-k l = lowest (line_step (numbered l.form) (ruled_lines l.rule l.sizes 0) l.s l.line) l.k ≡ Passed

@@ -1,18 +1,15 @@
 -- `table_lines` meets its contract: the lines of the one group that a table has, and then what is left over.
 use mathlib.Core.Path.{◌≡◌, sym, ◌∙◌, ap}
-use mathlib.Core.Bool.{Bool}
 use Prim.Native.Nat.{ℕ, ◌+◌, ◌*◌}
 use mathlib.Core.List.{List}
 use Prim.Native.Nat.{◌/◌}
-use native.Mathlib.Omega.{arith}
 use lib.IntN.{ℤ}
 use Rattle.std.specs.Prelude.{min}
 use Rattle.scope.specs.declared.Outcome.{Outcome}
 use Rattle.mesh.specs.declared.sizes.Sizes.{Sizes}
 use lib.ListN.{length}
-use borrow.Author.Tests.{le-leb, lt-leb}
+use lib.Dec.{leb}
 use Rattle.scope.specs.declared.Place.TheVariants.{Line}
-use Rattle.scope.specs.declared.Outcome.TheVariants.{Refused}
 use Rattle.scope.specs.Checks.{demand}
 use Rattle.scope.specs.Layers.{layer_columns, most_layers}
 use Rattle.scope.specs.Table.{layer_lines, table_lines}
@@ -30,7 +27,8 @@ unfolding table_lines
 counted t e = e
 
 -- what the group says
-group : (t : List ℤ) (s : Sizes) {n : ℕ} {o : Outcome} → o ≡ group_check (numbered 1) (ruled_lines Layer s n) t 1001 → n ≡ table_lines t → o ≡ group_check (numbered 1) (ruled_lines Layer s (table_lines t)) t 1001
+group : (t : List ℤ) (s : Sizes) {n : ℕ} {o : Outcome} → o ≡ group_check (numbered 1) (ruled_lines Layer s n) t 1001 →
+    n ≡ table_lines t → o ≡ group_check (numbered 1) (ruled_lines Layer s (table_lines t)) t 1001
 group t s e n = e ∙ ap (λ (n : ℕ). group_check (numbered 1) (ruled_lines Layer s n) t 1001) n
 
 pub returns-in-Refused : goal.returns-in-Refused
@@ -40,24 +38,13 @@ returns-in-Refused c m e =
     let g = group a.t.now a.s c.ruled_check-outcome.ensures (counted a.t.now c.table_count-count.ensures) in
     d ∙ then_refuses _ (sym g ∙ d) ∙ sym (table_check a.t.now m a.s e)
 
-pub returns-then-count-t : goal.returns-then-count-t
-returns-then-count-t c m e =
-    let t = c.args.t.now in
-    let n = counted t c.table_count-count.ensures in
-    let g = group t c.args.s c.ruled_check-outcome.ensures n in
-    then_goes_on (sym g ∙ c.in_default.is)
-    (c.refused.ensures
-    ∙ ap (λ (k : ℕ). Refused 1 (Line (1001 + k))) n
-    ∙ sym (ap (λ (b : Bool). demand b 1 (Line (1001 + table_lines t))) (lt-leb (length t) (table_lines t * layer_columns) (omega (arith, n, c.if-count-t.true)))))
-    ∙ sym (table_check t m c.args.s e)
-
 pub returns : goal.returns
 returns c m e =
     let t = c.args.t.now in
     let n = counted t c.table_count-count.ensures in
     let g = group t c.args.s c.ruled_check-outcome.ensures n in
     then_goes_on (sym g ∙ c.in_default.is)
-    (sym (ap (λ (b : Bool). demand b 1 (Line (1001 + table_lines t))) (le-leb (length t) (table_lines t * layer_columns) (omega (arith, n, c.if-count-t.false)))))
+    (c.demand.ensures ∙ ap (λ (k : ℕ). demand (leb (length t) (k * layer_columns)) 1 (Line (1001 + k))) n)
     ∙ sym (table_check t m c.args.s e)
 
 pub ruled_check-outcome-requires : goal.ruled_check-outcome-requires

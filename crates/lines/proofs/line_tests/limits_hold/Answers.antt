@@ -1,29 +1,29 @@
--- `limits_hold` meets its contract. The loop's invariant: the numbers passed are within their limits, so that the rest decides.
-use mathlib.Core.Path.{sym, ◌∙◌}
-use Rattle.lines.proofs.LineLaws.{limits_start, limits_go_on, limits_fail, limits_end, read_within, so, not_so}
-use mathlib.Core.Path.{◌≡◌}
-use mathlib.Core.Bool.{Bool}
-use lib.IntN.{ℤ}
-use mir.Syntax.{w64}
-use mir.Val.{to_z, of_z, SFits}
-use Rattle.scope.specs.Columns.{between, within}
-use borrow.Author.Rules.{rules}
+-- `limits_hold` meets its contract: the test of each number with its limits, one after another.
+use Rattle.std.proofs.Common.{◌≡◌, ap, refl, ◌∙◌, Bool, ◌&&◌, List, [], ◌∷◌, ℤ, rules, tests}
+use Rattle.std.specs.List.{zip, list_all}
+use Rattle.std.proofs.lemmas.Iterator.{YieldsList-from_slice, YieldsList-from_zip}
+use Rattle.std.proofs.lemmas.Iterator.Search.{all_from_yields_List}
+use Rattle.scope.specs.Columns.{between, within, all_within}
+use Rattle.lines.specs.LineContracts.{ranges}
 use Rattle.lines.proofs.line_tests.limits_hold.Goals as goal
 
-pub loop-k-init : goal.loop-k-init
-loop-k-init c = limits_start _ _ _
+abbrev inside : (ℤ × ℤ) × ℤ → Bool
+inside p = within (between p.0.1 p.1) p.0.0
 
--- the test of number k, of the numbers themselves
-numbers : {lo hi z : ℤ} {b : Bool} → SFits w64 lo → SFits w64 hi → SFits w64 z → within (between (to_z w64 (of_z w64 lo)) (to_z w64 (of_z w64 hi))) (to_z w64 (of_z w64 z)) ≡ b → within (between lo hi) z ≡ b
-numbers f g h e = sym (read_within f g h) ∙ e
-
-pub returns-then-not-is_within : goal.returns-then-not-is_within
-returns-then-not-is_within c =
-    limits_fail c.requires c.loop-k.invariant c.loop-k-test.true (numbers (search rules) (search rules) (search rules) (not_so c.is_within.ensures c.if-not-is_within.true))
-
-pub loop-k-preserved : goal.loop-k-preserved
-loop-k-preserved c =
-    limits_go_on c.requires c.loop-k.invariant c.loop-k-test.true (numbers (search rules) (search rules) (search rules) (so c.is_within.ensures c.if-not-is_within.false))
+each : (lo hi s : List ℤ) → list_all inside (zip (zip s lo) hi) ≡ all_within (ranges lo hi) s
+unfolding ranges all_within
+each [] hi [] = refl
+each [] hi (z ∷ s) = refl
+each (a ∷ lo) [] [] = refl
+each (a ∷ lo) [] (z ∷ s) = refl
+each (a ∷ lo) (b ∷ hi) [] = refl
+each (a ∷ lo) (b ∷ hi) (z ∷ s) = ap (λ (t : Bool). within (between a b) z && t) (each lo hi s)
 
 pub returns : goal.returns
-returns c = limits_end c.requires c.loop-k.invariant c.loop-k-test.false
+returns c =
+    let a = c.args in
+    all_from_yields_List inside c.all.new.self _ c.all.result c.all.ensures.ran
+    (YieldsList-from_zip (YieldsList-from_zip (YieldsList-from_slice a.s.now cc) (YieldsList-from_slice a.lo.now cc))
+    (YieldsList-from_slice a.hi.now cc))
+    (λ x b q k. search (rules, tests))
+    ∙ each a.lo.now a.hi.now a.s.now
