@@ -1,5 +1,6 @@
--- A mesh in which the first elements have their layers' soils and the others soil 1: it has all that sound lines say, one element more is one number set, and after the last element it is the filled mesh.
-use mathlib.Core.Path.{◌≡◌, sym, ◌∙◌, ap, subst}
+-- A mesh in which the first elements have their layers' soils and the others soil 1: it has all that sound lines say,
+-- one element more is one number set, and after the last element it is the filled mesh.
+use mathlib.Core.Path.{◌≡◌, sym, ◌∙◌, ap, ap₂, subst}
 use mathlib.Core.Bool.{Bool, true, false, cond}
 use mathlib.Core.List.{List}
 use Prim.Native.Nat.{ℕ, ◌+◌, ◌≤◌, ◌<◌}
@@ -9,7 +10,6 @@ use lib.Dec.{ltb}
 use lib.IntN.{ℤ, pos}
 use lib.ListN.{length, set}
 use borrow.Author.Tests.{lt-ltb, le-ltb}
-use Rattle.integer.specs.Tests.{eq_z}
 use Rattle.integer.proofs.Order.{pos_≤ℤ}
 use Rattle.scope.specs.Columns.{at}
 use Rattle.scope.specs.Mesh.{most_elements, elements, soils}
@@ -18,9 +18,10 @@ use Rattle.scope.specs.Rows.{first_where}
 use Rattle.scope.specs.Layers.{layers, soil, has, soil_at}
 use Rattle.scope.specs.Filled.{height_of, soil_place, given, filled, with_soils}
 use Rattle.scope.specs.LayerRows.{OneLayer}
-use Rattle.scope.proofs.Decides.{equalℤ, yes_is, no_is}
 use Rattle.scope.proofs.Layers.{soil_found, soil-at}
-use Rattle.scope.proofs.Filled.{given-length, given_cong, given_kept, given_set, given_facts, soil-there, element_layer, height_kept, place_kept, nodes_kept, elements_kept, soils_kept, edges_kept, sides_kept, jumps_kept}
+use Rattle.scope.proofs.Filled.{given-length, given_cong, given_kept, given_set, given_facts, soil-there, element_layer}
+use Rattle.scope.proofs.Filled.{height_kept, place_kept, nodes_kept, elements_kept, soils_kept, edges_kept}
+use Rattle.scope.proofs.Filled.{sides_kept, jumps_kept}
 use Rattle.mesh.specs.declared.sizes.Sizes.{Sizes}
 use Rattle.mesh.specs.MeshContracts.{Sized, SizesAre, FewThings}
 use Rattle.mesh.proofs.Places.{as_sizes, few_things}
@@ -41,8 +42,12 @@ module _ {t : List ℤ} {n : ℕ} {m : List ℤ} {s : Sizes} (f : Fillable t n m
   soils_are_lem e d l = by (ltb d e)
     where
       by : (b : Bool) → Between (pos 1) (pos (soils m)) (cond b (soil_at t (height_of m d)) (pos 1))
-      by true = let o = layer d l in subst (Between (pos 1) (pos (soils m))) (sym (soil-at t (height_of m d) o)) (f.named o.layer o.there)
-      by false = record { least = pos_≤ℤ (omega arith); most = pos_≤ℤ (omega (arith, facts.counts.soils_least, soils_kept one m)) }
+      by true =
+          let o = layer d l in
+          subst (Between (pos 1) (pos (soils m))) (sym (soil-at t (height_of m d) o)) (f.named o.layer o.there)
+      by false =
+          let some = facts.counts.soils_least in
+          record { least = pos_≤ℤ (omega arith); most = pos_≤ℤ (omega (arith, soils_kept one m)) }
 
   -- the sizes are the same whatever soils are given
   pub sized_to : (e : ℕ) → Sized (given (soils_to t m e) m) s
@@ -79,7 +84,7 @@ module _ {t : List ℤ} {n : ℕ} {m : List ℤ} {s : Sizes} (f : Fillable t n m
     pub place_small : soil_place m e < 2000
     place_small =
         let k = facts.counts in
-        omega (arith, place_there, given-length one m, facts.size, k.soils_most, k.nodes_most, k.elements_most, k.edges_most, k.jumps_most)
+        omega (arith, place_there, given-length one m, facts.size)
 
     pub set_there : soil_place m e < length (given (soils_to t m e) m)
     set_there = omega (arith, place_there, given-length (soils_to t m e) m)
@@ -101,8 +106,14 @@ module _ {t : List ℤ} {n : ℕ} {m : List ℤ} {s : Sizes} (f : Fillable t n m
     here : soils_to t m (e + 1) e ≡ soil_at t (height_of m e)
     here = ap (λ (b : Bool). cond b (soil_at t (height_of m e)) (pos 1)) (lt-ltb e (e + 1) (omega arith))
 
-    pub soil_kept : eq_z (at m (soil_place m e)) (pos 0) ≡ false → given (soils_to t m e) m ≡ given (soils_to t m (e + 1)) m
-    soil_kept z = given_kept (soils_to t m e) (soils_to t m (e + 1)) m e l place_there same_but (no_is (equalℤ (at m (soil_place m e)) (pos 0)) z)
+    pub soil_kept :
+        {k : ℕ} →
+        k ≡ soil_place m e →
+        ¬ (at m k ≡ pos 0) →
+        given (soils_to t m e) m ≡ given (soils_to t m (e + 1)) m
+    soil_kept place other =
+        given_kept (soils_to t m e) (soils_to t m (e + 1)) m e l place_there same_but
+        (subst (λ (k : ℕ). ¬ (at m k ≡ pos 0)) place other)
 
     -- the layer that was found
     module _ {q i : ℕ} (eq : q ≡ height_of (given (soils_to t m e) m) e) (ei : i ≡ first_where (has t q) n) where
@@ -110,22 +121,37 @@ module _ {t : List ℤ} {n : ℕ} {m : List ℤ} {s : Sizes} (f : Fillable t n m
       height = eq ∙ height_kept (soils_to t m e) m (sized_to e).facts e l
 
       found : i ≡ (layer e l).layer
-      found = ei ∙ ap (first_where (has t q)) f.table.counted ∙ ap (λ (x : ℕ). first_where (has t x) (layers t)) height ∙ soil_found t (height_of m e) (layer e l)
+      found =
+          ei
+          ∙ ap (first_where (has t q)) f.table.counted
+          ∙ ap (λ (x : ℕ). first_where (has t x) (layers t)) height
+          ∙ soil_found t (height_of m e) (layer e l)
 
       pub found_there : i < n
       found_there = omega (arith, found, (layer e l).there, f.table.counted)
 
-      pub soil_set : eq_z (at m (soil_place m e)) (pos 0) ≡ true → {z : ℤ} → z ≡ soil t i → set (given (soils_to t m e) m) (soil_place m e) z ≡ given (soils_to t m (e + 1)) m
-      soil_set zero {z} d =
-          let to : z ≡ soils_to t m (e + 1) e = d ∙ ap (soil t) found ∙ sym (soil-at t (height_of m e) (layer e l)) ∙ sym here in
-          ap (set (given (soils_to t m e) m) (soil_place m e)) to
-          ∙ given_set (soils_to t m e) (soils_to t m (e + 1)) m e l place_there same_but (yes_is (equalℤ (at m (soil_place m e)) (pos 0)) zero)
+      pub soil_set :
+          {k : ℕ} {z : ℤ} →
+          k ≡ soil_place m e →
+          at m k ≡ pos 0 →
+          z ≡ soil t i →
+          set (given (soils_to t m e) m) k z ≡ given (soils_to t m (e + 1)) m
+      soil_set {k} {z} place zero d =
+          let to : z ≡ soils_to t m (e + 1) e =
+          d ∙ ap (soil t) found ∙ sym (soil-at t (height_of m e) (layer e l)) ∙ sym here in
+          ap₂ (set (given (soils_to t m e) m)) place to
+          ∙ given_set (soils_to t m e) (soils_to t m (e + 1)) m e l place_there same_but
+          (subst (λ (k : ℕ). at m k ≡ pos 0) place zero)
 
 -- before the first element, and after the last
 pub none_filled : (t m : List ℤ) → with_soils m ≡ given (soils_to t m 0) m
 unfolding with_soils
-none_filled t m = given_cong one (soils_to t m 0) m (λ e l. sym (ap (λ (b : Bool). cond b (soil_at t (height_of m e)) (pos 1)) (le-ltb e 0 (omega arith))))
+none_filled t m =
+    given_cong one (soils_to t m 0) m
+    (λ e l. sym (ap (λ (b : Bool). cond b (soil_at t (height_of m e)) (pos 1)) (le-ltb e 0 (omega arith))))
 
 pub all_filled : (t m : List ℤ) {e : ℕ} → e ≡ elements m → given (soils_to t m e) m ≡ filled t m
 unfolding filled
-all_filled t m {e} d = given_cong (soils_to t m e) (λ e. soil_at t (height_of m e)) m (λ i l. ap (λ (b : Bool). cond b (soil_at t (height_of m i)) (pos 1)) (lt-ltb i e (omega arith)))
+all_filled t m {e} d =
+    given_cong (soils_to t m e) (λ e. soil_at t (height_of m e)) m
+    (λ i l. ap (λ (b : Bool). cond b (soil_at t (height_of m i)) (pos 1)) (lt-ltb i e (omega arith)))

@@ -1,71 +1,114 @@
--- What is read of a layer, the search for the first that has a height, and overlaps by pairs: two layers share a height from lo to hi exactly where both have begun, neither has ended and hi is not passed.
-use mathlib.Core.Path.{◌≡◌, refl, sym, ap, subst}
-use mathlib.Core.Bool.{Bool, true, false, cond, not}
+-- The search for the first layer that has a height, and overlaps by pairs: two layers share a height from lo to hi
+-- exactly where both have begun, neither has ended and hi is not passed.
+use mathlib.Core.Path.{◌≡◌, refl, sym, ◌∙◌, ap, ap₂, subst}
+use mathlib.Core.Bool.{Bool, true, false, cond, not, ◌&&◌}
 use mathlib.Core.List.{List}
-use Prim.Native.Nat.{ℕ, ◌+◌, ◌*◌, ◌≤◌, ◌<◌}
+use Prim.Native.Nat.{ℕ, ◌*◌, ◌≤◌, ◌<◌, max}
 use native.Mathlib.Omega.{arith}
 use lib.Dec.{T}
 use lib.IntN.{ℤ, pos, negsuc, ◌*ℤ◌, nat_abs}
-use lib.Signed.{lt_z, ◌≤ℤ◌, ◌<ℤ◌, ≤ℤ_refl, lt_z_yes, lt_z_no, clash_ℤ}
-use Rattle.integer.specs.Bounds.{Is}
-use Rattle.integer.proofs.TestLaws.{same_test, yes_lt_z}
+use lib.Signed.{le_z, lt_z, ◌≤ℤ◌, ◌<ℤ◌, ≤ℤ_refl, lt_z_yes, lt_z_no, clash_ℤ}
+use Rattle.std.proofs.Common.{Option, None, Some, Ordering, Less, Equal, Greater, is_le, is_lt, int_cmp}
+use Rattle.std.specs.Cmp.{int_ranks}
+use Rattle.std.specs.Ordering.{MatchOrdering}
+use Rattle.std.specs.Int.{int_max}
+use Rattle.std.specs.Option.{MatchOption, unwrap_or}
+use Rattle.std.proofs.lemmas.Int.{by_lt_z}
+use Rattle.integer.specs.Bounds.{Within, Is}
+use Rattle.integer.proofs.Machine.{Machine, Flag, peaks, left_below, right_below, flag_le_z, flag_lt_z}
+use Rattle.integer.proofs.TestLaws.{same_test}
 use Rattle.integer.proofs.Linear.{linear, facts, ◌&◌, nothing}
-use Rattle.integer.proofs.Order.{≤ℤ_trans, <ℤ→≤ℤ, nonneg, ≤ℤ_pos}
-use Rattle.scope.specs.Columns.{at}
+use Rattle.integer.proofs.Order.{≤ℤ_trans, ≤ℤ_antisym, <ℤ→≤ℤ, <ℤ→≢, ≡→≤ℤ, nonneg, ≤ℤ_pos}
+use Rattle.scope.specs.declared.Outcome.{Outcome}
+use Rattle.scope.specs.declared.Outcome.TheVariants.{Passed, Refused}
+use Rattle.scope.specs.Checks.{◌then◌, some_below}
 use Rattle.scope.specs.Rows.{first_where}
-use Rattle.scope.specs.Layers.{layer_columns, most_level, bottom, top, soil, Has, has, apart}
-use Rattle.scope.proofs.Decides.{Decides, both, at_mostℤ, belowℤ, is_yes, is_no, yes_is, no_is}
-use Rattle.scope.proofs.Layers.{first_is, has_says, apart_says}
-use Rattle.layers.specs.LayerContracts.{TableRead, higher, meeting, meet}
+use Rattle.scope.specs.Layers.{bottom, top, Has, Apart, apart}
+use Rattle.scope.proofs.Decides.{Decides, both, opposite, some_below_lem, at_mostℤ, belowℤ, is_yes, is_no}
+use Rattle.scope.proofs.Layers.{first_is, apart_says}
+use Rattle.layers.specs.LayerContracts.{higher, meeting, meet}
 
 pub nonneg_pos : {z : ℤ} → pos 0 ≤ℤ z → z ≡ pos (nat_abs z)
 nonneg_pos {z = pos n} l = refl
 nonneg_pos {z = negsuc n} l = absurd l.le
 
--- ---- the numbers of a layer
-
-module _ {t : List ℤ} {n : ℕ} (k : TableRead t n) where
-  pub bottom_read : {r : ℤ} (i : ℕ) → r ≡ at t (i * layer_columns) → Is r (bottom t i) most_level
-  unfolding bottom at
-  bottom_read i e = record { same = e; inside = k.limits.each (i * layer_columns) }
-
-  pub top_read : {r : ℤ} (i : ℕ) → r ≡ at t (i * layer_columns + 1) → Is r (top t i) most_level
-  unfolding top at
-  top_read i e = record { same = e; inside = k.limits.each (i * layer_columns + 1) }
-
-  pub soil_read : {r : ℤ} (i : ℕ) → r ≡ at t (i * layer_columns + 2) → Is r (soil t i) most_level
-  unfolding soil at
-  soil_read i e = record { same = e; inside = k.limits.each (i * layer_columns + 2) }
-
 -- ---- the first that has a height
-
-module _ (t : List ℤ) (q i : ℕ) where
-  pub not_begun : pos q <ℤ (pos 4 *ℤ bottom t i) → false ≡ has t q i
-  not_begun l = sym (is_no (has_says t q i) (λ s. clash_ℤ l s.0))
-
-  pub begun_has : (pos 4 *ℤ bottom t i) ≤ℤ pos q → lt_z (pos q) (pos 4 *ℤ top t i) ≡ has t q i
-  begun_has l = same_test (λ s. (has_says t q i).passes (l, lt_z_yes s)) (λ s. yes_lt_z ((has_says t q i).holds s).1)
 
 fails : {b : Bool} → b ≡ false → T (not b)
 fails e = subst (λ (b : Bool). T (not b)) (sym e) tt
 
--- the test has failed at all places before i
-module _ (f : ℕ → Bool) (n i : ℕ) (h : (k : ℕ) → k < i → f k ≡ false) where
-  pub first_found : i < n → f i ≡ true → i ≡ first_where f n
-  first_found l e = first_is f n i (record { fits = omega arith; before = λ k b. fails (h k b); passes = λ b. subst T (sym e) tt })
+-- the first of n places that was found, or n
+pub first_or_end :
+    (f : ℕ → Bool) (n : ℕ) (r : Option ℕ) →
+    MatchOption r
+    ((k : ℕ) → 0 ≤ k → k < n → f k ≡ false)
+    (λ i. (0 ≤ i) × (i < n) × (f i ≡ true) × ((k : ℕ) → 0 ≤ k → k < i → f k ≡ false)) →
+    unwrap_or r n ≡ first_where f n
+first_or_end f n None none =
+    first_is f n n (record {
+      fits = omega arith;
+      before = λ k l. fails (none k (omega arith) l);
+      passes = λ l. absurd (omega arith);
+    })
+first_or_end f n (Some i) (_, there, passes, before) =
+    first_is f n i (record {
+      fits = omega arith;
+      before = λ k l. fails (before k (omega arith) l);
+      passes = λ l. subst T (sym passes) tt;
+    })
 
-  pub first_none : n ≤ i → n ≡ first_where f n
-  first_none l = first_is f n n (record { fits = omega arith; before = λ k b. fails (h k (omega arith)); passes = λ b. absurd (omega arith) })
+-- ---- a test by an order, and a test and another
+
+pub ranked :
+    (a b : ℤ) (r : Ordering) →
+    MatchOrdering r (a <ℤ b) (a ≡ b) (b <ℤ a) →
+    (is_le r ≡ le_z a b) × (is_lt r ≡ lt_z a b)
+ranked a b Less h = (sym (is_yes (at_mostℤ a b) (<ℤ→≤ℤ h)), sym (is_yes (belowℤ a b) h))
+ranked a b Equal h = (sym (is_yes (at_mostℤ a b) (≡→≤ℤ h)), sym (is_no (belowℤ a b) (λ l. <ℤ→≢ l h)))
+ranked a b Greater h =
+    (sym (is_no (at_mostℤ a b) (λ l. clash_ℤ h l)), sym (is_no (belowℤ a b) (λ l. clash_ℤ h (<ℤ→≤ℤ l))))
+
+-- the reading of `(a..b).contains(&z)`
+abbrev pub flag_contains :
+    {v w u : ℤ} →
+    Machine v →
+    Machine w →
+    Machine u →
+    Flag (is_le (int_cmp v w) && is_lt (int_cmp w u))
+flag_contains {v} {w} {u} h k l =
+    record {
+      plain = le_z h.plain k.plain && lt_z k.plain l.plain;
+      peak = max (peaks h k) (peaks k l);
+      says = λ o.
+          ap₂ ◌&&◌
+          ((ranked v w (int_cmp v w) (int_ranks v w)).0 ∙ (flag_le_z h k).says (left_below (peaks h k) (peaks k l) o))
+          ((ranked w u (int_cmp w u) (int_ranks w u)).1 ∙ (flag_lt_z k l).says (right_below (peaks h k) (peaks k l) o));
+    }
+
+pub and_second : {a b x y : Bool} → x ≡ true → x ≡ a → y ≡ b → y ≡ (a && b)
+and_second {a = true} h e d = d
+and_second {a = false} h e d = absurd (subst T (sym h ∙ e) tt)
+
+pub and_not_first : {a x : Bool} (b : Bool) → x ≡ false → x ≡ a → x ≡ (a && b)
+and_not_first {a = true} b h e = absurd (subst T (sym e ∙ h) tt)
+and_not_first {a = false} b h e = h
 
 -- ---- the larger of two numbers
 
-pub higher_second : {a b : ℤ} → a <ℤ b → b ≡ higher a b
+max_higher : (a b : ℤ) → int_max a b ≡ higher a b
 unfolding higher
-higher_second {a} {b} l = sym (ap (λ (c : Bool). cond c b a) (is_yes (belowℤ a b) l))
+max_higher a b = by_lt_z a b (λ l. is_second (<ℤ→≤ℤ l) ∙ sym (ap choice (is_yes (belowℤ a b) l)))
+    (λ l. is_first l ∙ sym (ap choice (is_no (belowℤ a b) (λ k. clash_ℤ k l))))
+  where
+    choice : Bool → ℤ
+    choice c = cond c b a
 
-pub higher_first : {a b : ℤ} → b ≤ℤ a → a ≡ higher a b
-unfolding higher
-higher_first {a} {b} l = sym (ap (λ (c : Bool). cond c b a) (is_no (belowℤ a b) (λ k. clash_ℤ k l)))
+    is_second : a ≤ℤ b → int_max a b ≡ b
+    is_second l = ap (λ (c : Bool). cond c a b) (is_no (belowℤ b a) (λ k. clash_ℤ k l))
+
+    is_first : b ≤ℤ a → int_max a b ≡ a
+    is_first l =
+        by_lt_z b a (λ k. ap (λ (c : Bool). cond c a b) (is_yes (belowℤ b a) k)) (λ k. is_second k ∙ ≤ℤ_antisym l k)
 
 -- what both are, the larger is
 higher_either : (P : ℤ → Type 0) (a b : ℤ) → P a → P b → P (higher a b)
@@ -75,6 +118,13 @@ higher_either P a b p q = go (lt_z a b)
     go : (c : Bool) → P (cond c b a)
     go true = q
     go false = p
+
+pub higher_is : {v w p q r : ℤ} {B : ℕ} → Is v p B → Is w q B → r ≡ int_max v w → Is r (higher p q) B
+higher_is {p} {q} {B = B} a b e =
+    record {
+      same = e ∙ ap₂ int_max a.same b.same ∙ max_higher p q;
+      inside = higher_either (Within B) p q a.inside b.inside;
+    }
 
 higher_above : (a b : ℤ) → (a ≤ℤ higher a b) × (b ≤ℤ higher a b)
 unfolding higher
@@ -92,17 +142,9 @@ Meet t lo hi i j = ((meeting t lo i j ≤ℤ pos hi) × (meeting t lo i j <ℤ t
 module _ (t : List ℤ) (lo hi i j : ℕ) where
   meet_says : Decides (meet t lo hi i j) (Meet t lo hi i j)
   unfolding meet
-  meet_says = both (both (at_mostℤ (meeting t lo i j) (pos hi)) (belowℤ (meeting t lo i j) (top t i))) (belowℤ (meeting t lo i j) (top t j))
-
-  -- the test, as it goes
-  pub meet_over : pos hi <ℤ meeting t lo i j → false ≡ meet t lo hi i j
-  meet_over l = sym (is_no meet_says (λ h. clash_ℤ l h.0.0))
-
-  pub meet_ended : top t i ≤ℤ meeting t lo i j → false ≡ meet t lo hi i j
-  meet_ended l = sym (is_no meet_says (λ h. clash_ℤ h.0.1 l))
-
-  pub meet_last : meeting t lo i j ≤ℤ pos hi → meeting t lo i j <ℤ top t i → lt_z (meeting t lo i j) (top t j) ≡ meet t lo hi i j
-  meet_last l k = same_test (λ s. meet_says.passes ((l, k), lt_z_yes s)) (λ s. yes_lt_z (meet_says.holds s).1)
+  meet_says =
+      let from = meeting t lo i j in
+      both (both (at_mostℤ from (pos hi)) (belowℤ from (top t i))) (belowℤ from (top t j))
 
   -- where they meet both have begun, and lo is reached
   begun : (bottom t i ≤ℤ meeting t lo i j) × (bottom t j ≤ℤ meeting t lo i j) × (pos lo ≤ℤ meeting t lo i j)
@@ -113,7 +155,12 @@ module _ (t : List ℤ) (lo hi i j : ℕ) where
       (≤ℤ_trans inner.0 outer.0, ≤ℤ_trans inner.1 outer.0, outer.1)
 
   -- a height that both have is not below it
-  not_below_lem : (q : ℕ) → 4 * lo ≤ q → (pos 4 *ℤ bottom t i) ≤ℤ pos q → (pos 4 *ℤ bottom t j) ≤ℤ pos q → (pos 4 *ℤ meeting t lo i j) ≤ℤ pos q
+  not_below_lem :
+      (q : ℕ) →
+      4 * lo ≤ q →
+      (pos 4 *ℤ bottom t i) ≤ℤ pos q →
+      (pos 4 *ℤ bottom t j) ≤ℤ pos q →
+      (pos 4 *ℤ meeting t lo i j) ≤ℤ pos q
   unfolding meeting
   not_below_lem q l h k =
       let low : (pos 4 *ℤ pos lo) ≤ℤ pos q = linear nothing (search facts depth 40) (omega arith) in
@@ -122,8 +169,13 @@ module _ (t : List ℤ) (lo hi i j : ℕ) where
   pair_meets : (q : ℕ) → 4 * lo ≤ q → q ≤ 4 * hi → Has t q i → Has t q j → Meet t lo hi i j
   pair_meets q l u h k =
       let b = not_below_lem q l h.0 k.0 in
-      let most : (pos q) ≤ℤ (pos 4 *ℤ pos hi) = linear nothing (search facts depth 40) (omega arith) in
-      ((linear (b & most) (search facts depth 40) (omega arith), linear (b & h.1) (search facts depth 40) (omega arith)), linear (b & k.1) (search facts depth 40) (omega arith))
+      let most : (pos q) ≤ℤ (pos 4 *ℤ pos hi) = linear nothing (search facts depth 40) (omega arith) in (
+        (
+          linear (b & most) (search facts depth 40) (omega arith),
+          linear (b & h.1) (search facts depth 40) (omega arith),
+        ),
+        linear (b & k.1) (search facts depth 40) (omega arith),
+      )
 
   -- the height at which they meet, in quarters, is in both
   pair_shares : Meet t lo hi i j → (q : ℕ) × (4 * lo ≤ q) × (q ≤ 4 * hi) × Has t q i × Has t q j
@@ -144,11 +196,23 @@ module _ (t : List ℤ) (lo hi i j : ℕ) where
         (linear bj (search facts depth 40) (omega arith), linear tj (search facts depth 40) (omega arith)),
       )
 
-module _ (t : List ℤ) (lo hi i : ℕ) where
-  pub pair_found : {j : ℕ} → j < i → meet t lo hi i j ≡ true → false ≡ apart t lo hi i
-  pair_found {j} l e =
-      sym (is_no (apart_says t lo hi i) (λ a. let w = pair_shares t lo hi i j (yes_is (meet_says t lo hi i j) e) in a w.0 w.1 w.2 w.3 j l w.4))
+pub apart_by_pairs : (t : List ℤ) (lo hi i : ℕ) → not (some_below (meet t lo hi i) i) ≡ apart t lo hi i
+apart_by_pairs t lo hi i =
+    let pairs = opposite (some_below_lem (meet_says t lo hi i) i) in
+    let heights = apart_says t lo hi i in
+    same_test (λ s. heights.passes (to (pairs.holds s))) (λ s. pairs.passes (from (heights.holds s)))
+  where
+    Pair : Type 0
+    Pair = (j : ℕ) × (j < i) × Meet t lo hi i j
 
-  pub no_pair : {j : ℕ} → ((k : ℕ) → k < j → meet t lo hi i k ≡ false) → i ≤ j → true ≡ apart t lo hi i
-  no_pair none l =
-      sym (is_yes (apart_says t lo hi i) (λ q b u h k c g. no_is (meet_says t lo hi i k) (none k (omega arith)) (pair_meets t lo hi i k q b u h g)))
+    to : ¬ Pair → Apart t lo hi i
+    to none q l u h j b g = none (j, b, pair_meets t lo hi i j q l u h g)
+
+    from : Apart t lo hi i → ¬ Pair
+    from a (j, b, m) = let w = pair_shares t lo hi i j m in a w.0 w.1 w.2 w.3 j b w.4
+
+-- ---- one check after another
+
+pub refusal_stays : {a : Outcome} (b : Outcome) → ¬ (a ≡ Passed) → a ≡ (a then b)
+refusal_stays {a = Passed} b h = absurd (h refl)
+refusal_stays {a = Refused n p} b h = refl

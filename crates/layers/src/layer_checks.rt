@@ -2,7 +2,16 @@
 ghost use Rattle.std.specs.Prelude.{◌≡◌, true, [], ◌∷◌, ◌<◌, ◌≤◌, ◌*◌, pos};
 ghost use Rattle.scope.specs.Bounds.{most_coordinate};
 ghost use Rattle.scope.specs.declared.Outcome.TheVariants.{Refused};
-ghost use Rattle.scope.specs.Layers.{most_layers, layer_line, top, has, tops_phase, apart_phase, gaps_phase, layer_phases};
+ghost use Rattle.scope.specs.Layers.{
+  most_layers,
+  layer_line,
+  top,
+  has,
+  tops_phase,
+  apart_phase,
+  gaps_phase,
+  layer_phases,
+};
 ghost use Rattle.scope.specs.Phases.{check_phase, check_phases};
 ghost use Rattle.mesh.specs.MeshContracts.{Sized};
 ghost use Rattle.layers.specs.LayerContracts.{TableRead};
@@ -28,12 +37,10 @@ fn tops_check(t: &[i64], n: usize) -> Outcome
     requires { TableRead t.now n }
     ensures { result ≡ check_phase (tops_phase t.now) }
 {
-    let mut i: usize = 0;
-    while i < n {
+    for i in 0..n {
         if !top_above(t, n, i) {
             return refused_line(i);
         }
-        i += 1;
     }
     Outcome::Passed
 }
@@ -43,12 +50,10 @@ fn apart_check(t: &[i64], n: usize, lo: usize, hi: usize) -> Outcome
     requires { TableRead t.now n × (lo ≤ most_coordinate) × (hi ≤ most_coordinate) }
     ensures { result ≡ check_phase (apart_phase t.now lo hi) }
 {
-    let mut i: usize = 0;
-    while i < n {
+    for i in 0..n {
         if !apart_from_earlier(t, n, i, lo, hi) {
             return refused_line(i);
         }
-        i += 1;
     }
     Outcome::Passed
 }
@@ -86,10 +91,9 @@ fn between_nodes(t: &[i64], n: usize, lo: usize, hi: usize) -> Outcome
     requires { TableRead t.now n × (lo ≤ most_coordinate) × (hi ≤ most_coordinate) }
     ensures { result ≡ check_phases (apart_phase t.now lo hi ∷ gaps_phase t.now lo hi ∷ []) }
 {
-    let parts = apart_check(t, n, lo, hi);
-    match parts {
-        Outcome::Refused { number, place } => Outcome::Refused { number, place },
+    match apart_check(t, n, lo, hi) {
         Outcome::Passed => gaps_check(t, n, lo, hi),
+        refused => refused,
     }
 }
 
@@ -98,13 +102,8 @@ pub fn layers_check(m: &[i64], s: Sizes, t: &[i64], n: usize) -> Outcome
     requires { Sized m.now s × TableRead t.now n }
     ensures { result ≡ check_phases (layer_phases t.now m.now) }
 {
-    let tops = tops_check(t, n);
-    match tops {
-        Outcome::Refused { number, place } => Outcome::Refused { number, place },
-        Outcome::Passed => {
-            let lo = lowest_node(m, s);
-            let hi = highest_node(m, s);
-            between_nodes(t, n, lo, hi)
-        }
+    match tops_check(t, n) {
+        Outcome::Passed => between_nodes(t, n, lowest_node(m, s), highest_node(m, s)),
+        refused => refused,
     }
 }

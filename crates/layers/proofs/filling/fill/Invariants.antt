@@ -1,13 +1,8 @@
 -- `fill` meets its contract. The invariant: the elements passed have their layers' soils, the others soil 1.
 use mathlib.Core.Path.{◌≡◌}
-use Prim.Native.Nat.{◌≤◌, ◌-◌}
-use lib.ListN.{length}
 use Rattle.scope.specs.Filled.{given}
 use Rattle.layers.specs.LayerContracts.{soils_to}
 use Rattle.layers.proofs.filling.fill.Given as goal
 
 abbrev pub invariant-loop-e : goal.invariant-loop-e
-invariant-loop-e l = (l.e ≤ l.count) × (length l.out ≡ length l.initial.out) × (l.out ≡ given (soils_to l.t l.m l.e) l.m)
-
-abbrev pub decreases-loop-e : goal.decreases-loop-e
-decreases-loop-e l = l.count - l.e
+invariant-loop-e l = l.out ≡ given (soils_to l.t l.m l.e) l.m

@@ -1,13 +1,23 @@
--- `lowest_node` meets its contract. The invariant: it is the lowest of the nodes passed.
+-- `lowest_node` meets its contract: the least of the heights of all nodes.
+use mathlib.Core.Path.{sym, ◌∙◌, ap}
 use native.Mathlib.Omega.{arith}
-use Rattle.layers.proofs.HeightLaws.{low_is, extreme_most}
+use Prim.Native.Nat.{ℕ}
+use Rattle.std.proofs.Common.{rules, Option}
+use Rattle.std.specs.Option.{unwrap_or}
+use Rattle.std.proofs.lemmas.Iterator.Adapters.{option_map_id}
+use Rattle.std.proofs.lemmas.Iterator.{YieldsList-from_range, YieldsList-from_map}
+use Rattle.std.proofs.lemmas.Iterator.Consumers.{min_from_yields_List}
+use Rattle.scope.specs.Layout.{count}
+use Rattle.scope.specs.Mesh.{nodes, y}
+use Rattle.layers.proofs.HeightLaws.{low_is}
 use Rattle.layers.proofs.heights.lowest_node.Goals as goal
 
-pub returns : goal.returns
-returns c =
+pub returns-clause-fact_1 : goal.returns-clause-fact_1
+returns-clause-fact_1 c =
+    let a = c.args in
     let p = c.requires in
-    let inv = c.loop-v.invariant in
-    record {
-      fact_1 = low_is p.facts (omega (arith, p.nodes_are, inv.0, c.loop-v-test.false)) inv.1;
-      fact_2 = extreme_most p.facts (omega (arith, p.nodes_are, inv.0)) inv.1;
-    }
+    let numbers = YieldsList-from_range 0 a.s.nodes (nodes a.m.now) c.map.ensures.source (omega (arith, p.nodes_are)) in
+    let same = sym (option_map_id _)
+    ∙ min_from_yields_List _ _ c.min.ensures.ran
+    (YieldsList-from_map _ (λ v. count (y a.m.now v)) numbers c.map.ensures.closure (λ x r q k. search rules)) in
+    c.unwrap_or.ensures ∙ ap (λ (r : Option ℕ). unwrap_or r 0) same ∙ low_is p.facts

@@ -17,4 +17,4 @@ returns c =
     let a = c.args in
     let z : to_z w64 (of_z w64 c.node_y.result) ≡ y a.m.now a.v = exact (search machine depth 30) (omega arith) in
     let e = ap nat_abs z ∙ count_nat_abs (not_negative p.0.facts p.1) in
-    record { fact_1 = e; fact_2 = omega (arith, e, height_most p.0.facts p.1) }
+    record { same = e; few = omega (arith, e, height_most p.0.facts p.1) }

@@ -9,27 +9,23 @@ use Rattle.layers.proofs.layer_checks.apart_check.Goals as goal
 
 pub loop-i-init : goal.loop-i-init
 unfolding all_below
-loop-i-init c = (omega arith, refl)
+loop-i-init c = refl
 
 pub returns-then-not-apart_from_earlier : goal.returns-then-not-apart_from_earlier
 unfolding check_phase
 returns-then-not-apart_from_earlier c =
-    let read = c.requires.0 in
     c.refused_line.ensures
-    ∙ phase-at (apart _ _ _) 46 layer_line (layers _) (each_below _ _ c.loop-i.invariant.1)
-    (omega (arith, read.counted, c.loop-i-test.true))
+    ∙ phase-at (apart _ _ _) 46 layer_line (layers _) (each_below _ _ c.loop-i.invariant)
+    (omega (arith, c.requires.0.counted))
     (sym c.apart_from_earlier.ensures ∙ c.if-not-apart_from_earlier.true)
     refl
 
 pub loop-i-preserved : goal.loop-i-preserved
 loop-i-preserved c =
-    let next = sym c.apart_from_earlier.ensures ∙ c.if-not-apart_from_earlier.false in
-    (omega arith, all_more (apart _ _ _) c.loop-i.invariant.1 next)
+    all_more (apart _ _ _) c.loop-i.invariant (sym c.apart_from_earlier.ensures ∙ c.if-not-apart_from_earlier.false)
 
 pub returns : goal.returns
 unfolding check_phase
 returns c =
-    let read = c.requires.0 in
-    let inv = c.loop-i.invariant in
     phase_all (apart _ _ _) 46 layer_line (layers _)
-    (λ k l. each_below _ _ inv.1 k (omega (arith, read.counted, inv.0)))
+    (λ k l. each_below _ _ c.loop-i.invariant k (omega (arith, c.requires.0.counted)))

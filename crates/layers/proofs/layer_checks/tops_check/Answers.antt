@@ -9,27 +9,22 @@ use Rattle.layers.proofs.layer_checks.tops_check.Goals as goal
 
 pub loop-i-init : goal.loop-i-init
 unfolding all_below
-loop-i-init c = (omega arith, refl)
+loop-i-init c = refl
 
 pub returns-then-not-top_above : goal.returns-then-not-top_above
 unfolding check_phase
 returns-then-not-top_above c =
-    let read = c.requires in
     c.refused_line.ensures
-    ∙ phase-at (top_above _) 46 layer_line (layers _) (each_below _ _ c.loop-i.invariant.1)
-    (omega (arith, read.counted, c.loop-i-test.true))
+    ∙ phase-at (top_above _) 46 layer_line (layers _) (each_below _ _ c.loop-i.invariant)
+    (omega (arith, c.requires.counted))
     (sym c.top_above.ensures ∙ c.if-not-top_above.true)
     refl
 
 pub loop-i-preserved : goal.loop-i-preserved
-loop-i-preserved c =
-    let next = sym c.top_above.ensures ∙ c.if-not-top_above.false in
-    (omega arith, all_more (top_above _) c.loop-i.invariant.1 next)
+loop-i-preserved c = all_more (top_above _) c.loop-i.invariant (sym c.top_above.ensures ∙ c.if-not-top_above.false)
 
 pub returns : goal.returns
 unfolding check_phase
 returns c =
-    let read = c.requires in
-    let inv = c.loop-i.invariant in
     phase_all (top_above _) 46 layer_line (layers _)
-    (λ k l. each_below _ _ inv.1 k (omega (arith, read.counted, inv.0)))
+    (λ k l. each_below _ _ c.loop-i.invariant k (omega (arith, c.requires.counted)))

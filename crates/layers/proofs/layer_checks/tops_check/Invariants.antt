@@ -1,13 +1,9 @@
 -- `tops_check` meets its contract. The invariant: the layers passed hold.
 use mathlib.Core.Path.{◌≡◌}
 use mathlib.Core.Bool.{true}
-use Prim.Native.Nat.{◌≤◌, ◌-◌}
 use Rattle.scope.specs.Checks.{all_below}
 use Rattle.scope.specs.Layers.{top_above}
 use Rattle.layers.proofs.layer_checks.tops_check.Given as goal
 
 abbrev pub invariant-loop-i : goal.invariant-loop-i
-invariant-loop-i l = (l.i ≤ l.n) × (all_below (top_above l.t) l.i ≡ true)
-
-abbrev pub decreases-loop-i : goal.decreases-loop-i
-decreases-loop-i l = l.n - l.i
+invariant-loop-i l = all_below (top_above l.t) l.i ≡ true

@@ -1,11 +1,21 @@
--- `apart_from_earlier` meets its contract. The invariant: the earlier layers passed share no height with layer i.
-use mathlib.Core.Path.{sym, ◌∙◌}
+-- `apart_from_earlier` meets its contract: by pairs, with each earlier layer.
+use mathlib.Core.Path.{refl, ◌∙◌, ap}
+use mathlib.Core.Bool.{not}
 use native.Mathlib.Omega.{arith}
-use Rattle.layers.proofs.LayerLaws.{pair_found, no_pair}
+use Rattle.std.proofs.Common.{rules, tests}
+use Rattle.std.proofs.lemmas.Iterator.{YieldsList-from_range}
+use Rattle.std.proofs.lemmas.Iterator.Search.{any_from_yields_List}
+use Rattle.scope.proofs.Ranges.{some_in_range}
+use Rattle.layers.specs.LayerContracts.{meet}
+use Rattle.layers.proofs.LayerLaws.{apart_by_pairs}
 use Rattle.layers.proofs.layer_tests.apart_from_earlier.Goals as goal
 
-pub returns-then-share : goal.returns-then-share
-returns-then-share c = pair_found _ _ _ _ c.loop-j-test.true (sym c.share.ensures ∙ c.if-share.true)
-
 pub returns : goal.returns
-returns c = no_pair _ _ _ _ c.loop-j.invariant.1 (omega arith)
+returns c =
+    let a = c.args in
+    let with = meet a.t.now a.lo a.hi a.i in
+    ap not
+    (any_from_yields_List with _ _ c.any.result c.any.ensures.ran
+    (YieldsList-from_range 0 a.i a.i refl (omega arith)) (λ x b q k. search (rules, tests))
+    ∙ some_in_range with a.i)
+    ∙ apart_by_pairs a.t.now a.lo a.hi a.i

@@ -1,14 +1,17 @@
--- `layer_of` meets its contract. The invariant: the layers passed do not have the height.
-use mathlib.Core.Path.{sym, ◌∙◌}
-use native.Mathlib.Omega.{arith}
+-- `layer_of` meets its contract: the first that is found, and n where none is.
+use mathlib.Core.Path.{◌≡◌, ◌∙◌}
+use mathlib.Core.Bool.{true, false}
+use Rattle.std.proofs.Common.{rules, tests}
+use Rattle.std.proofs.lemmas.Iterator.{first_from_Range}
 use Rattle.scope.specs.Layers.{has}
-use Rattle.layers.proofs.LayerLaws.{first_found, first_none}
+use Rattle.layers.proofs.LayerLaws.{first_or_end}
 use Rattle.layers.proofs.layer_tests.layer_of.Goals as goal
 
-pub returns-then-has_height : goal.returns-then-has_height
-returns-then-has_height c =
-    first_found (has _ _) _ _ c.loop-i.invariant.1 c.loop-i-test.true
-    (sym c.has_height.ensures ∙ c.if-has_height.true)
-
 pub returns : goal.returns
-returns c = first_none (has _ _) _ _ c.loop-i.invariant.1 (omega arith)
+returns c =
+    let a = c.args in
+    let Has = has a.t.now a.q in
+    c.unwrap_or.ensures
+    ∙ first_or_end Has a.n c.find.result
+    (first_from_Range _ _ _ c.find.result (λ k. Has k ≡ true) (λ k. Has k ≡ false) c.find.ensures.ran
+    (λ x q k. search (rules, tests)) (λ x q k. search (rules, tests)))

@@ -1,67 +1,81 @@
--- `share` meets its contract: where both layers have begun, then the test as it goes.
-use mathlib.Core.Path.{◌≡◌, ◌∙◌, ap₂}
+-- `share` meets its contract: the height from which both are there, and then the tests as they go.
+use mathlib.Core.Path.{◌≡◌, refl, ◌∙◌}
+use mathlib.Core.Bool.{Bool, ◌&&◌}
 use mathlib.Core.List.{List}
 use Prim.Native.Nat.{ℕ, ◌≤◌}
+use native.Mathlib.Omega.{arith}
 use lib.IntN.{ℤ, pos}
+use lib.Signed.{le_z, lt_z}
 use mir.Syntax.{w64}
 use mir.Val.{to_z, of_z}
-use native.Mathlib.Omega.{arith}
-use native.Mathlib.Nat.{le_refl}
+use Rattle.std.specs.Int.{int_max}
 use Rattle.integer.specs.Bounds.{Is}
-use Rattle.integer.proofs.Machine.{Is-as, of_is, of_read, machine, casts, exact, told, decides}
+use Rattle.integer.proofs.Machine.{Is-read, machine, casts, is, decides}
 use Rattle.scope.specs.Bounds.{most_coordinate}
-use Rattle.scope.specs.Layers.{most_level, bottom}
-use Rattle.layers.specs.LayerContracts.{higher, meeting}
-use Rattle.layers.proofs.LayerLaws.{meet_over, meet_ended, meet_last}
+use Rattle.scope.specs.Layers.{most_level, bottom, top}
+use Rattle.layers.specs.LayerContracts.{meeting, meet}
+use Rattle.layers.proofs.LayerLaws.{higher_is, and_second, and_not_first}
 use Rattle.layers.proofs.layer_tests.share.Goals as goal
+use Rattle.layers.proofs.layer_tests.share.Goals.{then-from-hi, else-from-hi}
 
 -- the height from which both are there
 from_is :
-    (t : List ℤ) (i j : ℕ) {lo : ℕ} {bi bj h f : ℤ} →
+    (t : List ℤ) (i j : ℕ) {lo : ℕ} {a b h f : ℤ} →
     lo ≤ most_coordinate →
-    Is bi (bottom t i) most_level →
-    Is bj (bottom t j) most_level →
-    Is h (higher (to_z w64 (of_z w64 bi)) (to_z w64 (of_z w64 bj))) most_level →
-    Is f (higher (to_z w64 (of_z w64 h)) (to_z w64 lo)) most_level →
+    Is a (bottom t i) most_level →
+    Is b (bottom t j) most_level →
+    h ≡ int_max (to_z w64 (of_z w64 a)) (to_z w64 (of_z w64 b)) →
+    f ≡ int_max (to_z w64 (of_z w64 h)) (to_z w64 lo) →
     Is f (meeting t lo i j) most_level
 unfolding meeting
-from_is t i j {lo} {bi} {bj} {h} l ib jb ih jf =
-    let ei : to_z w64 (of_z w64 bi) ≡ bottom t i = exact (search machine depth 30) (omega arith) in
-    let ej : to_z w64 (of_z w64 bj) ≡ bottom t j = exact (search machine depth 30) (omega arith) in
-    let first : Is h (higher (bottom t i) (bottom t j)) most_level = Is-as ih (le_refl most_level) (ap₂ higher ei ej) in
-    let e : to_z w64 (of_z w64 h) ≡ higher (bottom t i) (bottom t j) = exact (of_read (of_is first)) (omega arith) in
-    let k : to_z w64 lo ≡ pos lo = exact (search (machine, casts) depth 30) (omega arith) in
-    Is-as jf (le_refl most_level) (ap₂ higher e k)
+from_is t i j {lo} few a b eh ef =
+    let first = higher_is (Is-read a (omega arith)) (Is-read b (omega arith)) eh in
+    let least : Is (to_z w64 lo) (pos lo) most_level = is (search (machine, casts) depth 30) (omega arith) refl in
+    higher_is (Is-read first (omega arith)) least ef
 
-pub returns-then-from-hi : goal.returns-then-from-hi
-returns-then-from-hi c =
-    let a = c.args in
-    let bi = c.bottom_of.ensures in
-    let bj = c.bottom_of-2.ensures in
-    let f = from_is a.t.now a.i a.j c.requires.3 bi bj c.higher_of.ensures c.higher_of-from.ensures in
-    let u = c.requires.4 in
-    meet_over _ _ _ _ _ (told c.if-from-hi.true (search (machine, casts) depth 30) (omega arith))
+-- the first two tests: hi is not passed, and layer i has not ended
+abbrev first_two : List ℤ → ℕ → ℕ → ℕ → ℕ → Bool
+first_two t lo hi i j = le_z (meeting t lo i j) (pos hi) && lt_z (meeting t lo i j) (top t i)
 
-pub returns-then-from-top_of : goal.returns-then-from-top_of
-returns-then-from-top_of c =
-    let a = c.args in
-    let bi = c.bottom_of.ensures in
-    let bj = c.bottom_of-2.ensures in
-    let f = from_is a.t.now a.i a.j c.requires.3 bi bj c.higher_of.ensures c.higher_of-from.ensures in
-    let t = c.top_of.ensures in
-    meet_ended _ _ _ _ _ (told c.if-from-top_of.true (search (machine, casts) depth 30) (omega arith))
+pub returns-then-from-a : goal.returns-then-from-a
+unfolding meet
+returns-then-from-a c =
+    let a = c.layer_at-a.ensures in
+    let b = c.layer_at-b.ensures in
+    let from =
+    from_is _ c.args.i c.args.j c.requires.3 a.bottom b.bottom c.max.ensures.value c.max-from.ensures.value in
+    let most = c.requires.4 in
+    let end = a.top in
+    let other = b.top in
+    let two : c.if-from-hi.value ≡ first_two c.args.t.now c.args.lo c.args.hi c.args.i c.args.j =
+    elim c.if-from-hi.branch [
+      | then-from-hi w ↦
+          w.value-is
+          ∙ and_second w.if-from-hi.true
+          (decides (search (machine, casts) depth 30) (omega arith))
+          (decides (search (machine, casts) depth 30) (omega arith))
+      | else-from-hi w ↦
+          w.value-is ∙ and_not_first _ w.if-from-hi.false (decides (search (machine, casts) depth 30) (omega arith))
+    ] in
+    and_second c.if-from-a.true two (decides (search (machine, casts) depth 30) (omega arith))
 
-pub returns : goal.returns
-returns c =
-    let p = c.requires in
-    let u = p.4 in
-    let a = c.args in
-    let bi = c.bottom_of.ensures in
-    let bj = c.bottom_of-2.ensures in
-    let f = from_is a.t.now a.i a.j c.requires.3 bi bj c.higher_of.ensures c.higher_of-from.ensures in
-    let t = c.top_of.ensures in
-    let v = c.top_of-2.ensures in
-    decides (search (machine, casts) depth 30) (omega arith)
-    ∙ meet_last _ _ _ _ _
-    (told c.if-from-hi.false (search (machine, casts) depth 30) (omega arith))
-    (told c.if-from-top_of.false (search (machine, casts) depth 30) (omega arith))
+pub returns-else-from-a : goal.returns-else-from-a
+unfolding meet
+returns-else-from-a c =
+    let a = c.layer_at-a.ensures in
+    let b = c.layer_at-b.ensures in
+    let from =
+    from_is _ c.args.i c.args.j c.requires.3 a.bottom b.bottom c.max.ensures.value c.max-from.ensures.value in
+    let most = c.requires.4 in
+    let end = a.top in
+    let two : c.if-from-hi.value ≡ first_two c.args.t.now c.args.lo c.args.hi c.args.i c.args.j =
+    elim c.if-from-hi.branch [
+      | then-from-hi w ↦
+          w.value-is
+          ∙ and_second w.if-from-hi.true
+          (decides (search (machine, casts) depth 30) (omega arith))
+          (decides (search (machine, casts) depth 30) (omega arith))
+      | else-from-hi w ↦
+          w.value-is ∙ and_not_first _ w.if-from-hi.false (decides (search (machine, casts) depth 30) (omega arith))
+    ] in
+    and_not_first _ c.if-from-a.false two

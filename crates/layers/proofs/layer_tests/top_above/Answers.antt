@@ -6,4 +6,4 @@ use Rattle.layers.proofs.layer_tests.top_above.Goals as goal
 
 pub returns : goal.returns
 unfolding top_above
-returns c = let b = c.bottom_of.ensures in let t = c.top_of.ensures in decides (search machine depth 30) (omega arith)
+returns c = let layer = c.layer_at-layer.ensures in decides (search machine depth 30) (omega arith)
