@@ -1,4 +1,5 @@
--- Tables of sides that jumps use: a jump marks its two sides, so that a byte tells whether an element's side is still free; coordinates are equal where their difference is 0.
+-- Tables of sides that jumps use: a jump marks its two sides, so that a byte tells whether an element's side is still
+-- free; coordinates are equal where their difference is 0.
 use mathlib.Core.Path.{◌≡◌, refl, sym, ◌∙◌, ap, ap₂, subst}
 use mathlib.Core.Bool.{Bool, true, false, cond, not, ◌&&◌, ◌||◌, and-true}
 use mathlib.Core.List.{List, [], ◌∷◌}
@@ -7,19 +8,20 @@ use native.Mathlib.Numerals.{add-one}
 use native.Mathlib.Omega.{arith}
 use lib.IntN.{ℤ, pos, ◌-ℤ◌}
 use lib.Dec.{eqb}
-use lib.Ieee.Bits.{is_true, is_false}
 use lib.ListN.{length}
 use borrow.Author.Tests.{ltb-true, le-ltb, ne_eqb}
 use Rattle.integer.specs.Tests.{eq_z}
 use Rattle.integer.proofs.Ring.{ring, ring_from, terms}
-use Rattle.integer.proofs.TestLaws.{same_test, eq_z_yes, yes_eq_z, no_eq_z}
+use Rattle.integer.proofs.TestLaws.{same_test, eq_z_yes, yes_eq_z}
 use Rattle.mesh.specs.declared.sizes.Sizes.{Sizes}
 use Rattle.scope.specs.Checks.{some_below}
-use Rattle.scope.specs.Mesh.{most_nodes, most_elements, nodes, elements, edges, x, y, jump_from, jump_to, facing_from, facing_to}
+use Rattle.scope.specs.Mesh.{most_nodes, most_elements, nodes, elements, edges, x, y, jump_from, jump_to, facing_from}
+use Rattle.scope.specs.Mesh.{facing_to}
 use Rattle.scope.specs.Tests.{has_side, has_ends, outer_side, used_by_jump, free_side, same_point, is_joint}
 use Rattle.mesh.specs.MeshContracts.{Sized, NodeAt, jump_node}
-use Rattle.shape.specs.ShapeContracts.{no_byte, Holds, put, is_none, is_untaken, used_byte, byte_at, at_place, edge_byte, EdgeTable, jump_byte, JumpTable}
-use Rattle.shape.proofs.MeshLaws.{ends_fit}
+use Rattle.shape.specs.ShapeContracts.{no_byte, Holds, put, is_none, is_untaken, used_byte, byte_at, at_place}
+use Rattle.shape.specs.ShapeContracts.{edge_byte, EdgeTable, jump_byte, JumpTable}
+use Rattle.shape.proofs.MeshLaws.{side_fits}
 use Rattle.shape.proofs.ByteTables.{kept, holds_as, same_place, put_one}
 use Rattle.shape.proofs.SideTables.{bytes_to, byte_of, edge_untaken, edge_none}
 
@@ -38,14 +40,15 @@ difference_is_0 a b =
     (λ t. yes_eq_z {a = a -ℤ b} {b = pos 0} (some_difference (eq_z_yes {a = a} {b = b} t)))
 
 module _ (m : List ℤ) (a b : ℕ) where
-  pub same_x : x m a -ℤ x m b ≡ pos 0 → eq_z (y m a -ℤ y m b) (pos 0) ≡ same_point m a b
+  differences : {r : Bool} → r ≡ eq_z (x m a -ℤ x m b) (pos 0) → r && eq_z (y m a -ℤ y m b) (pos 0) ≡ same_point m a b
   unfolding same_point
-  same_x e = difference_is_0 (y m a) (y m b) ∙ sym (ap (λ (c : Bool). c && eq_z (y m a) (y m b)) (is_true (eq_z (x m a) (x m b)) (yes_eq_z {a = x m a} {b = x m b} (no_difference e))))
+  differences e = ap₂ ◌&&◌ (e ∙ difference_is_0 (x m a) (x m b)) (difference_is_0 (y m a) (y m b))
 
-  pub other_x : ¬ (x m a -ℤ x m b ≡ pos 0) → false ≡ same_point m a b
-  unfolding same_point
-  other_x f =
-      sym (ap (λ (c : Bool). c && eq_z (y m a) (y m b)) (is_false (eq_z (x m a) (x m b)) (no_eq_z {a = x m a} {b = x m b} (λ e. f (some_difference e)))))
+  pub same_x : true ≡ eq_z (x m a -ℤ x m b) (pos 0) → eq_z (y m a -ℤ y m b) (pos 0) ≡ same_point m a b
+  same_x e = differences e
+
+  pub other_x : false ≡ eq_z (x m a -ℤ x m b) (pos 0) → false ≡ same_point m a b
+  other_x e = differences e
 
 -- ---- bytes of used sides
 
@@ -53,7 +56,8 @@ pub no_jump_yet : (m : List ℤ) {t : List ℕ} → EdgeTable m (edges m) t → 
 unfolding jump_byte some_below
 no_jump_yet m h = bytes_to h (holds_as h.bytes (λ v. refl))
 
-used_untaken : (used : Bool) (e : ℕ) → is_untaken (cond used (cond (is_untaken e) used_byte e) e) ≡ is_untaken e && not used
+used_untaken : (used : Bool) (e : ℕ)
+    → is_untaken (cond used (cond (is_untaken e) used_byte e) e) ≡ is_untaken e && not used
 used_untaken false e = sym (and-true (is_untaken e))
 used_untaken true e = by (is_untaken e) refl
   where
@@ -71,13 +75,17 @@ used_none true e = by (is_untaken e) refl
 
 module _ (m : List ℤ) {s : Sizes} (k : Sized m s) where
   -- a side is free exactly where its byte is an element's and the reverse has none
-  free_is : (j : ℕ) {t : List ℕ} → JumpTable m j t → {a b : ℕ} → a < nodes m → b < nodes m → free_side m j a b ≡ is_untaken (byte_at t a b) && is_none (byte_at t b a)
+  free_is : (j : ℕ) {t : List ℕ} → JumpTable m j t → {a b : ℕ} → a < nodes m → b < nodes m
+      → free_side m j a b ≡ is_untaken (byte_at t a b) && is_none (byte_at t b a)
   unfolding free_side outer_side jump_byte
   free_is j {t} h {a} {b} i l =
-      regroup (some_below (has_side m a b) (elements m)) (some_below (has_side m b a) (elements m)) (some_below (has_ends m a b) (edges m)) (some_below (used_by_jump m a b) j)
+      regroup (some_below (has_side m a b) (elements m)) (some_below (has_side m b a) (elements m))
+      (some_below (has_ends m a b) (edges m)) (some_below (used_by_jump m a b) j)
       ∙ sym (ap₂ ◌&&◌
-      (ap is_untaken (byte_of h k i l) ∙ used_untaken (some_below (used_by_jump m a b) j) (edge_byte m (edges m) a b) ∙ ap (λ (c : Bool). c && not (some_below (used_by_jump m a b) j)) (edge_untaken m k a b))
-      (ap is_none (byte_of h k l i) ∙ used_none (some_below (used_by_jump m b a) j) (edge_byte m (edges m) b a) ∙ edge_none m k b a))
+      (ap is_untaken (byte_of h k i l) ∙ used_untaken (some_below (used_by_jump m a b) j) (edge_byte m (edges m) a b)
+      ∙ ap (λ (c : Bool). c && not (some_below (used_by_jump m a b) j)) (edge_untaken m k a b))
+      (ap is_none (byte_of h k l i) ∙ used_none (some_below (used_by_jump m b a) j) (edge_byte m (edges m) b a)
+      ∙ edge_none m k b a))
     where
       regroup : (p q r u : Bool) → ((p && not q) && not r) && not u ≡ ((p && not r) && not u) && not q
       regroup false q r u = refl
@@ -88,24 +96,33 @@ module _ (m : List ℤ) {s : Sizes} (k : Sized m s) where
       regroup true false false true = refl
       regroup true false false false = refl
 
-  module _ (j : ℕ) {t : List ℕ} (h : JumpTable m j t) {a b c d : ℕ} (ea : NodeAt a m (jump_node m j 0)) (eb : NodeAt b m (jump_node m j 1)) (ec : NodeAt c m (jump_node m j 2)) (ed : NodeAt d m (jump_node m j 3)) where
-    pub joint_is : is_joint m j ≡ (((is_untaken (byte_at t a b) && is_none (byte_at t b a)) && (is_untaken (byte_at t d c) && is_none (byte_at t c d))) && same_point m a c) && same_point m b d
+  module _ (j : ℕ) {t : List ℕ} (h : JumpTable m j t) {a b c d : ℕ} (ea : NodeAt a m (jump_node m j 0))
+      (eb : NodeAt b m (jump_node m j 1)) (ec : NodeAt c m (jump_node m j 2)) (ed : NodeAt d m (jump_node m j 3)) where
+    pub joint_is : is_joint m j
+        ≡ (((is_untaken (byte_at t a b) && is_none (byte_at t b a))
+        && (is_untaken (byte_at t d c) && is_none (byte_at t c d))) && same_point m a c) && same_point m b d
     unfolding is_joint jump_from jump_to facing_from facing_to
     joint_is =
         sym (same ea.same eb.same ec.same ed.same)
-        ∙ ap₂ (λ (p q : Bool). ((p && q) && same_point m a c) && same_point m b d) (free_is j h ea.there eb.there) (free_is j h ed.there ec.there)
+        ∙ ap₂ (λ (p q : Bool). ((p && q) && same_point m a c) && same_point m b d) (free_is j h ea.there eb.there)
+        (free_is j h ed.there ec.there)
       where
-        same : {p q r u : ℕ} → a ≡ p → b ≡ q → c ≡ r → d ≡ u → ((free_side m j a b && free_side m j d c) && same_point m a c) && same_point m b d ≡ ((free_side m j p q && free_side m j u r) && same_point m p r) && same_point m q u
-        same e f g i = λ v. ((free_side m j (e v) (f v) && free_side m j (i v) (g v)) && same_point m (e v) (g v)) && same_point m (f v) (i v)
+        same : {p q r u : ℕ} → a ≡ p → b ≡ q → c ≡ r → d ≡ u
+            → ((free_side m j a b && free_side m j d c) && same_point m a c) && same_point m b d
+            ≡ ((free_side m j p q && free_side m j u r) && same_point m p r) && same_point m q u
+        same e f g i =
+            λ v. ((free_side m j (e v) (f v) && free_side m j (i v) (g v)) && same_point m (e v) (g v))
+            && same_point m (f v) (i v)
 
     -- its two sides are used
-    pub use_more : {u w : List ℕ} → u ≡ put is_untaken t (a * most_nodes + b) used_byte → w ≡ put is_untaken u (d * most_nodes + c) used_byte → JumpTable m (j + 1) w
+    pub use_more : {u w : List ℕ} → u ≡ put is_untaken t (a * most_nodes + b) used_byte
+        → w ≡ put is_untaken u (d * most_nodes + c) used_byte → JumpTable m (j + 1) w
     unfolding jump_byte some_below used_by_jump jump_from jump_to facing_from facing_to
     use_more {u} {w} e f =
         bytes_to h
         (subst (λ (n : ℕ). Holds (length t) (at_place (jump_byte m n)) w) (sym (add-one j))
         (subst (Holds (length t) (at_place (jump_byte m (suc j)))) (sym f)
-        (holds_as (put_one is_untaken once (ends_fit m k h.room ed.there ec.there).0 used_byte) step)))
+        (holds_as (put_one is_untaken once (side_fits k h.room ed.there ec.there) used_byte) step)))
       where
         now : ℕ → ℕ
         now = at_place (jump_byte m j)
@@ -114,9 +131,12 @@ module _ (m : List ℤ) {s : Sizes} (k : Sized m s) where
         own v = cond (eqb (a * most_nodes + b) v) (kept is_untaken (now v) used_byte) (now v)
 
         once : Holds (length t) own u
-        once = subst (Holds (length t) own) (sym e) (put_one is_untaken h.bytes (ends_fit m k h.room ea.there eb.there).0 used_byte)
+        once =
+            subst (Holds (length t) own) (sym e)
+            (put_one is_untaken h.bytes (side_fits k h.room ea.there eb.there) used_byte)
 
-        again : (z : ℕ) (p : Bool) → is_untaken z ≡ p → kept is_untaken (cond p used_byte z) used_byte ≡ cond p used_byte z
+        again : (z : ℕ) (p : Bool) → is_untaken z ≡ p
+            → kept is_untaken (cond p used_byte z) used_byte ≡ cond p used_byte z
         again z true q = ap (λ (r : Bool). cond r used_byte used_byte) (le-ltb used_byte most_elements (omega arith))
         again z false q = ap (λ (r : Bool). cond r used_byte z) q
 
@@ -124,7 +144,11 @@ module _ (m : List ℤ) {s : Sizes} (k : Sized m s) where
         twice z = again z (is_untaken z) refl
 
         regroup : (g o i : Bool) (z : ℕ)
-            → cond i (kept is_untaken (cond o (kept is_untaken (cond g (kept is_untaken z used_byte) z) used_byte) (cond g (kept is_untaken z used_byte) z)) used_byte) (cond o (kept is_untaken (cond g (kept is_untaken z used_byte) z) used_byte) (cond g (kept is_untaken z used_byte) z))
+            → cond i (kept is_untaken
+            (cond o (kept is_untaken (cond g (kept is_untaken z used_byte) z) used_byte)
+            (cond g (kept is_untaken z used_byte) z)) used_byte)
+            (cond o (kept is_untaken (cond g (kept is_untaken z used_byte) z) used_byte)
+            (cond g (kept is_untaken z used_byte) z))
             ≡ cond (g || (o || i)) (kept is_untaken z used_byte) z
         regroup false false false z = refl
         regroup false false true z = refl
@@ -135,12 +159,18 @@ module _ (m : List ℤ) {s : Sizes} (k : Sized m s) where
         regroup true true false z = twice z
         regroup true true true z = ap (λ (r : ℕ). kept is_untaken r used_byte) (twice z) ∙ twice z
 
-        place : {p q i l : ℕ} → NodeAt p m i → NodeAt q m l → (v : ℕ) → eqb (p * most_nodes + q) v ≡ eqb i (v / most_nodes) && eqb l (v % most_nodes)
+        place : {p q i l : ℕ} → NodeAt p m i → NodeAt q m l → (v : ℕ)
+            → eqb (p * most_nodes + q) v ≡ eqb i (v / most_nodes) && eqb l (v % most_nodes)
         place {p} {q} i l v =
             same_place most_nodes p q (omega (arith, l.there, l.few)) v
             ∙ ap₂ (λ (r z : ℕ). eqb r (v / most_nodes) && eqb z (v % most_nodes)) i.same l.same
 
-        step : (v : ℕ) → cond (eqb (d * most_nodes + c) v) (kept is_untaken (own v) used_byte) (own v) ≡ at_place (jump_byte m (suc j)) v
+        step : (v : ℕ) → cond (eqb (d * most_nodes + c) v) (kept is_untaken (own v) used_byte) (own v)
+            ≡ at_place (jump_byte m (suc j)) v
         step v =
-            ap₂ (λ (i o : Bool). cond i (kept is_untaken (cond o (kept is_untaken (now v) used_byte) (now v)) used_byte) (cond o (kept is_untaken (now v) used_byte) (now v))) (place ed ec v) (place ea eb v)
-            ∙ regroup (some_below (used_by_jump m (v / most_nodes) (v % most_nodes)) j) (eqb (jump_from m j) (v / most_nodes) && eqb (jump_to m j) (v % most_nodes)) (eqb (facing_to m j) (v / most_nodes) && eqb (facing_from m j) (v % most_nodes)) (edge_byte m (edges m) (v / most_nodes) (v % most_nodes))
+            ap₂ (λ (i o : Bool). cond i (kept is_untaken (cond o (kept is_untaken (now v) used_byte) (now v)) used_byte)
+            (cond o (kept is_untaken (now v) used_byte) (now v))) (place ed ec v) (place ea eb v)
+            ∙ regroup (some_below (used_by_jump m (v / most_nodes) (v % most_nodes)) j)
+            (eqb (jump_from m j) (v / most_nodes) && eqb (jump_to m j) (v % most_nodes))
+            (eqb (facing_to m j) (v / most_nodes) && eqb (facing_from m j) (v % most_nodes))
+            (edge_byte m (edges m) (v / most_nodes) (v % most_nodes))

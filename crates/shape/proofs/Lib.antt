@@ -1,4 +1,5 @@
--- The laws that the proofs of this crate's functions share: a mesh's elements and edges, tables of bytes, of marks, of sides and of pairs.
+-- The laws that the proofs of this crate's functions share: a mesh's elements and edges, tables of bytes, of marks, of
+-- sides and of pairs.
 pub mod MeshLaws
 pub mod ByteTables
 pub mod MarkTables

@@ -1,4 +1,5 @@
--- Marks: an element marks its corners with its soil, so that the marks of a node are the soils of the elements around it.
+-- Marks: an element marks its corners with its soil, so that the marks of a node are the soils of the elements around
+-- it.
 use mathlib.Core.Path.{◌≡◌, refl, sym, ◌∙◌, ap, ap₂, subst}
 use mathlib.Core.Bool.{Bool, true, false, cond, ◌&&◌, ◌||◌, or-false, or-true, or_assoc, and-or_distrib_right}
 use mathlib.Core.List.{List}
@@ -25,7 +26,8 @@ abbrev pub Marks : (ℕ → Bool) → List ℕ → Type 0
 Marks f t = Holds (most_nodes * most_soils) (λ p. mark_byte (f p)) t
 
 -- one place more is marked
-mark_one : (f : ℕ → Bool) (a : ℕ) {t u : List ℕ} → Marks f t → a < most_nodes * most_soils → u ≡ set t a 1 → Marks (λ p. f p || eqb a p) u
+mark_one : (f : ℕ → Bool) (a : ℕ) {t u : List ℕ} → Marks f t → a < most_nodes * most_soils → u ≡ set t a 1
+    → Marks (λ p. f p || eqb a p) u
 unfolding put
 mark_one f a h l e =
     subst (Marks (λ p. f p || eqb a p)) (sym e) (holds_as (put_one (λ b. true) h l 1) (λ p. by (eqb a p) (f p)))
@@ -38,12 +40,15 @@ mark_one f a h l e =
 
 -- what is marked once the first i corners of element e are
 abbrev pub marks_so_far : List ℤ → ℕ → ℕ → ℕ → Bool
-marks_so_far m e i p = soil_below m e (p / most_soils) (p % most_soils) || some_below (λ j. eqb (corner m e j * most_soils + element_soil m e) p) i
+marks_so_far m e i p =
+    soil_below m e (p / most_soils) (p % most_soils)
+    || some_below (λ j. eqb (corner m e j * most_soils + element_soil m e) p) i
 
 some_and : (f : ℕ → Bool) (b : Bool) (n : ℕ) → some_below (λ j. f j && b) n ≡ some_below f n && b
 unfolding some_below
 some_and f b zero = refl
-some_and f b (suc n) = ap (λ (x : Bool). x || (f n && b)) (some_and f b n) ∙ sym (and-or_distrib_right (some_below f n) (f n) b)
+some_and f b (suc n) =
+    ap (λ (x : Bool). x || (f n && b)) (some_and f b n) ∙ sym (and-or_distrib_right (some_below f n) (f n) b)
 
 module _ (m : List ℤ) where
   pub none_marked : MarkTable m 0 (replicate (most_nodes * most_soils) 0)
@@ -54,31 +59,34 @@ module _ (m : List ℤ) where
   unfolding some_below
   no_corner_yet e h = holds_as h (λ p. sym (ap mark_byte (or-false (soil_below m e (p / most_soils) (p % most_soils)))))
 
-  pub corner_more : (e i : ℕ) {v soil : ℕ} {t u : List ℕ} → Marks (marks_so_far m e i) t → v ≡ corner m e i → soil ≡ element_soil m e → v < most_nodes → soil < most_soils → u ≡ set t (v * most_soils + soil) 1 → Marks (marks_so_far m e (i + 1)) u
+  pub corner_more : (e i : ℕ) {v soil : ℕ} {t u : List ℕ} → Marks (marks_so_far m e i) t → v ≡ corner m e i
+      → soil ≡ element_soil m e → v < most_nodes → soil < most_soils → u ≡ set t (v * most_soils + soil) 1
+      → Marks (marks_so_far m e (i + 1)) u
   unfolding some_below
   corner_more e i {v} {soil} {t} {u} h d f l k g =
       subst (λ (j : ℕ). Marks (marks_so_far m e j) u) (sym (add-one i))
       (holds_as (mark_one (marks_so_far m e i) (v * most_soils + soil) h (omega arith) g)
-      (λ p. ap mark_byte (ap₂ (λ (a b : ℕ). marks_so_far m e i p || eqb (a * most_soils + b) p) d f ∙ or_assoc (soil_below m e (p / most_soils) (p % most_soils)) _ _)))
+      (λ p. ap mark_byte (ap₂ (λ (a b : ℕ). marks_so_far m e i p || eqb (a * most_soils + b) p) d f
+      ∙ or_assoc (soil_below m e (p / most_soils) (p % most_soils)) _ _)))
 
-  pub all_corners : (e i : ℕ) {t : List ℕ} → element_soil m e < most_soils → Marks (marks_so_far m e i) t → i ≡ 4 → MarkTable m (e + 1) t
+  pub all_corners : (e i : ℕ) {t : List ℕ} → element_soil m e < most_soils → Marks (marks_so_far m e i) t → i ≡ 4
+      → MarkTable m (e + 1) t
   unfolding some_below has_corner
   all_corners e i {t} l h d =
       subst (λ (k : ℕ). MarkTable m k t) (sym (add-one e))
       (holds_as (subst (λ (j : ℕ). Marks (marks_so_far m e j) t) d h)
       (λ p. ap (λ (b : Bool). mark_byte (soil_below m e (p / most_soils) (p % most_soils) || b)) (corners p)))
     where
-      corners : (p : ℕ) → some_below (λ j. eqb (corner m e j * most_soils + element_soil m e) p) 4 ≡ has_corner m (p / most_soils) e && eqb (element_soil m e) (p % most_soils)
+      corners : (p : ℕ) → some_below (λ j. eqb (corner m e j * most_soils + element_soil m e) p) 4
+          ≡ has_corner m (p / most_soils) e && eqb (element_soil m e) (p % most_soils)
       corners p =
           some_cong _ _ 4 (λ j k. same_place most_soils (corner m e j) (element_soil m e) l p)
           ∙ some_and (λ j. eqb (corner m e j) (p / most_soils)) (eqb (element_soil m e) (p % most_soils)) 4
 
-  pub marks_to : {e n : ℕ} {t : List ℕ} → MarkTable m e t → e ≡ n → MarkTable m n t
-  marks_to {t = t} h d = subst (λ (n : ℕ). MarkTable m n t) d h
-
   -- ---- all elements are passed
 
-  pub marked_is : {t : List ℕ} → MarkTable m (elements m) t → (v s : ℕ) → v < most_nodes → s < most_soils → is_marked t v s ≡ has_soil m v s
+  pub marked_is : {t : List ℕ} → MarkTable m (elements m) t → (v s : ℕ) → v < most_nodes → s < most_soils
+      → is_marked t v s ≡ has_soil m v s
   unfolding has_soil
   marked_is {t} h v s l k =
       ap (λ (b : ℕ). eqb b 1) (h.says (v * most_soils + s) (omega arith))
@@ -98,16 +106,23 @@ module _ (m : List ℤ) where
           let r = (in_element_lem m v).holds (subst T (sym e) tt) in
           let s = element_soil m r.element in
           some_there (has_soil m v) (soils m) {e = s} (facts.element r.element r.there).soil_there
-          (is_true (has_soil m v s) ((soil-around m v s).passes (record { element = r.element; there = r.there; has-corner = (r.place, r.four, r.same); same = refl })))
-      by false e = none_there (has_soil m v) (soils m) (λ s l. is_false (has_soil m v s) ((opposite (soil-around m v s)).passes (none s)))
+          (is_true (has_soil m v s)
+          ((soil-around m v s).passes
+          (record { element = r.element; there = r.there; has-corner = (r.place, r.four, r.same); same = refl })))
+      by false e =
+          none_there (has_soil m v) (soils m)
+          (λ s l. is_false (has_soil m v s) ((opposite (soil-around m v s)).passes (none s)))
         where
           none : (s : ℕ) → ¬ SoilAround m v s
           none s r =
               let (i, l, d) = r.has-corner in
-              subst T e ((in_element_lem m v).passes (record { element = r.element; there = r.there; place = i; four = l; same = d }))
+              subst T e ((in_element_lem m v).passes
+              (record { element = r.element; there = r.there; place = i; four = l; same = d }))
 
-  pub some_mark : MeshFacts m → {t : List ℕ} → MarkTable m (elements m) t → (v : ℕ) {n : ℕ} → v < most_nodes → n ≡ soils m → some_below (is_marked t v) n ≡ in_element m v
+  pub some_mark : MeshFacts m → {t : List ℕ} → MarkTable m (elements m) t → (v : ℕ) {n : ℕ} → v < most_nodes
+      → n ≡ soils m → some_below (is_marked t v) n ≡ in_element m v
   some_mark facts {t} h v {n} l e =
       ap (some_below (is_marked t v)) e
-      ∙ some_cong (is_marked t v) (has_soil m v) (soils m) (λ s k. marked_is h v s l (omega (arith, facts.counts.soils_most)))
+      ∙ some_cong (is_marked t v) (has_soil m v) (soils m)
+      (λ s k. marked_is h v s l (omega (arith, facts.counts.soils_most)))
       ∙ has_some_soil facts v

@@ -1,5 +1,6 @@
--- What the machine has of a mesh's elements, edges and jumps is what the checks of its shape ask: corners, turns, lines, outer edges; and what the checks say in their order.
-use mathlib.Core.Path.{◌≡◌, refl, sym, ◌∙◌, ap, ap₂, subst}
+-- What the machine has of a mesh's elements, edges and jumps is what the checks of its shape ask: corners, turns,
+-- lines, outer edges; and what the checks say in their order.
+use mathlib.Core.Path.{◌≡◌, refl, sym, ◌∙◌, ap, ap₂}
 use mathlib.Core.Bool.{Bool}
 use mathlib.Core.List.{List, [], ◌∷◌}
 use Prim.Native.Nat.{ℕ, suc, ◌+◌, ◌*◌, ◌-◌, ◌%◌, ◌≤◌, ◌<◌}
@@ -9,7 +10,9 @@ use lib.Signed.{lt_z}
 use Rattle.integer.specs.Bounds.{Is}
 use Rattle.mesh.specs.declared.sizes.Sizes.{Sizes}
 use Rattle.scope.specs.Layout.{groups, lines_before}
-use Rattle.scope.specs.Mesh.{most_nodes, most_elements, most_soils, most_edges, most_jumps, mesh_header, soil_lines, node_lines, element_lines, edge_lines, jump_lines, mesh_layout, mesh_groups, nodes, elements, edges, corner, corner_count, around, from_node, to_node, edge_line, jump_line}
+use Rattle.scope.specs.Mesh.{most_nodes, mesh_header, soil_lines}
+use Rattle.scope.specs.Mesh.{node_lines, element_lines, edge_lines, jump_lines, mesh_layout, mesh_groups, nodes}
+use Rattle.scope.specs.Mesh.{elements, corner, corner_count, around, edge_line, jump_line}
 use Rattle.mesh.specs.MeshContracts.{Sized}
 use Rattle.scope.specs.Tests.{turn, left_turn_at}
 use Rattle.scope.specs.declared.Place.{Place}
@@ -17,18 +20,13 @@ use Rattle.scope.specs.declared.Outcome.{Outcome}
 use Rattle.scope.specs.declared.Outcome.TheVariants.{Passed, Refused}
 use Rattle.scope.specs.Checks.{◌then◌}
 use Rattle.scope.specs.Phases.{Phase, check_phase, check_phases}
-use Rattle.scope.specs.Refusals.{turns_phase, own_sides_phase, nodes_phase, edges_phase, joints_phase, pairs_phase, shape_phases}
+use Rattle.scope.specs.Refusals.{turns_phase, own_sides_phase, nodes_phase, edges_phase, joints_phase, pairs_phase}
+use Rattle.scope.specs.Refusals.{shape_phases}
 use Rattle.scope.proofs.Phases.{check_join}
-use Rattle.scope.proofs.Triangles.{some_corners, around_below, around_is}
+use Rattle.scope.proofs.Triangles.{around_below, around_is}
 use Rattle.lines.proofs.Loops.{then_refuses, then_goes_on}
 
 -- ---- the corners of an element
-
-pub corners_there : (m : List ℤ) (e : ℕ) {n : ℕ} → n ≡ corner_count m e → (3 ≤ n) × (n ≤ 4)
-corners_there m e h = let (l, r) = some_corners m e in (omega arith, omega arith)
-
-pub place_below : (m : List ℤ) (e i : ℕ) {n : ℕ} → n ≡ corner_count m e → i % n < 4
-place_below m e i h = subst (λ (k : ℕ). i % k < 4) (sym h) (around_below m e i)
 
 pub around-corner : (m : List ℤ) (e i : ℕ) {n : ℕ} → n ≡ corner_count m e → corner m e (i % n) ≡ around m e i
 around-corner m e i h = sym (around_is m e i _ (sym h))
@@ -37,18 +35,19 @@ pub around-there : {m : List ℤ} {s : Sizes} → Sized m s → {e : ℕ} → e 
 unfolding around
 around-there {m} k {e} l i = (k.facts.element e l).corner_there (i % corner_count m e) (around_below m e i)
 
-pub corner_below : {m : List ℤ} {s : Sizes} → Sized m s → {a e i : ℕ} → e < elements m → i < 4 → a ≡ corner m e i → a < most_nodes
-corner_below k {e = e} {i = i} l j d = omega (arith, (k.facts.element e l).corner_there i j, k.facts.counts.nodes_most)
-
 -- the place of a side in a table
-pub side_fits : {m : List ℤ} {s : Sizes} → Sized m s → {a b e n : ℕ} → e < elements m → (i : ℕ) → nodes m * most_nodes ≤ n → a ≡ around m e i → b ≡ around m e (i + 1) → a * most_nodes + b < n
-side_fits k l i r d f = omega (arith, around-there k l i, around-there k l (i + 1), k.facts.counts.nodes_most)
+pub side_fits : {m : List ℤ} {s : Sizes} → Sized m s → {a b n : ℕ} → nodes m * most_nodes ≤ n
+    → a < nodes m → b < nodes m → a * most_nodes + b < n
+side_fits k r i j = omega (arith, k.facts.counts.nodes_most)
 
 -- a cross product of numbers that the machine has
-pub cross_from : {ux uy vx vy p q r s : ℤ} {A B C D : ℕ} → Is ux p A → Is uy q B → Is vx r C → Is vy s D → ux *ℤ vy -ℤ vx *ℤ uy ≡ p *ℤ s -ℤ r *ℤ q
+pub cross_from : {ux uy vx vy p q r s : ℤ} {A B C D : ℕ} → Is ux p A → Is uy q B → Is vx r C → Is vy s D
+    → ux *ℤ vy -ℤ vx *ℤ uy ≡ p *ℤ s -ℤ r *ℤ q
 cross_from d e f g = ap₂ ◌-ℤ◌ (ap₂ ◌*ℤ◌ d.same g.same) (ap₂ ◌*ℤ◌ f.same e.same)
 
-pub left-turn_from : (m : List ℤ) (e i : ℕ) {r : Bool} {a b c n : ℕ} → n ≡ corner_count m e → a ≡ around m e (i + (n - 1)) → b ≡ around m e i → c ≡ around m e (i + 1) → r ≡ lt_z (pos 0) (turn m a b c) → r ≡ left_turn_at m e i
+pub left-turn_from : (m : List ℤ) (e i : ℕ) {r : Bool} {a b c n : ℕ} → n ≡ corner_count m e
+    → a ≡ around m e (i + (n - 1)) → b ≡ around m e i → c ≡ around m e (i + 1) → r ≡ lt_z (pos 0) (turn m a b c)
+    → r ≡ left_turn_at m e i
 unfolding left_turn_at
 left-turn_from m e i n d f g h = h ∙ ap (lt_z (pos 0)) (ap₃ (d ∙ ap (λ (k : ℕ). around m e (i + (k - 1))) n) f g)
   where
@@ -58,32 +57,20 @@ left-turn_from m e i n d f g h = h ∙ ap (lt_z (pos 0)) (ap₃ (d ∙ ap (λ (k
 -- ---- edges
 
 module _ (m : List ℤ) where
-  -- the place of an edge's side in a table, and of the reverse
-  pub edge_fits : {s : Sizes} → Sized m s → {g a b n : ℕ} → g < edges m → nodes m * most_nodes ≤ n → a ≡ from_node m g → b ≡ to_node m g → (a * most_nodes + b < n) × (b * most_nodes + a < n)
-  edge_fits k {g} l r d e =
-      let f = k.facts.edge g l in
-      (omega (arith, f.from_there, f.to_there, k.facts.counts.nodes_most), omega (arith, f.from_there, f.to_there, k.facts.counts.nodes_most))
-
-  pub edge_line_lem : {s : Sizes} → Sized m s → (g : ℕ) {r : ℕ} → r ≡ s.soils + s.nodes + s.elements + g + 2 → r ≡ suc (edge_line m g)
-  unfolding edge_line lines_before mesh_groups groups mesh_layout mesh_header soil_lines node_lines element_lines edge_lines
+  pub edge_line_lem : {s : Sizes} → Sized m s → (g : ℕ) {r : ℕ} → r ≡ s.soils + s.nodes + s.elements + g + 2
+      → r ≡ suc (edge_line m g)
+  unfolding edge_line lines_before mesh_groups groups mesh_layout mesh_header soil_lines node_lines element_lines
+      edge_lines
   edge_line_lem k g e = omega (arith, k.soils_are, k.nodes_are, k.elements_are)
-
-  pub edge_line_fits : {s : Sizes} → Sized m s → {g : ℕ} → g < s.edges → s.soils + s.nodes + s.elements + g < most_soils + most_nodes + most_elements + most_edges
-  edge_line_fits k l = let c = k.facts.counts in omega (arith, k.soils_are, k.nodes_are, k.elements_are, k.edges_are, c.soils_most, c.nodes_most, c.elements_most, c.edges_most)
 
 -- ---- jumps
 
 module _ (m : List ℤ) where
-  -- the place of a side in a table, and of the reverse
-  pub ends_fit : {s : Sizes} → Sized m s → {a b n : ℕ} → nodes m * most_nodes ≤ n → a < nodes m → b < nodes m → (a * most_nodes + b < n) × (b * most_nodes + a < n)
-  ends_fit k r i j = (omega (arith, k.facts.counts.nodes_most), omega (arith, k.facts.counts.nodes_most))
-
-  pub jump_line_lem : {s : Sizes} → Sized m s → (j : ℕ) {r : ℕ} → r ≡ s.soils + s.nodes + s.elements + s.edges + j + 2 → r ≡ suc (jump_line m j)
-  unfolding jump_line lines_before mesh_groups groups mesh_layout mesh_header soil_lines node_lines element_lines edge_lines jump_lines
+  pub jump_line_lem : {s : Sizes} → Sized m s → (j : ℕ) {r : ℕ} → r ≡ s.soils + s.nodes + s.elements + (s.edges + j) + 2
+      → r ≡ suc (jump_line m j)
+  unfolding jump_line lines_before mesh_groups groups mesh_layout mesh_header soil_lines node_lines element_lines
+      edge_lines jump_lines
   jump_line_lem k j e = omega (arith, k.soils_are, k.nodes_are, k.elements_are, k.edges_are)
-
-  pub jump_line_fits : {s : Sizes} → Sized m s → {j : ℕ} → j < s.jumps → s.soils + s.nodes + s.elements + s.edges + j < most_soils + most_nodes + most_elements + most_edges + most_jumps
-  jump_line_fits k l = let c = k.facts.counts in omega (arith, k.soils_are, k.nodes_are, k.elements_are, k.edges_are, k.jumps_are, c.soils_most, c.nodes_most, c.elements_most, c.edges_most, c.jumps_most)
 
 -- ---- the phases in their order
 
@@ -91,15 +78,19 @@ module _ (m : List ℤ) where
   abbrev sides_to_joints : List Phase
   sides_to_joints = own_sides_phase m ∷ nodes_phase m ∷ edges_phase m ∷ joints_phase m ∷ []
 
-  shape_checked : check_phases (shape_phases m) ≡ check_phase (turns_phase m) then (check_phases sides_to_joints then check_phase (pairs_phase m))
+  shape_checked : check_phases (shape_phases m)
+      ≡ check_phase (turns_phase m) then (check_phases sides_to_joints then check_phase (pairs_phase m))
   unfolding check_phases
-  shape_checked = ap (λ (o : Outcome). check_phase (turns_phase m) then o) (check_join sides_to_joints (pairs_phase m ∷ []))
+  shape_checked =
+      ap (λ (o : Outcome). check_phase (turns_phase m) then o) (check_join sides_to_joints (pairs_phase m ∷ []))
 
-  pub turns_refuse : {k : ℕ} {p : Place} → check_phase (turns_phase m) ≡ Refused k p → Refused k p ≡ check_phases (shape_phases m)
+  pub turns_refuse : {k : ℕ} {p : Place} → check_phase (turns_phase m) ≡ Refused k p
+      → Refused k p ≡ check_phases (shape_phases m)
   turns_refuse e = then_refuses _ e ∙ sym shape_checked
 
   module _ (e : check_phase (turns_phase m) ≡ Passed) where
-    pub rest_refuses : {k : ℕ} {p : Place} → check_phases sides_to_joints ≡ Refused k p → Refused k p ≡ check_phases (shape_phases m)
+    pub rest_refuses : {k : ℕ} {p : Place} → check_phases sides_to_joints ≡ Refused k p
+        → Refused k p ≡ check_phases (shape_phases m)
     rest_refuses f = then_goes_on e (then_refuses _ f) ∙ sym shape_checked
 
     pub pairs_last : check_phases sides_to_joints ≡ Passed → check_phase (pairs_phase m) ≡ check_phases (shape_phases m)

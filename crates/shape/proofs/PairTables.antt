@@ -1,4 +1,5 @@
--- Pairs as bytes: one pair is put after those that are there, then those of a node soil by soil, then those of all nodes.
+-- Pairs as bytes: one pair is put after those that are there, then those of a node soil by soil, then those of all
+-- nodes.
 use mathlib.Core.Path.{◌≡◌, refl, sym, ◌∙◌, ap, ap₂, subst}
 use mathlib.Core.Bool.{Bool, true, false, cond}
 use mathlib.Core.List.{List, [], ◌∷◌, ◌++◌, map, map-append, append-nil, append_assoc}
@@ -8,7 +9,8 @@ use native.Mathlib.Decide.{ℕ_discrete}
 use native.Mathlib.Omega.{arith}
 use lib.IntN.{ℤ}
 use lib.Dec.{ltb}
-use lib.ListN.{length, get_or, set, replicate, length-append, length-set, length-replicate, get_or-append, get_or-eq_default, get_or-replicate}
+use lib.ListN.{length, get_or, set, replicate, length-append, length-set, length-replicate, get_or-append}
+use lib.ListN.{get_or-eq_default, get_or-replicate}
 use lib.Seq.{get_or-set_same, get_or-set_other, get_or_at}
 use native.Mathlib.Decide.{dec_lt}
 use borrow.Author.Tests.{ltb-true, ltb-false, le-leb, lt-leb}
@@ -26,7 +28,8 @@ use Rattle.scope.specs.NumberRanges.{MeshFacts}
 use Rattle.scope.proofs.Pairs.{pair_of}
 use Rattle.lines.proofs.Loops.{all_more, each_below, phase-at, phase_all}
 use Rattle.shape.specs.declared.pairs.Paired.{Paired}
-use Rattle.shape.specs.ShapeContracts.{MarkTable, is_marked, PairBytes, put_pair, pair_where, Added, marked_pairs, pairs_if, PairedAs}
+use Rattle.shape.specs.ShapeContracts.{MarkTable, is_marked, PairBytes, put_pair, pair_where, Added, marked_pairs}
+use Rattle.shape.specs.ShapeContracts.{pairs_if, PairedAs}
 use Rattle.shape.proofs.MarkTables.{marked_is}
 
 -- ---- one pair
@@ -79,13 +82,16 @@ module _ (k : List Pair) {t : List ℕ} {n : ℕ} (v s : ℕ) (e : length k ≡ 
     size = length-set (set t (2 * n) v) (2 * n + 1) s ∙ length-set t (2 * n) v ∙ h.size;
     node = λ a i j. node a (omega (arith, one_more)) j (ℕ_discrete a n);
     soil = λ a i j. soil a (omega (arith, one_more)) j (ℕ_discrete a n);
-    rest = λ i l. untouched i (λ d. omega (arith, one_more)) (λ d. omega (arith, one_more)) ∙ h.rest i (omega (arith, one_more));
+    rest =
+        λ i l. untouched i (λ d. omega (arith, one_more)) (λ d. omega (arith, one_more))
+        ∙ h.rest i (omega (arith, one_more));
   }
     where
       long : length (set t (2 * n) v) ≡ 2 * most_pairs
       long = length-set t (2 * n) v ∙ h.size
 
-      node : (a : ℕ) → a < suc n → a < most_pairs → Dec (a ≡ n) → get_or put (2 * a) 0 ≡ (get_or joined a (pair_of 0 0)).at
+      node : (a : ℕ) → a < suc n → a < most_pairs → Dec (a ≡ n)
+          → get_or put (2 * a) 0 ≡ (get_or joined a (pair_of 0 0)).at
       node a i j (yes d) =
           ap (λ (b : ℕ). get_or put (2 * b) 0) d
           ∙ get_or-set_other (set t (2 * n) v) (2 * n + 1) (2 * n) s 0 (λ x. omega arith)
@@ -96,7 +102,8 @@ module _ (k : List Pair) {t : List ℕ} {n : ℕ} (v s : ℕ) (e : length k ≡ 
           ∙ h.node a (omega arith) j
           ∙ sym (ap (λ (p : Pair). p.at) (before a (omega arith)))
 
-      soil : (a : ℕ) → a < suc n → a < most_pairs → Dec (a ≡ n) → get_or put (2 * a + 1) 0 ≡ (get_or joined a (pair_of 0 0)).soil
+      soil : (a : ℕ) → a < suc n → a < most_pairs → Dec (a ≡ n)
+          → get_or put (2 * a + 1) 0 ≡ (get_or joined a (pair_of 0 0)).soil
       soil a i j (yes d) =
           ap (λ (b : ℕ). get_or put (2 * b + 1) 0) d
           ∙ get_or-set_same (set t (2 * n) v) (2 * n + 1) s 0 (omega (arith, long))
@@ -114,23 +121,18 @@ module _ (k : List Pair) {t : List ℕ} {n : ℕ} (v s : ℕ) (e : length k ≡ 
       by true d = fits (ltb-true n most_pairs d)
       by false d = full (ltb-false n most_pairs d)
 
-pub put_room : (t : List ℕ) (n v s : ℕ) → ltb n most_pairs ≡ true → set (set t (2 * n) v) (2 * n + 1) s ≡ put_pair t n v s
-unfolding put_pair
-put_room t n v s e = sym (ap (λ (b : Bool). cond b (set (set t (2 * n) v) (2 * n + 1) s) t) e)
-
-pub put_full : (t : List ℕ) (n v s : ℕ) → ltb n most_pairs ≡ false → t ≡ put_pair t n v s
-unfolding put_pair
-put_full t n v s e = sym (ap (λ (b : Bool). cond b (set (set t (2 * n) v) (2 * n + 1) s) t) e)
-
 -- ---- pairs one after the other
 
 pub none_added : (n : ℕ) (t : List ℕ) → Added [] n t n t
-none_added n t = record { more = omega arith; table = λ k e h. subst (λ (l : List Pair). PairBytes l t) (sym (append-nil k)) h }
+none_added n t =
+    record { more = omega arith; table = λ k e h. subst (λ (l : List Pair). PairBytes l t) (sym (append-nil k)) h }
 
 then_added : {k l : List Pair} {n r q : ℕ} {t u w : List ℕ} → Added k n t r u → Added l r u q w → Added (k ++ l) n t q w
 then_added {k} {l} {w = w} a b = record {
   more = omega (arith, a.more, b.more, length-append k l);
-  table = λ j e h. subst (λ (i : List Pair). PairBytes i w) (append_assoc j k l) (b.table (j ++ k) (omega (arith, length-append j k, a.more)) (a.table j e h));
+  table =
+      λ j e h. subst (λ (i : List Pair). PairBytes i w) (append_assoc j k l)
+      (b.table (j ++ k) (omega (arith, length-append j k, a.more)) (a.table j e h));
 }
 
 module _ (v s : ℕ) {b : Bool} {n r : ℕ} {t u : List ℕ} where
@@ -138,11 +140,6 @@ module _ (v s : ℕ) {b : Bool} {n r : ℕ} {t u : List ℕ} where
   pair_added e f g =
       subst (λ (b : Bool). Added (pair_where b v s) n t r u) (sym e)
       (record { more = f; table = λ k d h. subst (PairBytes (k ++ (pair_of v s ∷ []))) (sym g) (put-bytes k v s d h) })
-
-  pub no_pair_added : b ≡ false → r ≡ n → u ≡ t → Added (pair_where b v s) n t r u
-  no_pair_added e f g =
-      subst (λ (b : Bool). Added (pair_where b v s) n t r u) (sym e)
-      (subst (λ (i : ℕ). Added [] n t i u) (sym f) (subst (Added [] n t n) (sym g) (none_added n t)))
 
 pub one_at_most : (b : Bool) (v s : ℕ) → length (pair_where b v s) ≤ 1
 one_at_most true v s = omega arith
@@ -155,7 +152,8 @@ module _ (marks : List ℕ) (v : ℕ) where
   unfolding marked_pairs passing
   no_soil_yet n t = none_added n t
 
-  pub soil_more : (s : ℕ) {n r q : ℕ} {t u w : List ℕ} → Added (marked_pairs marks v s) n t r u → Added (pair_where (is_marked marks v s) v s) r u q w → Added (marked_pairs marks v (s + 1)) n t q w
+  pub soil_more : (s : ℕ) {n r q : ℕ} {t u w : List ℕ} → Added (marked_pairs marks v s) n t r u
+      → Added (pair_where (is_marked marks v s) v s) r u q w → Added (marked_pairs marks v (s + 1)) n t q w
   unfolding marked_pairs passing
   soil_more s {n} {q = q} {t = t} {w = w} a b =
       subst (λ (i : ℕ). Added (marked_pairs marks v i) n t q w) (sym (add-one s))
@@ -165,13 +163,11 @@ module _ (marks : List ℕ) (v : ℕ) where
       one true = refl
       one false = refl
 
-      next : map (pair_of v) (passing (is_marked marks v) s ++ cond (is_marked marks v s) (s ∷ []) []) ≡ map (pair_of v) (passing (is_marked marks v) s) ++ pair_where (is_marked marks v s) v s
+      next : map (pair_of v) (passing (is_marked marks v) s ++ cond (is_marked marks v s) (s ∷ []) [])
+          ≡ map (pair_of v) (passing (is_marked marks v) s) ++ pair_where (is_marked marks v s) v s
       next =
           map-append (pair_of v) (passing (is_marked marks v) s) (cond (is_marked marks v s) (s ∷ []) [])
           ∙ ap (λ (l : List Pair). map (pair_of v) (passing (is_marked marks v) s) ++ l) (one (is_marked marks v s))
-
-  pub soils_to_lem : (s c : ℕ) {n r : ℕ} {t u : List ℕ} → Added (marked_pairs marks v s) n t r u → s ≡ c → Added (marked_pairs marks v c) n t r u
-  soils_to_lem s c {n} {r} {t} {u} a e = subst (λ (i : ℕ). Added (marked_pairs marks v i) n t r u) e a
 
 passing_cong : (f g : ℕ → Bool) (n : ℕ) → ((k : ℕ) → k < n → f k ≡ g k) → passing f n ≡ passing g n
 unfolding passing
@@ -197,18 +193,25 @@ module _ (m : List ℤ) where
     are : count ≡ length (pairs_below m (suc v))
     bytes : PairBytes (pairs_below m (suc v)) t
 
-  module _ (facts : MeshFacts m) {marks : List ℕ} (h : MarkTable m (elements m) marks) {v n count r : ℕ} {t u : List ℕ} (c : Collected v count t) (l : v < nodes m) (e : n ≡ soils m) (a : Added (marked_pairs marks v n) count t r u) where
+  module _ (facts : MeshFacts m) {marks : List ℕ} (h : MarkTable m (elements m) marks) {v n count r : ℕ} {t u : List ℕ}
+      (c : Collected v count t) (l : v < nodes m) (e : n ≡ soils m)
+      (a : Added (marked_pairs marks v n) count t r u) where
     marked_pairs_lem : marked_pairs marks v n ≡ node_pairs m v
     unfolding marked_pairs node_pairs
     marked_pairs_lem =
         ap (λ (i : ℕ). map (pair_of v) (passing (is_marked marks v) i)) e
-        ∙ ap (map (pair_of v)) (passing_cong (is_marked marks v) (has_soil m v) (soils m) (λ s k. marked_is m h v s (omega (arith, facts.counts.nodes_most)) (omega (arith, facts.counts.soils_most))))
+        ∙ ap (map (pair_of v))
+        (passing_cong (is_marked marks v) (has_soil m v) (soils m)
+        (λ s k. marked_is m h v s (omega (arith, facts.counts.nodes_most)) (omega (arith, facts.counts.soils_most))))
 
     next-node : NextNode v r u
     unfolding pairs_below
     next-node = record {
-      are = a.more ∙ ap₂ ◌+◌ c.are (ap length marked_pairs_lem) ∙ sym (length-append (pairs_below m v) (node_pairs m v));
-      bytes = subst (λ (j : List Pair). PairBytes (pairs_below m v ++ j) u) marked_pairs_lem (a.table (pairs_below m v) (sym c.are) c.bytes);
+      are =
+          a.more ∙ ap₂ ◌+◌ c.are (ap length marked_pairs_lem) ∙ sym (length-append (pairs_below m v) (node_pairs m v));
+      bytes =
+          subst (λ (j : List Pair). PairBytes (pairs_below m v ++ j) u) marked_pairs_lem
+          (a.table (pairs_below m v) (sym c.are) c.bytes);
     }
 
     -- they fit, or this is the node of 42
@@ -216,17 +219,27 @@ module _ (m : List ℤ) where
     unfolding pairs_fit
     more_collected few =
         subst (λ (i : ℕ). Collected i r u) (sym (add-one v))
-        (record { are = next-node.are; few = few; bytes = next-node.bytes; fit = subst (λ (i : ℕ). all_below (pairs_fit m) i ≡ true) (add-one v) (all_more (pairs_fit m) c.fit (le-leb (length (pairs_below m (suc v))) most_pairs (omega (arith, next-node.are)))) })
+        (record {
+          are = next-node.are;
+          few = few;
+          bytes = next-node.bytes;
+          fit =
+              subst (λ (i : ℕ). all_below (pairs_fit m) i ≡ true) (add-one v)
+              (all_more (pairs_fit m) c.fit
+              (le-leb (length (pairs_below m (suc v))) most_pairs (omega (arith, next-node.are))));
+        })
 
     pub brings_101st : most_pairs < r → Refused 42 (Node (v + 1)) ≡ check_phase (pairs_phase m)
     unfolding check_phase pairs_fit
     brings_101st many =
-        phase-at (pairs_fit m) 42 (λ v. Node (suc v)) (nodes m) (each_below (pairs_fit m) v c.fit) l (lt-leb (length (pairs_below m (suc v))) most_pairs (omega (arith, next-node.are))) (ap Node (add-one v))
+        phase-at (pairs_fit m) 42 (λ v. Node (suc v)) (nodes m) (each_below (pairs_fit m) v c.fit) l
+        (lt-leb (length (pairs_below m (suc v))) most_pairs (omega (arith, next-node.are))) (ap Node (add-one v))
 
   pub paired_as : {o p : Outcome} {r : Paired} → PairedAs o m r → o ≡ p → PairedAs p m r
   paired_as {r = r} h e = subst (λ (o : Outcome). PairedAs o m r) e h
 
-  pub all_collected : {v count : ℕ} {t : List ℕ} → Collected v count t → v ≡ nodes m → PairedAs (check_phase (pairs_phase m)) m (record { outcome = Passed; count = count; pairs = t })
+  pub all_collected : {v count : ℕ} {t : List ℕ} → Collected v count t → v ≡ nodes m
+      → PairedAs (check_phase (pairs_phase m)) m (record { outcome = Passed; count = count; pairs = t })
   unfolding check_phase pairs_if strength_pairs
   all_collected {v} {count} {t} c e =
       let all = subst (λ (i : ℕ). Collected i count t) e c in
@@ -234,6 +247,7 @@ module _ (m : List ℤ) where
       (phase_all (pairs_fit m) 42 (λ v. Node (suc v)) (nodes m) (each_below (pairs_fit m) (nodes m) all.fit))
 
 -- a mesh that is refused has no pairs
-pub none_paired : (m : List ℤ) {k : ℕ} {p : Place} → PairedAs (Refused k p) m (record { outcome = Refused k p; count = 0; pairs = replicate (2 * most_pairs) 0 })
+pub none_paired : (m : List ℤ) {k : ℕ} {p : Place}
+    → PairedAs (Refused k p) m (record { outcome = Refused k p; count = 0; pairs = replicate (2 * most_pairs) 0 })
 unfolding pairs_if
 none_paired m = record { outcome = refl; count = refl; pairs = none_put }

@@ -1,4 +1,5 @@
--- Tables of sides: an element gives its number to its sides, and an edge takes its side, so that a byte tells the lowest that has the side.
+-- Tables of sides: an element gives its number to its sides, and an edge takes its side, so that a byte tells the
+-- lowest that has the side.
 use mathlib.Core.Path.{◌≡◌, refl, sym, ◌∙◌, ap, ap₂, subst}
 use mathlib.Core.Bool.{Bool, true, false, cond, not, ◌&&◌, and_assoc, and_comm, true≢false}
 use mathlib.Core.List.{List}
@@ -8,17 +9,21 @@ use native.Mathlib.Decide.{ℕ_discrete}
 use native.Mathlib.Omega.{arith}
 use lib.IntN.{ℤ}
 use lib.Dec.{eqb}
-use lib.ListN.{length, replicate, length-replicate}
+use lib.ListN.{length, get_or, replicate, length-replicate}
 use borrow.Author.Tests.{eqb-true, eqb-false, lt-ltb, le-ltb, eq-eqb, ne_eqb}
 use Rattle.mesh.specs.declared.sizes.Sizes.{Sizes}
 use Rattle.scope.specs.Checks.{some_below, all_below}
-use Rattle.scope.specs.Mesh.{most_nodes, most_elements, nodes, elements, edges, corner_count, around, from_node, to_node}
+use Rattle.scope.specs.Mesh.{most_nodes, most_elements, nodes, elements, edges, corner_count, around, from_node}
+use Rattle.scope.specs.Mesh.{to_node}
 use Rattle.scope.specs.Rows.{first_where}
 use Rattle.scope.specs.Tests.{own_side_at, has_ends, has_side, own_sides, outer_side, outer_edge}
 use Rattle.mesh.specs.MeshContracts.{Sized}
-use Rattle.shape.specs.ShapeContracts.{no_byte, Holds, is_none, put, keep_first, byte_below, byte_at, at_place, SideBytes, side_byte, SideTable, edge_byte, EdgeTable, is_untaken}
-use Rattle.shape.proofs.MeshLaws.{around-there, side_fits, edge_fits}
-use Rattle.shape.proofs.ByteTables.{holds_as, holds_each, same_place, put_one, first_below, first_found, some_there, byte_found, free_below, cond_same, byte_more, given, none_given, one_given, all_given}
+use Rattle.shape.specs.ShapeContracts.{no_byte, Holds, is_none, put, keep_first, byte_below, byte_at, at_place}
+use Rattle.shape.specs.ShapeContracts.{SideBytes, side_byte, SideTable, edge_byte, EdgeTable, is_untaken}
+use Rattle.shape.proofs.MeshLaws.{around-there, side_fits}
+use Rattle.shape.proofs.ByteTables.{holds_as, holds_each, same_place, put_one, first_below, first_found, some_there}
+use Rattle.shape.proofs.ByteTables.{byte_found, free_below, cond_same, byte_more, given, none_given, one_given}
+use Rattle.shape.proofs.ByteTables.{all_given}
 
 -- ---- places of sides
 
@@ -33,9 +38,6 @@ module _ {m : List ℤ} {f : ℕ → ℕ → ℕ} {t : List ℕ} (h : SideBytes 
   byte_of k {a} {b} i j =
       let most = k.facts.counts.nodes_most in
       h.bytes.says (a * most_nodes + b) (omega (arith, h.room)) ∙ ap₂ f (omega arith) (omega arith)
-
-pub bytes_up_to : {m : List ℤ} (f : ℕ → ℕ → ℕ → ℕ) {i n : ℕ} {t : List ℕ} → SideBytes m (f i) t → i ≡ n → SideBytes m (f n) t
-bytes_up_to {m} f {t = t} h d = subst (λ (n : ℕ). SideBytes m (f n) t) d h
 
 -- ---- the sides of elements
 
@@ -60,33 +62,47 @@ no_sides m n l = record {
 
 module _ (m : List ℤ) where
   pub no_side_yet : (e : ℕ) {t : List ℕ} → SideTable m e t → SideBytes m (sides_so_far m e 0) t
-  no_side_yet e h = bytes_to h (none_given (λ v. side_is m e (v / most_nodes) (v % most_nodes)) (at_place (side_byte m e)) e h.bytes)
+  no_side_yet e h =
+      bytes_to h (none_given (λ v. side_is m e (v / most_nodes) (v % most_nodes)) (at_place (side_byte m e)) e h.bytes)
 
   pub own_sides_are : (e : ℕ) → all_below (own_side_at m e) (corner_count m e) ≡ own_sides m e
   unfolding own_sides
   own_sides_are e = refl
 
 module _ (m : List ℤ) {s : Sizes} (k : Sized m s) {e : ℕ} (l : e < elements m) where
-  pub side_more : (i : ℕ) {t u : List ℕ} → SideBytes m (sides_so_far m e i) t → u ≡ keep_first t (around m e i * most_nodes + around m e (i + 1)) e → SideBytes m (sides_so_far m e (i + 1)) u
+  pub side_more : (i : ℕ) {t u : List ℕ} → SideBytes m (sides_so_far m e i) t
+      → u ≡ keep_first t (around m e i * most_nodes + around m e (i + 1)) e → SideBytes m (sides_so_far m e (i + 1)) u
   side_more i h d =
       bytes_to h
-      (one_given (λ v. side_is m e (v / most_nodes) (v % most_nodes)) (at_place (side_byte m e)) e i h.bytes (side_fits k l i h.room refl refl) (same_place most_nodes (around m e i) (around m e (i + 1)) (omega (arith, around-there k l (i + 1), k.facts.counts.nodes_most))) d)
+      (one_given (λ v. side_is m e (v / most_nodes) (v % most_nodes)) (at_place (side_byte m e)) e i h.bytes
+      (side_fits k h.room (around-there k l i) (around-there k l (i + 1)))
+      (same_place most_nodes (around m e i) (around m e (i + 1))
+      (omega (arith, around-there k l (i + 1), k.facts.counts.nodes_most))) d)
 
-  pub all_sides : {i : ℕ} {t : List ℕ} → SideBytes m (sides_so_far m e i) t → i ≤ corner_count m e → corner_count m e ≤ i → SideTable m (e + 1) t
+  pub all_sides : {i : ℕ} {t : List ℕ} → SideBytes m (sides_so_far m e i) t → i ≤ corner_count m e
+      → corner_count m e ≤ i → SideTable m (e + 1) t
   unfolding has_side
   all_sides {i} h j n =
       let whole : i ≡ corner_count m e = omega arith in
-      bytes_to h (all_given (λ v. side_is m e (v / most_nodes) (v % most_nodes)) (λ v. has_side m (v / most_nodes) (v % most_nodes)) (λ k. k) h.bytes whole (λ v. refl) (few (omega (arith, k.facts.counts.elements_most))))
+      bytes_to h (all_given (λ v. side_is m e (v / most_nodes) (v % most_nodes))
+      (λ v. has_side m (v / most_nodes) (v % most_nodes)) (λ k. k) h.bytes whole (λ v. refl)
+      (few (omega (arith, k.facts.counts.elements_most))))
 
   has_own : {i : ℕ} → i < corner_count m e → has_side m (around m e i) (around m e (i + 1)) e ≡ true
   unfolding has_side
-  has_own {i} j = some_there _ (corner_count m e) j (ap₂ ◌&&◌ (eq-eqb (around m e i) (around m e i) refl) (eq-eqb (around m e (i + 1)) (around m e (i + 1)) refl))
+  has_own {i} j =
+      some_there _ (corner_count m e) j
+      (ap₂ ◌&&◌ (eq-eqb (around m e i) (around m e i) refl) (eq-eqb (around m e (i + 1)) (around m e (i + 1)) refl))
 
-  pub own_side_is : {i : ℕ} → i < corner_count m e → {t : List ℕ} → SideTable m (elements m) t → {a b byte : ℕ} → a ≡ around m e i → b ≡ around m e (i + 1) → byte ≡ byte_at t a b → eqb byte e ≡ own_side_at m e i
+  pub own_side_is : {i : ℕ} → i < corner_count m e → {t : List ℕ} → SideTable m (elements m) t → {v : ℕ}
+      → v ≡ around m e i * most_nodes + around m e (i + 1) → eqb (get_or t v 0) e ≡ own_side_at m e i
   unfolding own_side_at
-  own_side_is {i} j {t} h d f g =
+  own_side_is {i} j {t} h d =
       let has = has_side m (around m e i) (around m e (i + 1)) in
-      ap (λ (x : ℕ). eqb x e) (g ∙ ap₂ (byte_at t) d f ∙ byte_of h k (around-there k l i) (around-there k l (i + 1)) ∙ byte_found no_byte has (λ k. k) (elements m) l (has_own j))
+      ap (λ (x : ℕ). eqb x e)
+      (ap (λ (v : ℕ). get_or t v 0) d
+      ∙ byte_of h k (around-there k l i) (around-there k l (i + 1))
+      ∙ byte_found no_byte has (λ k. k) (elements m) l (has_own j))
       ∙ (first_found has (elements m) l (has_own j)).1
 
 -- ---- the sides that edges take
@@ -96,7 +112,8 @@ module _ (m : List ℤ) where
   unfolding edge_byte byte_below first_where
   no_edge_lem a b = by (is_none (side_byte m (elements m) a b)) refl
     where
-      by : (d : Bool) → is_none (side_byte m (elements m) a b) ≡ d → side_byte m (elements m) a b ≡ cond d no_byte (side_byte m (elements m) a b)
+      by : (d : Bool) → is_none (side_byte m (elements m) a b) ≡ d
+          → side_byte m (elements m) a b ≡ cond d no_byte (side_byte m (elements m) a b)
       by true d = eqb-true (side_byte m (elements m) a b) no_byte d
       by false d = refl
 
@@ -108,21 +125,25 @@ module _ (m : List ℤ) {s : Sizes} (k : Sized m s) where
   side_none : (a b : ℕ) → is_none (side_byte m (elements m) a b) ≡ not (some_below (has_side m a b) (elements m))
   side_none a b = free_below is_none refl (has_side m a b) (λ k. k) (elements m) (few k.facts.counts.elements_most)
 
-  side_untaken : (a b : ℕ) → is_none (side_byte m (elements m) a b) ≡ false → is_untaken (side_byte m (elements m) a b) ≡ true
+  side_untaken : (a b : ℕ) → is_none (side_byte m (elements m) a b) ≡ false
+      → is_untaken (side_byte m (elements m) a b) ≡ true
   unfolding byte_below
   side_untaken a b = by (eqb first (elements m)) refl
     where
       first : ℕ
       first = first_where (has_side m a b) (elements m)
 
-      by : (d : Bool) → eqb first (elements m) ≡ d → is_none (cond d no_byte first) ≡ false → is_untaken (cond d no_byte first) ≡ true
+      by : (d : Bool) → eqb first (elements m) ≡ d → is_none (cond d no_byte first) ≡ false
+          → is_untaken (cond d no_byte first) ≡ true
       by true d h = absurd (true≢false h)
       by false d h =
           let below : first ≤ elements m = first_below (has_side m a b) (elements m) in
           let other : first ≡ elements m → ⊥ = eqb-false first (elements m) d in
           lt-ltb first most_elements (omega (arith, k.facts.counts.elements_most))
 
-  edge_step : (g a b : ℕ) → cond (has_ends m a b g) (cond (is_untaken (edge_byte m g a b)) (most_elements + g) (edge_byte m g a b)) (edge_byte m g a b) ≡ edge_byte m (suc g) a b
+  edge_step : (g a b : ℕ)
+      → cond (has_ends m a b g) (cond (is_untaken (edge_byte m g a b)) (most_elements + g) (edge_byte m g a b))
+      (edge_byte m g a b) ≡ edge_byte m (suc g) a b
   unfolding edge_byte
   edge_step g a b = by (is_none side) refl
     where
@@ -132,28 +153,38 @@ module _ (m : List ℤ) {s : Sizes} (k : Sized m s) where
       now : Bool → ℕ → ℕ
       now d n = cond d no_byte (byte_below side (has_ends m a b) (λ k. most_elements + k) n)
 
-      by : (d : Bool) → is_none side ≡ d → cond (has_ends m a b g) (cond (is_untaken (now d g)) (most_elements + g) (now d g)) (now d g) ≡ now d (suc g)
+      by : (d : Bool) → is_none side ≡ d
+          → cond (has_ends m a b g) (cond (is_untaken (now d g)) (most_elements + g) (now d g)) (now d g)
+          ≡ now d (suc g)
       by true d = cond_same (has_ends m a b g) no_byte
-      by false d = byte_more is_untaken (side_untaken a b d) (has_ends m a b) (λ k. most_elements + k) g (λ k i. le-ltb (most_elements + k) most_elements (omega arith))
+      by false d =
+          byte_more is_untaken (side_untaken a b d) (has_ends m a b) (λ k. most_elements + k) g
+          (λ k i. le-ltb (most_elements + k) most_elements (omega arith))
 
-  pub take_more : {g : ℕ} → g < edges m → {t u : List ℕ} → EdgeTable m g t → u ≡ put is_untaken t (from_node m g * most_nodes + to_node m g) (most_elements + g) → EdgeTable m (g + 1) u
+  pub take_more : {g : ℕ} → g < edges m → {t u : List ℕ} → EdgeTable m g t
+      → u ≡ put is_untaken t (from_node m g * most_nodes + to_node m g) (most_elements + g) → EdgeTable m (g + 1) u
   unfolding has_ends
   take_more {g} l {t} {u} h d =
       bytes_to h
       (subst (λ (n : ℕ). Holds (length t) (at_place (edge_byte m n)) u) (sym (add-one g))
       (subst (Holds (length t) (at_place (edge_byte m (suc g)))) (sym d)
-      (holds_as (put_one is_untaken h.bytes (edge_fits m k l h.room refl refl).0 (most_elements + g)) step)))
+      (holds_as (put_one is_untaken h.bytes (side_fits k h.room (k.facts.edge g l).from_there (k.facts.edge g l).to_there) (most_elements + g)) step)))
     where
       now : ℕ → ℕ
       now = at_place (edge_byte m g)
 
-      step : (v : ℕ) → cond (eqb (from_node m g * most_nodes + to_node m g) v) (cond (is_untaken (now v)) (most_elements + g) (now v)) (now v) ≡ at_place (edge_byte m (suc g)) v
+      step : (v : ℕ) → cond (eqb (from_node m g * most_nodes + to_node m g) v)
+          (cond (is_untaken (now v)) (most_elements + g) (now v)) (now v) ≡ at_place (edge_byte m (suc g)) v
       step v =
-          ap (λ (b : Bool). cond b (cond (is_untaken (now v)) (most_elements + g) (now v)) (now v)) (same_place most_nodes (from_node m g) (to_node m g) (omega (arith, (k.facts.edge g l).to_there, k.facts.counts.nodes_most)) v)
+          ap (λ (b : Bool). cond b (cond (is_untaken (now v)) (most_elements + g) (now v)) (now v))
+          (same_place most_nodes (from_node m g) (to_node m g)
+          (omega (arith, (k.facts.edge g l).to_there, k.facts.counts.nodes_most)) v)
           ∙ edge_step g (v / most_nodes) (v % most_nodes)
 
   -- a side is untaken exactly where it is an element's and no edge has it
-  pub edge_untaken : (a b : ℕ) → is_untaken (edge_byte m (edges m) a b) ≡ some_below (has_side m a b) (elements m) && not (some_below (has_ends m a b) (edges m))
+  pub edge_untaken : (a b : ℕ)
+      → is_untaken (edge_byte m (edges m) a b) ≡ some_below (has_side m a b) (elements m)
+      && not (some_below (has_ends m a b) (edges m))
   unfolding edge_byte
   edge_untaken a b = by (some_below (has_side m a b) (elements m)) (side_none a b)
     where
@@ -163,11 +194,13 @@ module _ (m : List ℤ) {s : Sizes} (k : Sized m s) where
       byte : ℕ
       byte = byte_below side (has_ends m a b) (λ k. most_elements + k) (edges m)
 
-      by : (c : Bool) → is_none side ≡ not c → is_untaken (cond (is_none side) no_byte byte) ≡ c && not (some_below (has_ends m a b) (edges m))
+      by : (c : Bool) → is_none side ≡ not c
+          → is_untaken (cond (is_none side) no_byte byte) ≡ c && not (some_below (has_ends m a b) (edges m))
       by false d = ap (λ (x : Bool). is_untaken (cond x no_byte byte)) d ∙ le-ltb no_byte most_elements (omega arith)
       by true d =
           ap (λ (x : Bool). is_untaken (cond x no_byte byte)) d
-          ∙ free_below is_untaken (side_untaken a b d) (has_ends m a b) (λ k. most_elements + k) (edges m) (λ k i. le-ltb (most_elements + k) most_elements (omega arith))
+          ∙ free_below is_untaken (side_untaken a b d) (has_ends m a b) (λ k. most_elements + k) (edges m)
+          (λ k i. le-ltb (most_elements + k) most_elements (omega arith))
 
   pub edge_none : (a b : ℕ) → is_none (edge_byte m (edges m) a b) ≡ not (some_below (has_side m a b) (elements m))
   unfolding edge_byte byte_below
@@ -181,14 +214,20 @@ module _ (m : List ℤ) {s : Sizes} (k : Sized m s) where
 
       either : is_none side ≡ false → (c : Bool) → is_none (cond c side (most_elements + first)) ≡ is_none side
       either d true = refl
-      either d false = ne_eqb (most_elements + first) no_byte (λ x. omega (arith, first_below (has_ends m a b) (edges m), k.facts.counts.edges_most)) ∙ sym d
+      either d false =
+          ne_eqb (most_elements + first) no_byte
+          (λ x. omega (arith, first_below (has_ends m a b) (edges m), k.facts.counts.edges_most)) ∙ sym d
 
-      by : (d : Bool) → is_none side ≡ d → is_none (cond d no_byte (byte_below side (has_ends m a b) (λ k. most_elements + k) (edges m))) ≡ is_none side
+      by : (d : Bool) → is_none side ≡ d
+          → is_none (cond d no_byte (byte_below side (has_ends m a b) (λ k. most_elements + k) (edges m)))
+          ≡ is_none side
       by true d = sym d
       by false d = either d (eqb first (edges m))
 
   module _ {g : ℕ} (l : g < edges m) where
-    edge_taken : eqb (edge_byte m (edges m) (from_node m g) (to_node m g)) (most_elements + g) ≡ some_below (has_side m (from_node m g) (to_node m g)) (elements m) && not (some_below (has_ends m (from_node m g) (to_node m g)) g)
+    edge_taken : eqb (edge_byte m (edges m) (from_node m g) (to_node m g)) (most_elements + g)
+        ≡ some_below (has_side m (from_node m g) (to_node m g)) (elements m)
+        && not (some_below (has_ends m (from_node m g) (to_node m g)) g)
     unfolding edge_byte has_ends
     edge_taken = by (some_below (has_side m p q) (elements m)) (side_none p q)
       where
@@ -211,16 +250,22 @@ module _ (m : List ℤ) {s : Sizes} (k : Sized m s) where
         byte : ℕ
         byte = byte_below side (has_ends m p q) (λ k. most_elements + k) (edges m)
 
-        by : (b : Bool) → is_none side ≡ not b → eqb (cond (is_none side) no_byte byte) (most_elements + g) ≡ b && not (some_below (has_ends m p q) g)
-        by false d = ap (λ (x : Bool). eqb (cond x no_byte byte) (most_elements + g)) d ∙ ne_eqb no_byte (most_elements + g) (λ x. omega (arith, k.facts.counts.edges_most))
+        by : (b : Bool) → is_none side ≡ not b
+            → eqb (cond (is_none side) no_byte byte) (most_elements + g) ≡ b && not (some_below (has_ends m p q) g)
+        by false d =
+            ap (λ (x : Bool). eqb (cond x no_byte byte) (most_elements + g)) d
+            ∙ ne_eqb no_byte (most_elements + g) (λ x. omega (arith, k.facts.counts.edges_most))
         by true d =
             ap (λ (x : Bool). eqb (cond x no_byte byte) (most_elements + g)) d
-            ∙ ap (λ (x : ℕ). eqb x (most_elements + g)) (byte_found side (has_ends m p q) (λ k. most_elements + k) (edges m) l ends)
+            ∙ ap (λ (x : ℕ). eqb x (most_elements + g))
+            (byte_found side (has_ends m p q) (λ k. most_elements + k) (edges m) l ends)
             ∙ past (first_where (has_ends m p q) (edges m)) (ℕ_discrete (first_where (has_ends m p q) (edges m)) g)
             ∙ (first_found (has_ends m p q) (edges m) l ends).1
 
     -- an edge is an outer side, once, exactly where it has taken its side and the reverse has no byte
-    pub outer_edge_is : {t : List ℕ} → EdgeTable m (edges m) t → {a b byte back : ℕ} → a ≡ from_node m g → b ≡ to_node m g → byte ≡ byte_at t a b → back ≡ byte_at t b a → outer_edge m g ≡ eqb byte (most_elements + g) && eqb back no_byte
+    pub outer_edge_is : {t : List ℕ} → EdgeTable m (edges m) t → {a b byte back : ℕ} → a ≡ from_node m g
+        → b ≡ to_node m g → byte ≡ byte_at t a b → back ≡ byte_at t b a
+        → outer_edge m g ≡ eqb byte (most_elements + g) && eqb back no_byte
     unfolding outer_edge outer_side has_ends
     outer_edge_is {t} h d e f r =
         let p = from_node m g in
@@ -229,7 +274,8 @@ module _ (m : List ℤ) {s : Sizes} (k : Sized m s) where
         let j = (k.facts.edge g l).to_there in
         swap (some_below (has_side m p q) (elements m)) _ _
         ∙ sym (ap₂ ◌&&◌ edge_taken (edge_none q p))
-        ∙ sym (ap₂ (λ (x y : ℕ). eqb x (most_elements + g) && eqb y no_byte) (f ∙ ap₂ (byte_at t) d e ∙ byte_of h k i j) (r ∙ ap₂ (byte_at t) e d ∙ byte_of h k j i))
+        ∙ sym (ap₂ (λ (x y : ℕ). eqb x (most_elements + g) && eqb y no_byte) (f ∙ ap₂ (byte_at t) d e ∙ byte_of h k i j)
+        (r ∙ ap₂ (byte_at t) e d ∙ byte_of h k j i))
       where
         swap : (x y z : Bool) → (x && y) && z ≡ (x && z) && y
         swap x y z = and_assoc x y z ∙ ap (λ (b : Bool). x && b) (and_comm y z) ∙ sym (and_assoc x z y)

@@ -23,11 +23,9 @@ fn mark_corners(m: &[i64], s: Sizes, e: usize, t: &mut [u8; MARKS])
     ensures { MarkTable m.now (e + 1) t.new }
 {
     let soil = element_soil(m, s, e);
-    let mut i: usize = 0;
-    while i < 4 {
+    for i in 0..4 {
         let v = corner_of(m, s, e, i);
         mark(t, v, soil);
-        i += 1;
     }
 }
 
@@ -36,11 +34,8 @@ pub fn mark_table(m: &[i64], s: Sizes) -> [u8; MARKS]
     ensures { MarkTable m.now (elements m.now) result }
 {
     let mut t = [0u8; MARKS];
-    let count = s.elements;
-    let mut e: usize = 0;
-    while e < count {
+    for e in 0..s.elements {
         mark_corners(m, s, e, &mut t);
-        e += 1;
     }
     t
 }

@@ -31,8 +31,7 @@ fn edges_and_joints(m: &[i64], s: Sizes, t: &mut [u8]) -> Outcome
     ensures { result ≡ check_phases (edges_phase m.now ∷ joints_phase m.now ∷ []) }
 {
     take_sides(m, s, t);
-    let edges = edges_check(m, s, t);
-    match edges {
+    match edges_check(m, s, t) {
         Outcome::Refused { number, place } => Outcome::Refused { number, place },
         Outcome::Passed => joints_check(m, s, t),
     }
@@ -47,21 +46,17 @@ fn checks_by_table(m: &[i64], s: Sizes, marks: &[u8; MARKS], t: &mut [u8]) -> Ou
         ∷ joints_phase m.now ∷ []) }
 {
     side_table(m, s, t);
-    let sides = sides_check(m, s, t);
-    match sides {
+    match sides_check(m, s, t) {
         Outcome::Refused { number, place } => Outcome::Refused { number, place },
-        Outcome::Passed => {
-            let nodes = nodes_check(m, s, marks);
-            match nodes {
-                Outcome::Refused { number, place } => Outcome::Refused { number, place },
-                Outcome::Passed => edges_and_joints(m, s, t),
-            }
-        }
+        Outcome::Passed => match nodes_check(m, s, marks) {
+            Outcome::Refused { number, place } => Outcome::Refused { number, place },
+            Outcome::Passed => edges_and_joints(m, s, t),
+        },
     }
 }
 
-// Refusals 6 to 8 and 44. For speed a small mesh has a small table: the bytes that need no filling were 6 % of the time of
-// the worked sheet.
+// Refusals 6 to 8 and 44. For speed a small mesh has a small table: the bytes that need no filling were 6 % of the time
+// of the worked sheet.
 fn sides_to_joints(m: &[i64], s: Sizes, marks: &[u8; MARKS]) -> Outcome
     requires { Sized m.now s × MarkTable m.now (elements m.now) marks.now }
     ensures { result
@@ -70,11 +65,10 @@ fn sides_to_joints(m: &[i64], s: Sizes, marks: &[u8; MARKS]) -> Outcome
         ∷ joints_phase m.now ∷ []) }
 {
     if s.nodes <= SMALL_NODES {
-        let mut small = [NONE; SMALL_TABLE];
-        return checks_by_table(m, s, marks, &mut small);
+        checks_by_table(m, s, marks, &mut [NONE; SMALL_TABLE])
+    } else {
+        checks_by_table(m, s, marks, &mut [NONE; TABLE])
     }
-    let mut table = [NONE; TABLE];
-    checks_by_table(m, s, marks, &mut table)
 }
 
 // Refusals 5 to 8, 44 and 42, in their order, and the pairs.
@@ -82,13 +76,11 @@ pub fn mesh_shape(m: &[i64], s: Sizes) -> Paired
     requires { Sized m.now s }
     ensures { PairedAs (check_phases (shape_phases m.now)) m.now result }
 {
-    let turns = turns_check(m, s);
-    if let Outcome::Refused { number, place } = turns {
+    if let Outcome::Refused { number, place } = turns_check(m, s) {
         return no_pairs(number, place);
     }
     let marks = mark_table(m, s);
-    let sides = sides_to_joints(m, s, &marks);
-    if let Outcome::Refused { number, place } = sides {
+    if let Outcome::Refused { number, place } = sides_to_joints(m, s, &marks) {
         return no_pairs(number, place);
     }
     pairs_check(m, s, &marks)

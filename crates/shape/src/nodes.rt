@@ -16,31 +16,20 @@ fn some_soil(marks: &[u8; MARKS], soils: usize, v: usize) -> bool
     requires { (v < most_nodes) × (soils ≤ most_soils) }
     ensures { result ≡ some_below (is_marked marks.now v) soils }
 {
-    let mut soil: usize = 0;
-    while soil < soils {
-        if marked(marks, v, soil) {
-            return true;
-        }
-        soil += 1;
-    }
-    false
+    (0..soils).any(|soil| marked(marks, v, soil))
 }
 
 pub fn nodes_check(m: &[i64], s: Sizes, marks: &[u8; MARKS]) -> Outcome
     requires { Sized m.now s × MarkTable m.now (elements m.now) marks.now }
     ensures { result ≡ check_phase (nodes_phase m.now) }
 {
-    let count = s.nodes;
-    let soils = s.soils;
-    let mut v: usize = 0;
-    while v < count {
-        if !some_soil(marks, soils, v) {
+    for v in 0..s.nodes {
+        if !some_soil(marks, s.soils, v) {
             return Outcome::Refused {
                 number: 7,
                 place: Place::Node(v as u32 + 1),
             };
         }
-        v += 1;
     }
     Outcome::Passed
 }

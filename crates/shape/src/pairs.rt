@@ -40,6 +40,7 @@ pub fn no_pairs(number: u32, place: Place) -> Paired
     }
 }
 
+#[tactic(auto, unfolding(crate::specs::ShapeContracts::put_pair))]
 fn put_pair(t: &mut [u8; PAIR_BYTES], k: usize, v: usize, soil: usize)
     requires { (v < most_nodes) × (soil < most_soils) }
     ensures { t.new ≡ put_pair t.old k v soil }
@@ -64,9 +65,10 @@ fn soil_pair(
 {
     if marked(marks, v, soil) {
         put_pair(t, count, v, soil);
-        return count + 1;
+        count + 1
+    } else {
+        count
     }
-    count
 }
 
 // The pairs of node v after so many pairs; how many there are then.
@@ -81,10 +83,8 @@ fn node_pairs(
     ensures { Added (marked_pairs marks.now v soils) count t.old result t.new }
 {
     let mut k = count;
-    let mut soil: usize = 0;
-    while soil < soils {
+    for soil in 0..soils {
         k = soil_pair(marks, v, soil, k, t);
-        soil += 1;
     }
     k
 }
@@ -93,17 +93,13 @@ pub fn pairs_check(m: &[i64], s: Sizes, marks: &[u8; MARKS]) -> Paired
     requires { Sized m.now s × MarkTable m.now (elements m.now) marks.now }
     ensures { PairedAs (check_phase (pairs_phase m.now)) m.now result }
 {
-    let nodes = s.nodes;
-    let soils = s.soils;
     let mut pairs = [0u8; PAIR_BYTES];
     let mut count: usize = 0;
-    let mut v: usize = 0;
-    while v < nodes {
-        count = node_pairs(marks, soils, v, count, &mut pairs);
+    for v in 0..s.nodes {
+        count = node_pairs(marks, s.soils, v, count, &mut pairs);
         if MOST_PAIRS < count {
             return no_pairs(42, Place::Node(v as u32 + 1));
         }
-        v += 1;
     }
     Paired {
         outcome: Outcome::Passed,

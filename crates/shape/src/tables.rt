@@ -6,6 +6,7 @@ ghost use Rattle.shape.specs.ShapeContracts.{keep_first};
 pub const NONE: u8 = 255;
 
 // Gives a byte to a place that has none yet.
+#[tactic(auto, unfolding(crate::specs::ShapeContracts::put))]
 pub fn keep_first(t: &mut [u8], v: usize, byte: u8)
     requires { v < length t.old }
     ensures { t.new ≡ keep_first t.old v byte }

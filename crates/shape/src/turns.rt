@@ -15,10 +15,10 @@ use scope::{Outcome, Place};
 
 // The cross product of two steps.
 fn cross(ux: i64, uy: i64, vx: i64, vy: i64) -> i64
-    requires fact_1 { Within most_coordinate ux }
-    requires fact_2 { Within most_coordinate uy }
-    requires fact_3 { Within most_coordinate vx }
-    requires fact_4 { Within most_coordinate vy }
+    requires ux_small { Within most_coordinate ux }
+    requires uy_small { Within most_coordinate uy }
+    requires vx_small { Within most_coordinate vx }
+    requires vy_small { Within most_coordinate vy }
     ensures { Is result (ux *ℤ vy -ℤ vx *ℤ uy) most_area }
 {
     ux * vy - vx * uy
@@ -36,13 +36,13 @@ fn turns_left(m: &[i64], s: Sizes, a: usize, b: usize, c: usize) -> bool
     0 < cross(ux, uy, vx, vy)
 }
 
-fn left_turn_at(m: &[i64], s: Sizes, e: usize, count: usize, i: usize) -> bool
-    requires { Sized m.now s × (e < elements m.now) × (count ≡ corner_count m.now e) × (i < count) }
+fn left_turn_at(m: &[i64], s: Sizes, e: usize, i: usize) -> bool
+    requires { Sized m.now s × (e < elements m.now) × (i < corner_count m.now e) }
     ensures { result ≡ left_turn_at m.now e i }
 {
-    let a = corner_around(m, s, e, count, i + (count - 1));
-    let b = corner_around(m, s, e, count, i);
-    let c = corner_around(m, s, e, count, i + 1);
+    let a = corner_around(m, s, e, i + (corner_count(m, s, e) - 1));
+    let b = corner_around(m, s, e, i);
+    let c = corner_around(m, s, e, i + 1);
     turns_left(m, s, a, b, c)
 }
 
@@ -50,31 +50,20 @@ fn left_turns(m: &[i64], s: Sizes, e: usize) -> bool
     requires { Sized m.now s × (e < elements m.now) }
     ensures { result ≡ left_turns m.now e }
 {
-    let count = corner_count(m, s, e);
-    let mut i: usize = 0;
-    while i < count {
-        if !left_turn_at(m, s, e, count, i) {
-            return false;
-        }
-        i += 1;
-    }
-    true
+    (0..corner_count(m, s, e)).all(|i| left_turn_at(m, s, e, i))
 }
 
 pub fn turns_check(m: &[i64], s: Sizes) -> Outcome
     requires { Sized m.now s }
     ensures { result ≡ check_phase (turns_phase m.now) }
 {
-    let count = s.elements;
-    let mut e: usize = 0;
-    while e < count {
+    for e in 0..s.elements {
         if !left_turns(m, s, e) {
             return Outcome::Refused {
                 number: 5,
                 place: Place::Element(e as u32 + 1),
             };
         }
-        e += 1;
     }
     Outcome::Passed
 }

@@ -3,14 +3,14 @@ use mathlib.Core.Path.{sym, ◌∙◌}
 use Rattle.scope.proofs.Triangles.{three_corners, four_corners}
 use Rattle.shape.proofs.corners.corner_count.Goals as goal
 
-pub returns-then-third-fourth : goal.returns-then-third-fourth
-returns-then-third-fourth c =
+pub returns-then-third-fourth-clause-is : goal.returns-then-third-fourth-clause-is
+returns-then-third-fourth-clause-is c =
     sym
     (three_corners _ _
     (sym c.corner_of-third.ensures.same ∙ c.if-third-fourth.true ∙ c.corner_of-fourth.ensures.same))
 
-pub returns : goal.returns
-returns c =
+pub returns-else-third-fourth-clause-is : goal.returns-else-third-fourth-clause-is
+returns-else-third-fourth-clause-is c =
     sym
     (four_corners _ _
     (λ e. c.if-third-fourth.false (c.corner_of-third.ensures.same ∙ e ∙ sym c.corner_of-fourth.ensures.same)))

@@ -13,23 +13,22 @@ use Rattle.shape.proofs.edges.edges_check.Goals as goal
 
 pub loop-g-init : goal.loop-g-init
 unfolding all_below
-loop-g-init c = (omega arith, refl)
+loop-g-init c = refl
 
 pub returns-then-not-outer_edge : goal.returns-then-not-outer_edge
 unfolding check_phase
 returns-then-not-outer_edge c =
     let sized = c.requires.0 in
-    phase-at (outer_edge _) 8 (λ g. Line (suc (edge_line _ g))) (edges _) (each_below _ _ c.loop-g.invariant.1)
+    phase-at (outer_edge _) 8 (λ g. Line (suc (edge_line _ g))) (edges _) (each_below _ _ c.loop-g.invariant)
     (omega (arith, sized.edges_are)) (sym c.outer_edge.ensures ∙ c.if-not-outer_edge.true)
-    (ap Line (edge_line_lem _ sized _ c.edge_line_number.ensures))
+    (ap Line (edge_line_lem _ sized _ c.line_after_elements.ensures))
 
 pub loop-g-preserved : goal.loop-g-preserved
 loop-g-preserved c =
-    (omega arith, all_more (outer_edge _) c.loop-g.invariant.1 (sym c.outer_edge.ensures ∙ c.if-not-outer_edge.false))
+    all_more (outer_edge _) c.loop-g.invariant (sym c.outer_edge.ensures ∙ c.if-not-outer_edge.false)
 
 pub returns : goal.returns
 unfolding check_phase
 returns c =
-    let sized = c.requires.0 in
     phase_all (outer_edge _) 8 (λ g. Line (suc (edge_line _ g))) (edges _)
-    (λ k l. each_below _ _ c.loop-g.invariant.1 k (omega (arith, sized.edges_are, c.loop-g.invariant.0)))
+    (λ k l. each_below _ _ c.loop-g.invariant k (omega (arith, c.requires.0.edges_are)))

@@ -1,13 +1,9 @@
 -- `edges_check` meets its contract. The invariant: the edges passed are outer sides, each once.
 use mathlib.Core.Path.{◌≡◌}
 use mathlib.Core.Bool.{true}
-use Prim.Native.Nat.{◌≤◌, ◌-◌}
 use Rattle.scope.specs.Checks.{all_below}
 use Rattle.scope.specs.Tests.{outer_edge}
 use Rattle.shape.proofs.edges.edges_check.Given as goal
 
 abbrev pub invariant-loop-g : goal.invariant-loop-g
-invariant-loop-g l = (l.g ≤ l.count) × (all_below (outer_edge l.m) l.g ≡ true)
-
-abbrev pub decreases-loop-g : goal.decreases-loop-g
-decreases-loop-g l = l.count - l.g
+invariant-loop-g l = all_below (outer_edge l.m) l.g ≡ true

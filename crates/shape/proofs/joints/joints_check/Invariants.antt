@@ -1,8 +1,6 @@
 -- `joints_check` meets its contract. The invariant: the jumps passed are joints, and have used their sides.
 use mathlib.Core.Path.{◌≡◌}
 use mathlib.Core.Bool.{true}
-use Prim.Native.Nat.{◌≤◌, ◌-◌}
-use lib.ListN.{length}
 use Rattle.scope.specs.Checks.{all_below}
 use Rattle.scope.specs.Tests.{is_joint}
 use Rattle.shape.specs.ShapeContracts.{JumpTable}
@@ -10,8 +8,4 @@ use Rattle.shape.proofs.joints.joints_check.Given as goal
 
 abbrev pub invariant-loop-j : goal.invariant-loop-j
 invariant-loop-j l =
-    (l.j ≤ l.count) × (length l.t ≡ length l.initial.t) ×
     (all_below (is_joint l.m) l.j ≡ true) × JumpTable l.m l.j l.t
-
-abbrev pub decreases-loop-j : goal.decreases-loop-j
-decreases-loop-j l = l.count - l.j

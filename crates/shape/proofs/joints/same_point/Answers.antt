@@ -1,7 +1,8 @@
 -- `same_point` meets its contract: two numbers are the same where their difference is 0.
-use mathlib.Core.Path.{◌∙◌}
+use mathlib.Core.Path.{sym, ◌∙◌}
 use native.Mathlib.Omega.{arith}
-use Rattle.integer.proofs.Machine.{machine, told, apart, decides}
+use borrow.Author.Tests.{eq-eqb, ne_eqb}
+use Rattle.integer.proofs.Machine.{machine, decides}
 use Rattle.shape.proofs.JointTables.{same_x, other_x}
 use Rattle.shape.proofs.joints.same_point.Goals as goal
 
@@ -10,9 +11,10 @@ returns-then-run_between-eq0 c =
     let run = c.run_between.ensures in
     let rise = c.rise_between.ensures in
     decides (search machine depth 30) (omega arith)
-    ∙ same_x _ _ _ (told c.if-run_between-eq0.true (search machine depth 30) (omega arith))
+    ∙ same_x _ _ _ (sym (eq-eqb _ _ c.if-run_between-eq0.true) ∙ decides (search machine depth 30) (omega arith))
 
-pub returns : goal.returns
-returns c =
+pub returns-else-run_between-eq0 : goal.returns-else-run_between-eq0
+returns-else-run_between-eq0 c =
     let run = c.run_between.ensures in
-    other_x _ _ _ (apart c.if-run_between-eq0.false (search machine depth 30) (omega arith))
+    let differs = ne_eqb _ _ c.if-run_between-eq0.false in
+    differs ∙ other_x _ _ _ (sym differs ∙ decides (search machine depth 30) (omega arith))

@@ -7,4 +7,4 @@ returns c =
     let p = c.requires in
     use_more _ p.0 _ p.2 c.jump_node-from.ensures c.jump_node-to.ensures
     c.jump_node-facing_from.ensures c.jump_node-facing_to.ensures
-    c.use_side.ensures c.use_side-2.ensures
+    c.take_side.ensures c.take_side-2.ensures

@@ -1,10 +1,6 @@
 -- `mark_corners` meets its contract. The invariant: the corners passed are marked with the element's soil.
-use Prim.Native.Nat.{◌≤◌, ◌-◌}
 use Rattle.shape.proofs.MarkTables.{Marks, marks_so_far}
 use Rattle.shape.proofs.marks.mark_corners.Given as goal
 
 abbrev pub invariant-loop-i : goal.invariant-loop-i
-invariant-loop-i l = (l.i ≤ 4) × Marks (marks_so_far l.m l.e l.i) l.t
-
-abbrev pub decreases-loop-i : goal.decreases-loop-i
-decreases-loop-i l = 4 - l.i
+invariant-loop-i l = Marks (marks_so_far l.m l.e l.i) l.t

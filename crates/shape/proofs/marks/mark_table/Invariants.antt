@@ -1,10 +1,6 @@
 -- `mark_table` meets its contract. The invariant: the elements passed have marked their corners.
-use Prim.Native.Nat.{◌≤◌, ◌-◌}
 use Rattle.shape.specs.ShapeContracts.{MarkTable}
 use Rattle.shape.proofs.marks.mark_table.Given as goal
 
 abbrev pub invariant-loop-e : goal.invariant-loop-e
-invariant-loop-e l = (l.e ≤ l.count) × MarkTable l.m l.e l.t
-
-abbrev pub decreases-loop-e : goal.decreases-loop-e
-decreases-loop-e l = l.count - l.e
+invariant-loop-e l = MarkTable l.m l.e l.t

@@ -6,17 +6,17 @@ use Rattle.shape.proofs.mesh_checks.checks_by_table.Goals as goal
 
 pub returns-in-Refused : goal.returns-in-Refused
 unfolding check_phases
-returns-in-Refused c = then_refuses _ (sym c.sides_check-sides.ensures ∙ c.in-Refused.is)
+returns-in-Refused c = then_refuses _ (sym c.sides_check.ensures ∙ c.in-Refused.is)
 
-pub returns-in-Refused-nodes : goal.returns-in-Refused-nodes
+pub returns-in-Refused-nodes_check : goal.returns-in-Refused-nodes_check
 unfolding check_phases
-returns-in-Refused-nodes c =
-    let passed = sym c.sides_check-sides.ensures ∙ c.in-Passed.is in
-    then_goes_on passed (then_refuses _ (sym c.nodes_check-nodes.ensures ∙ c.in-Refused-nodes.is))
+returns-in-Refused-nodes_check c =
+    let passed = sym c.sides_check.ensures ∙ c.in-Passed.is in
+    then_goes_on passed (then_refuses _ (sym c.nodes_check.ensures ∙ c.in-Refused-nodes_check.is))
 
-pub returns-in-Passed-nodes : goal.returns-in-Passed-nodes
+pub returns-in-Passed-nodes_check : goal.returns-in-Passed-nodes_check
 unfolding check_phases
-returns-in-Passed-nodes c =
-    let passed = sym c.sides_check-sides.ensures ∙ c.in-Passed.is in
+returns-in-Passed-nodes_check c =
+    let passed = sym c.sides_check.ensures ∙ c.in-Passed.is in
     then_goes_on passed
-    (then_goes_on (sym c.nodes_check-nodes.ensures ∙ c.in-Passed-nodes.is) c.edges_and_joints.ensures)
+    (then_goes_on (sym c.nodes_check.ensures ∙ c.in-Passed-nodes_check.is) c.edges_and_joints.ensures)

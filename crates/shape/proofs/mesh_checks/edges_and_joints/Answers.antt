@@ -6,8 +6,8 @@ use Rattle.shape.proofs.mesh_checks.edges_and_joints.Goals as goal
 
 pub returns-in-Refused : goal.returns-in-Refused
 unfolding check_phases
-returns-in-Refused c = then_refuses _ (sym c.edges_check-edges.ensures ∙ c.in-Refused.is)
+returns-in-Refused c = then_refuses _ (sym c.edges_check.ensures ∙ c.in-Refused.is)
 
 pub returns-in-Passed : goal.returns-in-Passed
 unfolding check_phases
-returns-in-Passed c = then_goes_on (sym c.edges_check-edges.ensures ∙ c.in-Passed.is) c.joints_check.ensures
+returns-in-Passed c = then_goes_on (sym c.edges_check.ensures ∙ c.in-Passed.is) c.joints_check.ensures

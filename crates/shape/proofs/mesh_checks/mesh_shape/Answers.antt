@@ -6,16 +6,16 @@ use Rattle.shape.proofs.mesh_checks.mesh_shape.Goals as goal
 
 pub returns-in-Refused : goal.returns-in-Refused
 returns-in-Refused c =
-    paired_as _ (c.no_pairs.ensures _) (turns_refuse _ (sym c.turns_check-turns.ensures ∙ c.in-Refused.is))
+    paired_as _ (c.no_pairs.ensures _) (turns_refuse _ (sym c.turns_check.ensures ∙ c.in-Refused.is))
 
-pub returns-in-Refused-sides : goal.returns-in-Refused-sides
-returns-in-Refused-sides c =
-    let turned = sym c.turns_check-turns.ensures ∙ c.in_default.is in
-    paired_as _ (c.no_pairs-in-Refused-sides.ensures _)
-    (rest_refuses _ turned (sym c.sides_to_joints-sides.ensures ∙ c.in-Refused-sides.is))
+pub returns-in-Refused-sides_to_joints : goal.returns-in-Refused-sides_to_joints
+returns-in-Refused-sides_to_joints c =
+    let turned = sym c.turns_check.ensures ∙ c.in_default.is in
+    paired_as _ (c.no_pairs-in-Refused-sides_to_joints.ensures _)
+    (rest_refuses _ turned (sym c.sides_to_joints.ensures ∙ c.in-Refused-sides_to_joints.is))
 
 pub returns : goal.returns
 returns c =
-    let turned = sym c.turns_check-turns.ensures ∙ c.in_default.is in
+    let turned = sym c.turns_check.ensures ∙ c.in_default.is in
     paired_as _ c.pairs_check.ensures
-    (pairs_last _ turned (sym c.sides_to_joints-sides.ensures ∙ c.in_default-sides.is))
+    (pairs_last _ turned (sym c.sides_to_joints.ensures ∙ c.in_default-sides_to_joints.is))

@@ -9,7 +9,7 @@ pub checks_by_table-requires : goal.checks_by_table-requires
 checks_by_table-requires c =
     let k = c.requires in (k.0, k.1, no_sides _ (16 * most_nodes) (omega (arith, k.0.nodes_are)))
 
-pub checks_by_table-requires-2 : goal.checks_by_table-requires-2
-checks_by_table-requires-2 c =
+pub checks_by_table-requires-else-s-le-SMALL_NODES : goal.checks_by_table-requires-else-s-le-SMALL_NODES
+checks_by_table-requires-else-s-le-SMALL_NODES c =
     let k = c.requires in
     (k.0, k.1, no_sides _ (most_nodes * most_nodes) (omega (arith, k.0.facts.counts.nodes_most)))

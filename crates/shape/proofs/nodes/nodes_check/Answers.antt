@@ -14,33 +14,32 @@ use Rattle.shape.proofs.nodes.nodes_check.Goals as goal
 
 pub loop-v-init : goal.loop-v-init
 unfolding all_below
-loop-v-init c = (omega arith, refl)
+loop-v-init c = refl
 
 pub returns-then-not-some_soil : goal.returns-then-not-some_soil
 unfolding check_phase
 returns-then-not-some_soil c =
     let pre = c.requires in
     let small : c.loop-v.v < most_nodes =
-    omega (arith, c.loop-v-test.true, pre.0.nodes_are, pre.0.facts.counts.nodes_most) in
+    omega (arith, pre.0.nodes_are, pre.0.facts.counts.nodes_most) in
     let none =
     sym (some_mark _ pre.0.facts pre.1 c.loop-v.v small pre.0.soils_are)
     ∙ sym c.some_soil.ensures ∙ c.if-not-some_soil.true in
-    phase-at (in_element _) 7 (λ v. Node (suc v)) (nodes _) (each_below _ _ c.loop-v.invariant.1)
+    phase-at (in_element _) 7 (λ v. Node (suc v)) (nodes _) (each_below _ _ c.loop-v.invariant)
     (omega (arith, pre.0.nodes_are)) none (ap Node (add-one _))
 
 pub loop-v-preserved : goal.loop-v-preserved
 loop-v-preserved c =
     let pre = c.requires in
     let small : c.loop-v.v < most_nodes =
-    omega (arith, c.loop-v-test.true, pre.0.nodes_are, pre.0.facts.counts.nodes_most) in
+    omega (arith, pre.0.nodes_are, pre.0.facts.counts.nodes_most) in
     let some =
     sym (some_mark _ pre.0.facts pre.1 c.loop-v.v small pre.0.soils_are)
     ∙ sym c.some_soil.ensures ∙ c.if-not-some_soil.false in
-    (omega arith, all_more (in_element _) c.loop-v.invariant.1 some)
+    all_more (in_element _) c.loop-v.invariant some
 
 pub returns : goal.returns
 unfolding check_phase
 returns c =
-    let sized = c.requires.0 in
     phase_all (in_element _) 7 (λ v. Node (suc v)) (nodes _)
-    (λ k l. each_below _ _ c.loop-v.invariant.1 k (omega (arith, sized.nodes_are, c.loop-v.invariant.0)))
+    (λ k l. each_below _ _ c.loop-v.invariant k (omega (arith, c.requires.0.nodes_are)))

@@ -1,10 +1,6 @@
 -- `pairs_check` meets its contract. The invariant: the pairs of the nodes passed are collected, and they fit.
-use Prim.Native.Nat.{◌≤◌, ◌-◌}
 use Rattle.shape.proofs.PairTables.{Collected}
 use Rattle.shape.proofs.pairs.pairs_check.Given as goal
 
 abbrev pub invariant-loop-v : goal.invariant-loop-v
-invariant-loop-v l = (l.v ≤ l.nodes) × Collected l.m l.v l.count l.pairs
-
-abbrev pub decreases-loop-v : goal.decreases-loop-v
-decreases-loop-v l = l.nodes - l.v
+invariant-loop-v l = Collected l.m l.v l.count l.pairs

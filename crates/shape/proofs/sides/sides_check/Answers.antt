@@ -13,22 +13,21 @@ use Rattle.shape.proofs.sides.sides_check.Goals as goal
 
 pub loop-e-init : goal.loop-e-init
 unfolding all_below
-loop-e-init c = (omega arith, refl)
+loop-e-init c = refl
 
 pub returns-then-not-own_sides : goal.returns-then-not-own_sides
 unfolding check_phase
 returns-then-not-own_sides c =
-    let sized = c.requires.0 in
-    phase-at (own_sides _) 6 (λ e. Element (suc e)) (elements _) (each_below _ _ c.loop-e.invariant.1)
-    (omega (arith, sized.elements_are)) (sym c.own_sides.ensures ∙ c.if-not-own_sides.true) (ap Element (add-one _))
+    phase-at (own_sides _) 6 (λ e. Element (suc e)) (elements _) (each_below _ _ c.loop-e.invariant)
+    (omega (arith, c.requires.0.elements_are)) (sym c.own_sides.ensures ∙ c.if-not-own_sides.true)
+    (ap Element (add-one _))
 
 pub loop-e-preserved : goal.loop-e-preserved
 loop-e-preserved c =
-    (omega arith, all_more (own_sides _) c.loop-e.invariant.1 (sym c.own_sides.ensures ∙ c.if-not-own_sides.false))
+    all_more (own_sides _) c.loop-e.invariant (sym c.own_sides.ensures ∙ c.if-not-own_sides.false)
 
 pub returns : goal.returns
 unfolding check_phase
 returns c =
-    let sized = c.requires.0 in
     phase_all (own_sides _) 6 (λ e. Element (suc e)) (elements _)
-    (λ k l. each_below _ _ c.loop-e.invariant.1 k (omega (arith, sized.elements_are, c.loop-e.invariant.0)))
+    (λ k l. each_below _ _ c.loop-e.invariant k (omega (arith, c.requires.0.elements_are)))

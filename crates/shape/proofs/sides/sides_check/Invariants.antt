@@ -1,13 +1,9 @@
 -- `sides_check` meets its contract. The invariant: the elements passed have sides of their own.
 use mathlib.Core.Path.{◌≡◌}
 use mathlib.Core.Bool.{true}
-use Prim.Native.Nat.{◌≤◌, ◌-◌}
 use Rattle.scope.specs.Checks.{all_below}
 use Rattle.scope.specs.Tests.{own_sides}
 use Rattle.shape.proofs.sides.sides_check.Given as goal
 
 abbrev pub invariant-loop-e : goal.invariant-loop-e
-invariant-loop-e l = (l.e ≤ l.count) × (all_below (own_sides l.m) l.e ≡ true)
-
-abbrev pub decreases-loop-e : goal.decreases-loop-e
-decreases-loop-e l = l.count - l.e
+invariant-loop-e l = all_below (own_sides l.m) l.e ≡ true

@@ -13,22 +13,21 @@ use Rattle.shape.proofs.turns.turns_check.Goals as goal
 
 pub loop-e-init : goal.loop-e-init
 unfolding all_below
-loop-e-init c = (omega arith, refl)
+loop-e-init c = refl
 
 pub returns-then-not-left_turns : goal.returns-then-not-left_turns
 unfolding check_phase
 returns-then-not-left_turns c =
-    let sized = c.requires in
-    phase-at (left_turns _) 5 (λ e. Element (suc e)) (elements _) (each_below _ _ c.loop-e.invariant.1)
-    (omega (arith, sized.elements_are)) (sym c.left_turns.ensures ∙ c.if-not-left_turns.true) (ap Element (add-one _))
+    phase-at (left_turns _) 5 (λ e. Element (suc e)) (elements _) (each_below _ _ c.loop-e.invariant)
+    (omega (arith, c.requires.elements_are)) (sym c.left_turns.ensures ∙ c.if-not-left_turns.true)
+    (ap Element (add-one _))
 
 pub loop-e-preserved : goal.loop-e-preserved
 loop-e-preserved c =
-    (omega arith, all_more (left_turns _) c.loop-e.invariant.1 (sym c.left_turns.ensures ∙ c.if-not-left_turns.false))
+    all_more (left_turns _) c.loop-e.invariant (sym c.left_turns.ensures ∙ c.if-not-left_turns.false)
 
 pub returns : goal.returns
 unfolding check_phase
 returns c =
-    let sized = c.requires in
     phase_all (left_turns _) 5 (λ e. Element (suc e)) (elements _)
-    (λ k l. each_below _ _ c.loop-e.invariant.1 k (omega (arith, sized.elements_are, c.loop-e.invariant.0)))
+    (λ k l. each_below _ _ c.loop-e.invariant k (omega (arith, c.requires.elements_are)))
