@@ -1,12 +1,43 @@
 -- What the equality rows hand around: a row as numbers, and the records that their functions require and ensure.
-use Rattle.std.specs.Prelude.{◌≡◌, Bool, true, cond, List, [], ◌∷◌, ℕ, ◌+◌, ◌*◌, ◌-◌, ◌≤◌, ◌<◌, ℤ, pos, ◌+ℤ◌, ◌-ℤ◌, ◌*ℤ◌, neg_ℤ, length, get_or, take, replicate}
+use Rattle.std.specs.Prelude.{
+  ◌≡◌,
+  true,
+  cond,
+  ◌||◌,
+  List,
+  [],
+  ◌∷◌,
+  ℕ,
+  zero,
+  suc,
+  ◌+◌,
+  ◌*◌,
+  ◌%◌,
+  ◌≤◌,
+  ◌<◌,
+  ℤ,
+  pos,
+  ◌-ℤ◌,
+  ◌*ℤ◌,
+  neg_ℤ,
+  eqb,
+  length,
+  get_or,
+  take,
+  replicate,
+}
 use Rattle.integer.specs.Bounds.{Within, AllWithin, Is}
 use Rattle.equality.specs.declared.equality_rows.EqualityRow.{EqualityRow}
 use Rattle.equality.specs.declared.equality_rows.Corners.{Corners}
 use Rattle.equality.specs.declared.equality_rows.Span.{Span}
-use Rattle.equality.specs.declared.equality_rows.Squares.{Squares}
-use Rattle.scope.specs.Mesh.{corner}
-use Rattle.scope.specs.Bounds.{most_coordinate, most_square, most_entries, most_coefficient, equality_right}
+use Rattle.equality.specs.declared.equality_rows.Step.{Step}
+use Rattle.equality.specs.declared.equality_rows.Part.{Part}
+use Rattle.equality.specs.declared.equality_rows.Part.TheVariants.{Normal, Shear}
+use Rattle.equality.specs.declared.equality_rows.Expression.{Expression}
+use Rattle.equality.specs.declared.equality_rows.Traction.{Traction}
+use Rattle.integer.specs.Tests.{eq_z}
+use Rattle.scope.specs.Mesh.{corner, edge_entry}
+use Rattle.scope.specs.Bounds.{most_coordinate, most_traction, most_entries, most_coefficient, equality_right}
 use Rattle.scope.specs.Columns.{at}
 use Rattle.scope.specs.Rows.{asked, unfixed, Row, rise_across, run_across}
 use Rattle.mesh.specs.MeshContracts.{NodeAt}
@@ -85,62 +116,88 @@ corner_columns m e first =
     ∷ (3 * corner m e 3 + 2)
     ∷ []
 
-unfoldable pub balanced_of : ℤ → ℤ → ℤ → ℤ → List ℕ → ℤ → ℤ → EqualityRow
-balanced_of a a' b b' columns live right = record {
-  coefficients = a ∷ b ∷ a' ∷ b' ∷ neg_ℤ a ∷ neg_ℤ b ∷ neg_ℤ a' ∷ neg_ℤ b' ∷ [];
-  columns = columns;
-  count = 8;
-  live = live;
-  right = right;
-  asked = true;
-}
+-- rise and run of an element across corners 0 and 1, within bounds
+pub record SpanFits (g : Span) : Type 0 where
+  pub rise : Within most_coordinate g.rise
+  pub rise_next : Within most_coordinate g.rise_next
+  pub run : Within most_coordinate g.run
+  pub run_next : Within most_coordinate g.run_next
 
--- the products of a step (u, w)
-pub record SquaresAre (r : Squares) (u w : ℤ) : Type 0 where
-  pub uu : Is r.uu (u *ℤ u) (most_coordinate * most_coordinate)
-  pub uw : Is r.uw (u *ℤ w) (most_coordinate * most_coordinate)
-  pub ww : Is r.ww (w *ℤ w) (most_coordinate * most_coordinate)
-  pub square : Is r.square (u *ℤ u +ℤ w *ℤ w) most_square
+-- the coefficients at corners 0 and 1, and at corners 2 and 3 the opposite
+unfoldable pub with_opposites : ℤ → ℤ → ℤ → ℤ → List ℤ
+with_opposites a b a' b' = a ∷ b ∷ a' ∷ b' ∷ neg_ℤ a ∷ neg_ℤ b ∷ neg_ℤ a' ∷ neg_ℤ b' ∷ []
 
-pub record SquaresFit (uu uw ww square : ℤ) : Type 0 where
-  pub first : Within (most_coordinate * most_coordinate) uu
-  pub mixed : Within (most_coordinate * most_coordinate) uw
-  pub second : Within (most_coordinate * most_coordinate) ww
-  pub both : Within most_square square
+-- of the balance in x, and in y
+unfoldable pub balance_coefficients : Span → ℕ → List ℤ
+balance_coefficients g zero = with_opposites g.rise g.run g.rise_next g.run_next
+balance_coefficients g (suc i) = with_opposites g.run g.rise g.run_next g.rise_next
 
--- a row of three entries, from the products of the step, at the node whose sx has this column
-unfoldable pub normal_of : ℤ → ℤ → ℤ → ℤ → ℕ → ℤ → ℤ → Bool → EqualityRow
-normal_of uu uw ww square column dead live fixed = record {
-  coefficients = ww ∷ neg_ℤ (pos 2 *ℤ uw) ∷ uu ∷ replicate 5 (pos 0);
-  columns = column ∷ (column + 2) ∷ (column + 1) ∷ replicate 5 0;
+-- a step is (u, w)
+pub record StepIs (r : Step) (run rise : ℤ) : Type 0 where
+  pub u : Is r.u run most_coordinate
+  pub w : Is r.w rise most_coordinate
+
+pub record StepFits (r : Step) : Type 0 where
+  pub u : Within most_coordinate r.u
+  pub w : Within most_coordinate r.w
+
+-- three coefficients, and where the stresses of the second and the third stand
+pub record Terms (r : Expression) (k₀ k₁ k₂ : ℤ) (j₁ j₂ : ℕ) : Type 0 where
+  pub a : Is r.a k₀ most_coefficient
+  pub b : Is r.b k₁ most_coefficient
+  pub c : Is r.c k₂ most_coefficient
+  pub second : r.second ≡ j₁
+  pub third : r.third ≡ j₂
+
+-- the normal or the shear expression of a side with the step (u, w)
+abbrev pub ExpressionIs : Expression → Part → ℤ → ℤ → Type 0
+ExpressionIs r Normal u w = Terms r (w *ℤ w) (neg_ℤ (pos 2 *ℤ u *ℤ w)) (u *ℤ u) 2 1
+ExpressionIs r Shear u w = Terms r (u *ℤ w) (neg_ℤ (u *ℤ w)) (w *ℤ w -ℤ u *ℤ u) 1 2
+
+pub record ExpressionFits (r : Expression) : Type 0 where
+  pub a : Within most_coefficient r.a
+  pub b : Within most_coefficient r.b
+  pub c : Within most_coefficient r.c
+  pub second : r.second < 3
+  pub third : r.third < 3
+
+-- normal and shear in turn
+abbrev pub part_of : ℕ → Part
+part_of i = cond (eqb (i % 2) 0) Normal Shear
+
+-- the code of a part in an edge's line, and its dead and its live load there
+abbrev pub code : Part → ℕ
+code Normal = 1
+code Shear = 2
+
+-- what edge g says of a part of its traction
+pub record TractionIs (r : Traction) (part : Part) (m : List ℤ) (g : ℕ) : Type 0 where
+  pub fixed : r.fixed ≡ (eq_z (edge_entry m g 2) (pos (code part)) || eq_z (edge_entry m g 2) (pos 3))
+  pub dead : Is r.dead (edge_entry m g (2 + code part)) most_traction
+  pub live : Is r.live (edge_entry m g (4 + code part)) most_traction
+
+-- a row of three entries: an expression at the node whose sx has this column
+unfoldable pub traction_row : Expression → ℕ → ℤ → Traction → EqualityRow
+traction_row e column square t = record {
+  coefficients = e.a ∷ e.b ∷ e.c ∷ replicate 5 (pos 0);
+  columns = column ∷ (column + e.second) ∷ (column + e.third) ∷ replicate 5 0;
   count = 3;
-  live = neg_ℤ (square *ℤ live);
-  right = square *ℤ dead;
-  asked = fixed;
+  live = neg_ℤ (square *ℤ t.live);
+  right = square *ℤ t.dead;
+  asked = t.fixed;
 }
 
-unfoldable pub shear_of : ℤ → ℤ → ℤ → ℤ → ℕ → ℤ → ℤ → Bool → EqualityRow
-shear_of uu uw ww square column dead live fixed = record {
-  coefficients = uw ∷ neg_ℤ (uw) ∷ (ww -ℤ uu) ∷ replicate 5 (pos 0);
-  columns = column ∷ (column + 1) ∷ (column + 2) ∷ replicate 5 0;
-  count = 3;
-  live = neg_ℤ (square *ℤ live);
-  right = square *ℤ dead;
-  asked = fixed;
-}
-
--- a row of six entries: an expression of three at the node whose sx has this column, minus the same at the one that
--- faces it; the second coefficient stands `second` columns after the first, and the third at the other place
-unfoldable pub agree_of : ℤ → ℤ → ℤ → ℕ → ℕ → ℕ → EqualityRow
-agree_of a b c second column facing = record {
-  coefficients = a ∷ b ∷ c ∷ neg_ℤ a ∷ neg_ℤ b ∷ neg_ℤ c ∷ replicate 2 (pos 0);
+-- a row of six entries: an expression at the node whose sx has this column, minus the same at the one that faces it
+unfoldable pub agreement_row : Expression → ℕ → ℕ → EqualityRow
+agreement_row e column facing = record {
+  coefficients = e.a ∷ e.b ∷ e.c ∷ neg_ℤ e.a ∷ neg_ℤ e.b ∷ neg_ℤ e.c ∷ replicate 2 (pos 0);
   columns =
       column
-      ∷ (column + second)
-      ∷ (column + (3 - second))
+      ∷ (column + e.second)
+      ∷ (column + e.third)
       ∷ facing
-      ∷ (facing + second)
-      ∷ (facing + (3 - second))
+      ∷ (facing + e.second)
+      ∷ (facing + e.third)
       ∷ replicate 2 0;
   count = 6;
   live = pos 0;

@@ -2,7 +2,16 @@
 ghost use Rattle.std.specs.Prelude.{◌≡◌, ◌+◌, ◌*◌, ◌<◌, ◌+ℤ◌, ◌*ℤ◌, length, set};
 ghost use Rattle.integer.specs.Bounds.{Within, AllWithin, Is};
 ghost use Rattle.scope.specs.Columns.{at};
-ghost use Rattle.scope.specs.Bounds.{most_stress, most_load, most_multiplier, equality_right, equality_left, equality_column, most_column, most_addend};
+ghost use Rattle.scope.specs.Bounds.{
+  most_stress,
+  most_load,
+  most_multiplier,
+  equality_right,
+  equality_left,
+  equality_column,
+  most_column,
+  most_addend,
+};
 ghost use Rattle.scope.specs.Sums.{weighted_sum, unit};
 ghost use Rattle.equality.specs.EqualityContracts.{entries_of, EntriesFit, SumsAre};
 
@@ -23,13 +32,9 @@ pub fn left_side<'a>(
         (weighted_sum (at x.now) (entries_of coefficients.now columns.now count)
         +ℤ live *ℤ l) equality_left }
 {
-    let mut sum: i64 = 0;
-    let mut i: usize = 0;
-    while i < count {
-        let j = columns[i];
-        let c = coefficients[i];
-        sum += c * x[j];
-        i += 1;
+    let mut sum = 0;
+    for (c, j) in coefficients[..count].iter().zip(&columns[..count]) {
+        sum += c * x[*j];
     }
     sum + live * l
 }
@@ -41,8 +46,7 @@ pub fn add_at(sums: &mut [i64], j: usize, c: i64)
     requires fact_3 { Within most_addend c }
     ensures { sums.new ≡ set sums.old j (at sums.old j +ℤ c) }
 {
-    let sum = sums[j] + c;
-    sums[j] = sum;
+    sums[j] += c;
 }
 
 // Adds y times a row to the column sums.
@@ -60,11 +64,7 @@ pub fn add_row<'a>(
         (λ j. at sums.old j
         +ℤ y *ℤ weighted_sum (unit j) (entries_of coefficients.now columns.now count)) }
 {
-    let mut i: usize = 0;
-    while i < count {
-        let j = columns[i];
-        let c = y * coefficients[i];
-        add_at(sums, j, c);
-        i += 1;
+    for (c, j) in coefficients[..count].iter().zip(&columns[..count]) {
+        add_at(sums, *j, y * c);
     }
 }

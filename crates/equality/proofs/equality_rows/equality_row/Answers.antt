@@ -1,26 +1,18 @@
 -- `equality_row` meets its contract: two rows for each element, then four for each edge, then four for each jump.
+use mathlib.Core.Path.{◌≡◌, ap}
+use Prim.Native.Nat.{◌+◌, ◌*◌, ◌-◌, ◌/◌, ◌%◌}
+use native.Mathlib.Omega.{arith}
 use Rattle.scope.specs.Mesh.{elements}
 use Rattle.scope.specs.Rows.{equality_rows}
 use Rattle.scope.specs.Tests.{row_at}
-use mathlib.Core.Path.{◌≡◌, ap}
-use native.Mathlib.Omega.{arith}
-use Prim.Native.Nat.{◌+◌, ◌*◌, ◌-◌, ◌/◌, ◌%◌}
-use Rattle.equality.proofs.EqualityLaws.{filled_as, balance_row_is, jump_place}
+use Rattle.equality.proofs.EqualityLaws.{filled_as, after_edges}
 use Rattle.equality.proofs.equality_rows.equality_row.Goals as goal
 
-pub returns-then-k-eq0 : goal.returns-then-k-eq0
-unfolding row_at
-returns-then-k-eq0 c =
-    let k = c.args.k in
-    filled_as c.balance_x.ensures
-    (balance_row_is c.args.m.now (k / 2) k 0 (omega arith) (omega arith) (omega arith))
-
 pub returns-then-k-first : goal.returns-then-k-first
-unfolding row_at
 returns-then-k-first c =
     let k = c.args.k in
-    filled_as c.balance_y.ensures
-    (balance_row_is c.args.m.now (k / 2) k 1 (omega arith) (omega arith) (omega arith))
+    let e : k / 2 * 2 + k % 2 ≡ k = omega arith in
+    filled_as c.element_row.ensures (ap (row_at (equality_rows c.args.m.now)) e)
 
 pub side_row-requires : goal.side_row-requires
 side_row-requires c =
@@ -28,7 +20,6 @@ side_row-requires c =
     (sized, omega (arith, sized.elements_are, sized.edges_are), omega arith)
 
 pub returns-then-k-after : goal.returns-then-k-after
-unfolding row_at
 returns-then-k-after c =
     let k = c.args.k in
     let m = c.args.m.now in
@@ -43,10 +34,8 @@ jump_row-requires c =
     (sized, omega (arith, sized.elements_are, sized.edges_are, sized.jumps_are, c.requires.1), omega arith)
 
 pub returns : goal.returns
-unfolding row_at
 returns c =
     let m = c.args.m.now in
     let sized = c.requires.0 in
     filled_as c.jump_row.ensures
-    (ap (row_at (equality_rows m))
-    (jump_place m sized.elements_are sized.edges_are c.args.k c.if-k-after.false))
+    (ap (row_at (equality_rows m)) (after_edges m sized.elements_are sized.edges_are c.args.k c.if-k-after.false))

@@ -9,8 +9,8 @@ unfolding rise_across run_across node
 returns c =
     let v = c.corners_of-v.ensures in
     record {
-      rise = Is-as (Is-read c.rise_between-rise.ensures (omega arith)) (omega arith) (rw (v.b.same, v.d.same));
-      rise_next = Is-as (Is-read c.rise_between-rise_next.ensures (omega arith)) (omega arith) (rw (v.a.same, v.c.same));
-      run = Is-as (Is-read c.run_between-run.ensures (omega arith)) (omega arith) (rw (v.b.same, v.d.same));
-      run_next = Is-as (Is-read c.run_between-run_next.ensures (omega arith)) (omega arith) (rw (v.a.same, v.c.same));
+      rise = Is-as (Is-read c.rise_between.ensures (omega arith)) (omega arith) (rw (v.b.same, v.d.same));
+      rise_next = Is-as (Is-read c.rise_between-2.ensures (omega arith)) (omega arith) (rw (v.a.same, v.c.same));
+      run = Is-as (Is-read c.run_between.ensures (omega arith)) (omega arith) (rw (v.b.same, v.d.same));
+      run_next = Is-as (Is-read c.run_between-2.ensures (omega arith)) (omega arith) (rw (v.a.same, v.c.same));
     }
