@@ -2,29 +2,55 @@
 use mathlib.Core.Path.{◌≡◌, refl, sym, ◌∙◌, ap, subst}
 use mathlib.Core.List.Memᴰ
 use mathlib.Core.List.{List, [], ◌∷◌, ◌++◌}
-use Prim.Native.Nat.{ℕ, zero, suc, ◌+◌, ◌*◌, ◌≤◌, ◌<◌}
+use Prim.Native.Nat.{ℕ, zero, suc, ◌+◌, ◌*◌, ◌≤◌, ◌<◌, zero-le}
 use mathlib.Core.Logic.{◌⊎◌, inl, inr, ⊎_elim}
 use native.Mathlib.Decide.{dec_lt}
-use native.Mathlib.Nat.{le_refl, le_trans}
+use native.Mathlib.Nat.{le_trans}
 use native.Mathlib.Omega.{arith}
 use native.Mathlib.Numerals.{add-one}
 use borrow.Author.Tests.{lt-ltb, le-ltb}
 use lib.IntN.{ℤ, pos, nat_abs}
 use lib.ListN.{length, get_or, set, replicate, length-set, length-replicate, get_or-append}
 use lib.Seq.{get_or-set_same, get_or-set_other, get_or-append_seam}
+use Rattle.std.proofs.lemmas.List.{get_or_past}
 use Rattle.integer.specs.Bounds.{Within}
-use Rattle.integer.proofs.BoundLaws.{Within-le, all_within_lem}
-use Rattle.integer.proofs.Machine.{Is-as}
-use Rattle.criterion.specs.declared.polygons.Step.{Step}
+use Rattle.integer.proofs.BoundLaws.{Within-le}
 use Rattle.scope.specs.Members.{◌∈◌}
-use Rattle.scope.specs.Columns.{at}
-use Rattle.scope.specs.Polygon.{Point, point, Side, Polygon, sides_to, polygon_sides, quarter_turn, four_quadrants, twelve, twenty, thirty_six, polygon_of}
+use Rattle.scope.specs.Polygon.{
+  Point,
+  point,
+  Side,
+  Polygon,
+  sides_to,
+  polygon_sides,
+  quarter_turn,
+  four_quadrants,
+  twelve,
+  twenty,
+  thirty_six,
+  polygon_of,
+}
 use Rattle.scope.specs.Mesh.{most_sides}
 use Rattle.scope.specs.Bounds.{most_radius}
 use Rattle.scope.specs.PolygonRule.{PolygonFits, ListedPolygon}
 use Rattle.scope.specs.Rows.{cross}
 use Rattle.scope.specs.RowNumbers.{side_at}
-use Rattle.criterion.specs.StrengthContracts.{Listed, next, coordinates, Table, SideIs, StepIs, Steps, table_run, table_rise, table_cross, StepsUpTo, run_of, rise_of, cross_of}
+use Rattle.criterion.specs.StrengthContracts.{
+  Listed,
+  next,
+  Corners,
+  corner_x,
+  corner_y,
+  pairs_of,
+  Steps,
+  table_run,
+  table_rise,
+  table_cross,
+  StepsUpTo,
+  run_of,
+  rise_of,
+  cross_of,
+}
 use Rattle.scope.proofs.PolygonRule.{legs_within}
 use Rattle.scope.proofs.RowCounts.{side_of_each}
 use Rattle.scope.proofs.Checks.{below_suc}
@@ -38,15 +64,6 @@ next_inner n k h = simp (lt-ltb _ _ h)
 pub next_last : (n k : ℕ) → n ≤ k + 1 → 0 ≡ next n k
 unfolding next
 next_last n k h = simp (le-ltb _ _ h)
-
--- the side between two corners of a table is the table's
-pub step_is : {r : Step} {t : List ℤ} {n k j : ℕ} {a b c d : ℤ} → j ≡ next n k → a ≡ at t (2 * k) → b ≡ at t (2 * k + 1) → c ≡ at t (2 * j) → d ≡ at t (2 * j + 1) → SideIs r a b c d → StepIs r t n k
-unfolding table_run table_rise table_cross
-step_is e ea eb ec ed h = record {
-  run = Is-as h.run (le_refl _) (rw (ea, ec, e));
-  rise = Is-as h.rise (le_refl _) (rw (eb, ed, e));
-  cross = Is-as h.cross (le_refl _) (rw (ea, eb, ec, ed, e));
-}
 
 -- ---- the numbers of one side more
 
@@ -76,20 +93,30 @@ module _ (r : List ℤ) (k : ℕ) (a b d : ℤ) where
     third : get_or stored (3 * k + 2) (pos 0) ≡ d
     third = get_or-set_same (set (set r (3 * k) a) (3 * k + 1) b) (3 * k + 2) d (pos 0) (simp length-set (omega arith))
 
-pub no_steps : (t : List ℤ) (n : ℕ) → StepsUpTo 0 (replicate (3 * most_sides) (pos 0)) t n
-no_steps t n = record { size = length-replicate (3 * most_sides) (pos 0); run = λ i h. absurd (omega arith); rise = λ i h. absurd (omega arith); cross = λ i h. absurd (omega arith) }
+pub no_steps : (t : List (ℤ × ℤ)) → StepsUpTo 0 (replicate (3 * most_sides) (pos 0)) t
+no_steps t = record {
+  size = length-replicate (3 * most_sides) (pos 0);
+  run = λ i h. absurd (omega arith);
+  rise = λ i h. absurd (omega arith);
+  cross = λ i h. absurd (omega arith);
+}
 
-pub one_step_more : (t : List ℤ) (n k : ℕ) (r : List ℤ) {a b d : ℤ} → n ≤ most_sides → k < n → StepsUpTo k r t n
-    → a ≡ table_run t n k → b ≡ table_rise t n k → d ≡ table_cross t n k → StepsUpTo (k + 1) (stored r k a b d) t n
-one_step_more t n k r {a} {b} {d} most l h ea eb ed = record {
+pub one_step_more : (t : List (ℤ × ℤ)) (k : ℕ) (r : List ℤ) {a b d : ℤ} → k < most_sides → StepsUpTo k r t
+    → a ≡ table_run t k → b ≡ table_rise t k → d ≡ table_cross t k → StepsUpTo (k + 1) (stored r k a b d) t
+one_step_more t k r {a} {b} {d} l h ea eb ed = record {
   size = simp length-set h.size;
-  run = λ i j. pick (table_run t n) (λ i. 3 * i) (λ i g. omega arith) h.run (first r k a b d h.size (omega arith) ∙ ea) i (below_suc (subst (λ x. i < x) (add-one k) j));
-  rise = λ i j. pick (table_rise t n) (λ i. 3 * i + 1) (λ i g. omega arith) h.rise (second r k a b d h.size (omega arith) ∙ eb) i (below_suc (subst (λ x. i < x) (add-one k) j));
-  cross = λ i j. pick (table_cross t n) (λ i. 3 * i + 2) (λ i g. omega arith) h.cross (third r k a b d h.size (omega arith) ∙ ed) i (below_suc (subst (λ x. i < x) (add-one k) j));
+  run = λ i j. pick (table_run t) (λ i. 3 * i) (λ i g. omega arith) h.run
+      (first r k a b d h.size l ∙ ea) i (below_suc (subst (λ x. i < x) (add-one k) j));
+  rise = λ i j. pick (table_rise t) (λ i. 3 * i + 1) (λ i g. omega arith) h.rise
+      (second r k a b d h.size l ∙ eb) i (below_suc (subst (λ x. i < x) (add-one k) j));
+  cross = λ i j. pick (table_cross t) (λ i. 3 * i + 2) (λ i g. omega arith) h.cross
+      (third r k a b d h.size l ∙ ed) i (below_suc (subst (λ x. i < x) (add-one k) j));
 }
   where
-    pick : (f : ℕ → ℤ) (place : ℕ → ℕ) → ((i : ℕ) → i < k → place i < 3 * k) → ((i : ℕ) → i < k → get_or r (place i) (pos 0) ≡ f i)
-        → get_or (stored r k a b d) (place k) (pos 0) ≡ f k → (i : ℕ) → (i < k) ⊎ (i ≡ k) → get_or (stored r k a b d) (place i) (pos 0) ≡ f i
+    pick : (f : ℕ → ℤ) (place : ℕ → ℕ) → ((i : ℕ) → i < k → place i < 3 * k)
+        → ((i : ℕ) → i < k → get_or r (place i) (pos 0) ≡ f i)
+        → get_or (stored r k a b d) (place k) (pos 0) ≡ f k → (i : ℕ) → (i < k) ⊎ (i ≡ k)
+        → get_or (stored r k a b d) (place i) (pos 0) ≡ f i
     pick f place low old new i (inl g) = before r k a b d (place i) (low i g) ∙ old i g
     pick f place low old new i (inr e) = rw e new
 
@@ -98,36 +125,22 @@ one_step_more t n k r {a} {b} {d} most l h ea eb ed = record {
 origin : Point
 origin = point (pos 0) (pos 0)
 
-double_suc : (k : ℕ) → 2 * suc k ≡ suc (suc (2 * k))
-double_suc k = omega arith
-
-x_of_corner : (cs : List Point) (k : ℕ) → at (coordinates cs) (2 * k) ≡ (get_or cs k origin).px
-unfolding coordinates at origin
+x_of_corner : (cs : List Point) (k : ℕ) → corner_x (pairs_of cs) k ≡ (get_or cs k origin).px
+unfolding pairs_of origin
 x_of_corner [] k = refl
 x_of_corner (v ∷ cs) zero = refl
-x_of_corner (v ∷ cs) (suc k) = rw (double_suc k) (x_of_corner cs k)
+x_of_corner (v ∷ cs) (suc k) = x_of_corner cs k
 
-y_of_corner : (cs : List Point) (k : ℕ) → at (coordinates cs) (2 * k + 1) ≡ (get_or cs k origin).py
-unfolding coordinates at origin
+y_of_corner : (cs : List Point) (k : ℕ) → corner_y (pairs_of cs) k ≡ (get_or cs k origin).py
+unfolding pairs_of origin
 y_of_corner [] k = refl
 y_of_corner (v ∷ cs) zero = refl
-y_of_corner (v ∷ cs) (suc k) =
-    ap (λ i. get_or (v.px ∷ v.py ∷ coordinates cs) i (pos 0)) (odd k) ∙ y_of_corner cs k
-  where
-    odd : (k : ℕ) → 2 * suc k + 1 ≡ suc (suc (2 * k + 1))
-    odd k = omega arith
+y_of_corner (v ∷ cs) (suc k) = y_of_corner cs k
 
-length-coordinates : (cs : List Point) → length (coordinates cs) ≡ 2 * length cs
-unfolding coordinates
-length-coordinates [] = refl
-length-coordinates (v ∷ cs) = omega (arith, length-coordinates cs)
-
-coordinates-within : {B : ℕ} (cs : List Point) → ((v : Point) → v ∈ cs → Within B v.px × Within B v.py) → (i : ℕ) → i < length (coordinates cs) → Within B (get_or (coordinates cs) i (pos 0))
-unfolding coordinates
-coordinates-within [] h i l = absurd (omega arith)
-coordinates-within (v ∷ cs) h zero l = (h v (Memᴰ.head refl)).0
-coordinates-within (v ∷ cs) h (suc zero) l = (h v (Memᴰ.head refl)).1
-coordinates-within (v ∷ cs) h (suc (suc i)) l = coordinates-within cs (λ w m. h w (Memᴰ.tail m)) i (omega arith)
+length-pairs_of : (cs : List Point) → length (pairs_of cs) ≡ length cs
+unfolding pairs_of
+length-pairs_of [] = refl
+length-pairs_of (v ∷ cs) = omega (arith, length-pairs_of cs)
 
 abbrev between : Point → Point → Side
 between v w = record { from = v; to = w }
@@ -135,7 +148,8 @@ between v w = record { from = v; to = w }
 nowhere : Side
 nowhere = between (point (pos 0) (pos 0)) (point (pos 0) (pos 0))
 
-at-sides_to : (end : Point) (cs : List Point) (k : ℕ) → k < length cs → get_or (sides_to end cs) k nowhere ≡ between (get_or cs k origin) (get_or (cs ++ (end ∷ [])) (suc k) origin)
+at-sides_to : (end : Point) (cs : List Point) (k : ℕ) → k < length cs
+    → get_or (sides_to end cs) k nowhere ≡ between (get_or cs k origin) (get_or (cs ++ (end ∷ [])) (suc k) origin)
 unfolding sides_to
 at-sides_to end [] k h = absurd (omega arith)
 at-sides_to end (v ∷ []) zero h = refl
@@ -143,10 +157,12 @@ at-sides_to end (v ∷ []) (suc k) h = absurd (omega arith)
 at-sides_to end (v ∷ w ∷ rest) zero h = refl
 at-sides_to end (v ∷ w ∷ rest) (suc k) h = at-sides_to end (w ∷ rest) k (omega arith)
 
-corner_after : (v : Point) (rest : List Point) (k : ℕ) → k < length (v ∷ rest) → get_or ((v ∷ rest) ++ (v ∷ [])) (suc k) origin ≡ get_or (v ∷ rest) (next (length (v ∷ rest)) k) origin
+corner_after : (v : Point) (rest : List Point) (k : ℕ) → k < length (v ∷ rest)
+    → get_or ((v ∷ rest) ++ (v ∷ [])) (suc k) origin ≡ get_or (v ∷ rest) (next (length (v ∷ rest)) k) origin
 corner_after v rest k h = by (dec_lt (k + 1) (length (v ∷ rest)))
   where
-    by : Dec (k + 1 < length (v ∷ rest)) → get_or ((v ∷ rest) ++ (v ∷ [])) (suc k) origin ≡ get_or (v ∷ rest) (next (length (v ∷ rest)) k) origin
+    by : Dec (k + 1 < length (v ∷ rest)) → get_or ((v ∷ rest) ++ (v ∷ [])) (suc k) origin
+        ≡ get_or (v ∷ rest) (next (length (v ∷ rest)) k) origin
     by (yes l) =
         get_or-append (v ∷ rest) (v ∷ []) origin (suc k) (omega arith)
         ∙ ap (λ i. get_or (v ∷ rest) i origin) (sym (add-one k) ∙ next_inner (length (v ∷ rest)) k l)
@@ -156,29 +172,45 @@ corner_after v rest k h = by (dec_lt (k + 1) (length (v ∷ rest)))
         ∙ get_or-append_seam (v ∷ rest) v [] origin
         ∙ ap (λ i. get_or (v ∷ rest) i origin) (next_last (length (v ∷ rest)) k (omega arith))
 
-side_at_lem : (g : Polygon) (k : ℕ) → k < length g.corners → side_at g k ≡ between (get_or g.corners k origin) (get_or g.corners (next (length g.corners) k) origin)
+side_at_lem : (g : Polygon) (k : ℕ) → k < length g.corners
+    → side_at g k ≡ between (get_or g.corners k origin) (get_or g.corners (next (length g.corners) k) origin)
 unfolding side_at polygon_sides nowhere
 side_at_lem g k h = go g.corners k h
   where
-    go : (cs : List Point) (k : ℕ) → k < length cs → get_or (polygon_sides cs) k (between (point (pos 0) (pos 0)) (point (pos 0) (pos 0))) ≡ between (get_or cs k origin) (get_or cs (next (length cs) k) origin)
+    go : (cs : List Point) (k : ℕ) → k < length cs
+        → get_or (polygon_sides cs) k (between (point (pos 0) (pos 0)) (point (pos 0) (pos 0)))
+        ≡ between (get_or cs k origin) (get_or cs (next (length cs) k) origin)
     go [] k h = absurd (omega arith)
-    go (v ∷ rest) k h = at-sides_to v (v ∷ rest) k h ∙ ap (λ w. between (get_or (v ∷ rest) k origin) w) (corner_after v rest k h)
+    go (v ∷ rest) k h = at-sides_to v (v ∷ rest) k h
+        ∙ ap (λ w. between (get_or (v ∷ rest) k origin) w) (corner_after v rest k h)
 
 module _ (g : Polygon) (n : ℕ) (count : length g.corners ≡ n) (k : ℕ) (l : k < n) where
   side_is_lem : side_at g k ≡ between (get_or g.corners k origin) (get_or g.corners (next n k) origin)
-  side_is_lem = subst (λ i. side_at g k ≡ between (get_or g.corners k origin) (get_or g.corners (next i k) origin)) count (side_at_lem g k (omega arith))
+  side_is_lem = subst (λ i. side_at g k ≡ between (get_or g.corners k origin)
+      (get_or g.corners (next i k) origin)) count (side_at_lem g k (omega arith))
 
-  run_is : table_run (coordinates g.corners) n k ≡ run_of (side_at g k)
+  follows : next (length (pairs_of g.corners)) k ≡ next n k
+  follows = ap (λ i. next i k) (length-pairs_of g.corners ∙ count)
+
+  run_is : table_run (pairs_of g.corners) k ≡ run_of (side_at g k)
   unfolding table_run run_of
-  run_is = rw (side_is_lem, x_of_corner g.corners k, x_of_corner g.corners (next n k))
+  run_is = rw (follows, side_is_lem, x_of_corner g.corners k, x_of_corner g.corners (next n k))
 
-  rise_is : table_rise (coordinates g.corners) n k ≡ rise_of (side_at g k)
+  rise_is : table_rise (pairs_of g.corners) k ≡ rise_of (side_at g k)
   unfolding table_rise rise_of
-  rise_is = rw (side_is_lem, y_of_corner g.corners k, y_of_corner g.corners (next n k))
+  rise_is = rw (follows, side_is_lem, y_of_corner g.corners k, y_of_corner g.corners (next n k))
 
-  cross_is : table_cross (coordinates g.corners) n k ≡ cross_of (side_at g k)
+  cross_is : table_cross (pairs_of g.corners) k ≡ cross_of (side_at g k)
   unfolding table_cross cross_of cross
-  cross_is = rw (side_is_lem, x_of_corner g.corners k, x_of_corner g.corners (next n k), y_of_corner g.corners k, y_of_corner g.corners (next n k))
+  cross_is =
+      rw (
+        follows,
+        side_is_lem,
+        x_of_corner g.corners k,
+        x_of_corner g.corners (next n k),
+        y_of_corner g.corners k,
+        y_of_corner g.corners (next n k),
+      )
 
 -- ---- the polygon of a mesh
 
@@ -206,13 +238,22 @@ module _ {g : Polygon} {n radius step product : ℕ} (f : PolygonFits g n radius
   cross-within k l = record { within = f.rule.largest_cross.bounds (side_at g k) (side_in k l) }
 
   -- a polygon's numbers, from the table of its corners
-  drawn : (r : List ℤ) → StepsUpTo n r (coordinates g.corners) n → Steps g n r
+  drawn : (r : List ℤ) → StepsUpTo n r (pairs_of g.corners) → Steps g n r
   drawn r u = record {
     size = u.size;
     most = f.few_sides;
-    run = λ k l. record { same = u.run k l ∙ run_is g n f.rule.count k l; inside = Within-le (run-within k l) f.step_fits };
-    rise = λ k l. record { same = u.rise k l ∙ rise_is g n f.rule.count k l; inside = Within-le (rise_within k l) f.step_fits };
-    cross = λ k l. record { same = u.cross k l ∙ cross_is g n f.rule.count k l; inside = Within-le (cross-within k l) f.product_fits };
+    run = λ k l. record {
+      same = u.run k l ∙ run_is g n f.rule.count k l;
+      inside = Within-le (run-within k l) f.step_fits;
+    };
+    rise = λ k l. record {
+      same = u.rise k l ∙ rise_is g n f.rule.count k l;
+      inside = Within-le (rise_within k l) f.step_fits;
+    };
+    cross = λ k l. record {
+      same = u.cross k l ∙ cross_is g n f.rule.count k l;
+      inside = Within-le (cross-within k l) f.product_fits;
+    };
   }
 
   corner-within : (v : Point) → v ∈ g.corners → Within most_radius v.px × Within most_radius v.py
@@ -221,23 +262,35 @@ module _ {g : Polygon} {n radius step product : ℕ} (f : PolygonFits g n radius
       let r : nat_abs g.radius ≤ most_radius = rw f.radius_is f.radius_fits in
       (record { within = le_trans h.0 r }, record { within = le_trans h.1 r })
 
-  -- the table of its corners: two numbers each, none larger than the radius
-  table_drawn : Table (coordinates g.corners) n
+  at_corner : (k : ℕ)
+      → Within most_radius (get_or g.corners k origin).px × Within most_radius (get_or g.corners k origin).py
+  unfolding origin
+  at_corner k = by (dec_lt k (length g.corners))
+    where
+      by : Dec (k < length g.corners)
+          → Within most_radius (get_or g.corners k origin).px × Within most_radius (get_or g.corners k origin).py
+      by (yes l) = corner-within _ (get_d_in g.corners k origin l)
+      by (no l) =
+          rw (get_or_past g.corners k origin (omega arith)) (record { within = zero-le }, record { within = zero-le })
+
+  -- the table of its corners: none further out than the radius
+  table_drawn : Corners (pairs_of g.corners)
   table_drawn = record {
-    size = length-coordinates g.corners ∙ ap (λ k. 2 * k) f.rule.count;
-    most = f.few_sides;
-    bounds = all_within_lem (coordinates g.corners) (coordinates-within g.corners corner-within);
+    few = rw (length-pairs_of g.corners, f.rule.count) f.few_sides;
+    x = λ k. rw (x_of_corner g.corners k) (at_corner k).0;
+    y = λ k. rw (y_of_corner g.corners k) (at_corner k).1;
   }
 
-pub table_of : {n : ℕ} → ListedPolygon n → Table (coordinates (polygon_of n).corners) n
+pub table_of : {n : ℕ} → ListedPolygon n → Corners (pairs_of (polygon_of n).corners)
 table_of p = table_drawn p.fits
 
-pub steps_of : (sides : ℕ) {n : ℕ} → ListedPolygon n → sides ≡ n → (r : List ℤ) → StepsUpTo n r (coordinates (polygon_of n).corners) n → Steps (polygon_of sides) sides r
+pub steps_of : (sides : ℕ) {n : ℕ} → ListedPolygon n → sides ≡ n → (r : List ℤ)
+    → StepsUpTo n r (pairs_of (polygon_of n).corners) → Steps (polygon_of sides) sides r
 steps_of sides p e r u = subst (λ k. Steps (polygon_of k) k r) (sym e) (drawn p.fits r u)
 
 -- every definition that a table computes with
 unfoldable pub shown : Unit {0}
-unfolding coordinates polygon_of twelve twenty thirty_six four_quadrants quarter_turn
+unfolding pairs_of polygon_of twelve twenty thirty_six four_quadrants quarter_turn
 shown = tt
 
 pub last_listed : {n : ℕ} → Listed n → (n ≡ 12 → ⊥) → (n ≡ 20 → ⊥) → n ≡ 36

@@ -37,7 +37,22 @@ use Rattle.scope.specs.NumberRanges.{Counts, SoilFacts}
 use Rattle.scope.specs.Tests.{row_at}
 use Rattle.mesh.specs.MeshContracts.{Sized, PairTable}
 use Rattle.scope.specs.RowNumbers.{side_at}
-use Rattle.criterion.specs.StrengthContracts.{Listed, SoilNumbers, SoilFits, PairOf, PairNumbers, PairFits, PairState, Steps, MeshSteps, StepsFit, run_of, rise_of, cross_of, side_slack, pair_holds}
+use Rattle.criterion.specs.StrengthContracts.{
+  Listed,
+  SoilNumbers,
+  SoilFits,
+  PairNumbers,
+  PairFits,
+  PairState,
+  Steps,
+  MeshSteps,
+  StepsFit,
+  run_of,
+  rise_of,
+  cross_of,
+  side_slack,
+  pair_holds,
+}
 use Rattle.scope.specs.Phases.{check_phase}
 use Rattle.scope.specs.Refusals.{strengths_phase}
 use Rattle.lines.specs.SearchContracts.{first_failing}
@@ -71,18 +86,14 @@ module _ {m : List ℤ} {s : ℕ} (f : SoilFacts m s) where
   cohesion-within = from_0 f.cohesion_range
 
 pub soil_fits : {k m : List ℤ} {s : ℕ} {r : ℤ} → SoilNumbers k m s r → SoilFits k
-soil_fits h = record { size = h.size; lever = Is-Within h.lever (le_refl _); friction = Is-Within h.friction (le_refl _); right = Is-Within h.right (le_refl _) }
+soil_fits h = record {
+  size = h.size;
+  lever = Is-Within h.lever (le_refl _);
+  friction = Is-Within h.friction (le_refl _);
+  right = Is-Within h.right (le_refl _);
+}
 
 -- ---- the numbers of a pair at a field
-
-pub pair_numbered : {d k x : List ℤ} {v : ℕ} {l f c a b z s n : ℤ} → l ≡ at k 0 → f ≡ at k 1 → c ≡ at k 2 → a ≡ at x (3 * v) → b ≡ at x (3 * v + 1) → z ≡ at x (3 * v + 2) → s ≡ n → PairOf d l f c a b z s → PairNumbers d k x v n
-pair_numbered el ef ec ea eb ez es h = record {
-  size = h.size;
-  lever = Is-as h.lever (le_refl _) el;
-  spread = Is-as h.spread (le_refl _) (rw (ea, eb));
-  twist = Is-as h.twist (le_refl _) (rw ez);
-  reserve = Is-as h.reserve (le_refl _) (rw (ec, es, ef, ea, eb));
-}
 
 module _ (m c : List ℤ) (a : ℕ) {d k x : List ℤ} {v soil : ℕ} {r n' : ℤ} where
   pub pair_stated : PairNumbers d k x v n' → SoilNumbers k m soil r → v ≡ (pair_at m a).at → soil ≡ (pair_at m a).soil
@@ -131,30 +142,51 @@ lt_z_slack a b {z} e = same_test (λ t. yes_lt_z (up (lt_z_yes t))) (λ t. yes_l
 -- the right side less the left, as it is printed and as the row has it
 regrouped : (r p q h C x y z run rise k l n : ℤ)
     → k *ℤ (pos 2 *ℤ q *ℤ C *ℤ n -ℤ p *ℤ (x +ℤ y)) -ℤ r *ℤ h *ℤ (rise *ℤ (x -ℤ y) -ℤ run *ℤ (pos 2 *ℤ z))
-    ≡ k *ℤ (pos 2 *ℤ q *ℤ C) *ℤ n -ℤ (((r *ℤ h *ℤ rise +ℤ k *ℤ p) *ℤ x +ℤ ((k *ℤ p -ℤ r *ℤ h *ℤ rise) *ℤ y +ℤ (neg_ℤ (pos 2 *ℤ (r *ℤ h *ℤ run)) *ℤ z +ℤ pos 0))) +ℤ pos 0 *ℤ l)
+    ≡ k *ℤ (pos 2 *ℤ q *ℤ C) *ℤ n -ℤ (((r *ℤ h *ℤ rise +ℤ k *ℤ p) *ℤ x
+    +ℤ ((k *ℤ p -ℤ r *ℤ h *ℤ rise) *ℤ y +ℤ (neg_ℤ (pos 2 *ℤ (r *ℤ h *ℤ run)) *ℤ z +ℤ pos 0))) +ℤ pos 0 *ℤ l)
 regrouped r p q h C x y z run rise k l n =
     ring (r ∷ p ∷ q ∷ h ∷ C ∷ x ∷ y ∷ z ∷ run ∷ rise ∷ k ∷ l ∷ n ∷ []) (search terms depth 100) refl
 
 slack_is : (r p q h C : ℤ) (v : ℕ) (s : Side) (f : ℕ → ℤ) (l n : ℤ)
-    → cross_of s *ℤ (pos 2 *ℤ q *ℤ C *ℤ n -ℤ p *ℤ (f (sx v) +ℤ f (sy v))) -ℤ r *ℤ h *ℤ (rise_of s *ℤ (f (sx v) -ℤ f (sy v)) -ℤ run_of s *ℤ (pos 2 *ℤ f (t v)))
+    → cross_of s *ℤ (pos 2 *ℤ q *ℤ C *ℤ n -ℤ p *ℤ (f (sx v) +ℤ f (sy v))) -ℤ r *ℤ h *ℤ
+    (rise_of s *ℤ (f (sx v) -ℤ f (sy v)) -ℤ run_of s *ℤ (pos 2 *ℤ f (t v)))
     ≡ right_side n (strength_row r p q h C v s) -ℤ left_side f l (strength_row r p q h C v s)
 unfolding right_side left_side weighted_sum strength_row cross_of rise_of run_of
-slack_is r p q h C v s f l n = regrouped r p q h C (f (sx v)) (f (sy v)) (f (t v)) (run_of s) (rise_of s) (cross_of s) l n
+slack_is r p q h C v s f l n = regrouped r p q h C (f (sx v)) (f (sy v)) (f (t v)) (run_of s) (rise_of s)
+    (cross_of s) l n
 
-module _ (m c : List ℤ) (a k : ℕ) {d tab : List ℤ} (state : PairState d m c a) (steps : MeshSteps m tab) (j : k < sides m) (l : ℤ) where
-  row_slack : side_slack d tab k ≡ right_side (n c) (row_of_pair m a (side_at (polygon_of (sides m)) k)) -ℤ left_side (stress m c) l (row_of_pair m a (side_at (polygon_of (sides m)) k))
+module _ (m c : List ℤ) (a k : ℕ) {d tab : List ℤ} (state : PairState d m c a) (steps : MeshSteps m tab)
+    (j : k < sides m) (l : ℤ) where
+  row_slack : side_slack d tab k ≡ right_side (n c)
+      (row_of_pair m a (side_at (polygon_of (sides m)) k)) -ℤ left_side (stress m c) l
+      (row_of_pair m a (side_at (polygon_of (sides m)) k))
   unfolding side_slack at row_of_pair
   row_slack =
-      rw (state.lever.same, state.spread.same, state.twist.same, state.reserve.same, (steps.run k j).same, (steps.rise k j).same, (steps.cross k j).same)
-      (slack_is (polygon_of (sides m)).radius (p m (pair_at m a).soil) (q m (pair_at m a).soil) (h m (pair_at m a).soil) (cohesion m (pair_at m a).soil) (pair_at m a).at (side_at (polygon_of (sides m)) k) (stress m c) l (n c))
+      rw (
+        state.lever.same,
+        state.spread.same,
+        state.twist.same,
+        state.reserve.same,
+        (steps.run k j).same,
+        (steps.rise k j).same,
+        (steps.cross k j).same,
+      )
+      (slack_is (polygon_of (sides m)).radius (p m (pair_at m a).soil) (q m (pair_at m a).soil)
+      (h m (pair_at m a).soil) (cohesion m (pair_at m a).soil) (pair_at m a).at
+      (side_at (polygon_of (sides m)) k) (stress m c) l (n c))
 
-  pub strength_test_lem : row_holds (stress m c) l (n c) (row_of_pair m a (side_at (polygon_of (sides m)) k)) ≡ le_z (pos 0) (side_slack d tab k)
+  pub strength_test_lem : row_holds (stress m c) l (n c) (row_of_pair m a (side_at (polygon_of (sides m)) k))
+      ≡ le_z (pos 0) (side_slack d tab k)
   unfolding row_holds row_of_pair strength_row
-  strength_test_lem = le_z_slack (left_side (stress m c) l (row_of_pair m a (side_at (polygon_of (sides m)) k))) (right_side (n c) (row_of_pair m a (side_at (polygon_of (sides m)) k))) row_slack
+  strength_test_lem = le_z_slack (left_side (stress m c) l (row_of_pair m a (side_at (polygon_of (sides m)) k)))
+      (right_side (n c) (row_of_pair m a (side_at (polygon_of (sides m)) k))) row_slack
 
-  pub open_test_lem : (w : ℤ) → is_open (stress m c) l (n c) (w, row_of_pair m a (side_at (polygon_of (sides m)) k)) ≡ (lt_z (pos 0) w && lt_z (pos 0) (side_slack d tab k))
+  pub open_test_lem : (w : ℤ) → is_open (stress m c) l (n c)
+      (w, row_of_pair m a (side_at (polygon_of (sides m)) k)) ≡ (lt_z (pos 0) w && lt_z (pos 0) (side_slack d tab k))
   unfolding is_open row_of_pair strength_row
-  open_test_lem w = ap (λ b. lt_z (pos 0) w && b) (lt_z_slack (left_side (stress m c) l (row_of_pair m a (side_at (polygon_of (sides m)) k))) (right_side (n c) (row_of_pair m a (side_at (polygon_of (sides m)) k))) row_slack)
+  open_test_lem w = ap (λ b. lt_z (pos 0) w && b)
+      (lt_z_slack (left_side (stress m c) l (row_of_pair m a (side_at (polygon_of (sides m)) k)))
+      (right_side (n c) (row_of_pair m a (side_at (polygon_of (sides m)) k))) row_slack)
 
 -- ---- the pairs one by one
 
@@ -180,9 +212,12 @@ abbrev side_test : List ℤ → List ℤ → ℕ → Bool
 side_test d tab k = le_z (pos 0) (side_slack d tab k)
 
 module _ (m c : List ℤ) (counts : Counts m) where
-  module _ {tab : List ℤ} (steps : MeshSteps m tab) {a : ℕ} {d : List ℤ} (h : a < pair_count m) (state : PairState d m c a) where
+  module _ {tab : List ℤ} (steps : MeshSteps m tab) {a : ℕ} {d : List ℤ} (h : a < pair_count m)
+      (state : PairState d m c a) where
     row_test_lem : (k : ℕ) → k < sides m → strength_test m c (a * sides m + k) ≡ side_test d tab k
-    row_test_lem k j = ap (row_holds (stress m c) (l c) (n c)) (strength_at m (record { listed = counts.sides_listed }) a k h j) ∙ strength_test_lem m c a k state steps j (l c)
+    row_test_lem k j = ap (row_holds (stress m c) (l c) (n c))
+        (strength_at m (record { listed = counts.sides_listed }) a k h j)
+        ∙ strength_test_lem m c a k state steps j (l c)
 
     pub pair_holds_is : {s : ℕ} {r : Bool} → s ≡ sides m → r ≡ all_below (side_test d tab) s → r ≡ pair_holds m c a
     unfolding pair_holds
@@ -192,16 +227,20 @@ module _ (m c : List ℤ) (counts : Counts m) where
         ∙ sym (all_cong (λ k. strength_test m c (a * sides m + k)) (side_test d tab) (sides m) row_test_lem)
 
   -- the rows of the pairs that hold
-  pair_rows_lem : {a : ℕ} → ((u : ℕ) → u < a → pair_holds m c u ≡ true) → (j : ℕ) → j < a * sides m → strength_test m c j ≡ true
+  pair_rows_lem : {a : ℕ} → ((u : ℕ) → u < a → pair_holds m c u ≡ true) → (j : ℕ) → j < a * sides m
+      → strength_test m c j ≡ true
   unfolding pair_holds
   pair_rows_lem {a} holds j l =
       let s : ℕ = sides m in
       let u : ℕ = j / s in
       subst (λ i. strength_test m c i ≡ true) (div-add-mod' j s)
-      (each_below (λ k. strength_test m c (u * s + k)) s (holds u ((div-lt_iff_lt-mul (some_sides_lem counts)).1 l)) (j % s) (mod-lt j (some_sides_lem counts)))
+      (each_below (λ k. strength_test m c (u * s + k)) s
+      (holds u ((div-lt_iff_lt-mul (some_sides_lem counts)).1 l)) (j % s) (mod-lt j (some_sides_lem counts)))
 
   -- a is the lowest pair on which a row fails, and k the lowest of its sides
-  module _ {tab : List ℤ} (steps : MeshSteps m tab) {a k : ℕ} {d : List ℤ} (e : a ≡ first_failing (pair_holds m c) (pair_count m)) (h : a < pair_count m) (state : PairState d m c a) (f : k ≡ first_failing (side_test d tab) (sides m)) where
+  module _ {tab : List ℤ} (steps : MeshSteps m tab) {a k : ℕ} {d : List ℤ}
+      (e : a ≡ first_failing (pair_holds m c) (pair_count m)) (h : a < pair_count m) (state : PairState d m c a)
+      (f : k ≡ first_failing (side_test d tab) (sides m)) where
     side_there : k < sides m
     side_there = by (dec_lt k (sides m))
       where
@@ -210,7 +249,8 @@ module _ (m c : List ℤ) (counts : Counts m) where
         by (no j) =
             absurd
             (subst T
-            (sym (all_of_each (side_test d tab) (sides m) (λ i l. holds_before (side_test d tab) (sides m) f i (omega arith)))
+            (sym (all_of_each (side_test d tab) (sides m)
+            (λ i l. holds_before (side_test d tab) (sides m) f i (omega arith)))
             ∙ pair_holds_is steps h state refl refl
             ∙ fails_there (pair_holds m c) (pair_count m) e h)
             tt)
@@ -225,33 +265,50 @@ module _ (m c : List ℤ) (counts : Counts m) where
             let same : a * sides m + rest ≡ j = omega arith in
             let low : rest < k = omega arith in
             subst (λ i. strength_test m c i ≡ true) same
-            (row_test_lem steps h state rest (omega (arith, side_there)) ∙ holds_before (side_test d tab) (sides m) f rest low)
+            (row_test_lem steps h state rest (omega (arith, side_there))
+            ∙ holds_before (side_test d tab) (sides m) f rest low)
 
-    refused : Refused 22 (P.Row (suc (a * sides m + k))) ≡ check_phase (strengths_phase (strength_rows m) (stress m c) (l c) (n c))
+    refused : Refused 22 (P.Row (suc (a * sides m + k)))
+        ≡ check_phase (strengths_phase (strength_rows m) (stress m c) (l c) (n c))
     unfolding check_phase
     refused =
         phase-at (strength_test m c) 22 (λ i. P.Row (suc i)) (length (strength_rows m)) before
-        (omega (arith, strength_count m counts.sides_listed, mul-le-mul_right (sides m) h, suc-mul a (sides m), side_there))
+        (omega (
+          arith,
+          strength_count m counts.sides_listed,
+          mul-le-mul_right (sides m) h,
+          suc-mul a (sides m),
+          side_there,
+        ))
         (row_test_lem steps h state k side_there ∙ fails_there (side_test d tab) (sides m) f side_there)
         refl
 
   -- the same by the counts of pairs and of sides that the code has
-  pub strengths_refused : {tab d : List ℤ} {a k count side_count : ℕ} → MeshSteps m tab → count ≡ pair_count m → side_count ≡ sides m
-      → a ≡ first_failing (pair_holds m c) count → a < count → PairState d m c a → k ≡ first_failing (side_test d tab) side_count
-      → Refused 22 (P.Row (a * side_count + k + 1)) ≡ check_phase (strengths_phase (strength_rows m) (stress m c) (l c) (n c))
+  pub strengths_refused : {tab d : List ℤ} {a k count side_count : ℕ} → MeshSteps m tab → count ≡ pair_count m
+      → side_count ≡ sides m
+      → a ≡ first_failing (pair_holds m c) count → a < count → PairState d m c a
+      → k ≡ first_failing (side_test d tab) side_count
+      → Refused 22 (P.Row (a * side_count + k + 1))
+      ≡ check_phase (strengths_phase (strength_rows m) (stress m c) (l c) (n c))
   strengths_refused {tab} {d} {a} {k} steps en es e h state f =
       ap (λ i. Refused 22 (P.Row i)) (add-one _ ∙ ap (λ i. suc (a * i + k)) es)
-      ∙ refused steps (e ∙ ap (first_failing (pair_holds m c)) en) (omega arith) state (f ∙ ap (first_failing (side_test d tab)) es)
+      ∙ refused steps (e ∙ ap (first_failing (pair_holds m c)) en) (omega arith) state
+      (f ∙ ap (first_failing (side_test d tab)) es)
 
-  pub strengths_passed : {a count : ℕ} → count ≡ pair_count m → a ≡ first_failing (pair_holds m c) count → count ≤ a → Passed ≡ check_phase (strengths_phase (strength_rows m) (stress m c) (l c) (n c))
+  pub strengths_passed : {a count : ℕ} → count ≡ pair_count m → a ≡ first_failing (pair_holds m c) count
+      → count ≤ a → Passed ≡ check_phase (strengths_phase (strength_rows m) (stress m c) (l c) (n c))
   unfolding check_phase
   strengths_passed {count = count} en e h =
       phase_all (strength_test m c) 22 (λ i. P.Row (suc i)) (length (strength_rows m))
-      (λ j l. pair_rows_lem {a = pair_count m} (λ u k. holds_before (pair_holds m c) count e u (omega arith)) j (omega (arith, strength_count m counts.sides_listed)))
+      (λ j l. pair_rows_lem {a = pair_count m} (λ u k. holds_before (pair_holds m c) count e u (omega arith)) j
+      (omega (arith, strength_count m counts.sides_listed)))
 
 -- the number of sides as the code has it
 pub steps_as : {s n : ℕ} {tab : List ℤ} → s ≡ n → Steps (polygon_of s) s tab → Steps (polygon_of n) n tab
 steps_as {tab = tab} e h = subst (λ k. Steps (polygon_of k) k tab) e h
 
 pub first_row : {a n s : ℕ} → a < n → n ≤ most_pairs → s ≤ most_sides → a * s < most_pairs * most_sides
-first_row {a} {n} {s} h k l = omega (arith, mul-le-mul {n₁ = a} {m₁ = s} {n₂ = most_pairs - 1} {m₂ = most_sides} (omega arith) l)
+first_row {a} {n} {s} h k l = omega (
+  arith,
+  mul-le-mul {n₁ = a} {m₁ = s} {n₂ = most_pairs - 1} {m₂ = most_sides} (omega arith) l,
+)

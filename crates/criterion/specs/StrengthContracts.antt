@@ -1,12 +1,41 @@
 -- What the strength rows hand around: a polygon's sides as numbers, the numbers of a pair of a node and a soil, and a
 -- claim whose lines have passed.
-use Rattle.std.specs.Prelude.{◌≡◌, ◌⊎◌, Bool, cond, List, [], ◌∷◌, ℕ, ◌+◌, ◌*◌, ◌≤◌, ◌<◌, ltb, ℤ, pos, ◌+ℤ◌, ◌-ℤ◌, ◌*ℤ◌, length, get_or}
-use Rattle.integer.specs.Bounds.{Within, AllWithin, Is}
+use Rattle.std.specs.Prelude.{
+  ◌≡◌,
+  ◌⊎◌,
+  Bool,
+  cond,
+  List,
+  [],
+  ◌∷◌,
+  ℕ,
+  ◌+◌,
+  ◌*◌,
+  ◌≤◌,
+  ◌<◌,
+  ltb,
+  ℤ,
+  pos,
+  ◌+ℤ◌,
+  ◌-ℤ◌,
+  ◌*ℤ◌,
+  length,
+  get_or,
+}
+use Rattle.integer.specs.Bounds.{Within, Is}
 use Rattle.mesh.specs.declared.sizes.Sizes.{Sizes}
-use Rattle.criterion.specs.declared.polygons.Corner.{Corner}
 use Rattle.criterion.specs.declared.polygons.Step.{Step}
 use Rattle.scope.specs.Mesh.{most_sides, most_pairs, nodes, sides, p, q, h, cohesion}
-use Rattle.scope.specs.Bounds.{most_friction, most_radius, most_step, most_cross, most_lever, twice_strength, most_spread, most_reserve}
+use Rattle.scope.specs.Bounds.{
+  most_friction,
+  most_radius,
+  most_step,
+  most_cross,
+  most_lever,
+  twice_strength,
+  most_spread,
+  most_reserve,
+}
 use Rattle.scope.specs.Columns.{at, has_field, n, l}
 use Rattle.scope.specs.Claim.{if_there, stress}
 use Rattle.scope.specs.Polygon.{Point, Side, Polygon, polygon_of}
@@ -35,52 +64,48 @@ table_step = most_radius + most_radius
 abbrev pub table_crosses : ℕ
 table_crosses = most_radius * most_radius + most_radius * most_radius
 
--- a table of n corners: x, y, x, y, ..
-pub record Table (t : List ℤ) (n : ℕ) : Type 0 where
-  pub size : length t ≡ 2 * n
-  pub most : n ≤ most_sides
-  pub bounds : AllWithin most_radius t
+-- the coordinates of corner k
+abbrev pub corner_x : List (ℤ × ℤ) → ℕ → ℤ
+corner_x t k = (get_or t k (pos 0, pos 0)).0
 
--- corner k of a table
-pub record CornerIs (r : Corner) (t : List ℤ) (k : ℕ) : Type 0 where
-  pub x : Is r.x (at t (2 * k)) most_radius
-  pub y : Is r.y (at t (2 * k + 1)) most_radius
+abbrev pub corner_y : List (ℤ × ℤ) → ℕ → ℤ
+corner_y t k = (get_or t k (pos 0, pos 0)).1
 
--- the side from (a, b) to (c, d): c - a, d - b and ad - bc
-pub record SideIs (r : Step) (a b c d : ℤ) : Type 0 where
-  pub run : Is r.run (c -ℤ a) table_step
-  pub rise : Is r.rise (d -ℤ b) table_step
-  pub cross : Is r.cross (a *ℤ d -ℤ b *ℤ c) table_crosses
+-- the corners of a polygon
+pub record Corners (t : List (ℤ × ℤ)) : Type 0 where
+  pub few : length t ≤ most_sides
+  pub x : (k : ℕ) → Within most_radius (corner_x t k)
+  pub y : (k : ℕ) → Within most_radius (corner_y t k)
 
--- the coordinates of points, one after the other
-unfoldable pub coordinates : List Point → List ℤ
-coordinates [] = []
-coordinates (v ∷ rest) = v.px ∷ v.py ∷ coordinates rest
+-- points as pairs
+unfoldable pub pairs_of : List Point → List (ℤ × ℤ)
+pairs_of [] = []
+pairs_of (v ∷ rest) = (v.px, v.py) ∷ pairs_of rest
 
--- side k of a table of n corners, by what a strength row reads of it: c - a, d - b and ad - bc
-unfoldable pub table_run : List ℤ → ℕ → ℕ → ℤ
-table_run t n k = at t (2 * next n k) -ℤ at t (2 * k)
+-- side k of a polygon with these corners, by what a strength row reads of it: c - a, d - b and ad - bc
+unfoldable pub table_run : List (ℤ × ℤ) → ℕ → ℤ
+table_run t k = corner_x t (next (length t) k) -ℤ corner_x t k
 
-unfoldable pub table_rise : List ℤ → ℕ → ℕ → ℤ
-table_rise t n k = at t (2 * next n k + 1) -ℤ at t (2 * k + 1)
+unfoldable pub table_rise : List (ℤ × ℤ) → ℕ → ℤ
+table_rise t k = corner_y t (next (length t) k) -ℤ corner_y t k
 
-unfoldable pub table_cross : List ℤ → ℕ → ℕ → ℤ
-table_cross t n k = at t (2 * k) *ℤ at t (2 * next n k + 1) -ℤ at t (2 * k + 1) *ℤ at t (2 * next n k)
+unfoldable pub table_cross : List (ℤ × ℤ) → ℕ → ℤ
+table_cross t k = corner_x t k *ℤ corner_y t (next (length t) k) -ℤ corner_y t k *ℤ corner_x t (next (length t) k)
 
-pub record StepIs (r : Step) (t : List ℤ) (n k : ℕ) : Type 0 where
-  pub run : Is r.run (table_run t n k) table_step
-  pub rise : Is r.rise (table_rise t n k) table_step
-  pub cross : Is r.cross (table_cross t n k) table_crosses
+pub record StepIs (r : Step) (t : List (ℤ × ℤ)) (k : ℕ) : Type 0 where
+  pub run : Is r.run (table_run t k) table_step
+  pub rise : Is r.rise (table_rise t k) table_step
+  pub cross : Is r.cross (table_cross t k) table_crosses
 
--- the first k sides of a table of n corners, three numbers each
-pub record StepsUpTo (k : ℕ) (r t : List ℤ) (n : ℕ) : Type 0 where
+-- the first k sides of a polygon with these corners, three numbers each
+pub record StepsUpTo (k : ℕ) (r : List ℤ) (t : List (ℤ × ℤ)) : Type 0 where
   pub size : length r ≡ 3 * most_sides
-  pub run : (i : ℕ) → i < k → get_or r (3 * i) (pos 0) ≡ table_run t n i
-  pub rise : (i : ℕ) → i < k → get_or r (3 * i + 1) (pos 0) ≡ table_rise t n i
-  pub cross : (i : ℕ) → i < k → get_or r (3 * i + 2) (pos 0) ≡ table_cross t n i
+  pub run : (i : ℕ) → i < k → get_or r (3 * i) (pos 0) ≡ table_run t i
+  pub rise : (i : ℕ) → i < k → get_or r (3 * i + 1) (pos 0) ≡ table_rise t i
+  pub cross : (i : ℕ) → i < k → get_or r (3 * i + 2) (pos 0) ≡ table_cross t i
 
-abbrev pub StepsFrom : List ℤ → List ℤ → ℕ → Type 0
-StepsFrom r t n = StepsUpTo n r t n
+abbrev pub StepsFrom : List ℤ → List (ℤ × ℤ) → Type 0
+StepsFrom r t = StepsUpTo (length t) r t
 
 -- what a strength row reads of a side
 unfoldable pub run_of : Side → ℤ
@@ -119,15 +144,7 @@ pub record SoilFits (k : List ℤ) : Type 0 where
   pub friction : Within most_friction (at k 1)
   pub right : Within twice_strength (at k 2)
 
--- r·h, sx - sy, 2t and 2qCn - p(sx + sy)
-pub record PairOf (d : List ℤ) (l f c x y z n : ℤ) : Type 0 where
-  pub size : length d ≡ 4
-  pub lever : Is (at d 0) l most_lever
-  pub spread : Is (at d 1) (x -ℤ y) most_spread
-  pub twist : Is (at d 2) (pos 2 *ℤ z) most_spread
-  pub reserve : Is (at d 3) (c *ℤ n -ℤ f *ℤ (x +ℤ y)) most_reserve
-
--- the same of node v, from the numbers k of the soil
+-- r·h, sx - sy, 2t and 2qCn - p(sx + sy), of node v and from the numbers k of the soil
 pub record PairNumbers (d k x : List ℤ) (v : ℕ) (n : ℤ) : Type 0 where
   pub size : length d ≡ 4
   pub lever : Is (at d 0) (at k 0) most_lever

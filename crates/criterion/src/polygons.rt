@@ -1,38 +1,92 @@
 // The three polygons: their corners as constant tables, and what a strength row reads of each side.
-ghost use Rattle.std.specs.Prelude.{◌≡◌, ◌+◌, ◌*◌, ◌<◌, length};
-ghost use Rattle.integer.specs.Bounds.{Within, AllWithin, Is};
+ghost use Rattle.std.specs.Prelude.{◌≡◌, ◌<◌, length};
+ghost use Rattle.integer.specs.Bounds.{Is};
 ghost use Rattle.scope.specs.Polygon.{polygon_of};
 ghost use Rattle.scope.specs.Bounds.{most_radius};
-ghost use Rattle.criterion.specs.StrengthContracts.{Listed, next, Table, CornerIs, SideIs, StepIs, StepsFrom, Steps};
+ghost use Rattle.criterion.specs.StrengthContracts.{Listed, next, Corners, StepIs, StepsFrom, Steps};
 
-use mesh::sizes::{MOST_SIDES, number_at};
+use mesh::sizes::MOST_SIDES;
 
-// "counterclockwise from (r, 0)": x, y, x, y, ..
-const TWELVE: [i64; 24] = [
-    5, 0, 4, 3, 3, 4, 0, 5, -3, 4, -4, 3, -5, 0, -4, -3, -3, -4, 0, -5, 3, -4, 4, -3,
+// "counterclockwise from (r, 0)".
+const TWELVE: [(i64, i64); 12] = [
+    (5, 0),
+    (4, 3),
+    (3, 4),
+    (0, 5),
+    (-3, 4),
+    (-4, 3),
+    (-5, 0),
+    (-4, -3),
+    (-3, -4),
+    (0, -5),
+    (3, -4),
+    (4, -3),
 ];
 
-const TWENTY: [i64; 40] = [
-    25, 0, 24, 7, 20, 15, 15, 20, 7, 24, 0, 25, -7, 24, -15, 20, -20, 15, -24, 7, -25, 0, -24, -7,
-    -20, -15, -15, -20, -7, -24, 0, -25, 7, -24, 15, -20, 20, -15, 24, -7,
+const TWENTY: [(i64, i64); 20] = [
+    (25, 0),
+    (24, 7),
+    (20, 15),
+    (15, 20),
+    (7, 24),
+    (0, 25),
+    (-7, 24),
+    (-15, 20),
+    (-20, 15),
+    (-24, 7),
+    (-25, 0),
+    (-24, -7),
+    (-20, -15),
+    (-15, -20),
+    (-7, -24),
+    (0, -25),
+    (7, -24),
+    (15, -20),
+    (20, -15),
+    (24, -7),
 ];
 
-const THIRTY_SIX: [i64; 72] = [
-    65, 0, 63, 16, 60, 25, 56, 33, 52, 39, 39, 52, 33, 56, 25, 60, 16, 63, 0, 65, -16, 63, -25, 60,
-    -33, 56, -39, 52, -52, 39, -56, 33, -60, 25, -63, 16, -65, 0, -63, -16, -60, -25, -56, -33,
-    -52, -39, -39, -52, -33, -56, -25, -60, -16, -63, 0, -65, 16, -63, 25, -60, 33, -56, 39, -52,
-    52, -39, 56, -33, 60, -25, 63, -16,
+const THIRTY_SIX: [(i64, i64); 36] = [
+    (65, 0),
+    (63, 16),
+    (60, 25),
+    (56, 33),
+    (52, 39),
+    (39, 52),
+    (33, 56),
+    (25, 60),
+    (16, 63),
+    (0, 65),
+    (-16, 63),
+    (-25, 60),
+    (-33, 56),
+    (-39, 52),
+    (-52, 39),
+    (-56, 33),
+    (-60, 25),
+    (-63, 16),
+    (-65, 0),
+    (-63, -16),
+    (-60, -25),
+    (-56, -33),
+    (-52, -39),
+    (-39, -52),
+    (-33, -56),
+    (-25, -60),
+    (-16, -63),
+    (0, -65),
+    (16, -63),
+    (25, -60),
+    (33, -56),
+    (39, -52),
+    (52, -39),
+    (56, -33),
+    (60, -25),
+    (63, -16),
 ];
 
 // Three numbers for each side of the largest polygon.
 const STEP_NUMBERS: usize = 3 * MOST_SIDES;
-
-// A corner of a polygon.
-#[derive(Clone, Copy)]
-struct Corner {
-    x: i64,
-    y: i64,
-}
 
 // A side by what its strength row reads: the step (c - a, d - b), and ad - bc.
 #[derive(Clone, Copy)]
@@ -42,25 +96,23 @@ struct Step {
     cross: i64,
 }
 
-// Corner k of a table.
-fn corner_at(table: &[i64], k: usize) -> Corner
-    requires fact_1 { 2 * k + 1 < length table.now }
-    requires fact_2 { AllWithin most_radius table.now }
-    ensures { CornerIs result table.now k }
+// The corner after corner k: after the last comes the first.
+fn after(k: usize, sides: usize) -> usize
+    requires { k < sides }
+    ensures next { result ≡ next sides k }
+    ensures there { result < sides }
 {
-    let x = number_at(table, 2 * k);
-    let y = number_at(table, 2 * k + 1);
-    Corner { x, y }
+    if k + 1 < sides { k + 1 } else { 0 }
 }
 
-// The side from corner (a, b) to corner (c, d).
-fn side_from(a: i64, b: i64, c: i64, d: i64) -> Step
-    requires fact_1 { Within most_radius a }
-    requires fact_2 { Within most_radius b }
-    requires fact_3 { Within most_radius c }
-    requires fact_4 { Within most_radius d }
-    ensures { SideIs result a b c d }
+// "Side k runs from corner (a, b) to the next, (c, d)".
+fn step_of(corners: &[(i64, i64)], k: usize) -> Step
+    requires corners { Corners corners.now }
+    requires there { k < length corners.now }
+    ensures { StepIs result corners.now k }
 {
+    let (a, b) = corners[k];
+    let (c, d) = corners[after(k, corners.len())];
     Step {
         run: c - a,
         rise: d - b,
@@ -68,46 +120,17 @@ fn side_from(a: i64, b: i64, c: i64, d: i64) -> Step
     }
 }
 
-// The corner after corner k: after the last comes the first.
-fn after(k: usize, sides: usize) -> usize
-    requires { k < sides }
-    ensures fact_1 { result ≡ next sides k }
-    ensures fact_2 { result < sides }
+// All sides of the polygon with these corners: run, rise and cross product of side k from place 3k on.
+fn steps_from(corners: &[(i64, i64)]) -> [i64; STEP_NUMBERS]
+    requires { Corners corners.now }
+    ensures { StepsFrom result corners.now }
 {
-    if k + 1 < sides {
-        return k + 1;
-    }
-    0
-}
-
-// Side k of the polygon whose corners stand in a table.
-fn step_of(table: &[i64], sides: usize, k: usize) -> Step
-    requires fact_1 { Table table.now sides }
-    requires fact_2 { k < sides }
-    ensures { StepIs result table.now sides k }
-{
-    let next = after(k, sides);
-    let from = corner_at(table, k);
-    let to = corner_at(table, next);
-    side_from(from.x, from.y, to.x, to.y)
-}
-
-// All sides of the polygon whose corners stand in a table: run, rise and cross product of side k from place 3k on.
-fn steps_from(table: &[i64], sides: usize) -> [i64; STEP_NUMBERS]
-    requires { Table table.now sides }
-    ensures { StepsFrom result table.now sides }
-{
-    let mut steps = [0i64; STEP_NUMBERS];
-    let mut k: usize = 0;
-    while k < sides {
-        let step = step_of(table, sides, k);
-        let run = step.run;
-        let rise = step.rise;
-        let cross = step.cross;
-        steps[3 * k] = run;
-        steps[3 * k + 1] = rise;
-        steps[3 * k + 2] = cross;
-        k += 1;
+    let mut steps = [0; STEP_NUMBERS];
+    for k in 0..corners.len() {
+        let step = step_of(corners, k);
+        steps[3 * k] = step.run;
+        steps[3 * k + 1] = step.rise;
+        steps[3 * k + 2] = step.cross;
     }
     steps
 }
@@ -117,13 +140,11 @@ pub fn steps_of(sides: usize) -> [i64; STEP_NUMBERS]
     requires { Listed sides }
     ensures { Steps (polygon_of sides) sides result }
 {
-    if sides == 12 {
-        return steps_from(&TWELVE, 12);
+    match sides {
+        12 => steps_from(&TWELVE),
+        20 => steps_from(&TWENTY),
+        _ => steps_from(&THIRTY_SIX),
     }
-    if sides == 20 {
-        return steps_from(&TWENTY, 20);
-    }
-    steps_from(&THIRTY_SIX, 36)
 }
 
 // The radius of the circle around that polygon.
@@ -131,11 +152,9 @@ pub fn radius_of(sides: usize) -> i64
     requires { Listed sides }
     ensures { Is result (polygon_of sides).radius most_radius }
 {
-    if sides == 12 {
-        return 5;
+    match sides {
+        12 => 5,
+        20 => 25,
+        _ => 65,
     }
-    if sides == 20 {
-        return 25;
-    }
-    65
 }

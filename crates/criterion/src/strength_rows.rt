@@ -1,6 +1,6 @@
 // The strength rows of a pair of a node and a soil: what they read of the soil, of the node's stresses and of the
 // multipliers, and the sides one by one.
-ghost use Rattle.std.specs.Prelude.{◌≡◌, ◌+◌, ◌*◌, ◌<◌, length, get_or, pos, ◌-ℤ◌, ◌*ℤ◌};
+ghost use Rattle.std.specs.Prelude.{◌≡◌, ◌+◌, ◌*◌, ◌<◌, length, get_or, pos};
 ghost use Rattle.std.specs.Int.Signed.{le_z};
 ghost use Rattle.integer.specs.Bounds.{Is, Within, AllWithin};
 ghost use Rattle.scope.specs.Checks.{all_below};
@@ -9,43 +9,41 @@ ghost use Rattle.scope.specs.Mesh.{most_pairs, soils};
 ghost use Rattle.scope.specs.Rows.{pair_count};
 ghost use Rattle.scope.specs.Bounds.{
   most_radius,
-  most_step,
-  most_cross,
-  most_friction,
   most_scale,
   most_stress,
-  most_lever,
-  twice_strength,
-  most_spread,
-  most_reserve,
   most_slack,
 };
 ghost use Rattle.mesh.specs.MeshContracts.{Sized};
-ghost use Rattle.criterion.specs.StrengthContracts.{SoilNumbers, SoilFits, PairOf, PairNumbers, PairFits, StepFits, StepsFit, MeshSteps, side_slack, Judged, PairState, pair_holds};
+ghost use Rattle.criterion.specs.StrengthContracts.{
+  SoilNumbers,
+  SoilFits,
+  PairNumbers,
+  PairFits,
+  StepFits,
+  StepsFit,
+  MeshSteps,
+  side_slack,
+  Judged,
+  PairState,
+  pair_holds,
+};
 
 use crate::polygons::radius_of;
-use mesh::sizes::{Sizes, number_at, soil_entry};
-
-// A byte as a number.
-fn wide(byte: u8) -> usize
-    ensures { result ≡ byte }
-{
-    byte as usize
-}
+use mesh::sizes::{Sizes, soil_entry};
 
 // The node of pair a, and its soil, in the table of a mesh's pairs: two bytes for each pair.
 pub fn pair_node(pairs: &[u8], a: usize) -> usize
     requires { (a < most_pairs) × (length pairs.now ≡ 2 * most_pairs) }
     ensures { result ≡ get_or pairs.now (2 * a) 0 }
 {
-    wide(pairs[2 * a])
+    usize::from(pairs[2 * a])
 }
 
 pub fn pair_soil(pairs: &[u8], a: usize) -> usize
     requires { (a < most_pairs) × (length pairs.now ≡ 2 * most_pairs) }
     ensures { result ≡ get_or pairs.now (2 * a + 1) 0 }
 {
-    wide(pairs[2 * a + 1])
+    usize::from(pairs[2 * a + 1])
 }
 
 // What they read of a soil: r·h, p and 2qC.
@@ -61,21 +59,7 @@ pub fn soil_numbers(m: &[i64], s: Sizes, soil: usize, radius: i64) -> [i64; 3]
     [radius * h, p, 2 * q * cohesion]
 }
 
-// What they read of a pair: r·h, sx - sy, 2t and 2qCn - p(sx + sy).
-fn pair_of(lever: i64, friction: i64, right: i64, sx: i64, sy: i64, t: i64, n: i64) -> [i64; 4]
-    requires within_1 { Within most_lever lever }
-    requires within_2 { Within most_friction friction }
-    requires within_3 { Within twice_strength right }
-    requires within_2_1 { Within most_stress sx }
-    requires within_2_2 { Within most_stress sy }
-    requires within_2_3 { Within most_stress t }
-    requires within_2_4 { Within most_scale n }
-    ensures { PairOf result lever friction right sx sy t n }
-{
-    [lever, sx - sy, 2 * t, right * n - friction * (sx + sy)]
-}
-
-// The same, for node v of a field, from the numbers k of the soil.
+// What they read of a pair, of node v of a field and of a soil's numbers k: r·h, sx - sy, 2t and 2qCn - p(sx + sy).
 pub fn pair_numbers(k: &[i64], x: &[i64], v: usize, n: i64) -> [i64; 4]
     requires fact_1 { SoilFits k.now }
     requires fact_2 { 3 * v + 2 < length x.now }
@@ -83,43 +67,29 @@ pub fn pair_numbers(k: &[i64], x: &[i64], v: usize, n: i64) -> [i64; 4]
     requires fact_4 { Within most_scale n }
     ensures { PairNumbers result k.now x.now v n }
 {
-    let sx = number_at(x, 3 * v);
-    let sy = number_at(x, 3 * v + 1);
-    let t = number_at(x, 3 * v + 2);
-    let lever = number_at(k, 0);
-    let friction = number_at(k, 1);
-    let right = number_at(k, 2);
-    pair_of(lever, friction, right, sx, sy, t, n)
+    let sx = x[3 * v];
+    let sy = x[3 * v + 1];
+    let t = x[3 * v + 2];
+    let lever = k[0];
+    let friction = k[1];
+    let right = k[2];
+    [lever, sx - sy, 2 * t, right * n - friction * (sx + sy)]
 }
 
-// The right side of a strength row less its left side, from the numbers of the side and of the pair.
-fn slack(run: i64, rise: i64, cross: i64, lever: i64, spread: i64, twist: i64, reserve: i64) -> i64
-    requires within_1 { Within most_step run }
-    requires within_2 { Within most_step rise }
-    requires within_3 { Within most_cross cross }
-    requires within_2_1 { Within most_lever lever }
-    requires within_2_2 { Within most_spread spread }
-    requires within_2_3 { Within most_spread twist }
-    requires within_2_4 { Within most_reserve reserve }
-    ensures { Is result (cross *ℤ reserve -ℤ lever *ℤ (rise *ℤ spread -ℤ run *ℤ twist)) most_slack }
-{
-    cross * reserve - lever * (rise * spread - run * twist)
-}
-
-// The same for side k.
+// The right side of the strength row of side k less its left side, from the numbers of the pair.
 pub fn side_slack(steps: &[i64], k: usize, d: &[i64]) -> i64
     requires fact_1 { StepFits steps.now k }
     requires fact_2 { PairFits d.now }
     ensures { Is result (side_slack d.now steps.now k) most_slack }
 {
-    let run = number_at(steps, 3 * k);
-    let rise = number_at(steps, 3 * k + 1);
-    let cross = number_at(steps, 3 * k + 2);
-    let lever = number_at(d, 0);
-    let spread = number_at(d, 1);
-    let twist = number_at(d, 2);
-    let reserve = number_at(d, 3);
-    slack(run, rise, cross, lever, spread, twist, reserve)
+    let run = steps[3 * k];
+    let rise = steps[3 * k + 1];
+    let cross = steps[3 * k + 2];
+    let lever = d[0];
+    let spread = d[1];
+    let twist = d[2];
+    let reserve = d[3];
+    cross * reserve - lever * (rise * spread - run * twist)
 }
 
 // The strength row of side k holds: its right side is not below its left.
@@ -139,27 +109,17 @@ pub fn pair_state(m: &[i64], c: &[i64], s: Sizes, pairs: &[u8], a: usize) -> [i6
 {
     let v = pair_node(pairs, a);
     let soil = pair_soil(pairs, a);
-    let radius = radius_of(s.sides);
-    let k = soil_numbers(m, s, soil, radius);
-    let n = number_at(c, 2);
-    pair_numbers(&k, &c[4..], v, n)
+    let k = soil_numbers(m, s, soil, radius_of(s.sides));
+    pair_numbers(&k, &c[4..], v, c[2])
 }
 
-// Each strength row of a pair holds. For speed this loop has nothing else in it; which row fails is for the search to
-// say.
+// Each strength row of a pair holds. For speed this has nothing else in it; which row fails is for the search to say.
 fn sides_hold(steps: &[i64], sides: usize, d: &[i64]) -> bool
-    requires fact_1 { StepsFit steps.now sides }
-    requires fact_2 { PairFits d.now }
+    requires steps_fit { StepsFit steps.now sides }
+    requires pair_fits { PairFits d.now }
     ensures { result ≡ all_below (λ k. le_z (pos 0) (side_slack d.now steps.now k)) sides }
 {
-    let mut k: usize = 0;
-    while k < sides {
-        if !side_holds(steps, k, d) {
-            return false;
-        }
-        k += 1;
-    }
-    true
+    (0..sides).all(|k| side_holds(steps, k, d))
 }
 
 // 22 at pair a: each of its strength rows holds at a claim's field.

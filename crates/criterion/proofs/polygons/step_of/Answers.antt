@@ -1,27 +1,38 @@
--- `step_of` meets its contract: two corners of the table, and the side between them.
+-- `step_of` meets its contract: differences and products of the coordinates of two corners.
 use native.Mathlib.Omega.{arith}
-use Rattle.integer.proofs.Machine.{Is-read, Is-Within}
-use Rattle.criterion.proofs.SideLaws.{step_is}
+use Rattle.integer.proofs.Machine.{machine, fits, is}
+use Rattle.criterion.specs.StrengthContracts.{table_run, table_rise, table_cross}
 use Rattle.criterion.proofs.polygons.step_of.Goals as goal
 
-pub side_from-requires : goal.side_from-requires
-side_from-requires c =
-    let from = c.corner_at-from.ensures in
-    let to = c.corner_at-to.ensures in
-    record {
-      fact_1 = Is-Within (Is-read from.x (omega arith)) (omega arith);
-      fact_2 = Is-Within (Is-read from.y (omega arith)) (omega arith);
-      fact_3 = Is-Within (Is-read to.x (omega arith)) (omega arith);
-      fact_4 = Is-Within (Is-read to.y (omega arith)) (omega arith);
-    }
+pub overflow_mul-result : goal.overflow_mul-result
+overflow_mul-result c =
+    let a = c.requires.corners.x c.args.k in
+    let d = c.requires.corners.y c.after.result in
+    fits (search machine depth 30) (omega arith)
+
+pub overflow_mul-result-2 : goal.overflow_mul-result-2
+overflow_mul-result-2 c =
+    let b = c.requires.corners.y c.args.k in
+    let c' = c.requires.corners.x c.after.result in
+    fits (search machine depth 30) (omega arith)
+
+pub overflow_sub-result-3 : goal.overflow_sub-result-3
+overflow_sub-result-3 c =
+    let a = c.requires.corners.x c.args.k in
+    let b = c.requires.corners.y c.args.k in
+    let c' = c.requires.corners.x c.after.result in
+    let d = c.requires.corners.y c.after.result in
+    fits (search machine depth 30) (omega arith)
 
 pub returns : goal.returns
+unfolding table_run table_rise table_cross
 returns c =
-    let from = c.corner_at-from.ensures in
-    let to = c.corner_at-to.ensures in
-    step_is c.after-next.ensures.fact_1
-    (Is-read from.x (omega arith)).same
-    (Is-read from.y (omega arith)).same
-    (Is-read to.x (omega arith)).same
-    (Is-read to.y (omega arith)).same
-    c.side_from.ensures
+    let a = c.requires.corners.x c.args.k in
+    let b = c.requires.corners.y c.args.k in
+    let c' = c.requires.corners.x c.after.result in
+    let d = c.requires.corners.y c.after.result in
+    record {
+      run = is (search machine depth 30) (omega arith) (rw c.after.ensures.next);
+      rise = is (search machine depth 30) (omega arith) (rw c.after.ensures.next);
+      cross = is (search machine depth 30) (omega arith) (rw c.after.ensures.next);
+    }

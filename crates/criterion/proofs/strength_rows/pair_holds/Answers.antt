@@ -7,8 +7,8 @@ pub sides_hold-requires : goal.sides_hold-requires
 sides_hold-requires c =
     let pre = c.requires in
     record {
-      fact_1 = steps_fit (steps_as (sym pre.0.sized.sides_are) pre.2);
-      fact_2 = pair_fits c.pair_state-d.ensures;
+      steps_fit = steps_fit (steps_as (sym pre.0.sized.sides_are) pre.2);
+      pair_fits = pair_fits c.pair_state-d.ensures;
     }
 
 pub returns : goal.returns
