@@ -1,15 +1,15 @@
 -- The open rows: an equality row is never open, and the sides of a pair are counted one by one, by their slack.
 use mathlib.Core.Path.{◌≡◌, refl, sym, ◌∙◌, ap, ap₂}
-use mathlib.Core.Bool.{Bool, true, false, ◌&&◌, and-false}
+use mathlib.Core.Bool.{Bool, true, false, cond, ◌&&◌, and-false}
 use mathlib.Core.List.{List}
-use Prim.Native.Nat.{ℕ, ◌+◌, ◌*◌, ◌-◌, ◌≤◌, ◌<◌}
+use Prim.Native.Nat.{ℕ, ◌+◌, ◌*◌, ◌≤◌, ◌<◌}
 use native.Mathlib.Nat.{zero-mul}
 use native.Mathlib.Omega.{arith}
 use lib.Ieee.Bits.{is_true, is_false}
 use lib.IntN.{ℤ, pos}
 use lib.Signed.{le_z, lt_z, mag, ◌≤ℤ◌, ◌<ℤ◌}
 use mir.Syntax.{w64}
-use mir.Val.{to_z, of_z, SFits}
+use mir.Val.{to_z, of_z, SFits, bool_byte}
 use Rattle.integer.proofs.Machine.{machine, unbounded, told}
 use lib.ListN.{length, take, drop}
 use Rattle.integer.specs.Tests.{eq_z}
@@ -19,21 +19,21 @@ use Rattle.scope.specs.Mesh.{most_sides, most_pairs, most_equality_rows, sides, 
 use Rattle.scope.specs.Bounds.{most_strength_rows}
 use Rattle.scope.specs.Columns.{at, has_field, has_multipliers, n, l}
 use Rattle.scope.specs.Claim.{stress}
-use Rattle.scope.specs.NumberRanges.{Counts, ClaimFacts}
+use Rattle.scope.specs.NumberRanges.{Counts}
 use Rattle.scope.specs.Rows.{Kind, asked, unfixed, strength, Row, pair_count, equality_rows, rows_of}
 use Rattle.scope.specs.Sums.{left_side, right_side, is_open, open_rows}
 use Rattle.scope.specs.Verdict.{open_count}
 use Rattle.scope.proofs.RowCounts.{equality_count_lem, equality_kind}
 use Rattle.scope.proofs.Lists.{row_in}
 use Rattle.criterion.specs.StrengthContracts.{Listed, PairState, MeshSteps, side_slack, multipliers_from}
-use Rattle.multipliers.specs.MultiplierContracts.{count_below}
-use Rattle.multipliers.specs.MultiplierContracts.{pair_first}
+use Rattle.multipliers.specs.MultiplierContracts.{Multipliers, count_below, pair_first}
 use Rattle.multipliers.specs.OpenContracts.{one_if_open, side_open}
 use Rattle.criterion.proofs.RowLaws.{equality_among, row_count}
-use Rattle.multipliers.proofs.LimitLaws.{multiplier-lent}
-use Rattle.multipliers.proofs.PairLaws.{few_rows, next_first, pair_row_at}
+use Rattle.multipliers.proofs.LimitLaws.{rest_read}
+use Rattle.multipliers.proofs.PairLaws.{few_rows, next_first, pair_row_at, pair_length, pair_weight}
 use Rattle.criterion.proofs.StrengthLaws.{open_test_lem}
-use Rattle.multipliers.proofs.SumLaws.{one_most, weighed-count, count_below-next, count_below_cong, count_below_add, count_below_none, count_below_most}
+use Rattle.multipliers.proofs.SumLaws.{weighed-count, count_below-next, count_below_cong, count_below_add}
+use Rattle.multipliers.proofs.SumLaws.{one_most, count_below_none, count_below_most}
 use Rattle.scope.specs.Tests.{row_at}
 
 -- ---- one side
@@ -71,10 +71,26 @@ pub one_at_most : (w z : ℤ) {r : ℕ} → r ≡ one_if_open w z → r ≤ 1
 unfolding one_if_open
 one_at_most w z e = rw e (one_most (lt_z (pos 0) w && lt_z (pos 0) z))
 
+-- ---- the sides of a pair
+
+-- a test as a number, as the code adds it
+byte_is : (b : Bool) → bool_byte b ≡ cond b 1 0
+byte_is true = refl
+byte_is false = refl
+
+pub byte_most : (b : Bool) → bool_byte b ≤ 1
+byte_most true = omega arith
+byte_most false = omega arith
+
 -- one side more, with the multiplier w
-pub one_more_open : (d t y : List ℤ) (first k : ℕ) {count r : ℕ} {w : ℤ} → count ≡ count_below (side_open d t y first) k → w ≡ at y (first + k) → r ≡ one_if_open w (side_slack d t k) → count + r ≡ count_below (side_open d t y first) (k + 1)
-unfolding side_open one_if_open
-one_more_open d t y first k h e f = ap₂ ◌+◌ h (f ∙ ap (λ z. one_if_open z (side_slack d t k)) e) ∙ sym (count_below-next _ k)
+pub one_more_open : (d t y : List ℤ) (k : ℕ) {count r : ℕ} {b : Bool} {w : ℤ} → count ≡ count_below (side_open d t y) k
+    → r ≡ bool_byte b → b ≡ (lt_z (pos 0) w && lt_z (pos 0) (side_slack d t k)) → w ≡ at y k
+    → count + r ≡ count_below (side_open d t y) (k + 1)
+unfolding side_open
+one_more_open d t y k {b = b} h g f e =
+    ap₂ ◌+◌ h
+    (g ∙ byte_is b ∙ ap (λ (b : Bool). cond b 1 0) (f ∙ ap (λ z. lt_z (pos 0) z && lt_z (pos 0) (side_slack d t k)) e))
+    ∙ sym (count_below-next _ k)
 
 pub sides-counted : (f : ℕ → Bool) (n : ℕ) {r : ℕ} → r ≡ count_below f n → n ≤ most_sides → r ≤ most_sides
 sides-counted f n {r} e h = omega (arith, e, count_below_most f n)
@@ -85,7 +101,13 @@ never_open : (s : ℕ → ℤ) (l n w : ℤ) (r : Row) → ¬ (r.kind ≡ streng
 unfolding is_open
 never_open s l n w r h = by r.kind h
   where
-    by : (k : Kind) → ¬ (k ≡ strength) → elim k [ asked ↦ false | unfixed ↦ false | strength ↦ lt_z (pos 0) w && lt_z (left_side s l r) (right_side n r) ] ≡ false
+    by : (k : Kind) → ¬ (k ≡ strength)
+        → elim k [
+          | asked ↦ false
+          | unfixed ↦ false
+          | strength ↦ lt_z (pos 0) w && lt_z (left_side s l r)
+              (right_side n r)
+        ] ≡ false
     by asked h = refl
     by unfixed h = refl
     by strength h = absurd (h refl)
@@ -102,32 +124,47 @@ module _ (m c y : List ℤ) where
       none : (k : ℕ) → k < equality_count m → open_test k ≡ false
       none k h =
           ap (λ (r : Row). is_open (stress m c) (l c) (n c) (at y k, r)) (equality_among m k h)
-          ∙ never_open (stress m c) (l c) (n c) (at y k) (row_at (equality_rows m) k) (equality_kind m (row_at (equality_rows m) k) (row_in (equality_rows m) k (omega (arith, equality_count_lem m))))
+          ∙ never_open (stress m c) (l c) (n c) (at y k) (row_at (equality_rows m) k)
+          (equality_kind m (row_at (equality_rows m) k)
+          (row_in (equality_rows m) k (omega (arith, equality_count_lem m))))
 
-  one_pair_open : (a : ℕ) {d tab : List ℤ} {count r : ℕ} → a < pair_count m → Listed (sides m) → PairState d m c a → MeshSteps m tab
-      → count ≡ count_below open_test (pair_first m a) → r ≡ count_below (side_open d tab y (pair_first m a)) (sides m) → count + r ≡ count_below open_test (pair_first m (a + 1))
+  -- one pair more, with its multipliers w
+  pub one_more_pair : (a : ℕ) {d tab w : List ℤ} {count r : ℕ} → a < pair_count m → Listed (sides m)
+      → Multipliers m y → w ≡ take (sides m) (drop (pair_first m a) y) → PairState d m c a → MeshSteps m tab
+      → count ≡ count_below open_test (pair_first m a) → r ≡ count_below (side_open d tab w) (length w)
+      → count + r ≡ count_below open_test (pair_first m (a + 1))
   unfolding side_open
-  one_pair_open a {d} {tab} h listed state steps e f =
-      ap₂ ◌+◌ e (f ∙ count_below_cong _ _ (sides m) (λ i g. sym (side i g)))
+  one_more_pair a {d} {tab} {w} h listed given there state steps e f =
+      ap₂ ◌+◌ e (f ∙ ap (count_below (side_open d tab w)) (pair_length h given there)
+      ∙ count_below_cong _ _ (sides m) (λ i g. ap (λ z. lt_z (pos 0) z && lt_z (pos 0) (side_slack d tab i))
+      (pair_weight h given there i g) ∙ sym (side i g)))
       ∙ sym (count_below_add open_test (pair_first m a) (sides m))
       ∙ ap (count_below open_test) (next_first m a)
     where
-      side : (i : ℕ) → i < sides m → open_test (pair_first m a + i) ≡ (lt_z (pos 0) (at y (pair_first m a + i)) && lt_z (pos 0) (side_slack d tab i))
+      side : (i : ℕ) → i < sides m
+          → open_test (pair_first m a + i)
+          ≡ (lt_z (pos 0) (at y (pair_first m a + i)) && lt_z (pos 0) (side_slack d tab i))
       side i g =
-          ap (λ (r : Row). is_open (stress m c) (l c) (n c) (at y (pair_first m a + i), r)) (pair_row_at m a h listed i g)
+          ap (λ (r : Row). is_open (stress m c) (l c) (n c) (at y (pair_first m a + i), r))
+          (pair_row_at m a h listed i g)
           ∙ open_test_lem m c a i state steps g (l c) (at y (pair_first m a + i))
 
-  -- the number of sides and the place of the first as the code has them
-  pub one_more_pair : (a : ℕ) {d tab : List ℤ} {count r s first : ℕ} → a < pair_count m → Listed (sides m) → PairState d m c a → MeshSteps m tab
-      → count ≡ count_below open_test (pair_first m a) → s ≡ sides m → first ≡ pair_first m a → r ≡ count_below (side_open d tab y first) s → count + r ≡ count_below open_test (pair_first m (a + 1))
-  one_more_pair a {d} {tab} h listed state steps e es ef f = one_pair_open a h listed state steps e (f ∙ ap₂ (λ f n. count_below (side_open d tab y f) n) ef es)
-
-  pub count_small : Counts m → pair_count m ≤ most_pairs → (a : ℕ) {count : ℕ} → a ≤ pair_count m → count ≡ count_below open_test (pair_first m a) → count ≤ most_equality_rows + most_strength_rows
+  pub count_small : Counts m → pair_count m ≤ most_pairs → (a : ℕ) {count : ℕ} → a ≤ pair_count m
+      → count ≡ count_below open_test (pair_first m a) → count ≤ most_equality_rows + most_strength_rows
   unfolding pair_first
   count_small counts few a h e =
-      omega (arith, e, count_below_most open_test (pair_first m a), few_rows counts few a h, counts.elements_most, counts.edges_most, counts.jumps_most)
+      omega (
+        arith,
+        e,
+        count_below_most open_test (pair_first m a),
+        few_rows counts few a h,
+        counts.elements_most,
+        counts.edges_most,
+        counts.jumps_most,
+      )
 
-  pub all_pairs_open : Listed (sides m) → (a : ℕ) {count : ℕ} → a ≡ pair_count m → count ≡ count_below open_test (pair_first m a) → count ≡ open_rows (stress m c) (l c) (n c) (at y) (rows_of m)
+  pub all_pairs_open : Listed (sides m) → (a : ℕ) {count : ℕ} → a ≡ pair_count m
+      → count ≡ count_below open_test (pair_first m a) → count ≡ open_rows (stress m c) (l c) (n c) (at y) (rows_of m)
   unfolding open_rows pair_first
   all_pairs_open listed a e f =
       f
@@ -136,10 +173,12 @@ module _ (m c y : List ℤ) where
 
 -- ---- a claim
 
-pub counted : {m c : List ℤ} (f : ClaimFacts m c) (e : at c 1 ≡ pos 1) {from k : ℕ} → at c 0 ≡ pos 1 → from ≡ multipliers_from m c
-    → k ≡ open_rows (stress m c) (l c) (n c) (at (take (length c - from) (drop from c))) (rows_of m) → Count k ≡ open_count m c
+pub counted : (m c : List ℤ) {y : List ℤ} {k : ℕ} → at c 0 ≡ pos 1 → at c 1 ≡ pos 1
+    → y ≡ drop (multipliers_from m c) c → k ≡ open_rows (stress m c) (l c) (n c) (at y) (rows_of m)
+    → Count k ≡ open_count m c
 unfolding open_count has_field has_multipliers
-counted {m} {c} f e g d s = ap Count (s ∙ ap (λ w. open_rows (stress m c) (l c) (n c) w (rows_of m)) (sym (multiplier-lent f e d))) ∙ sym (rw (e, g))
+counted m c g e d s =
+    ap Count (s ∙ ap (λ w. open_rows (stress m c) (l c) (n c) w (rows_of m)) (sym (rest_read m c d))) ∙ sym (rw (e, g))
 
 pub not_counted : (m c : List ℤ) → ¬ (at c 0 ≡ pos 1) → NoCount ≡ open_count m c
 unfolding open_count has_field

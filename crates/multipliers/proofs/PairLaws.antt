@@ -2,18 +2,24 @@
 -- their coefficients are those of the sides, times what the soil gives.
 use mathlib.Core.Path.{◌≡◌, refl, sym, ◌∙◌, ap, ap₂, subst}
 use mathlib.Core.List.{List, [], ◌∷◌}
-use Prim.Native.Nat.{ℕ, zero, suc, ◌+◌, ◌*◌, ◌≤◌, ◌<◌, zero-le}
+use Prim.Native.Nat.{ℕ, zero, suc, ◌+◌, ◌*◌, ◌^◌, ◌≤◌, ◌<◌, zero-le}
 use native.Mathlib.Nat.{le_refl, le_trans, add_assoc, zero-mul, suc-mul, mul-le-mul_right}
 use native.Mathlib.Numerals.{add-one}
 use native.Mathlib.Omega.{arith}
 use lib.IntN.{ℤ, pos, ◌+ℤ◌, ◌-ℤ◌, ◌*ℤ◌, neg_ℤ, +ℤ_idr}
-use lib.ListN.{length, get_or, set, length-set, replicate, length-replicate}
+use lib.ListN.{length, get_or, set, length-set, replicate, length-replicate, take, drop, length-drop}
+use lib.Seq.{get_or-drop}
+use Rattle.std.proofs.lemmas.List.{length-take, length-take-le, get_or-take}
 use Rattle.integer.proofs.Ring.{ring, terms}
-use Rattle.integer.specs.Bounds.{Within, Is}
-use Rattle.integer.proofs.BoundLaws.{Within-le, Within-+ℤ, Within-*ℤ, AllWithin-le}
-use Rattle.integer.proofs.Machine.{Is-as, Is-Within}
-use Rattle.scope.specs.Mesh.{most_nodes, most_pairs, most_sides, most_equality_rows, sides, p, q, h, cohesion, equality_count}
-use Rattle.scope.specs.Bounds.{strength_multiplier, pairs_with, most_strength_rows, equality_columns, equality_sums, strength_sum, pair_column}
+use Rattle.integer.specs.Bounds.{Within, AllWithin, Is}
+use Rattle.integer.proofs.BoundLaws.{Within-le, Within-+ℤ, Within-*ℤ, AllWithin-le, all_within_lem}
+use mir.Syntax.{w64}
+use mir.Val.{to_z, of_z}
+use Rattle.integer.proofs.Machine.{Is-as, Is-Within, Is-within, Is-read}
+use Rattle.scope.specs.Mesh.{most_nodes, most_pairs, most_sides, most_equality_rows, sides, p, q, h, cohesion}
+use Rattle.scope.specs.Mesh.{equality_count}
+use Rattle.scope.specs.Bounds.{strength_multiplier, pairs_with, most_strength_rows, equality_columns, equality_sums}
+use Rattle.scope.specs.Bounds.{strength_sum, pair_column, most_column}
 use Rattle.scope.specs.PolygonRule.{ListedPolygon}
 use Rattle.scope.proofs.PolygonRule.{listed_polygon}
 use Rattle.scope.specs.Columns.{at}
@@ -22,6 +28,7 @@ use Rattle.scope.specs.Polygon.{Side, polygon_of}
 use Rattle.scope.specs.Rows.{Row, pair_count, pair_at, sx, sy, t, strength_row, rows_of}
 use Rattle.scope.specs.Sums.{weighted_sum, unit, coefficient}
 use Rattle.scope.specs.Tests.{row_at}
+use Rattle.mesh.specs.declared.sizes.Sizes.{Sizes}
 use Rattle.multipliers.specs.declared.multiplier_sums.Sums.{Sums}
 use Rattle.multipliers.specs.declared.multiplier_sums.SideSums.{SideSums}
 use Rattle.multipliers.specs.declared.multiplier_sums.PairSums.{PairSums}
@@ -30,23 +37,33 @@ use Rattle.scope.specs.RowNumbers.{side_at}
 use Rattle.criterion.specs.StrengthContracts.{Listed, MeshSteps, StepsFit, SoilNumbers, run_of, rise_of, cross_of}
 use Rattle.equality.specs.EqualityContracts.{SumsAre}
 use Rattle.multipliers.specs.MultiplierContracts.{row_sum, part_sum}
-use Rattle.multipliers.specs.MultiplierContracts.{Multipliers, SideWeighted, NoSums, SummedTo, Summed, PairsSummed, SideMultipliers, SideSumsFit, SideAdded, side_sum, SideSumsAre, PairSumsAre, PairSumsFit, pair_first, PairPart, three_added, WholeSumsFit}
-use Rattle.equality.proofs.EntryLaws.{unit-within, sums_within, sums_add}
+use Rattle.multipliers.specs.MultiplierContracts.{Multipliers, RowsGiven, SideWeighted, NoSums, SummedTo, Summed}
+use Rattle.multipliers.specs.MultiplierContracts.{PairsSummed, SideMultipliers, SideSumsFit, SideAdded, side_sum}
+use Rattle.multipliers.specs.MultiplierContracts.{SideSumsAre, PairSumsAre, PairSumsFit, pair_first, PairPart}
+use Rattle.multipliers.specs.MultiplierContracts.{three_added, WholeSumsFit}
+use Rattle.equality.proofs.EntryLaws.{unit-within, sums_within, sums_add, sums_of, sums_as}
 use Rattle.multipliers.proofs.SumLaws.{sum_below-next, sum_below_cong, sum_below_add}
 use Rattle.criterion.proofs.SideLaws.{run-within, rise_within, cross-within}
+use Rattle.criterion.proofs.StrengthLaws.{steps_fit}
 use Rattle.criterion.proofs.RowLaws.{row_of_pair, strength_at, strength_among}
 use Rattle.multipliers.proofs.MultiplierLaws.{grown_by, nothing_added, grown_is}
 
 -- ---- the sides of a pair, one by one
 
 pub zero_side : (t : List ℤ) (k : ℕ) {w : ℤ} (a : SideSums) → w ≡ pos 0 → SideAdded t k w a a
-zero_side t k {w} a e = record { run = nothing_added a.run w _ e; rise = nothing_added a.rise w _ e; cross = nothing_added a.cross w _ e }
+zero_side t k {w} a e = record {
+  run = nothing_added a.run w _ e;
+  rise = nothing_added a.rise w _ e;
+  cross = nothing_added a.cross w _ e;
+}
 
-pub side_added : (t : List ℤ) (k : ℕ) {w : ℤ} {a b : SideSums} → SideWeighted t k w → b.run ≡ a.run +ℤ w *ℤ at t (3 * k) → b.rise ≡ a.rise +ℤ w *ℤ at t (3 * k + 1) → b.cross ≡ a.cross +ℤ w *ℤ at t (3 * k + 2) → SideAdded t k w a b
+pub side_added : (t : List ℤ) (k : ℕ) {w : ℤ} {a b : SideSums} → SideWeighted t k w
+    → b.run ≡ a.run +ℤ w *ℤ at t (3 * k) → b.rise ≡ a.rise +ℤ w *ℤ at t (3 * k + 1)
+    → b.cross ≡ a.cross +ℤ w *ℤ at t (3 * k + 2) → SideAdded t k w a b
 side_added t k h e g d = record { run = grown_by e h.run; rise = grown_by g h.rise; cross = grown_by d h.cross }
 
-module _ (t y : List ℤ) (first : ℕ) where
-  pub no_sides : {a : SideSums} → a.run ≡ pos 0 → a.rise ≡ pos 0 → a.cross ≡ pos 0 → SideSumsAre a t y first 0
+module _ (t y : List ℤ) where
+  pub no_sides : {a : SideSums} → a.run ≡ pos 0 → a.rise ≡ pos 0 → a.cross ≡ pos 0 → SideSumsAre a t y 0
   unfolding side_sum sum_below
   no_sides e f g = record {
     run = record { same = e; inside = record { within = zero-le } };
@@ -54,10 +71,11 @@ module _ (t y : List ℤ) (first : ℕ) where
     cross = record { same = g; inside = record { within = zero-le } };
   }
 
-  pub one_side : (k : ℕ) {a b : SideSums} {w : ℤ} → SideSumsAre a t y first k → w ≡ at y (first + k) → SideAdded t k w a b → SideSumsAre b t y first (k + 1)
+  pub one_side : (k : ℕ) {a b : SideSums} {w : ℤ} → SideSumsAre a t y k → w ≡ at y k → SideAdded t k w a b
+      → SideSumsAre b t y (k + 1)
   unfolding side_sum
   one_side k {a} {b} h e g =
-      let g : SideAdded t k (at y (first + k)) a b = subst (λ w. SideAdded t k w a b) e g in
+      let g : SideAdded t k (at y k) a b = subst (λ w. SideAdded t k w a b) e g in
       record {
         run = Is-as (grown_is g.run h.run) (omega arith) (sym (sum_below-next _ k));
         rise = Is-as (grown_is g.rise h.rise) (omega arith) (sym (sum_below-next _ k));
@@ -65,28 +83,39 @@ module _ (t y : List ℤ) (first : ℕ) where
       }
 
   -- at most as many sides as a polygon has
-  pub sides_fit : {k : ℕ} {a : SideSums} → SideSumsAre a t y first k → k ≤ most_sides → SideSumsFit a
-  sides_fit h l = record { run = Is-Within h.run (omega arith); rise = Is-Within h.rise (omega arith); cross = Is-Within h.cross (omega arith) }
+  pub sides_fit : {k : ℕ} {a : SideSums} → SideSumsAre a t y k → k ≤ most_sides → SideSumsFit a
+  sides_fit h l = record {
+    run = Is-Within h.run (omega arith);
+    rise = Is-Within h.rise (omega arith);
+    cross = Is-Within h.cross (omega arith);
+  }
 
 -- ---- all sides of a pair, as its rows have them
 
 -- the row of a side has three columns
 three : (r p q h C : ℤ) (v : ℕ) (s : Side) (j : ℕ)
     → coefficient j (strength_row r p q h C v s)
-    ≡ (r *ℤ h *ℤ rise_of s +ℤ cross_of s *ℤ p) *ℤ unit j (sx v) +ℤ ((cross_of s *ℤ p -ℤ r *ℤ h *ℤ rise_of s) *ℤ unit j (sy v) +ℤ (neg_ℤ (pos 2 *ℤ (r *ℤ h *ℤ run_of s)) *ℤ unit j (t v) +ℤ pos 0))
+    ≡ (r *ℤ h *ℤ rise_of s +ℤ cross_of s *ℤ p) *ℤ unit j (sx v)
+    +ℤ ((cross_of s *ℤ p -ℤ r *ℤ h *ℤ rise_of s) *ℤ unit j (sy v)
+    +ℤ (neg_ℤ (pos 2 *ℤ (r *ℤ h *ℤ run_of s)) *ℤ unit j (t v) +ℤ pos 0))
 unfolding coefficient weighted_sum strength_row cross_of rise_of run_of
 three r p q h C v s j = refl
 
 -- one side more: cross product k, rise a and run u with the multiplier w, to the sums K, A and U
 side_more : (p r h w k a u K A U x y z : ℤ)
     → ((p *ℤ K +ℤ r *ℤ h *ℤ A) *ℤ x +ℤ (p *ℤ K -ℤ r *ℤ h *ℤ A) *ℤ y +ℤ neg_ℤ (pos 2 *ℤ (r *ℤ h) *ℤ U) *ℤ z)
-    +ℤ w *ℤ ((r *ℤ h *ℤ a +ℤ k *ℤ p) *ℤ x +ℤ ((k *ℤ p -ℤ r *ℤ h *ℤ a) *ℤ y +ℤ (neg_ℤ (pos 2 *ℤ (r *ℤ h *ℤ u)) *ℤ z +ℤ pos 0)))
-    ≡ (p *ℤ (K +ℤ w *ℤ k) +ℤ r *ℤ h *ℤ (A +ℤ w *ℤ a)) *ℤ x +ℤ (p *ℤ (K +ℤ w *ℤ k) -ℤ r *ℤ h *ℤ (A +ℤ w *ℤ a)) *ℤ y +ℤ neg_ℤ (pos 2 *ℤ (r *ℤ h) *ℤ (U +ℤ w *ℤ u)) *ℤ z
+    +ℤ w *ℤ ((r *ℤ h *ℤ a +ℤ k *ℤ p) *ℤ x +ℤ ((k *ℤ p -ℤ r *ℤ h *ℤ a) *ℤ y
+    +ℤ (neg_ℤ (pos 2 *ℤ (r *ℤ h *ℤ u)) *ℤ z +ℤ pos 0)))
+    ≡ (p *ℤ (K +ℤ w *ℤ k) +ℤ r *ℤ h *ℤ (A +ℤ w *ℤ a)) *ℤ x +ℤ (p *ℤ (K +ℤ w *ℤ k) -ℤ r *ℤ h *ℤ (A +ℤ w *ℤ a)) *ℤ y
+    +ℤ neg_ℤ (pos 2 *ℤ (r *ℤ h) *ℤ (U +ℤ w *ℤ u)) *ℤ z
 side_more p r h w k a u K A U x y z =
-    by_column (p *ℤ K +ℤ r *ℤ h *ℤ A) (p *ℤ K -ℤ r *ℤ h *ℤ A) (neg_ℤ (pos 2 *ℤ (r *ℤ h) *ℤ U)) (r *ℤ h *ℤ a +ℤ k *ℤ p) (k *ℤ p -ℤ r *ℤ h *ℤ a) (neg_ℤ (pos 2 *ℤ (r *ℤ h *ℤ u)))
+    by_column (p *ℤ K +ℤ r *ℤ h *ℤ A) (p *ℤ K -ℤ r *ℤ h *ℤ A) (neg_ℤ (pos 2 *ℤ (r *ℤ h) *ℤ U)) (r *ℤ h *ℤ a +ℤ k *ℤ p)
+    (k *ℤ p -ℤ r *ℤ h *ℤ a) (neg_ℤ (pos 2 *ℤ (r *ℤ h *ℤ u)))
     ∙ ap₂ ◌+ℤ◌ (ap₂ (λ c d. c *ℤ x +ℤ d *ℤ y) first second) (ap (λ c. c *ℤ z) third)
   where
-    by_column : (X Y Z c d e : ℤ) → (X *ℤ x +ℤ Y *ℤ y +ℤ Z *ℤ z) +ℤ w *ℤ (c *ℤ x +ℤ (d *ℤ y +ℤ (e *ℤ z +ℤ pos 0))) ≡ (X +ℤ w *ℤ c) *ℤ x +ℤ (Y +ℤ w *ℤ d) *ℤ y +ℤ (Z +ℤ w *ℤ e) *ℤ z
+    by_column : (X Y Z c d e : ℤ)
+        → (X *ℤ x +ℤ Y *ℤ y +ℤ Z *ℤ z) +ℤ w *ℤ (c *ℤ x +ℤ (d *ℤ y +ℤ (e *ℤ z +ℤ pos 0)))
+        ≡ (X +ℤ w *ℤ c) *ℤ x +ℤ (Y +ℤ w *ℤ d) *ℤ y +ℤ (Z +ℤ w *ℤ e) *ℤ z
     by_column X Y Z c d e = ring (X ∷ Y ∷ Z ∷ c ∷ d ∷ e ∷ w ∷ x ∷ y ∷ z ∷ []) (search terms depth 100) refl
 
     first : (p *ℤ K +ℤ r *ℤ h *ℤ A) +ℤ w *ℤ (r *ℤ h *ℤ a +ℤ k *ℤ p) ≡ p *ℤ (K +ℤ w *ℤ k) +ℤ r *ℤ h *ℤ (A +ℤ w *ℤ a)
@@ -95,34 +124,47 @@ side_more p r h w k a u K A U x y z =
     second : (p *ℤ K -ℤ r *ℤ h *ℤ A) +ℤ w *ℤ (k *ℤ p -ℤ r *ℤ h *ℤ a) ≡ p *ℤ (K +ℤ w *ℤ k) -ℤ r *ℤ h *ℤ (A +ℤ w *ℤ a)
     second = ring (p ∷ r ∷ h ∷ w ∷ k ∷ a ∷ K ∷ A ∷ []) (search terms depth 100) refl
 
-    third : neg_ℤ (pos 2 *ℤ (r *ℤ h) *ℤ U) +ℤ w *ℤ neg_ℤ (pos 2 *ℤ (r *ℤ h *ℤ u)) ≡ neg_ℤ (pos 2 *ℤ (r *ℤ h) *ℤ (U +ℤ w *ℤ u))
+    third : neg_ℤ (pos 2 *ℤ (r *ℤ h) *ℤ U) +ℤ w *ℤ neg_ℤ (pos 2 *ℤ (r *ℤ h *ℤ u))
+        ≡ neg_ℤ (pos 2 *ℤ (r *ℤ h) *ℤ (U +ℤ w *ℤ u))
     third = ring (r ∷ h ∷ w ∷ u ∷ U ∷ []) (search terms depth 100) refl
 
 module _ (r p q h C : ℤ) (v : ℕ) (side : ℕ → Side) (w : ℕ → ℤ) where
   columns_sum : (j n : ℕ)
       → sum_below (λ i. w i *ℤ coefficient j (strength_row r p q h C v (side i))) n
-      ≡ (p *ℤ sum_below (λ i. w i *ℤ cross_of (side i)) n +ℤ r *ℤ h *ℤ sum_below (λ i. w i *ℤ rise_of (side i)) n) *ℤ unit j (sx v)
-      +ℤ (p *ℤ sum_below (λ i. w i *ℤ cross_of (side i)) n -ℤ r *ℤ h *ℤ sum_below (λ i. w i *ℤ rise_of (side i)) n) *ℤ unit j (sy v)
+      ≡ (p *ℤ sum_below (λ i. w i *ℤ cross_of (side i)) n
+      +ℤ r *ℤ h *ℤ sum_below (λ i. w i *ℤ rise_of (side i)) n) *ℤ unit j (sx v)
+      +ℤ (p *ℤ sum_below (λ i. w i *ℤ cross_of (side i)) n
+      -ℤ r *ℤ h *ℤ sum_below (λ i. w i *ℤ rise_of (side i)) n) *ℤ unit j (sy v)
       +ℤ neg_ℤ (pos 2 *ℤ (r *ℤ h) *ℤ sum_below (λ i. w i *ℤ run_of (side i)) n) *ℤ unit j (t v)
   unfolding sum_below
-  columns_sum j zero = ring (p ∷ r ∷ h ∷ unit j (sx v) ∷ unit j (sy v) ∷ unit j (t v) ∷ []) (search terms depth 100) refl
+  columns_sum j zero =
+      ring (p ∷ r ∷ h ∷ unit j (sx v) ∷ unit j (sy v) ∷ unit j (t v) ∷ []) (search terms depth 100) refl
   columns_sum j (suc n) =
       rw (columns_sum j n, three r p q h C v (side n) j)
-      (side_more p r h (w n) (cross_of (side n)) (rise_of (side n)) (run_of (side n)) (sum_below (λ i. w i *ℤ cross_of (side i)) n) (sum_below (λ i. w i *ℤ rise_of (side i)) n) (sum_below (λ i. w i *ℤ run_of (side i)) n) (unit j (sx v)) (unit j (sy v)) (unit j (t v)))
+      (side_more p r h (w n) (cross_of (side n)) (rise_of (side n)) (run_of (side n))
+      (sum_below (λ i. w i *ℤ cross_of (side i)) n) (sum_below (λ i. w i *ℤ rise_of (side i)) n)
+      (sum_below (λ i. w i *ℤ run_of (side i)) n) (unit j (sx v)) (unit j (sy v)) (unit j (t v)))
 
-  right_sum : (n : ℕ) → sum_below (λ i. w i *ℤ (strength_row r p q h C v (side i)).right) n ≡ pos 2 *ℤ q *ℤ C *ℤ sum_below (λ i. w i *ℤ cross_of (side i)) n
+  right_sum : (n : ℕ)
+      → sum_below (λ i. w i *ℤ (strength_row r p q h C v (side i)).right) n
+      ≡ pos 2 *ℤ q *ℤ C *ℤ sum_below (λ i. w i *ℤ cross_of (side i)) n
   unfolding sum_below strength_row cross_of
   right_sum zero = ring (q ∷ C ∷ []) (search terms depth 100) refl
   right_sum (suc n) =
       ap (λ z. z +ℤ w n *ℤ (cross_of (side n) *ℤ (pos 2 *ℤ q *ℤ C))) (right_sum n)
-      ∙ ring (q ∷ C ∷ w n ∷ cross_of (side n) ∷ sum_below (λ i. w i *ℤ cross_of (side i)) n ∷ []) (search terms depth 100) refl
+      ∙ ring (q ∷ C ∷ w n ∷ cross_of (side n) ∷ sum_below (λ i. w i *ℤ cross_of (side i)) n ∷ [])
+      (search terms depth 100) refl
 
   live_sum_lem : (n : ℕ) → sum_below (λ i. w i *ℤ (strength_row r p q h C v (side i)).live) n ≡ pos 0
   unfolding sum_below strength_row
   live_sum_lem zero = refl
   live_sum_lem (suc n) = ap (λ z. z +ℤ w n *ℤ pos 0) (live_sum_lem n) ∙ ring (w n ∷ []) (search terms depth 100) refl
 
-pub pair_summed : {r : PairSums} {a : SideSums} {k : List ℤ} → Is r.sx (at k 1 *ℤ a.cross +ℤ at k 0 *ℤ a.rise) pair_column → Is r.sy (at k 1 *ℤ a.cross -ℤ at k 0 *ℤ a.rise) pair_column → Is r.t (neg_ℤ (pos 2 *ℤ at k 0 *ℤ a.run)) pair_column → Is r.right (at k 2 *ℤ a.cross) (most_sides * strength_sum) → PairSumsAre r a k
+pub pair_summed : {r : PairSums} {a : SideSums} {k : List ℤ}
+    → Is r.sx (at k 1 *ℤ a.cross +ℤ at k 0 *ℤ a.rise) pair_column
+    → Is r.sy (at k 1 *ℤ a.cross -ℤ at k 0 *ℤ a.rise) pair_column
+    → Is r.t (neg_ℤ (pos 2 *ℤ at k 0 *ℤ a.run)) pair_column
+    → Is r.right (at k 2 *ℤ a.cross) (most_sides * strength_sum) → PairSumsAre r a k
 pair_summed e f g h = record { sx_is = e; sy_is = f; t_is = g; right_is = h }
 
 -- the number of sides as the code has it
@@ -133,30 +175,53 @@ steps_few {tab = tab} e h = subst (StepsFit tab) (sym e) h
 weighted : {M A B : ℕ} {w z v : ℤ} → Within M w → Within A z → M * A ≤ B → v ≡ z → Within B (w *ℤ v)
 weighted {B = B} {w = w} hw hz l e = subst (λ v. Within B (w *ℤ v)) (sym e) (Within-le (Within-*ℤ hw hz) l)
 
--- the multipliers of pair a, with the sides of the mesh's polygon
-pub pair_multipliers : (m y : List ℤ) (a : ℕ) {t : List ℤ} {first n : ℕ} → a < pair_count m → Counts m → MeshSteps m t → Multipliers m y → first ≡ equality_count m + a * sides m → n ≡ sides m → SideMultipliers t y first n
-unfolding at
-pair_multipliers m y a {t} l counts steps h ef en =
-    rw (ef, en)
-    (record {
-      there = omega (arith, h.long, mul-le-mul_right (sides m) l, suc-mul a (sides m));
-      bounds = λ k j.
-          let w = multiplier k j in
-          record {
-            itself = Within-le w (omega arith);
-            run = weighted w (run-within g.fits k j) g.fits.step_weighted (steps.run k j).same;
-            rise = weighted w (rise_within g.fits k j) g.fits.step_weighted (steps.rise k j).same;
-            cross = weighted w (cross-within g.fits k j) g.fits.product_weighted (steps.cross k j).same;
-          };
-    })
-  where
-    g : ListedPolygon (sides m)
-    g = listed_polygon (sides m) counts.sides_listed
+-- the multipliers w of pair a
+module _ {m y w : List ℤ} {a : ℕ} (l : a < pair_count m) (h : Multipliers m y)
+    (e : w ≡ take (sides m) (drop (pair_first m a) y)) where
+  pub pair_length : length w ≡ sides m
+  unfolding pair_first
+  pair_length =
+      let there : sides m ≤ length (drop (equality_count m + a * sides m) y) =
+      omega (
+        arith,
+        length-drop (equality_count m + a * sides m) y,
+        h.long,
+        mul-le-mul_right (sides m) l,
+        suc-mul a (sides m),
+      ) in
+      rw e (length-take-le (sides m) (drop (equality_count m + a * sides m) y) there)
 
-    multiplier : (k : ℕ) → k < sides m → Within (strength_multiplier (sides m)) (at y (equality_count m + a * sides m + k))
-    multiplier k j =
-        subst (λ i. Within (strength_multiplier (sides m)) (at y i)) (sym (add_assoc (equality_count m) (a * sides m) k))
-        (h.strength_bounds (a * sides m + k) (omega (arith, mul-le-mul_right (sides m) l, suc-mul a (sides m))))
+  pub pair_weight : (i : ℕ) → i < sides m → at w i ≡ at y (pair_first m a + i)
+  unfolding at
+  pair_weight i k =
+      rw e (get_or-take (sides m) (drop (pair_first m a) y) i (pos 0) k ∙ get_or-drop (pair_first m a) y i (pos 0))
+
+  -- with the sides of the mesh's polygon
+  pub pair_weighted : {t : List ℤ} → Counts m → MeshSteps m t → SideMultipliers t w
+  unfolding at pair_first
+  pair_weighted {t} counts steps = record {
+    bounds = λ k j.
+        let i : k < sides m = omega (arith, pair_length) in
+        let w = multiplier k i in
+        record {
+          itself = Within-le w (omega arith);
+          run = weighted w (run-within g.fits k i) g.fits.step_weighted (steps.run k i).same;
+          rise = weighted w (rise_within g.fits k i) g.fits.step_weighted (steps.rise k i).same;
+          cross = weighted w (cross-within g.fits k i) g.fits.product_weighted (steps.cross k i).same;
+        };
+  }
+    where
+      g : ListedPolygon (sides m)
+      g = listed_polygon (sides m) counts.sides_listed
+
+      multiplier : (k : ℕ) → k < sides m → Within (strength_multiplier (sides m)) (at w k)
+      multiplier k j =
+          subst (Within (strength_multiplier (sides m)))
+          (sym (pair_weight k j ∙ ap (at y) (add_assoc (equality_count m) (a * sides m) k)))
+          (h.strength_bounds (a * sides m + k) (omega (arith, mul-le-mul_right (sides m) l, suc-mul a (sides m))))
+
+  pub pair_steps : {t : List ℤ} → MeshSteps m t → StepsFit t (length w)
+  pair_steps {t} steps = rw pair_length (steps_fit steps)
 
 pub side_weighted : {t : List ℤ} {k : ℕ} {w z : ℤ} → w ≡ z → SideWeighted t k z → SideWeighted t k w
 side_weighted {t} {k} e h = subst (SideWeighted t k) (sym e) h
@@ -164,7 +229,8 @@ side_weighted {t} {k} e h = subst (SideWeighted t k) (sym e) h
 -- ---- the sums of pair a
 
 -- row i of pair a, by its place among all rows
-pub pair_row_at : (m : List ℤ) (a : ℕ) → a < pair_count m → Listed (sides m) → (i : ℕ) → i < sides m → row_at (rows_of m) (pair_first m a + i) ≡ row_of_pair m a (side_at (polygon_of (sides m)) i)
+pub pair_row_at : (m : List ℤ) (a : ℕ) → a < pair_count m → Listed (sides m) → (i : ℕ) → i < sides m
+    → row_at (rows_of m) (pair_first m a + i) ≡ row_of_pair m a (side_at (polygon_of (sides m)) i)
 unfolding pair_first
 pair_row_at m a there listed i l =
     ap (row_at (rows_of m)) (add_assoc (equality_count m) (a * sides m) i)
@@ -172,9 +238,12 @@ pair_row_at m a there listed i l =
     ∙ strength_at m listed a i there l
 
 module _ (m y : List ℤ) (a : ℕ) (there : a < pair_count m) (listed : Listed (sides m)) where
-  rows_of_pair : (F : Row → ℤ) → part_sum F (at y) (rows_of m) (pair_first m a) (sides m) ≡ sum_below (λ i. at y (pair_first m a + i) *ℤ F (row_of_pair m a (side_at (polygon_of (sides m)) i))) (sides m)
+  rows_of_pair : (F : Row → ℤ)
+      → part_sum F (at y) (rows_of m) (pair_first m a) (sides m)
+      ≡ sum_below (λ i. at y (pair_first m a + i) *ℤ F (row_of_pair m a (side_at (polygon_of (sides m)) i))) (sides m)
   unfolding part_sum pair_first
-  rows_of_pair F = sum_below_cong _ _ (sides m) (λ i l. ap (λ (r : Row). at y (pair_first m a + i) *ℤ F r) (pair_row_at m a there listed i l))
+  rows_of_pair F = sum_below_cong _ _ (sides m) (λ i l. ap (λ (r : Row). at y (pair_first m a + i) *ℤ F r)
+      (pair_row_at m a there listed i l))
 
   abbrev weight : ℕ → ℤ
   weight i = at y (pair_first m a + i)
@@ -183,42 +252,50 @@ module _ (m y : List ℤ) (a : ℕ) (there : a < pair_count m) (listed : Listed 
   side i = side_at (polygon_of (sides m)) i
 
   -- a sum over the sides, as the table has them
-  over_sides : (F : Side → ℤ) {f : ℕ → ℤ} {first n : ℕ} → first ≡ pair_first m a → n ≡ sides m → ((i : ℕ) → i < sides m → f i ≡ F (side i)) → side_sum f y first n ≡ sum_below (λ i. weight i *ℤ F (side i)) (sides m)
+  over_sides : (F : Side → ℤ) {f : ℕ → ℤ} (w : List ℤ) {n : ℕ} → n ≡ sides m
+      → ((i : ℕ) → i < sides m → at w i ≡ weight i) → ((i : ℕ) → i < sides m → f i ≡ F (side i))
+      → side_sum f w n ≡ sum_below (λ i. weight i *ℤ F (side i)) (sides m)
   unfolding side_sum
-  over_sides F ef en e = rw (ef, en) (sum_below_cong _ _ (sides m) (λ i l. ap (λ z. weight i *ℤ z) (e i l)))
+  over_sides F w en ew e = rw en (sum_below_cong _ _ (sides m) (λ i l. ap₂ ◌*ℤ◌ (ew i l) (e i l)))
 
-  pub pair_part_of : {r : PairSums} {b : SideSums} {k tab : List ℤ} {first n soil : ℕ} {radius : ℤ} → first ≡ pair_first m a → n ≡ sides m → SideSumsAre b tab y first n → MeshSteps m tab
-      → SoilNumbers k m soil radius → soil ≡ (pair_at m a).soil → radius ≡ (polygon_of (sides m)).radius → PairSumsAre r b k → PairPart r m y a
+  pub pair_part_of : {r : PairSums} {b : SideSums} {k tab : List ℤ} (w : List ℤ) {n soil : ℕ} {radius : ℤ} → n ≡ sides m
+      → ((i : ℕ) → i < sides m → at w i ≡ weight i) → SideSumsAre b tab w n → MeshSteps m tab
+      → SoilNumbers k m soil radius → soil ≡ (pair_at m a).soil → radius ≡ (polygon_of (sides m)).radius
+      → PairSumsAre r b k → PairPart r m y a
   unfolding row_of_pair at
-  pair_part_of {r} {b} {k} {tab} {soil = soil} {radius = radius} ef en s steps g es er d = record {
+  pair_part_of {r} {b} {k} {tab} w {soil = soil} {radius = radius} en ew s steps g es er d = record {
     columns = λ j.
         rows_of_pair (coefficient j)
-        ∙ columns_sum (polygon_of (sides m)).radius (p m (pair_at m a).soil) (q m (pair_at m a).soil) (h m (pair_at m a).soil) (cohesion m (pair_at m a).soil) (pair_at m a).at side weight j (sides m)
+        ∙ columns_sum (polygon_of (sides m)).radius (p m (pair_at m a).soil) (q m (pair_at m a).soil)
+        (h m (pair_at m a).soil) (cohesion m (pair_at m a).soil) (pair_at m a).at side weight j (sides m)
         ∙ rw (sx_is_lem, sy_is_lem, t_is_lem);
     limit =
         rows_of_pair (λ r. r.right)
-        ∙ right_sum (polygon_of (sides m)).radius (p m (pair_at m a).soil) (q m (pair_at m a).soil) (h m (pair_at m a).soil) (cohesion m (pair_at m a).soil) (pair_at m a).at side weight (sides m)
+        ∙ right_sum (polygon_of (sides m)).radius (p m (pair_at m a).soil) (q m (pair_at m a).soil)
+        (h m (pair_at m a).soil) (cohesion m (pair_at m a).soil) (pair_at m a).at side weight (sides m)
         ∙ sym right_is;
     live =
         rows_of_pair (λ r. r.live)
-        ∙ live_sum_lem (polygon_of (sides m)).radius (p m (pair_at m a).soil) (q m (pair_at m a).soil) (h m (pair_at m a).soil) (cohesion m (pair_at m a).soil) (pair_at m a).at side weight (sides m);
+        ∙ live_sum_lem (polygon_of (sides m)).radius (p m (pair_at m a).soil) (q m (pair_at m a).soil)
+        (h m (pair_at m a).soil) (cohesion m (pair_at m a).soil) (pair_at m a).at side weight (sides m);
     fits = record {
       sx_fits = Is-Within d.sx_is (le_refl _);
       sy_fits = Is-Within d.sy_is (le_refl _);
       t_fits = Is-Within d.t_is (le_refl _);
       right_fits = Is-Within d.right_is (le_refl _);
     };
-    limit_fits = subst (Within (sides m * strength_sum)) (sym d.right_is.same) (Within-le (Within-*ℤ (Is-Within g.right (le_refl _)) (Is-Within s.cross (le_refl _))) (omega (arith, en)));
+    limit_fits = subst (Within (sides m * strength_sum)) (sym d.right_is.same)
+        (Within-le (Within-*ℤ (Is-Within g.right (le_refl _)) (Is-Within s.cross (le_refl _))) (omega (arith, en)));
   }
     where
       run_is : b.run ≡ sum_below (λ i. weight i *ℤ run_of (side i)) (sides m)
-      run_is = s.run.same ∙ over_sides run_of ef en (λ i l. (steps.run i l).same)
+      run_is = s.run.same ∙ over_sides run_of w en ew (λ i l. (steps.run i l).same)
 
       rise_is : b.rise ≡ sum_below (λ i. weight i *ℤ rise_of (side i)) (sides m)
-      rise_is = s.rise.same ∙ over_sides rise_of ef en (λ i l. (steps.rise i l).same)
+      rise_is = s.rise.same ∙ over_sides rise_of w en ew (λ i l. (steps.rise i l).same)
 
       cross_is : b.cross ≡ sum_below (λ i. weight i *ℤ cross_of (side i)) (sides m)
-      cross_is = s.cross.same ∙ over_sides cross_of ef en (λ i l. (steps.cross i l).same)
+      cross_is = s.cross.same ∙ over_sides cross_of w en ew (λ i l. (steps.cross i l).same)
 
       lever_is : at k 0 ≡ (polygon_of (sides m)).radius *ℤ h m (pair_at m a).soil
       lever_is = g.lever.same ∙ ap₂ (λ r s. r *ℤ h m s) er es
@@ -226,16 +303,26 @@ module _ (m y : List ℤ) (a : ℕ) (there : a < pair_count m) (listed : Listed 
       friction_is : at k 1 ≡ p m (pair_at m a).soil
       friction_is = g.friction.same ∙ ap (p m) es
 
-      sx_is_lem : r.sx ≡ p m (pair_at m a).soil *ℤ sum_below (λ i. weight i *ℤ cross_of (side i)) (sides m) +ℤ (polygon_of (sides m)).radius *ℤ h m (pair_at m a).soil *ℤ sum_below (λ i. weight i *ℤ rise_of (side i)) (sides m)
+      sx_is_lem : r.sx
+          ≡ p m (pair_at m a).soil *ℤ sum_below (λ i. weight i *ℤ cross_of (side i)) (sides m)
+          +ℤ (polygon_of (sides m)).radius *ℤ h m (pair_at m a).soil
+          *ℤ sum_below (λ i. weight i *ℤ rise_of (side i)) (sides m)
       sx_is_lem = d.sx_is.same ∙ ap₂ ◌+ℤ◌ (ap₂ ◌*ℤ◌ friction_is cross_is) (ap₂ ◌*ℤ◌ lever_is rise_is)
 
-      sy_is_lem : r.sy ≡ p m (pair_at m a).soil *ℤ sum_below (λ i. weight i *ℤ cross_of (side i)) (sides m) -ℤ (polygon_of (sides m)).radius *ℤ h m (pair_at m a).soil *ℤ sum_below (λ i. weight i *ℤ rise_of (side i)) (sides m)
+      sy_is_lem : r.sy
+          ≡ p m (pair_at m a).soil *ℤ sum_below (λ i. weight i *ℤ cross_of (side i)) (sides m)
+          -ℤ (polygon_of (sides m)).radius *ℤ h m (pair_at m a).soil
+          *ℤ sum_below (λ i. weight i *ℤ rise_of (side i)) (sides m)
       sy_is_lem = d.sy_is.same ∙ ap₂ ◌-ℤ◌ (ap₂ ◌*ℤ◌ friction_is cross_is) (ap₂ ◌*ℤ◌ lever_is rise_is)
 
-      t_is_lem : r.t ≡ neg_ℤ (pos 2 *ℤ ((polygon_of (sides m)).radius *ℤ h m (pair_at m a).soil) *ℤ sum_below (λ i. weight i *ℤ run_of (side i)) (sides m))
+      t_is_lem : r.t
+          ≡ neg_ℤ (pos 2 *ℤ ((polygon_of (sides m)).radius *ℤ h m (pair_at m a).soil)
+          *ℤ sum_below (λ i. weight i *ℤ run_of (side i)) (sides m))
       t_is_lem = d.t_is.same ∙ ap₂ (λ a b. neg_ℤ (pos 2 *ℤ a *ℤ b)) lever_is run_is
 
-      right_is : r.right ≡ pos 2 *ℤ q m (pair_at m a).soil *ℤ cohesion m (pair_at m a).soil *ℤ sum_below (λ i. weight i *ℤ cross_of (side i)) (sides m)
+      right_is : r.right
+          ≡ pos 2 *ℤ q m (pair_at m a).soil *ℤ cohesion m (pair_at m a).soil
+          *ℤ sum_below (λ i. weight i *ℤ cross_of (side i)) (sides m)
       right_is = d.right_is.same ∙ ap₂ ◌*ℤ◌ (g.right.same ∙ ap (λ s. pos 2 *ℤ q m s *ℤ cohesion m s) es) cross_is
 
 -- ---- three columns, one after the other
@@ -245,18 +332,45 @@ pub record ColumnAdded (B : ℕ) (before after : List ℤ) (f : ℕ → ℤ) : T
   pub size : length after ≡ length before
   pub sums : SumsAre B after f
 
-pub column_added : {B C : ℕ} (before : List ℤ) {after : List ℤ} {f : ℕ → ℤ} (i : ℕ) {c d : ℤ} → SumsAre B before f → i < length before → Within C d → c ≡ d → after ≡ set before i (at before i +ℤ c) → ColumnAdded (B + C) before after (λ j. f j +ℤ d *ℤ unit j i)
-column_added {B} {C} before {f = f} i {d = d} h l k e s = record {
-  size = ap length s ∙ length-set before i _;
-  sums = subst (λ z. SumsAre (B + C) z (λ j. f j +ℤ d *ℤ unit j i)) (sym (s ∙ ap (λ z. set before i (at before i +ℤ z)) e)) (sums_add before i d l k h);
-}
+-- c as the code reads it
+abbrev read : ℤ → ℤ
+read c = to_z w64 (of_z w64 c)
+
+column_added : {B C : ℕ} (before : List ℤ) {after : List ℤ} {f : ℕ → ℤ} (i : ℕ) {d : ℤ} → SumsAre B before f
+    → i < length before → Within C d → C < 2 ^ 63 → after ≡ set before i (at before i +ℤ read d)
+    → ColumnAdded (B + C) before after (λ j. f j +ℤ d *ℤ unit j i)
+column_added {B} {C} before {f = f} i {d = d} h l k few e =
+    let s = e ∙ ap (λ z. set before i (at before i +ℤ z)) (Is-read (Is-within k) few).same in
+    record {
+      size = ap length s ∙ length-set before i _;
+      sums = subst (λ z. SumsAre (B + C) z (λ j. f j +ℤ d *ℤ unit j i)) (sym s) (sums_add before i d l k h);
+    }
+
+module _ (before : List ℤ) (i : ℕ) {r : PairSums} (l : i + 2 < length before) (h : AllWithin most_column before)
+    (fit : PairSumsFit r) {one : List ℤ} (e : one ≡ set before i (at before i +ℤ read r.sx)) where
+  pub sx_added : ColumnAdded (most_column + pair_column) before one (λ j. at before j +ℤ r.sx *ℤ unit j i)
+  sx_added = column_added before i (sums_of h) (omega arith) fit.sx_fits (omega arith) e
+
+  module _ {two : List ℤ} (d : two ≡ set one (i + 1) (at one (i + 1) +ℤ read r.sy)) where
+    pub sy_added : ColumnAdded (most_column + pair_column + pair_column) one two
+        (λ j. at before j +ℤ r.sx *ℤ unit j i +ℤ r.sy *ℤ unit j (i + 1))
+    sy_added = column_added one (i + 1) sx_added.sums (omega (arith, sx_added.size)) fit.sy_fits (omega arith) d
+
+    pub t_added : {after : List ℤ} → after ≡ set two (i + 2) (at two (i + 2) +ℤ read r.t)
+        → SumsAre (most_column + 3 * pair_column) after (three_added before i r)
+    t_added s =
+        sums_as (column_added two (i + 2) sy_added.sums (omega (arith, sx_added.size, sy_added.size)) fit.t_fits
+        (omega arith) s).sums
+        (omega arith) (λ j. refl)
 
 -- ---- one pair more
 
-pub three_within : (before : List ℤ) (column j : ℕ) {r : PairSums} {B : ℕ} → PairSumsFit r → Within B (at before j) → Within (B + 3 * pair_column) (three_added before column r j)
+pub three_within : (before : List ℤ) (column j : ℕ) {r : PairSums} {B : ℕ} → PairSumsFit r → Within B (at before j)
+    → Within (B + 3 * pair_column) (three_added before column r j)
 three_within before column j f h =
     Within-le
-    (Within-+ℤ (Within-+ℤ (Within-+ℤ h (Within-*ℤ f.sx_fits (unit-within j column))) (Within-*ℤ f.sy_fits (unit-within j (column + 1)))) (Within-*ℤ f.t_fits (unit-within j (column + 2))))
+    (Within-+ℤ (Within-+ℤ (Within-+ℤ h (Within-*ℤ f.sx_fits (unit-within j column)))
+    (Within-*ℤ f.sy_fits (unit-within j (column + 1)))) (Within-*ℤ f.t_fits (unit-within j (column + 2))))
     (omega arith)
 
 pub next_first : (m : List ℤ) (a : ℕ) → pair_first m a + sides m ≡ pair_first m (a + 1)
@@ -265,28 +379,38 @@ next_first m a = omega (arith, ap (λ k. k * sides m) (add-one a) ∙ suc-mul a 
 
 module _ (m y : List ℤ) (a : ℕ) where
   -- a sum over the rows of the pairs before, and of this one
-  sum_next : (F : Row → ℤ) → row_sum F (at y) (rows_of m) (pair_first m a) +ℤ part_sum F (at y) (rows_of m) (pair_first m a) (sides m) ≡ row_sum F (at y) (rows_of m) (pair_first m (a + 1))
+  sum_next : (F : Row → ℤ)
+      → row_sum F (at y) (rows_of m) (pair_first m a) +ℤ part_sum F (at y) (rows_of m) (pair_first m a) (sides m)
+      ≡ row_sum F (at y) (rows_of m) (pair_first m (a + 1))
   unfolding row_sum part_sum
-  sum_next F = sym (sum_below_add _ (pair_first m a) (sides m)) ∙ ap (sum_below (λ k. at y k *ℤ F (row_at (rows_of m) k))) (next_first m a)
+  sum_next F = sym (sum_below_add _ (pair_first m a) (sides m))
+      ∙ ap (sum_below (λ k. at y k *ℤ F (row_at (rows_of m) k))) (next_first m a)
 
-  pub one_pair_summed : {before after : List ℤ} {r : PairSums} {old new : Sums} {B column : ℕ} → PairsSummed m y a before old → PairPart r m y a → length after ≡ length before → column ≡ 3 * (pair_at m a).at
-      → SumsAre B after (three_added before column r) → new.w ≡ old.w +ℤ r.right → new.m ≡ old.m → PairsSummed m y (a + 1) after new
+  pub one_pair_summed : {before after : List ℤ} {r : PairSums} {old new : Sums} {B column : ℕ}
+      → PairsSummed m y a before old → PairPart r m y a → length after ≡ length before → column ≡ 3 * (pair_at m a).at
+      → SumsAre B after (three_added before column r) → new.w ≡ old.w +ℤ r.right → new.m ≡ old.m
+      → PairsSummed m y (a + 1) after new
   unfolding sx sy t
   one_pair_summed {before} {after} {r} {old} {new} {column = column} h g e ec s ew em = record {
     size = e ∙ h.size;
     columns_are = record {
       each = λ j. record {
         same = columns_are_lem j;
-        inside = subst (Within (equality_columns + (a + 1) * (3 * pair_column))) (sym (s.each j).same ∙ columns_are_lem j) (Within-le (three_within before column j g.fits (Is-Within (h.columns_are.each j) (le_refl _))) (omega arith));
+        inside = subst (Within (equality_columns + (a + 1) * (3 * pair_column)))
+            (sym (s.each j).same ∙ columns_are_lem j)
+            (Within-le (three_within before column j g.fits (Is-Within (h.columns_are.each j) (le_refl _)))
+            (omega arith));
       };
     };
     limit_is = record {
       same = limit_is;
-      inside = subst (Within (equality_sums + (a + 1) * sides m * strength_sum)) (sym ew ∙ limit_is) (Within-le (Within-+ℤ (Is-Within h.limit_is (le_refl _)) g.limit_fits) (omega (arith, next_rows)));
+      inside = subst (Within (equality_sums + (a + 1) * sides m * strength_sum)) (sym ew ∙ limit_is)
+          (Within-le (Within-+ℤ (Is-Within h.limit_is (le_refl _)) g.limit_fits) (omega (arith, next_rows)));
     };
     live_is = record {
       same = live_is_lem;
-      inside = subst (Within (equality_sums + (a + 1) * sides m * strength_sum)) (sym em ∙ live_is_lem) (Within-le (Is-Within h.live_is (le_refl _)) (omega (arith, next_rows)));
+      inside = subst (Within (equality_sums + (a + 1) * sides m * strength_sum)) (sym em ∙ live_is_lem)
+          (Within-le (Is-Within h.live_is (le_refl _)) (omega (arith, next_rows)));
     };
   }
     where
@@ -320,14 +444,16 @@ module _ (m y : List ℤ) (a : ℕ) where
 -- ---- all pairs
 
 -- the strength rows before pair a
-pub few_rows : {m : List ℤ} → Counts m → pair_count m ≤ most_pairs → (a : ℕ) → a ≤ pair_count m → a * sides m ≤ most_strength_rows
+pub few_rows : {m : List ℤ} → Counts m → pair_count m ≤ most_pairs → (a : ℕ) → a ≤ pair_count m
+    → a * sides m ≤ most_strength_rows
 few_rows {m} counts few a l =
     let most : a ≤ pairs_with (sides m) = omega arith in
     le_trans (mul-le-mul_right (sides m) most) (listed_polygon (sides m) counts.sides_listed).fits.rows_fit
 
 module _ (m y : List ℤ) (counts : Counts m) (few : pair_count m ≤ most_pairs) where
   -- before each pair the sums leave room
-  pub pair_room : (a : ℕ) {columns : List ℤ} {sums : Sums} → a ≤ pair_count m → PairsSummed m y a columns sums → WholeSumsFit columns sums
+  pub pair_room : (a : ℕ) {columns : List ℤ} {sums : Sums} → a ≤ pair_count m → PairsSummed m y a columns sums
+      → WholeSumsFit columns sums
   pair_room a l h =
       let most : a ≤ most_pairs = omega arith in
       let rows = few_rows counts few a l in
@@ -338,28 +464,59 @@ module _ (m y : List ℤ) (counts : Counts m) (few : pair_count m ≤ most_pairs
       }
 
   -- the equality rows are few
-  pub no_pairs_summed : {columns : List ℤ} {sums : Sums} → Summed m y (equality_count m) columns sums → PairsSummed m y 0 columns sums
+  pub no_pairs_summed : {columns : List ℤ} {sums : Sums} → Summed m y (equality_count m) columns sums
+      → PairsSummed m y 0 columns sums
   unfolding pair_first
   no_pairs_summed {columns} {sums} h =
-      let equalities : equality_count m ≤ most_equality_rows = omega (arith, counts.elements_most, counts.edges_most, counts.jumps_most) in
+      let equalities : equality_count m ≤ most_equality_rows =
+      omega (arith, counts.elements_most, counts.edges_most, counts.jumps_most) in
       let all : equality_count m ≡ equality_count m + 0 * sides m = omega (arith, zero-mul (sides m)) in
-      subst (λ k. SummedTo m y k (equality_columns + 0 * (3 * pair_column)) (equality_sums + 0 * sides m * strength_sum) columns sums) all
+      subst (λ k. SummedTo m y k (equality_columns + 0 * (3 * pair_column)) (equality_sums + 0 * sides m * strength_sum)
+      columns sums) all
       (record {
         size = h.size;
-        columns_are = record { each = λ j. record { same = (h.columns_are.each j).same; inside = Within-le (h.columns_are.each j).inside (omega arith) } };
-        limit_is = record { same = h.limit_is.same; inside = Within-le h.limit_is.inside (omega (arith, zero-mul (sides m))) };
-        live_is = record { same = h.live_is.same; inside = Within-le h.live_is.inside (omega (arith, zero-mul (sides m))) };
+        columns_are = record {
+          each = λ j. record {
+            same = (h.columns_are.each j).same;
+            inside = Within-le (h.columns_are.each j).inside (omega arith);
+          };
+        };
+        limit_is =
+            record { same = h.limit_is.same; inside = Within-le h.limit_is.inside (omega (arith, zero-mul (sides m))) };
+        live_is =
+            record { same = h.live_is.same; inside = Within-le h.live_is.inside (omega (arith, zero-mul (sides m))) };
       })
 
-  pub all_pairs_summed : (a : ℕ) {columns : List ℤ} {sums : Sums} → a ≡ pair_count m → PairsSummed m y a columns sums → PairsSummed m y (pair_count m) columns sums
+  pub all_pairs_summed : (a : ℕ) {columns : List ℤ} {sums : Sums} → a ≡ pair_count m → PairsSummed m y a columns sums
+      → PairsSummed m y (pair_count m) columns sums
   all_pairs_summed a {columns} {sums} e h = subst (λ k. PairsSummed m y k columns sums) e h
 
-  pub whole_room : {columns : List ℤ} {sums : Sums} → PairsSummed m y (pair_count m) columns sums → WholeSumsFit columns sums
+  pub whole_room : {columns : List ℤ} {sums : Sums} → PairsSummed m y (pair_count m) columns sums
+      → WholeSumsFit columns sums
   whole_room h = pair_room (pair_count m) (le_refl (pair_count m)) h
+
+-- the first n columns alone
+pub first_room : {columns : List ℤ} {sums : Sums} (n : ℕ) → WholeSumsFit columns sums
+    → WholeSumsFit (take n columns) sums
+first_room {columns} n h = record {
+  columns_fit =
+      all_within_lem (take n columns)
+      (λ i l. rw (get_or-take n columns i (pos 0) (omega (arith, length-take n columns))) (h.columns_fit.each i));
+  limit_fits = h.limit_fits;
+  live_fits = h.live_fits;
+}
+
+-- before pair a the sums leave room
+pub room_before : {m y steps : List ℤ} {s : Sizes} {t : List ℕ} {columns : List ℤ} {sums : Sums} (a : ℕ)
+    → RowsGiven m s t steps y → a < pair_count m → PairsSummed m y a columns sums → WholeSumsFit columns sums
+room_before {m} {y} a given l h = pair_room m y given.sized.facts.counts given.few a (omega arith) h
 
 pub no_sums : {z : ℤ} → z ≡ pos 0 → NoSums (replicate (3 * most_nodes) z)
 unfolding at
-no_sums {z} e = record { size = length-replicate (3 * most_nodes) z; none = λ j. ap (λ x. get_or (replicate (3 * most_nodes) x) j (pos 0)) e ∙ by (3 * most_nodes) j }
+no_sums {z} e = record {
+  size = length-replicate (3 * most_nodes) z;
+  none = λ j. ap (λ x. get_or (replicate (3 * most_nodes) x) j (pos 0)) e ∙ by (3 * most_nodes) j;
+}
   where
     by : (n j : ℕ) → get_or (replicate n (pos 0)) j (pos 0) ≡ pos 0
     by zero j = refl

@@ -1,9 +1,12 @@
 -- What the sums over multipliers hand around: rows summed one after the other, the sides of a pair of a node and a
 -- soil, and the records that their functions require and ensure.
-use Rattle.std.specs.Prelude.{◌≡◌, Bool, cond, List, ℕ, zero, suc, ◌+◌, ◌*◌, ◌≤◌, ◌<◌, ℤ, pos, ◌+ℤ◌, ◌-ℤ◌, ◌*ℤ◌, neg_ℤ, length}
+use Rattle.std.specs.Prelude.{◌≡◌, Bool, cond, List, ℕ, zero, suc, ◌+◌, ◌*◌, ◌≤◌, ◌<◌, ℤ, pos, ◌+ℤ◌, ◌-ℤ◌, ◌*ℤ◌, neg_ℤ}
+use Rattle.std.specs.Prelude.{length}
 use Rattle.integer.specs.Bounds.{Within, AllWithin, Is}
 use Rattle.scope.specs.Mesh.{most_nodes, most_sides, most_pairs, sides, equality_count}
-use Rattle.scope.specs.Bounds.{most_multiplier, strength_multiplier, weighted_step, weighted_cross, equality_column, equality_sum, equality_columns, equality_sums, strength_sum, pair_column, most_column, most_sum}
+use Rattle.scope.specs.Bounds.{most_multiplier, strength_multiplier, weighted_step, weighted_cross, equality_column}
+use Rattle.scope.specs.Bounds.{equality_sum, equality_columns, equality_sums, strength_sum, pair_column, most_column}
+use Rattle.scope.specs.Bounds.{most_sum}
 use Rattle.scope.specs.Columns.{at}
 use Rattle.scope.specs.Rows.{Row, pair_count, pair_at, sx, sy, t, rows_of}
 use Rattle.scope.specs.Sums.{unit, coefficient}
@@ -96,10 +99,9 @@ pub record SideWeighted (t : List ℤ) (k : ℕ) (w : ℤ) : Type 0 where
   pub rise : Within weighted_step (w *ℤ at t (3 * k + 1))
   pub cross : Within weighted_cross (w *ℤ at t (3 * k + 2))
 
--- n multipliers of strength rows from the place `first` on, and the sides of the table t
-pub record SideMultipliers (t y : List ℤ) (first n : ℕ) : Type 0 where
-  pub there : first + n ≤ length y
-  pub bounds : (k : ℕ) → k < n → SideWeighted t k (at y (first + k))
+-- the multipliers y of a pair's sides, and the sides of the table t
+pub record SideMultipliers (t y : List ℤ) : Type 0 where
+  pub bounds : (k : ℕ) → k < length y → SideWeighted t k (at y k)
 
 pub record SideSumsFit (a : SideSums) : Type 0 where
   pub run : Within (most_sides * weighted_step) a.run
@@ -113,13 +115,13 @@ pub record SideAdded (t : List ℤ) (k : ℕ) (w : ℤ) (a b : SideSums) : Type 
   pub cross : Grown a.cross b.cross (w *ℤ at t (3 * k + 2)) weighted_cross
 
 -- f over n sides, each times its multiplier
-unfoldable pub side_sum : (ℕ → ℤ) → List ℤ → ℕ → ℕ → ℤ
-side_sum f y first n = sum_below (λ i. at y (first + i) *ℤ f i) n
+unfoldable pub side_sum : (ℕ → ℤ) → List ℤ → ℕ → ℤ
+side_sum f y n = sum_below (λ i. at y i *ℤ f i) n
 
-pub record SideSumsAre (a : SideSums) (t y : List ℤ) (first n : ℕ) : Type 0 where
-  pub run : Is a.run (side_sum (λ i. at t (3 * i)) y first n) (n * weighted_step)
-  pub rise : Is a.rise (side_sum (λ i. at t (3 * i + 1)) y first n) (n * weighted_step)
-  pub cross : Is a.cross (side_sum (λ i. at t (3 * i + 2)) y first n) (n * weighted_cross)
+pub record SideSumsAre (a : SideSums) (t y : List ℤ) (n : ℕ) : Type 0 where
+  pub run : Is a.run (side_sum (λ i. at t (3 * i)) y n) (n * weighted_step)
+  pub rise : Is a.rise (side_sum (λ i. at t (3 * i + 1)) y n) (n * weighted_step)
+  pub cross : Is a.cross (side_sum (λ i. at t (3 * i + 2)) y n) (n * weighted_cross)
 
 -- ---- the strength rows of a pair
 
@@ -143,7 +145,8 @@ pair_first m a = equality_count m + a * sides m
 -- all equality rows, and the rows of the pairs before pair a
 abbrev pub PairsSummed : List ℤ → List ℤ → ℕ → List ℤ → Sums → Type 0
 PairsSummed m y a columns sums =
-    SummedTo m y (pair_first m a) (equality_columns + a * (3 * pair_column)) (equality_sums + a * sides m * strength_sum)
+    SummedTo m y (pair_first m a) (equality_columns + a * (3 * pair_column))
+    (equality_sums + a * sides m * strength_sum)
     columns sums
 
 -- the sums over the rows of pair a: the columns are those of its node

@@ -1,5 +1,5 @@
 // The sums over all rows, each times its multiplier: the columns, W and m.
-ghost use Rattle.std.specs.Prelude.{◌+◌, ◌*◌, ◌<◌, ◌≤◌, length, ◌≡◌, ◌+ℤ◌, ◌*ℤ◌};
+ghost use Rattle.std.specs.Prelude.{◌+◌, ◌*◌, ◌<◌, ◌≤◌, length, take, drop, ◌≡◌, ◌+ℤ◌, ◌*ℤ◌};
 ghost use Rattle.integer.specs.Bounds.{Within, AllWithin};
 ghost use Rattle.scope.specs.Mesh.{nodes, sides, equality_count};
 ghost use Rattle.scope.specs.Rows.{pair_count};
@@ -7,7 +7,25 @@ ghost use Rattle.scope.specs.Bounds.{most_multiplier, equality_right, equality_s
 ghost use Rattle.mesh.specs.MeshContracts.{Sized};
 ghost use Rattle.equality.specs.EqualityContracts.{SumsAre};
 ghost use Rattle.criterion.specs.StrengthContracts.{SoilFits, StepsFit, StepFits};
-ghost use Rattle.multipliers.specs.MultiplierContracts.{Multipliers, RowsGiven, SumsFit, RowSummed, NoSums, Summed, PairsSummed, SideWeighted, SideMultipliers, SideSumsFit, SideAdded, SideSumsAre, PairSumsAre, PairSumsFit, PairPart, three_added};
+ghost use Rattle.multipliers.specs.MultiplierContracts.{
+  Multipliers,
+  RowsGiven,
+  SumsFit,
+  RowSummed,
+  NoSums,
+  Summed,
+  PairsSummed,
+  SideWeighted,
+  SideMultipliers,
+  SideSumsFit,
+  SideAdded,
+  SideSumsAre,
+  PairSumsAre,
+  PairSumsFit,
+  PairPart,
+  pair_first,
+  three_added,
+};
 
 use criterion::polygons::radius_of;
 use criterion::strength_rows::{pair_node, pair_soil, soil_numbers};
@@ -26,11 +44,11 @@ pub struct Sums {
 
 // Adds the right side of a row and its coefficient of l, times the multiplier y, to W and m.
 fn add_sums(sums: Sums, y: i64, right: i64, live: i64) -> Sums
-    requires fact_1 { Within equality_sums sums.w }
-    requires fact_2 { Within equality_sums sums.m }
-    requires fact_3 { Within most_multiplier y }
-    requires fact_4 { Within equality_right right }
-    requires fact_5 { Within equality_right live }
+    requires limit_fits { Within equality_sums sums.w }
+    requires live_fits { Within equality_sums sums.m }
+    requires multiplier_fits { Within most_multiplier y }
+    requires right_fits { Within equality_right right }
+    requires factor_fits { Within equality_right live }
     ensures { (result.w ≡ sums.w +ℤ y *ℤ right) × (result.m ≡ sums.m +ℤ y *ℤ live) }
 {
     Sums {
@@ -41,15 +59,15 @@ fn add_sums(sums: Sums, y: i64, right: i64, live: i64) -> Sums
 
 // Adds equality row k, times its multiplier, to the column sums and to W and m.
 fn add_equality(m: &[i64], s: Sizes, y: &[i64], k: usize, columns: &mut [i64], sums: Sums) -> Sums
-    requires fact_1 { Sized m.now s × (k < equality_count m.now) }
-    requires fact_2 { k < length y.now }
-    requires fact_3 { AllWithin most_multiplier y.now }
-    requires fact_4 { 3 * nodes m.now ≤ length columns.old }
-    requires fact_5 { SumsFit columns.old sums }
+    requires row_there { Sized m.now s × (k < equality_count m.now) }
+    requires multiplier_there { k < length y.now }
+    requires multipliers_fit { AllWithin most_multiplier y.now }
+    requires columns_there { 3 * nodes m.now ≤ length columns.old }
+    requires sums_fit { SumsFit columns.old sums }
     ensures { RowSummed m.now y.now k columns.old
         columns.new sums result }
 {
-    let w = number_at(y, k);
+    let w = y[k];
     if w == 0 {
         return sums;
     }
@@ -60,18 +78,15 @@ fn add_equality(m: &[i64], s: Sizes, y: &[i64], k: usize, columns: &mut [i64], s
 
 // All equality rows, each times its multiplier: to column sums that are 0 yet.
 fn equality_sums(m: &[i64], s: Sizes, y: &[i64], columns: &mut [i64]) -> Sums
-    requires fact_1 { Sized m.now s }
-    requires fact_2 { Multipliers m.now y.now }
-    requires fact_3 { NoSums columns.old }
+    requires sized { Sized m.now s }
+    requires multipliers { Multipliers m.now y.now }
+    requires none_yet { NoSums columns.old }
     ensures { Summed m.now y.now (equality_count m.now)
         columns.new result }
 {
-    let rows = equality_count(s);
     let mut sums = Sums { w: 0, m: 0 };
-    let mut k: usize = 0;
-    while k < rows {
+    for k in 0..equality_count(s) {
         sums = add_equality(m, s, y, k, columns, sums);
-        k += 1;
     }
     sums
 }
@@ -88,9 +103,9 @@ pub struct SideSums {
 
 // Adds side k, times its multiplier w.
 fn add_side(steps: &[i64], k: usize, w: i64, a: SideSums) -> SideSums
-    requires fact_1 { StepFits steps.now k }
-    requires fact_2 { SideWeighted steps.now k w }
-    requires fact_3 { SideSumsFit a }
+    requires step_fits { StepFits steps.now k }
+    requires weighted { SideWeighted steps.now k w }
+    requires sums_fit { SideSumsFit a }
     ensures { SideAdded steps.now k w a result }
 {
     if w == 0 {
@@ -106,23 +121,20 @@ fn add_side(steps: &[i64], k: usize, w: i64, a: SideSums) -> SideSums
     }
 }
 
-// All sides of a pair whose first multiplier stands at `first`. For speed they are summed first, and multiplied by r·h
-// and p once.
-fn side_sums(steps: &[i64], sides: usize, y: &[i64], first: usize) -> SideSums
-    requires fact_1 { StepsFit steps.now sides }
-    requires fact_2 { SideMultipliers steps.now y.now first sides }
-    ensures { SideSumsAre result steps.now y.now first sides }
+// All sides of a pair, each times its multiplier in y. For speed they are summed first, and multiplied by r·h and p
+// once.
+fn side_sums(steps: &[i64], y: &[i64]) -> SideSums
+    requires steps_fit { StepsFit steps.now (length y.now) }
+    requires multipliers { SideMultipliers steps.now y.now }
+    ensures { SideSumsAre result steps.now y.now (length y.now) }
 {
     let mut sums = SideSums {
         run: 0,
         rise: 0,
         cross: 0,
     };
-    let mut k: usize = 0;
-    while k < sides {
-        let w = number_at(y, first + k);
-        sums = add_side(steps, k, w, sums);
-        k += 1;
+    for (k, w) in y.iter().enumerate() {
+        sums = add_side(steps, k, *w, sums);
     }
     sums
 }
@@ -138,14 +150,12 @@ pub struct PairSums {
 }
 
 // The same, from the sums over the sides and the numbers of the soil.
-fn pair_sums(a: SideSums, k: &[i64]) -> PairSums
-    requires fact_1 { SideSumsFit a }
-    requires fact_2 { SoilFits k.now }
-    ensures { PairSumsAre result a k.now }
+fn pair_sums(a: SideSums, k: [i64; 3]) -> PairSums
+    requires sums_fit { SideSumsFit a }
+    requires soil_fits { SoilFits k }
+    ensures { PairSumsAre result a k }
 {
-    let lever = number_at(k, 0);
-    let friction = number_at(k, 1);
-    let cohesion = number_at(k, 2);
+    let [lever, friction, cohesion] = k;
     let rise = lever * a.rise;
     let push = friction * a.cross;
     PairSums {
@@ -156,26 +166,34 @@ fn pair_sums(a: SideSums, k: &[i64]) -> PairSums
     }
 }
 
-// The same, for pair a.
+// The multipliers of pair a, one for each side, among those of all rows y: they follow those of the equality rows and
+// of the pairs before it.
+pub fn pair_multipliers<'a>(m: &[i64], s: Sizes, y: &'a [i64], a: usize) -> &'a [i64]
+    requires sized { Sized m.now s }
+    requires there { a < pair_count m.now }
+    requires multipliers { Multipliers m.now y.now }
+    ensures { result.now ≡ take (sides m.now) (drop (pair_first m.now a) y.now) }
+{
+    let first = equality_count(s) + a * s.sides;
+    &y[first..first + s.sides]
+}
+
+// What the strength rows of pair a add up to.
 fn pair_part(m: &[i64], s: Sizes, pairs: &[u8], steps: &[i64], y: &[i64], a: usize) -> PairSums
-    requires fact_1 { RowsGiven m.now s pairs.now steps.now y.now }
-    requires fact_2 { a < pair_count m.now }
+    requires given { RowsGiven m.now s pairs.now steps.now y.now }
+    requires there { a < pair_count m.now }
     ensures { PairPart result m.now y.now a }
 {
-    let sides = s.sides;
-    let first = equality_count(s) + a * sides;
-    let over_sides = side_sums(steps, sides, y, first);
+    let over_sides = side_sums(steps, pair_multipliers(m, s, y, a));
     let soil = pair_soil(pairs, a);
-    let radius = radius_of(sides);
-    let k = soil_numbers(m, s, soil, radius);
-    pair_sums(over_sides, &k)
+    pair_sums(over_sides, soil_numbers(m, s, soil, radius_of(s.sides)))
 }
 
 // Adds a pair's sums to the three columns of its node, from `column` on.
 fn add_columns(columns: &mut [i64], column: usize, a: PairSums)
-    requires fact_1 { column + 2 < length columns.old }
-    requires fact_2 { AllWithin most_column columns.old }
-    requires fact_3 { PairSumsFit a }
+    requires there { column + 2 < length columns.old }
+    requires columns_fit { AllWithin most_column columns.old }
+    requires sums_fit { PairSumsFit a }
     ensures { SumsAre (most_column + 3 * pair_column) columns.new
         (three_added columns.old column a) }
 {
@@ -195,18 +213,17 @@ fn add_pair(
     columns: &mut [i64],
     sums: Sums,
 ) -> Sums
-    requires fact_1 { RowsGiven m.now s pairs.now steps.now y.now }
-    requires fact_2 { a < pair_count m.now }
-    requires fact_3 { PairsSummed m.now y.now a columns.old sums }
+    requires given { RowsGiven m.now s pairs.now steps.now y.now }
+    requires there { a < pair_count m.now }
+    requires before { PairsSummed m.now y.now a columns.old sums }
     ensures { PairsSummed m.now y.now (a + 1) columns.new result }
 {
     let part = pair_part(m, s, pairs, steps, y, a);
-    let right = part.right;
     let v = pair_node(pairs, a);
     add_columns(columns, 3 * v, part);
     Sums {
-        w: sums.w + right,
-        m: sums.m,
+        w: sums.w + part.right,
+        ..sums
     }
 }
 
@@ -220,17 +237,14 @@ fn strength_sums(
     columns: &mut [i64],
     equalities: Sums,
 ) -> Sums
-    requires fact_1 { RowsGiven m.now s pairs.now steps.now y.now }
-    requires fact_2 { Summed m.now y.now (equality_count m.now) columns.old equalities }
+    requires given { RowsGiven m.now s pairs.now steps.now y.now }
+    requires before { Summed m.now y.now (equality_count m.now) columns.old equalities }
     ensures { PairsSummed m.now y.now (pair_count m.now)
         columns.new result }
 {
-    let all = s.pairs;
     let mut sums = equalities;
-    let mut a: usize = 0;
-    while a < all {
+    for a in 0..s.pairs {
         sums = add_pair(m, s, pairs, steps, y, a, columns, sums);
-        a += 1;
     }
     sums
 }

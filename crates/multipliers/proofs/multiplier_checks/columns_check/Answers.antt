@@ -1,9 +1,17 @@
--- `columns_check` meets its contract: by the lowest column whose sum is not from 0 to 0.
-use Rattle.multipliers.proofs.LimitLaws.{column_fails, columns_done}
+-- The columns before the first that is not 0 are 0.
+use Rattle.std.proofs.Common.{rules, tests}
+use Rattle.std.proofs.lemmas.Iterator.{YieldsList-from_slice, IsFirst-from_position}
+use Rattle.multipliers.proofs.LimitLaws.{IsZero, IsNotZero, column_fails, columns_done}
 use Rattle.multipliers.proofs.multiplier_checks.columns_check.Goals as goal
 
-pub returns-then-j-n : goal.returns-then-j-n
-returns-then-j-n c = column_fails _ _ c.first_outside-j.ensures.fact_1 c.if-j-n.true
+pub returns-in-Some : goal.returns-in-Some
+returns-in-Some c =
+    column_fails c.args.columns.now c.requires.columns_fit
+    (IsFirst-from_position _ _ _ IsNotZero IsZero c.in-Some.ensures.ran
+    (YieldsList-from_slice c.args.columns.now cc) (λ x q k. search (rules, tests)) (λ x q k. search (rules, tests)))
 
-pub returns : goal.returns
-returns c = columns_done _ _ c.first_outside-j.ensures.fact_1 c.if-j-n.false
+pub returns-in-None : goal.returns-in-None
+returns-in-None c =
+    columns_done c.args.columns.now c.requires.columns_fit
+    (IsFirst-from_position _ _ _ IsNotZero IsZero c.in-None.ensures.ran
+    (YieldsList-from_slice c.args.columns.now cc) (λ x q k. search (rules, tests)) (λ x q k. search (rules, tests)))

@@ -1,12 +1,8 @@
--- `pair_open` meets its contract. The loop's invariant: the sides passed are counted.
+-- The sides passed are counted.
 use mathlib.Core.Path.{◌≡◌}
-use Prim.Native.Nat.{◌-◌, ◌≤◌}
 use Rattle.multipliers.specs.MultiplierContracts.{count_below}
 use Rattle.multipliers.specs.OpenContracts.{side_open}
 use Rattle.multipliers.proofs.open_rows.pair_open.Given as goal
 
 abbrev pub invariant-loop-k : goal.invariant-loop-k
-invariant-loop-k l = (l.k ≤ l.sides) × (l.count ≡ count_below (side_open l.d l.steps l.y l.first) l.k)
-
-abbrev pub decreases-loop-k : goal.decreases-loop-k
-decreases-loop-k l = l.sides - l.k
+invariant-loop-k l = l.count ≡ count_below (side_open l.d l.steps l.y) l.k
