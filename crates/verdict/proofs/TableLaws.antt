@@ -1,13 +1,12 @@
--- A mesh with a table judged stage by stage: lines, the table's lines, layers, and the filled mesh; what each function is handed follows from the stages before it, one law for each way out.
+-- A mesh with a table judged stage by stage: lines, the table's lines, layers, and the filled mesh; what each function
+-- is handed follows from the stages before it, one law for each way out.
 use mathlib.Core.Path.{◌≡◌, refl, sym, ◌∙◌, ap, ap₂, subst}
 use mathlib.Core.Bool.{true, false}
-use mathlib.Core.List.{List, [], ◌∷◌, ◌++◌}
-use Prim.Native.Nat.{ℕ, ◌+◌, ◌*◌, ◌≤◌, ◌<◌}
-use native.Mathlib.Numerals.{add-one}
+use mathlib.Core.List.{List, [], ◌∷◌}
+use Prim.Native.Nat.{ℕ, ◌*◌, ◌≤◌}
 use native.Mathlib.Omega.{arith}
 use lib.IntN.{ℤ, pos}
-use lib.ListN.{length, take, set, get_or, replicate}
-use lib.Seq.{take-suc, take-suc-set, take_all}
+use lib.ListN.{length, replicate}
 use Rattle.scope.specs.declared.Place.{Place}
 use Rattle.scope.specs.declared.Outcome.{Outcome}
 use Rattle.scope.specs.declared.Outcome.TheVariants.{Passed, Refused as Fails}
@@ -23,7 +22,8 @@ use Rattle.scope.specs.Statements.{LinesSound}
 use Rattle.scope.specs.Layers.{lowest, highest, tops_phase, apart_phase, gaps_phase, layer_phases}
 use Rattle.scope.specs.Filled.{given, filled, with_soils}
 use Rattle.scope.specs.LayerRows.{TableSound}
-use Rattle.scope.specs.Table.{table_lines, table_layout, table_line_phases, TableFacts, has_table, mesh_read, tabled_check}
+use Rattle.scope.specs.Table.{table_lines, table_layout, table_line_phases, TableFacts}
+use Rattle.scope.specs.Table.{has_table, mesh_read, tabled_check}
 use Rattle.scope.specs.TableVerdict.{tabled_verdict}
 use Rattle.scope.specs.Verdict.{line_check, line_at, lines_check, mesh_check, answer, claim_verdict, verdict}
 use Rattle.scope.proofs.Checks.{passed_is_not_refused}
@@ -31,9 +31,11 @@ use Rattle.scope.proofs.NumberRanges.{mesh_facts}
 use Rattle.scope.proofs.Refusals.{lines_passed, line_passed}
 use Rattle.scope.proofs.Phases.{phases_exact}
 use Rattle.scope.proofs.Layers.{layers_passed}
-use Rattle.scope.proofs.Filled.{given-length, heights_kept, nodes_kept, elements_kept, soils_kept, edges_kept, sides_kept, jumps_kept}
+use Rattle.scope.proofs.Filled.{given-length, heights_kept}
+use Rattle.scope.proofs.Filled.{nodes_kept, elements_kept, soils_kept, edges_kept, sides_kept, jumps_kept}
 use Rattle.scope.proofs.Table.{table_facts, counted, named_facts, table_lines_decided}
-use Rattle.scope.proofs.TableVerdict.{sound_table, read_lines_lem, table_exact, in_two, by_stages, read_filled, no_table_verdict, empty_table}
+use Rattle.scope.proofs.TableVerdict.{sound_table, read_lines_lem, table_exact, in_two, by_stages}
+use Rattle.scope.proofs.TableVerdict.{read_filled, no_table_verdict, empty_table}
 use Rattle.mesh.specs.declared.sizes.Sizes.{Sizes}
 use Rattle.mesh.specs.MeshContracts.{Sized, SizesAre, HeaderThere}
 use Rattle.lines.proofs.GroupLaws.{header_counts}
@@ -63,7 +65,8 @@ module _ {t m : List ℤ} (p : LinesPassed t m) where
 
   pub header_there : HeaderThere m
   unfolding layout_with groups line_count mesh_header
-  header_there = header_counts m (sym same_header ∙ (line_passed (layout_with true) m 0).passed (lines_are.lines 0 (omega arith)))
+  header_there =
+      header_counts m (sym same_header ∙ (line_passed (layout_with true) m 0).passed (lines_are.lines 0 (omega arith)))
 
 -- the numbers of such a mesh have room in a copy
 pub few_numbers_lem : (m : List ℤ) → lines_check (layout_with true) m ≡ Passed → length m ≤ 1494
@@ -71,7 +74,8 @@ unfolding with_soils
 few_numbers_lem m e =
     let f = named_facts m ((lines_passed (layout_with true) m).says e) in
     let k = f.counts in
-    omega (arith, f.size, given-length (λ e. pos 1) m, k.soils_most, k.nodes_most, k.elements_most, k.edges_most, k.jumps_most)
+    let long = given-length (λ e. pos 1) m in
+    omega (arith, f.size, long, k.soils_most, k.nodes_most, k.elements_most, k.edges_most, k.jumps_most)
 
 -- the counts of a mesh stay whatever soils are given
 sized_given : (f : ℕ → ℤ) {m : List ℤ} {s : Sizes} → SizesAre m s → MeshFacts (given f m) → Sized (given f m) s
@@ -88,17 +92,25 @@ sized_given f {m} k facts = record {
 
 -- ---- what is refused
 
-pub refused_answer : {t m : List ℤ} {j : ℕ} {p : Place} {r : MeshAnswer} {after : List ℤ} → tabled_check t m ≡ Fails j p → (r.outcome ≡ Fails j p) × (r.sizes ≡ no_sizes) × (r.pairs ≡ replicate (2 * most_pairs) 0) → TabledAnswered t m r after
+pub refused_answer : {t m : List ℤ} {j : ℕ} {p : Place} {r : MeshAnswer} {after : List ℤ}
+    → tabled_check t m ≡ Fails j p
+    → (r.outcome ≡ Fails j p) × (r.sizes ≡ no_sizes) × (r.pairs ≡ replicate (2 * most_pairs) 0)
+    → TabledAnswered t m r after
 refused_answer e a = record { answer = refused_mesh_lem e a; read = λ z. passed_is_not_refused (sym z ∙ e) }
 
-pub lines_refuse : (t m : List ℤ) {j : ℕ} {p : Place} → has_table t ≡ true → lines_check (layout_with true) m ≡ Fails j p → tabled_check t m ≡ Fails j p
+pub lines_refuse : (t m : List ℤ) {j : ℕ} {p : Place}
+    → has_table t ≡ true → lines_check (layout_with true) m ≡ Fails j p → tabled_check t m ≡ Fails j p
 lines_refuse t m h e = by_stages t m h ∙ ap (λ (o : Outcome). o then rest) e
   where
     rest : Outcome
-    rest = check_phases (table_line_phases t m) then (check_phases (layer_phases t m) then check_phases (shape_phases (filled t m)))
+    rest =
+        check_phases (table_line_phases t m)
+        then (check_phases (layer_phases t m) then check_phases (shape_phases (filled t m)))
 
-pub table_refuses : {t m : List ℤ} {j : ℕ} {p : Place} → LinesPassed t m → check_phases (table_line_phases t m) ≡ Fails j p → tabled_check t m ≡ Fails j p
-table_refuses {t} {m} k e = by_stages t m k.tabled ∙ sym (then_goes_on k.lines (sym (ap (λ (o : Outcome). o then rest) e)))
+pub table_refuses : {t m : List ℤ} {j : ℕ} {p : Place}
+    → LinesPassed t m → check_phases (table_line_phases t m) ≡ Fails j p → tabled_check t m ≡ Fails j p
+table_refuses {t} {m} k e =
+    by_stages t m k.tabled ∙ sym (then_goes_on k.lines (sym (ap (λ (o : Outcome). o then rest) e)))
   where
     rest : Outcome
     rest = check_phases (layer_phases t m) then check_phases (shape_phases (filled t m))
@@ -122,14 +134,20 @@ module _ {t m : List ℤ} {s : Sizes} (k : TableKnown t m s) where
   -- the heights of the nodes are the same whatever soils are given
   pub layers_same : check_phases (layer_phases t (with_soils m)) ≡ check_phases (layer_phases t m)
   unfolding with_soils
-  layers_same = let h = heights_kept (λ e. pos 1) m (named_facts m (lines_are k.passed)) in ap₂ (λ (lo hi : ℕ). check_phases (tops_phase t ∷ apart_phase t lo hi ∷ gaps_phase t lo hi ∷ [])) h.0 h.1
+  layers_same =
+      let h = heights_kept (λ e. pos 1) m (named_facts m (lines_are k.passed)) in
+      ap₂ (λ (lo hi : ℕ). check_phases (tops_phase t ∷ apart_phase t lo hi ∷ gaps_phase t lo hi ∷ [])) h.0 h.1
 
   -- before the layers
   to_layers : tabled_check t m ≡ check_phases (layer_phases t m) then check_phases (shape_phases (filled t m))
   to_layers = by_stages t m k.passed.tabled ∙ sym (then_goes_on k.passed.lines (then_goes_on k.table refl))
 
-  pub layers_refuse : {j : ℕ} {p : Place} {r : MeshAnswer} {after : List ℤ} → check_phases (layer_phases t m) ≡ Fails j p → (r.outcome ≡ Fails j p) × (r.sizes ≡ no_sizes) × (r.pairs ≡ replicate (2 * most_pairs) 0) → TabledAnswered t m r after
-  layers_refuse e a = refused_answer (to_layers ∙ ap (λ (o : Outcome). o then check_phases (shape_phases (filled t m))) e) a
+  pub layers_refuse : {j : ℕ} {p : Place} {r : MeshAnswer} {after : List ℤ}
+      → check_phases (layer_phases t m) ≡ Fails j p
+      → (r.outcome ≡ Fails j p) × (r.sizes ≡ no_sizes) × (r.pairs ≡ replicate (2 * most_pairs) 0)
+      → TabledAnswered t m r after
+  layers_refuse e a =
+      refused_answer (to_layers ∙ ap (λ (o : Outcome). o then check_phases (shape_phases (filled t m))) e) a
 
   -- where they pass
   module _ (e : check_phases (layer_phases t m) ≡ Passed) where
@@ -137,7 +155,12 @@ module _ {t m : List ℤ} {s : Sizes} (k : TableKnown t m s) where
     sound = (layers_passed t m).0 e
 
     pub fillable : {n : ℕ} → n ≡ table_lines t → Fillable t n m s
-    fillable d = record { table = table_known d; sized = named_sized; named = λ i l. (facts.layer i l).soil_there; sound = sound }
+    fillable d = record {
+      table = table_known d;
+      sized = named_sized;
+      named = λ i l. (facts.layer i l).soil_there;
+      sound = sound;
+    }
 
     filled_sound : LinesSound mesh_layout (filled t m)
     filled_sound = read_lines_lem t m (record { mesh_lines = lines_are k.passed; lines = own_lines; sound = sound })
@@ -149,8 +172,14 @@ module _ {t m : List ℤ} {s : Sizes} (k : TableKnown t m s) where
     unfolding filled
     filled_sized = sized_given _ k.sizes (mesh_facts (filled t m) filled_sound)
 
-    pub filled-answer : {r : MeshAnswer} {after : List ℤ} → MeshAnswered (filled t m) r → after ≡ filled t m → TabledAnswered t m r after
-    filled-answer {r} a d = record { answer = subst (λ (f : List ℤ). AnsweredAs (tabled_check t m) f r) (sym same) (subst (λ (o : Outcome). AnsweredAs o (filled t m) r) (sym checked) a); read = λ z. d ∙ sym same }
+    pub filled-answer : {r : MeshAnswer} {after : List ℤ}
+        → MeshAnswered (filled t m) r → after ≡ filled t m → TabledAnswered t m r after
+    filled-answer {r} a d = record {
+      answer =
+          subst (λ (f : List ℤ). AnsweredAs (tabled_check t m) f r) (sym same)
+          (subst (λ (o : Outcome). AnsweredAs o (filled t m) r) (sym checked) a);
+      read = λ z. d ∙ sym same;
+    }
       where
         same : mesh_read t m ≡ filled t m
         same = read_filled t m k.passed.tabled
@@ -158,7 +187,12 @@ module _ {t m : List ℤ} {s : Sizes} (k : TableKnown t m s) where
         checked : tabled_check t m ≡ mesh_check (filled t m)
         checked =
             in_two t m
-            ∙ ap (λ (o : Outcome). o then mesh_check (mesh_read t m)) ((table_exact t m).passes.passed (λ h. record { mesh_lines = lines_are k.passed; lines = own_lines; sound = sound }))
+            ∙ ap (λ (o : Outcome). o then mesh_check (mesh_read t m))
+            ((table_exact t m).passes.passed (λ h. record {
+              mesh_lines = lines_are k.passed;
+              lines = own_lines;
+              sound = sound;
+            }))
             ∙ ap mesh_check same
 
 -- ---- the verdict by its stages
@@ -168,24 +202,11 @@ module _ (t m c : List ℤ) where
   unfolding tabled_verdict answer
   tabled_refuses e = sym (ap (λ (o : Outcome). answer o (claim_verdict (mesh_read t m) c)) e)
 
-  pub tabled_goes_on : {r : Verdict} → tabled_check t m ≡ Passed → r ≡ claim_verdict (mesh_read t m) c → r ≡ tabled_verdict t m c
+  pub tabled_goes_on : {r : Verdict}
+      → tabled_check t m ≡ Passed → r ≡ claim_verdict (mesh_read t m) c → r ≡ tabled_verdict t m c
   unfolding tabled_verdict answer
   tabled_goes_on e f = f ∙ sym (ap (λ (o : Outcome). answer o (claim_verdict (mesh_read t m) c)) e)
 
   -- an empty list is no table
   pub alone : length t ≡ 0 → verdict m c ≡ tabled_verdict t m c
   alone e = sym (ap (λ (u : List ℤ). tabled_verdict u m c) (empty_table e) ∙ no_table_verdict m c)
-
--- ---- a copy
-
-module _ (m out : List ℤ) (j : ℕ) (h : take j out ≡ take j m) where
-  pub copied_next : {z : ℤ} → j < length out → j < length m → z ≡ get_or m j (pos 0) → take (j + 1) (set out j z) ≡ take (j + 1) m
-  copied_next {z} l n e =
-      ap (λ (k : ℕ). take k (set out j z)) (add-one j)
-      ∙ take-suc-set out j z l
-      ∙ ap₂ (λ (xs : List ℤ) (y : ℤ). xs ++ (y ∷ [])) h e
-      ∙ sym (take-suc m j (pos 0) n)
-      ∙ ap (λ (k : ℕ). take k m) (sym (add-one j))
-
-  pub copied_all : length m ≡ j → take (length m) out ≡ m
-  copied_all e = ap (λ (k : ℕ). take k out) e ∙ h ∙ take_all j m (omega arith)

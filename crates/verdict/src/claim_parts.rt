@@ -8,6 +8,7 @@ ghost use Rattle.criterion.specs.StrengthContracts.{Judged, MeshSteps};
 
 use crate::field_checks::field_check;
 use criterion::polygons::steps_of;
+use lines::layout::has_part;
 use mesh::sizes::{Sizes, number_at};
 use multipliers::multiplier_checks::{Limit, claim_limit};
 use multipliers::open_rows::open_rows;
@@ -15,29 +16,31 @@ use scope::{Load, OpenRows, Outcome, Verdict};
 
 // The load l/n of a claim with a field, else none.
 fn lower_load(c: &[i64]) -> Load
-    requires fact_1 { 4 ≤ length c.now }
-    requires fact_2 { AllWithin 1000000000 c.now }
+    requires has_header { 4 ≤ length c.now }
+    requires in_range { AllWithin 1000000000 c.now }
     ensures { result ≡ lower_load c.now }
 {
-    if number_at(c, 0) == 1 {
-        return Load::Exact {
+    if has_part(c, 0) {
+        Load::Exact {
             num: number_at(c, 3),
             den: number_at(c, 2),
-        };
+        }
+    } else {
+        Load::Absent
     }
-    Load::Absent
 }
 
 // 21 and 22, where the claim has a field.
 fn claim_field(m: &[i64], c: &[i64], s: Sizes, pairs: &[u8], steps: &[i64]) -> Outcome
-    requires fact_1 { Judged m.now c.now s pairs.now }
-    requires fact_2 { MeshSteps m.now steps.now }
+    requires lines_passed { Judged m.now c.now s pairs.now }
+    requires steps_are { MeshSteps m.now steps.now }
     ensures { result ≡ check_phases (field_part m.now c.now) }
 {
-    if number_at(c, 0) == 1 {
-        return field_check(m, c, s, pairs, steps);
+    if has_part(c, 0) {
+        field_check(m, c, s, pairs, steps)
+    } else {
+        Outcome::Passed
     }
-    Outcome::Passed
 }
 
 // The verdict by the parts. For speed the polygon's sides are made once and lent to each part.
@@ -49,12 +52,10 @@ pub fn parts_verdict(m: &[i64], c: &[i64], s: Sizes, pairs: &[u8]) -> Verdict
         (upper_load m.now c.now)) }
 {
     let steps = steps_of(s.sides);
-    let field = claim_field(m, c, s, pairs, &steps);
-    if let Outcome::Refused { number, place } = field {
+    if let Outcome::Refused { number, place } = claim_field(m, c, s, pairs, &steps) {
         return Verdict::Refused { number, place };
     }
-    let limit = claim_limit(m, c, s, pairs, &steps);
-    match limit {
+    match claim_limit(m, c, s, pairs, &steps) {
         Limit::Refused { number, place } => Verdict::Refused { number, place },
         Limit::Absent => Verdict::Accepted {
             open_rows: OpenRows::Absent,

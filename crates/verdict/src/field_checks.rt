@@ -27,36 +27,30 @@ pub fn equality_holds(m: &[i64], s: Sizes, x: &[i64], l: i64, n: i64, k: usize) 
     ensures { result ≡ row_holds (at x.now) l n (row_at (equality_rows m.now) k) }
 {
     let row = equality_row(m, s, k);
-    let right = row.right;
-    let live = row.live;
-    if row.asked {
-        let left = left_side(&row.coefficients, &row.columns, row.count, live, x, l);
-        return left == right * n;
-    }
-    true
+    !row.asked
+        || left_side(&row.coefficients, &row.columns, row.count, row.live, x, l) == row.right * n
 }
 
 // 21: the lowest equality row that fails.
 fn equalities_check(m: &[i64], s: Sizes, x: &[i64], l: i64, n: i64) -> Outcome
-    requires fact_1 { Sized m.now s }
-    requires fact_2 { FieldFits m.now x.now l n }
+    requires counts_are { Sized m.now s }
+    requires in_range { FieldFits m.now x.now l n }
     ensures { result ≡ check_phase (equalities_phase (equality_rows m.now) (at x.now) l n) }
 {
     let rows = equality_count(s);
-    let mut k: usize = 0;
-    while k < rows {
+    for k in 0..rows {
         if !equality_holds(m, s, x, l, n, k) {
             return Outcome::Refused {
                 number: 21,
                 place: Place::Row((k + 1) as u32),
             };
         }
-        k += 1;
     }
     Outcome::Passed
 }
 
 // "Its number is (node-1)·sides + k", by pairs of a node and a soil (document 02, N2); a and k are counted from 0.
+#[tactic(auto, using(criterion::proofs::StrengthLaws::first_row))]
 fn strength_number(a: usize, sides: usize, k: usize) -> u32
     requires { (a < most_pairs) × (sides ≤ most_sides) × (k ≤ most_sides) }
     ensures { result ≡ a * sides + k + 1 }
@@ -66,43 +60,38 @@ fn strength_number(a: usize, sides: usize, k: usize) -> u32
 
 // The first side whose strength row fails at a pair with these numbers; where each holds, their count.
 fn first_side(steps: &[i64], sides: usize, d: &[i64]) -> usize
-    requires fact_1 { StepsFit steps.now sides }
-    requires fact_2 { PairFits d.now }
-    ensures fact_1 { result ≡ first_failing (λ k. le_z (pos 0) (side_slack d.now steps.now k)) sides }
-    ensures fact_2 { result ≤ sides }
+    requires steps_in_range { StepsFit steps.now sides }
+    requires pair_in_range { PairFits d.now }
+    ensures lowest { result ≡ first_failing (λ k. le_z (pos 0) (side_slack d.now steps.now k)) sides }
+    ensures at_most { result ≤ sides }
 {
-    let mut k: usize = 0;
-    while k < sides {
+    for k in 0..sides {
         if !side_holds(steps, k, d) {
             return k;
         }
-        k += 1;
     }
     sides
 }
 
 // 22: the lowest strength row that fails, which is one of the lowest pair that has one.
 fn strengths_check(m: &[i64], c: &[i64], s: Sizes, pairs: &[u8], steps: &[i64]) -> Outcome
-    requires fact_1 { Judged m.now c.now s pairs.now × (at c.now 0 ≡ pos 1) }
-    requires fact_2 { MeshSteps m.now steps.now }
+    requires lines_passed { Judged m.now c.now s pairs.now }
+    requires has_field { at c.now 0 ≡ pos 1 }
+    requires steps_are { MeshSteps m.now steps.now }
     ensures { result
         ≡ check_phase
         (strengths_phase (strength_rows m.now) (stress m.now c.now) (l c.now)
         (n c.now)) }
 {
-    let count = s.pairs;
-    let mut a: usize = 0;
-    while a < count {
+    for a in 0..s.pairs {
         if !pair_holds(m, c, s, pairs, steps, a) {
-            let sides = s.sides;
             let d = pair_state(m, c, s, pairs, a);
-            let k = first_side(steps, sides, &d);
+            let k = first_side(steps, s.sides, &d);
             return Outcome::Refused {
                 number: 22,
-                place: Place::Row(strength_number(a, sides, k)),
+                place: Place::Row(strength_number(a, s.sides, k)),
             };
         }
-        a += 1;
     }
     Outcome::Passed
 }
@@ -118,8 +107,7 @@ pub fn field_check(m: &[i64], c: &[i64], s: Sizes, pairs: &[u8], steps: &[i64]) 
 {
     let n = number_at(c, 2);
     let l = number_at(c, 3);
-    let equalities = equalities_check(m, s, &c[4..], l, n);
-    if let Outcome::Refused { number, place } = equalities {
+    if let Outcome::Refused { number, place } = equalities_check(m, s, &c[4..], l, n) {
         return Outcome::Refused { number, place };
     }
     strengths_check(m, c, s, pairs, steps)

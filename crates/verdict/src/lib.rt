@@ -30,8 +30,9 @@ use scope::{Outcome, Place, Verdict};
 use shape::mesh_checks::mesh_shape;
 use shape::pairs::PAIR_BYTES;
 
-// What is said of the numbers of a mesh: what they are refused for, 1 to 8, 42, 44, 45 and 46, or that they pass, and then its
-// counts and its pairs of a node and a soil. These are made once a mesh, and lent to the judging of each claim on it.
+// What is said of the numbers of a mesh: what they are refused for, 1 to 8, 42, 44, 45 and 46, or that they pass, and
+// then its counts and its pairs of a node and a soil. These are made once a mesh, and lent to the judging of each claim
+// on it.
 #[derive(Clone, Copy)]
 pub struct MeshAnswer {
     pub outcome: Outcome,
@@ -39,23 +40,24 @@ pub struct MeshAnswer {
     pub pairs: [u8; PAIR_BYTES],
 }
 
+const NO_SIZES: Sizes = Sizes {
+    nodes: 0,
+    elements: 0,
+    soils: 0,
+    edges: 0,
+    sides: 0,
+    jumps: 0,
+    pairs: 0,
+};
+
 // A mesh that is refused: it has no counts and no pairs.
 fn refused_mesh(number: u32, place: Place) -> MeshAnswer
     ensures { (result.outcome ≡ Outcome.Refused number place) × (result.sizes ≡ no_sizes)
         × (result.pairs ≡ replicate (2 * most_pairs) 0) }
 {
-    let sizes = Sizes {
-        nodes: 0,
-        elements: 0,
-        soils: 0,
-        edges: 0,
-        sides: 0,
-        jumps: 0,
-        pairs: 0,
-    };
     MeshAnswer {
         outcome: Outcome::Refused { number, place },
-        sizes,
+        sizes: NO_SIZES,
         pairs: [0; PAIR_BYTES],
     }
 }
@@ -66,15 +68,13 @@ fn judge_shape(m: &[i64], s: Sizes) -> MeshAnswer
     ensures { MeshAnswered m.now result }
 {
     let shape = mesh_shape(m, s);
-    let outcome = shape.outcome;
-    if let Outcome::Refused { number, place } = outcome {
+    if let Outcome::Refused { number, place } = shape.outcome {
         return refused_mesh(number, place);
     }
-    let sizes = with_pairs(s, shape.count);
     let pairs = shape.pairs;
     MeshAnswer {
         outcome: Outcome::Passed,
-        sizes,
+        sizes: with_pairs(s, shape.count),
         pairs,
     }
 }
@@ -83,8 +83,7 @@ fn judge_shape(m: &[i64], s: Sizes) -> MeshAnswer
 pub fn judge_mesh(m: &[i64]) -> MeshAnswer
     ensures { MeshAnswered m.now result }
 {
-    let lines = mesh_lines(m, false);
-    if let Outcome::Refused { number, place } = lines {
+    if let Outcome::Refused { number, place } = mesh_lines(m, false) {
         return refused_mesh(number, place);
     }
     judge_shape(m, sizes_of(m))
@@ -96,8 +95,7 @@ fn judge_filled(m: &[i64], s: Sizes, t: &[i64], out: &mut [i64]) -> MeshAnswer
     ensures { TabledAnswered t.now m.now result out.new }
 {
     let n = table_count(t.len());
-    let layers = layers_check(out, s, t, n);
-    if let Outcome::Refused { number, place } = layers {
+    if let Outcome::Refused { number, place } = layers_check(out, s, t, n) {
         return refused_mesh(number, place);
     }
     fill(m, s, t, n, out);
@@ -110,8 +108,7 @@ pub fn judge_layers(m: &[i64], t: &[i64], out: &mut [i64]) -> MeshAnswer
     ensures { TabledAnswered t.now m.now result out.new }
 {
     let s = header_sizes(m);
-    let lines = table_lines(t, s);
-    if let Outcome::Refused { number, place } = lines {
+    if let Outcome::Refused { number, place } = table_lines(t, s) {
         return refused_mesh(number, place);
     }
     name_soils(out, s);
@@ -123,11 +120,7 @@ pub fn copy_numbers(m: &[i64], out: &mut [i64])
     requires { length m.now ≤ length out.old }
     ensures { take (length m.now) out.new ≡ m.now }
 {
-    let mut j: usize = 0;
-    while j < m.len() {
-        out[j] = m[j];
-        j += 1;
-    }
+    out[..m.len()].copy_from_slice(m);
 }
 
 // A mesh and its table, judged; where both pass, the mesh's numbers are filled.
@@ -135,14 +128,12 @@ pub fn judge_tabled(m: &mut [i64], t: &[i64]) -> MeshAnswer
     requires { has_table t.now ≡ true }
     ensures { TabledAnswered t.now m.old result m.new }
 {
-    let lines = mesh_lines(m, true);
-    if let Outcome::Refused { number, place } = lines {
+    if let Outcome::Refused { number, place } = mesh_lines(m, true) {
         return refused_mesh(number, place);
     }
     let mut copy = [0i64; MESH_NUMBERS];
     copy_numbers(m, &mut copy);
-    let count = m.len();
-    judge_layers(&copy[..count], t, m)
+    judge_layers(&copy[..m.len()], t, m)
 }
 
 // The verdict on a claim's numbers on a judged mesh, whose counts and pairs are lent.
@@ -150,8 +141,7 @@ pub fn judge_claim(m: &[i64], s: Sizes, pairs: &[u8], c: &[i64]) -> Verdict
     requires { SoundMesh m.now s pairs.now }
     ensures { result ≡ claim_verdict m.now c.now }
 {
-    let lines = claim_lines(c, s);
-    if let Outcome::Refused { number, place } = lines {
+    if let Outcome::Refused { number, place } = claim_lines(c, s) {
         return Verdict::Refused { number, place };
     }
     parts_verdict(m, c, s, pairs)
@@ -162,12 +152,10 @@ fn check_alone(m: &[i64], c: &[i64]) -> Verdict
     ensures { result ≡ verdict m.now c.now }
 {
     let mesh = judge_mesh(m);
-    let outcome = mesh.outcome;
-    if let Outcome::Refused { number, place } = outcome {
+    if let Outcome::Refused { number, place } = mesh.outcome {
         return Verdict::Refused { number, place };
     }
-    let sizes = mesh.sizes;
-    judge_claim(m, sizes, &mesh.pairs, c)
+    judge_claim(m, mesh.sizes, &mesh.pairs, c)
 }
 
 // The same where the mesh's lines have passed and there is a table; `out` is a copy of the mesh's numbers.
@@ -176,28 +164,24 @@ fn check_filled(m: &[i64], t: &[i64], out: &mut [i64], c: &[i64]) -> Verdict
     ensures { result ≡ tabled_verdict t.now m.now c.now }
 {
     let mesh = judge_layers(m, t, out);
-    let outcome = mesh.outcome;
-    if let Outcome::Refused { number, place } = outcome {
+    if let Outcome::Refused { number, place } = mesh.outcome {
         return Verdict::Refused { number, place };
     }
-    let sizes = mesh.sizes;
-    judge_claim(out, sizes, &mesh.pairs, c)
+    judge_claim(out, mesh.sizes, &mesh.pairs, c)
 }
 
-// The verdict on a mesh, a table and a claim handed over as numbers; an empty table is none. The mesh is copied only where
-// there is a table, and once its lines have passed.
+// The verdict on a mesh, a table and a claim handed over as numbers; an empty table is none. The mesh is copied only
+// where there is a table, and once its lines have passed.
 pub fn check_numbers(m: &[i64], t: &[i64], c: &[i64]) -> Verdict
     ensures { result ≡ tabled_verdict t.now m.now c.now }
 {
-    if t.len() == 0 {
+    if t.is_empty() {
         return check_alone(m, c);
     }
-    let lines = mesh_lines(m, true);
-    if let Outcome::Refused { number, place } = lines {
+    if let Outcome::Refused { number, place } = mesh_lines(m, true) {
         return Verdict::Refused { number, place };
     }
     let mut copy = [0i64; MESH_NUMBERS];
     copy_numbers(m, &mut copy);
-    let count = m.len();
-    check_filled(m, t, &mut copy[..count], c)
+    check_filled(m, t, &mut copy[..m.len()], c)
 }

@@ -11,12 +11,12 @@ use Rattle.verdict.proofs.judge_layers.Goals as goal
 pub header_sizes-s-requires : goal.header_sizes-s-requires
 header_sizes-s-requires c = header_there c.requires.0
 
-pub table_lines-lines-requires : goal.table_lines-lines-requires
-table_lines-lines-requires c = few_sizes c.header_sizes-s.ensures
+pub table_lines-requires : goal.table_lines-requires
+table_lines-requires c = few_sizes c.header_sizes-s.ensures
 
 pub returns-in-Refused : goal.returns-in-Refused
 returns-in-Refused c =
-    let own = c.table_lines-lines.ensures _ (sym c.header_sizes-s.ensures.soils_are) in
+    let own = c.table_lines.ensures _ (sym c.header_sizes-s.ensures.soils_are) in
     refused_answer (table_refuses c.requires.0 (sym own ∙ c.in-Refused.is)) c.refused_mesh.ensures
 
 pub name_soils-requires : goal.name_soils-requires
@@ -25,7 +25,7 @@ name_soils-requires c =
 
 pub judge_filled-requires : goal.judge_filled-requires
 judge_filled-requires c =
-    let own = c.table_lines-lines.ensures _ (sym c.header_sizes-s.ensures.soils_are) in (
+    let own = c.table_lines.ensures _ (sym c.header_sizes-s.ensures.soils_are) in (
       record { passed = c.requires.0; sizes = c.header_sizes-s.ensures; table = sym own ∙ c.in_default.is },
       c.name_soils.ensures ∙ ap with_soils c.requires.1,
     )

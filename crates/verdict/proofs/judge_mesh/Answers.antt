@@ -10,12 +10,13 @@ use Rattle.verdict.proofs.judge_mesh.Goals as goal
 
 pub returns-in-Refused : goal.returns-in-Refused
 returns-in-Refused c =
-    refused_mesh_lem (mesh_checked _ ∙ sym (then_refuses _ (sym (plain_lines _) ∙ sym c.mesh_lines-lines.ensures ∙ c.in-Refused.is))) c.refused_mesh.ensures
+    let refused = then_refuses _ (sym (plain_lines c.args.m.now) ∙ sym c.mesh_lines.ensures ∙ c.in-Refused.is) in
+    refused_mesh_lem (mesh_checked _ ∙ sym refused) c.refused_mesh.ensures
 
 pub sizes_of-requires : goal.sizes_of-requires
 sizes_of-requires c =
     let m = c.args.m.now in
-    mesh_facts m ((lines_passed mesh_layout m).says (sym (plain_lines m) ∙ sym c.mesh_lines-lines.ensures ∙ c.in_default.is))
+    mesh_facts m ((lines_passed mesh_layout m).says (sym (plain_lines m) ∙ sym c.mesh_lines.ensures ∙ c.in_default.is))
 
 pub judge_shape-requires : goal.judge_shape-requires
-judge_shape-requires c = (c.sizes_of.ensures, sym (plain_lines _) ∙ sym c.mesh_lines-lines.ensures ∙ c.in_default.is)
+judge_shape-requires c = (c.sizes_of.ensures, sym (plain_lines _) ∙ sym c.mesh_lines.ensures ∙ c.in_default.is)

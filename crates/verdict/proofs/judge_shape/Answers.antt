@@ -7,10 +7,11 @@ use Rattle.verdict.proofs.judge_shape.Goals as goal
 
 pub returns-in-Refused : goal.returns-in-Refused
 returns-in-Refused c =
-    refused_mesh_lem (mesh_checked _ ∙ sym (then_goes_on c.requires.1 (sym c.in-Refused.is ∙ c.mesh_shape-shape.ensures.outcome))) c.refused_mesh.ensures
+    let refused = then_goes_on c.requires.1 (sym c.in-Refused.is ∙ c.mesh_shape-shape.ensures.outcome) in
+    refused_mesh_lem (mesh_checked _ ∙ sym refused) c.refused_mesh.ensures
 
-pub with_pairs-sizes-requires : goal.with_pairs-sizes-requires
-with_pairs-sizes-requires c = few_counted c.requires.1 c.mesh_shape-shape.ensures c.in_default.is
+pub with_pairs-requires : goal.with_pairs-requires
+with_pairs-requires c = few_counted c.requires.1 c.mesh_shape-shape.ensures c.in_default.is
 
 pub returns : goal.returns
-returns c = passed_mesh c.requires.0 c.requires.1 c.mesh_shape-shape.ensures c.in_default.is c.with_pairs-sizes.ensures
+returns c = passed_mesh c.requires.0 c.requires.1 c.mesh_shape-shape.ensures c.in_default.is c.with_pairs.ensures

@@ -10,10 +10,10 @@ use Rattle.verdict.proofs.judge_tabled.Goals as goal
 
 pub returns-in-Refused : goal.returns-in-Refused
 returns-in-Refused c =
-    refused_answer (lines_refuse _ _ c.requires (sym c.mesh_lines-lines.ensures ∙ c.in-Refused.is)) c.refused_mesh.ensures
+    refused_answer (lines_refuse _ _ c.requires (sym c.mesh_lines.ensures ∙ c.in-Refused.is)) c.refused_mesh.ensures
 
 pub copy_numbers-requires : goal.copy_numbers-requires
-copy_numbers-requires c = few_numbers_lem _ (sym c.mesh_lines-lines.ensures ∙ c.in_default.is)
+copy_numbers-requires c = few_numbers_lem _ (sym c.mesh_lines.ensures ∙ c.in_default.is)
 
 pub slice_bounds-copy-end : goal.slice_bounds-copy-end
 slice_bounds-copy-end c = omega (arith, simp length-take at (ap length c.copy_numbers.ensures))
@@ -24,8 +24,9 @@ slice_bounds-judge_layers-end c = sym (ap length c.copy_numbers.ensures)
 pub judge_layers-requires : goal.judge_layers-requires
 judge_layers-requires c =
     let same = c.copy_numbers.ensures in
-    let lines = sym c.mesh_lines-lines.ensures ∙ c.in_default.is in
-    (subst (λ (m : List ℤ). LinesPassed c.args.t.now m) (sym same) (record { tabled = c.requires; lines = lines }), sym same)
+    let lines = sym c.mesh_lines.ensures ∙ c.in_default.is in
+    let passed : LinesPassed c.args.t.now c.args.m.now = record { tabled = c.requires; lines = lines } in
+    (subst (λ (m : List ℤ). LinesPassed c.args.t.now m) (sym same) passed, sym same)
 
 pub returns : goal.returns
 returns c =

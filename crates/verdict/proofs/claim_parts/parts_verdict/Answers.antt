@@ -10,32 +10,50 @@ use Rattle.verdict.proofs.claim_parts.parts_verdict.Goals as goal
 pub steps_of-steps-requires : goal.steps_of-steps-requires
 steps_of-steps-requires c = sides_listed_lem c.requires.sized
 
-pub claim_field-field-requires : goal.claim_field-field-requires
-claim_field-field-requires c =
-    let judged = c.requires in record { fact_1 = judged; fact_2 = steps_as judged.sized.sides_are c.steps_of-steps.ensures }
+pub claim_field-requires : goal.claim_field-requires
+claim_field-requires c =
+    let steps = steps_as c.requires.sized.sides_are c.steps_of-steps.ensures in
+    record { lines_passed = c.requires; steps_are = steps }
 
 pub returns-in-Refused : goal.returns-in-Refused
-returns-in-Refused c = field_refused _ _ (sym c.claim_field-field.ensures ∙ c.in-Refused.is)
+returns-in-Refused c = field_refused _ _ (sym c.claim_field.ensures ∙ c.in-Refused.is)
 
-pub claim_limit-limit-requires : goal.claim_limit-limit-requires
-claim_limit-limit-requires c =
-    let judged = c.requires in record { fact_1 = judged; fact_2 = steps_as judged.sized.sides_are c.steps_of-steps.ensures }
+pub claim_limit-requires : goal.claim_limit-requires
+claim_limit-requires c =
+    record { fact_1 = c.requires; fact_2 = steps_as c.requires.sized.sides_are c.steps_of-steps.ensures }
 
 pub lower_load-requires : goal.lower_load-requires
-lower_load-requires c = record { fact_1 = claim_long c.requires.claim; fact_2 = claim_within c.requires.claim }
+lower_load-requires c =
+    record { has_header = claim_long c.requires.claim; in_range = claim_within c.requires.claim }
 
 pub open_rows-requires : goal.open_rows-requires
 open_rows-requires c =
-    record { fact_1 = (c.requires, multipliers_are c.args.m.now c.args.c.now (sym c.claim_limit-limit.ensures ∙ c.in-Exact.is)); fact_2 = steps_as c.requires.sized.sides_are c.steps_of-steps.ensures }
+    let there = multipliers_are _ _ (sym c.claim_limit.ensures ∙ c.in-Exact.is) in
+    record { fact_1 = (c.requires, there); fact_2 = steps_as c.requires.sized.sides_are c.steps_of-steps.ensures }
 
 pub lower_load-requires-in-Exact : goal.lower_load-requires-in-Exact
-lower_load-requires-in-Exact c = record { fact_1 = claim_long c.requires.claim; fact_2 = claim_within c.requires.claim }
+lower_load-requires-in-Exact c =
+    record { has_header = claim_long c.requires.claim; in_range = claim_within c.requires.claim }
 
-pub returns-in-Refused-limit : goal.returns-in-Refused-limit
-returns-in-Refused-limit c = limit_refused _ _ (sym c.claim_field-field.ensures ∙ c.in_default.is) (sym c.claim_limit-limit.ensures ∙ c.in-Refused-limit.is)
+pub returns-in-Refused-claim_limit : goal.returns-in-Refused-claim_limit
+returns-in-Refused-claim_limit c =
+    limit_refused _ _
+    (sym c.claim_field.ensures ∙ c.in_default.is)
+    (sym c.claim_limit.ensures ∙ c.in-Refused-claim_limit.is)
 
 pub returns-in-Absent : goal.returns-in-Absent
-returns-in-Absent c = limit_absent _ _ (sym c.claim_field-field.ensures ∙ c.in_default.is) (sym c.claim_limit-limit.ensures ∙ c.in-Absent.is) c.lower_load.ensures
+returns-in-Absent c =
+    limit_absent _ _
+    (sym c.claim_field.ensures ∙ c.in_default.is)
+    (sym c.claim_limit.ensures ∙ c.in-Absent.is)
+    c.lower_load.ensures
 
 pub returns-in-Exact : goal.returns-in-Exact
-returns-in-Exact c = limit_exact _ _ (sym c.claim_field-field.ensures ∙ c.in_default.is) (sym c.claim_limit-limit.ensures ∙ c.in-Exact.is) c.open_rows.ensures c.lower_load-in-Exact.ensures (exact (search (machine, unbounded) depth 30) (omega arith)) (exact (search (machine, unbounded) depth 30) (omega arith))
+returns-in-Exact c =
+    limit_exact _ _
+    (sym c.claim_field.ensures ∙ c.in_default.is)
+    (sym c.claim_limit.ensures ∙ c.in-Exact.is)
+    c.open_rows.ensures
+    c.lower_load-in-Exact.ensures
+    (exact (search (machine, unbounded) depth 30) (omega arith))
+    (exact (search (machine, unbounded) depth 30) (omega arith))

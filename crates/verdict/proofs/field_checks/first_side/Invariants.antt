@@ -2,7 +2,7 @@
 use mathlib.Core.Path.{◌≡◌}
 use mathlib.Core.Bool.{Bool}
 use mathlib.Core.List.{List}
-use Prim.Native.Nat.{ℕ, ◌-◌, ◌≤◌}
+use Prim.Native.Nat.{ℕ}
 use lib.IntN.{ℤ, pos}
 use lib.Signed.{le_z}
 use Rattle.lines.specs.SearchContracts.{first_failing}
@@ -13,7 +13,4 @@ abbrev pub test : List ℤ → List ℤ → ℕ → Bool
 test steps d k = le_z (pos 0) (side_slack d steps k)
 
 abbrev pub invariant-loop-k : goal.invariant-loop-k
-invariant-loop-k l = (l.k ≤ l.sides) × (first_failing (test l.steps l.d) l.k ≡ l.k)
-
-abbrev pub decreases-loop-k : goal.decreases-loop-k
-decreases-loop-k l = l.sides - l.k
+invariant-loop-k l = first_failing (test l.steps l.d) l.k ≡ l.k

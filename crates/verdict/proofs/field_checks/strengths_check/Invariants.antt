@@ -1,12 +1,8 @@
 -- `strengths_check` meets its contract. The loop's invariant: the strength rows of the pairs passed hold.
 use mathlib.Core.Path.{◌≡◌}
-use Prim.Native.Nat.{◌-◌, ◌≤◌}
 use Rattle.lines.specs.SearchContracts.{first_failing}
 use Rattle.criterion.specs.StrengthContracts.{pair_holds}
 use Rattle.verdict.proofs.field_checks.strengths_check.Given as goal
 
 abbrev pub invariant-loop-a : goal.invariant-loop-a
-invariant-loop-a l = (l.a ≤ l.count) × (first_failing (pair_holds l.m l.c) l.a ≡ l.a)
-
-abbrev pub decreases-loop-a : goal.decreases-loop-a
-decreases-loop-a l = l.count - l.a
+invariant-loop-a l = first_failing (pair_holds l.m l.c) l.a ≡ l.a
