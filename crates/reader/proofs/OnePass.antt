@@ -1,6 +1,7 @@
--- After a column's bytes what is kept says exactly what the column spells: by induction on the bytes that follow, from each phase.
+-- After a column's bytes what is kept says exactly what the column spells: by induction on the bytes that follow, from
+-- each phase.
 use mathlib.Core.Path.{◌≡◌, refl, sym, ap, subst, ◌∙◌}
-use mathlib.Core.Bool.{Bool, true, false, false≢true, cond}
+use mathlib.Core.Bool.{Bool, true, false, false≢true, cond, ◌&&◌}
 use mathlib.Core.List.{List, [], ◌∷◌, ◌++◌}
 use mathlib.Core.Option.{none, some, map}
 use Prim.Native.Nat.{ℕ, zero, suc, ◌+◌, ◌*◌, ◌-◌, ◌/◌, ◌%◌, ◌^◌, ◌≤◌, ◌<◌}
@@ -9,18 +10,20 @@ use native.Mathlib.Numerals.{add-one}
 use native.Mathlib.Omega.{arith}
 use lib.Dec.{eqb, leb}
 use lib.IntN.{ℤ, pos, neg_ℤ}
-use lib.ListN.{length, take, drop, get_or, length-take, length-drop}
-use lib.Seq.{take-suc, get_or-drop}
+use lib.ListN.{length, take, get_or, length-take}
+use lib.Seq.{take-suc, take_all}
 use borrow.Author.Tests.{eqb-true, eqb-false, leb-true, le-leb}
 use borrow.Table.Steps.{cases}
 use Rattle.integer.specs.Decimal.{is_digit, all_digits, value_after, proper_digits}
 use Rattle.integer.proofs.DecimalLaws.{digit_bounds}
 use Rattle.reader.specs.declared.column.Kept.{Kept}
-use Rattle.reader.specs.declared.column.Reading.{Reading}
-use Rattle.reader.specs.declared.column.Reading.TheVariants.{Number, Malformed}
+use Rattle.std.specs.Prelude.{Some, None}
+use Rattle.std.specs.Prelude.{Option as Answer}
 use Rattle.reader.specs.Spelling.{unsigned, negated, signed, read_column}
 use Rattle.reader.specs.File.{file_width}
-use Rattle.reader.specs.OnePass.{Phase, bad, blank, sign, nought, up, down, turn, digit_of, phase_after, value_over, meant, shift, Table, Stepped, Said, After, Partway, OnlySpaces, reading_of, value_bound, InOnePass}
+use Rattle.reader.specs.OnePass.{Phase, bad, blank, sign, nought, up, down, turn, digit_of, phase_after, value_over}
+use Rattle.reader.specs.OnePass.{meant, shift, Table, Stepped, Said, After, Partway, OnlySpaces, reading_of}
+use Rattle.reader.specs.OnePass.{value_bound, InOnePass}
 
 -- ---- from each phase, the bytes that follow
 
@@ -33,7 +36,8 @@ unfolding phase_after turn meant
 stays_bad [] v = refl
 stays_bad (b ∷ bs) v = stays_bad bs v
 
-from_up : (a : ℕ) (bs : List ℕ) → meant (phase_after up bs) (value_over a bs) ≡ cond (all_digits bs) (some (pos (value_after a bs))) none
+from_up : (a : ℕ) (bs : List ℕ)
+    → meant (phase_after up bs) (value_over a bs) ≡ cond (all_digits bs) (some (pos (value_after a bs))) none
 unfolding phase_after turn meant value_over all_digits value_after
 from_up a [] = refl
 from_up a (b ∷ bs) =
@@ -46,7 +50,8 @@ unfolding negated
 negated_above zero h = absurd (omega arith)
 negated_above (suc k) h = refl
 
-from_down : (a : ℕ) (bs : List ℕ) → 0 < a → meant (phase_after down bs) (value_over a bs) ≡ cond (all_digits bs) (negated (some (value_after a bs))) none
+from_down : (a : ℕ) (bs : List ℕ) → 0 < a
+    → meant (phase_after down bs) (value_over a bs) ≡ cond (all_digits bs) (negated (some (value_after a bs))) none
 unfolding phase_after turn meant value_over all_digits value_after
 from_down a [] h = negated_above a h
 from_down a (b ∷ bs) h =
@@ -76,7 +81,8 @@ proper_other b (c ∷ bs) d =
     rw (l, m))
     (λ l. rw l)
 
-unsigned_digit : (b : ℕ) (bs : List ℕ) → eqb b 48 ≡ false → is_digit b ≡ true → unsigned (b ∷ bs) ≡ cond (all_digits bs) (some (value_after (0 * 10 + (b - 48)) bs)) none
+unsigned_digit : (b : ℕ) (bs : List ℕ) → eqb b 48 ≡ false → is_digit b ≡ true
+    → unsigned (b ∷ bs) ≡ cond (all_digits bs) (some (value_after (0 * 10 + (b - 48)) bs)) none
 unfolding unsigned value_after
 unsigned_digit b bs n d = rw (proper_digit b bs n d)
 
@@ -111,7 +117,8 @@ from_sign (b ∷ bs) =
     let v = 0 * 10 + (b - 48) in
     let r = digit_bounds b (rw d tt) in
     let t : turn sign b ≡ down = rw (n, turn) (rw d) in
-    rw (t, digit_of_lem b d, unsigned_digit b bs n d) (from_down v bs (omega (arith, eqb-false b 48 n)) ∙ negated_cond (all_digits bs) (value_after v bs)))
+    rw (t, digit_of_lem b d, unsigned_digit b bs n d)
+    (from_down v bs (omega (arith, eqb-false b 48 n)) ∙ negated_cond (all_digits bs) (value_after v bs)))
     (λ d.
     let t : turn sign b ≡ bad = rw (n, turn) (rw d) in
     rw (t, unsigned_other b bs d) (stays_bad bs (value_over (0 * 10 + digit_of b) bs))))
@@ -159,7 +166,10 @@ one_pass (b ∷ bs) =
     (λ s.
     cases (eqb b 45)
     (λ m. subst (λ x. Read (x ∷ bs)) (sym (eqb-true b 45 m)) (minus_first bs))
-    (λ m. cases (eqb b 48) (λ z. subst (λ x. Read (x ∷ bs)) (sym (eqb-true b 48 z)) (zero_first bs)) (λ n. digit_first b bs s m n)))
+    (λ m.
+    cases (eqb b 48)
+    (λ z. subst (λ x. Read (x ∷ bs)) (sym (eqb-true b 48 z)) (zero_first bs))
+    (λ n. digit_first b bs s m n)))
 
 -- ---- one byte more
 
@@ -177,16 +187,21 @@ value_more a (c ∷ bs) b = value_more (a * 10 + digit_of c) bs b
 
 digit_small : (b : ℕ) → digit_of b ≤ 9
 unfolding digit_of
-digit_small b = cases (is_digit b) (λ d. let r = digit_bounds b (rw d tt) in rw d (omega arith)) (λ d. rw d (omega arith))
+digit_small b =
+    cases (is_digit b)
+    (λ d. let r = digit_bounds b (rw d tt) in rw d (omega arith)) (λ d. rw d (omega arith))
 
 value_fits : (a k : ℕ) (bs : List ℕ) → a < 10 ^ k → value_over a bs < 10 ^ (k + length bs)
 unfolding value_over
 value_fits a k [] h = rw (add-zero k) h
 value_fits a k (b ∷ bs) h =
-    rw (add-suc k (length bs), ← suc-add k (length bs)) (value_fits (a * 10 + digit_of b) (suc k) bs (omega (arith, pow-suc 10 k, digit_small b)))
+    rw (add-suc k (length bs), ← suc-add k (length bs))
+    (value_fits (a * 10 + digit_of b) (suc k) bs (omega (arith, pow-suc 10 k, digit_small b)))
 
 value_below : (bs : List ℕ) → length bs ≤ file_width → value_over 0 bs < value_bound
-value_below bs l = lt_of_lt_of_le (value_fits 0 0 bs (omega arith)) (pow-le-pow_right {n = 10} (omega arith) {j = file_width} (omega arith))
+value_below bs l =
+    lt_of_lt_of_le (value_fits 0 0 bs (omega arith))
+    (pow-le-pow_right {n = 10} (omega arith) {j = file_width} (omega arith))
 
 -- ---- the program's state after some bytes
 
@@ -213,7 +228,7 @@ shift_below down = omega arith
 phase_below : (bs : List ℕ) (c : Kept) → After bs c → c.phase < 64
 phase_below bs c a = rw a.phase (shift_below (phase_after blank bs))
 
-read_all : (bs : List ℕ) (c : Kept) (r : Reading) → After bs c → Said c r → r ≡ reading_of (read_column bs)
+read_all : (bs : List ℕ) (c : Kept) (r : Answer ℤ) → After bs c → Said c r → r ≡ reading_of (read_column bs)
 read_all bs c r a s = s.says (phase_after blank bs) a.phase ∙ ap reading_of (rw a.value (one_pass bs))
 
 -- ---- one step by the table
@@ -222,7 +237,8 @@ module _ (t : List ℕ) (h : Table t) (b : ℕ) (l : b < 256) where
   pub entry_digit : get_or t b 0 / 2 ^ 60 ≤ 9
   entry_digit = rw (h.entry b l).digit (digit_small b)
 
-  pub stepped : (c : Kept) → Stepped c b (record { phase = get_or t b 0 / 2 ^ c.phase % 64; value = c.value * 10 + get_or t b 0 / 2 ^ 60 })
+  pub stepped : (c : Kept)
+      → Stepped c b (record { phase = get_or t b 0 / 2 ^ c.phase % 64; value = c.value * 10 + get_or t b 0 / 2 ^ 60 })
   stepped c = record {
     phase = λ p e. rw e ((h.entry b l).turns p);
     below = mod-lt (get_or t b 0 / 2 ^ c.phase) (omega arith);
@@ -232,11 +248,11 @@ module _ (t : List ℕ) (h : Table t) (b : ℕ) (l : b < 256) where
 -- ---- what the state says
 
 module _ (c : Kept) where
-  pub said_malformed : c.phase < 18 → Said c Malformed
+  pub said_none : c.phase < 18 → Said c None
   unfolding shift meant reading_of
-  said_malformed l = record { says = by }
+  said_none l = record { says = by }
     where
-      by : (p : Phase) → c.phase ≡ shift p → Malformed ≡ reading_of (meant p c.value)
+      by : (p : Phase) → c.phase ≡ shift p → None ≡ reading_of (meant p c.value)
       by bad e = refl
       by blank e = refl
       by sign e = refl
@@ -244,55 +260,51 @@ module _ (c : Kept) where
       by up e = absurd (omega arith)
       by down e = absurd (omega arith)
 
-  pub said_down : (z : ℤ) → c.phase ≡ 30 → z ≡ neg_ℤ (pos c.value) → Said c (Number z)
+  pub said_down : (z : ℤ) → c.phase ≡ 30 → z ≡ neg_ℤ (pos c.value) → Said c (Some z)
   unfolding shift meant reading_of
   said_down z l v = record { says = by }
     where
-      by : (p : Phase) → c.phase ≡ shift p → Number z ≡ reading_of (meant p c.value)
+      by : (p : Phase) → c.phase ≡ shift p → Some z ≡ reading_of (meant p c.value)
       by bad e = absurd (omega arith)
       by blank e = absurd (omega arith)
       by sign e = absurd (omega arith)
       by nought e = absurd (omega arith)
       by up e = absurd (omega arith)
-      by down e = ap Number v
+      by down e = ap Some v
 
-  pub said_up : (z : ℤ) → 18 ≤ c.phase → (c.phase ≡ 30 → ⊥) → z ≡ pos c.value → Said c (Number z)
+  pub said_up : (z : ℤ) → 18 ≤ c.phase → (c.phase ≡ 30 → ⊥) → z ≡ pos c.value → Said c (Some z)
   unfolding shift meant reading_of
   said_up z l n v = record { says = by }
     where
-      by : (p : Phase) → c.phase ≡ shift p → Number z ≡ reading_of (meant p c.value)
+      by : (p : Phase) → c.phase ≡ shift p → Some z ≡ reading_of (meant p c.value)
       by bad e = absurd (omega arith)
       by blank e = absurd (omega arith)
       by sign e = absurd (omega arith)
-      by nought e = ap Number v
-      by up e = ap Number v
+      by nought e = ap Some v
+      by up e = ap Some v
       by down e = absurd (n e)
 
--- ---- the state after i bytes of the column at a place
+-- ---- the state after i bytes of a column
 
-pub part_first : (bs : List ℕ) (at : ℕ) → Partway bs at 0 (record { phase = 6; value = 0 })
-part_first bs at = record { most = omega arith; state = after_none }
+pub part_first : (bs : List ℕ) → Partway bs 0 (record { phase = 6; value = 0 })
+part_first bs = record { most = omega arith; state = after_none }
 
-module _ {bs : List ℕ} {at i : ℕ} {c : Kept} (h : Partway bs at i c) where
+module _ {bs : List ℕ} {i : ℕ} {c : Kept} (h : Partway bs i c) where
   pub part_phase : c.phase < 64
-  part_phase = phase_below (take i (drop at bs)) c h.state
+  part_phase = phase_below (take i bs) c h.state
 
   pub part_value : c.value < value_bound
-  part_value =
-      rw h.state.value (value_below (take i (drop at bs)) (omega (arith, length-take i (drop at bs))))
+  part_value = rw h.state.value (value_below (take i bs) (omega (arith, length-take i bs, h.most)))
 
-  pub part_next : {r : Kept} → i < file_width → at + i < length bs → Stepped c (get_or bs (at + i) 0) r → Partway bs at (i + 1) r
-  part_next {r} m l s =
-      let n : i < length (drop at bs) = omega (arith, length-drop at bs) in
-      record {
-        most = omega arith;
-        state = rw (add-one i, take-suc (drop at bs) i 0 n, get_or-drop at bs i 0) (after_more (take i (drop at bs)) (get_or bs (at + i) 0) c r h.state s);
-      }
+  pub part_next : {b : ℕ} {r : Kept} → i < file_width → i < length bs → b ≡ get_or bs i 0 → Stepped c b r
+      → Partway bs (i + 1) r
+  part_next {b} {r} m l e s = record {
+    most = omega arith;
+    state = rw (add-one i, take-suc bs i 0 l, ← e) (after_more (take i bs) b c r h.state s);
+  }
 
-  pub part_last : {r : Reading} → file_width ≤ i → Said c r → r ≡ reading_of (read_column (take file_width (drop at bs)))
-  part_last {r} l s =
-      let e : file_width ≡ i = omega (arith, h.most) in
-      rw e (read_all (take i (drop at bs)) c r h.state s)
+  pub part_last : {r : Answer ℤ} → length bs ≤ i → Said c r → r ≡ reading_of (read_column bs)
+  part_last {r} l s = read_all bs c r (rw take_all at h.state) s
 
 -- a space after spaces
 pub blank_stepped : {b : ℕ} → b ≡ 32 → Stepped (record { phase = 6; value = 0 }) b (record { phase = 6; value = 0 })
@@ -308,11 +320,10 @@ blank_stepped e = rw e (record { phase = by; below = omega arith; value = refl }
     by down e = absurd (omega arith)
 
 -- one byte more, where the flag says that it too is a space
-pub spaces_next : {bs : List ℕ} {at i : ℕ} {t : Bool} → (t ≡ true → OnlySpaces bs at i) → i < file_width → at + i < length bs → true ≡ cond (eqb (get_or bs (at + i) 0) 32) t false → OnlySpaces bs at (i + 1)
-spaces_next {bs} {at} {i} {t} h m l e =
-    cases (eqb (get_or bs (at + i) 0) 32)
-    (λ s. part_next (h (sym (rw s at e))) m l (blank_stepped (eqb-true (get_or bs (at + i) 0) 32 s)))
-    (λ n. absurd (false≢true (sym (rw n at e))))
+pub spaces_next : {bs : List ℕ} {i b : ℕ} (t : Bool) → (t ≡ true → OnlySpaces bs i) → i < file_width → i < length bs
+    → b ≡ get_or bs i 0 → t && eqb b 32 ≡ true → OnlySpaces bs (i + 1)
+spaces_next {b = b} true h m l e s = part_next (h refl) m l e (blank_stepped (eqb-true b 32 s))
+spaces_next false h m l e s = absurd (false≢true s)
 
 -- ---- the promise
 

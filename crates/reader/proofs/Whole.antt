@@ -1,6 +1,5 @@
 -- The numbers of a whole file, from what is said of its header and of its lines.
 use mathlib.Core.Path.{◌≡◌, refl, sym, ap, ◌∙◌}
-use mathlib.Core.Bool.{true, false, false≢true, cond}
 use mathlib.Core.List.{List, [], ◌∷◌, ◌++◌, append-nil}
 use mathlib.Core.Option.{Option, none, some}
 use Prim.Native.Nat.{ℕ, suc, ◌+◌, ◌≤◌, ◌<◌}
@@ -17,54 +16,47 @@ use Rattle.scope.specs.declared.Outcome.TheVariants.{Passed, Refused}
 use Rattle.scope.specs.Layout.{Layout, width}
 use Rattle.scope.specs.Verdict.{line_check}
 use Rattle.reader.specs.declared.file_lines.Progress.{Progress}
-use Rattle.reader.specs.File.{file_width, line_bytes, read_line, widths, read_lines, has_passed, header_passes, numbers_of}
-use Rattle.reader.specs.ReadSoFar.{start, past, written, LineTaken, LineRoom, all_numbers, LinesTaken, Room}
+use Rattle.reader.specs.File.{file_width, line_bytes, read_line, widths, read_lines, has_passed, header_passes}
+use Rattle.reader.specs.File.{numbers_of}
+use Rattle.reader.specs.ReadSoFar.{start, past, written, LineTaken, LineRoom, all_numbers, Room}
 use Rattle.reader.specs.Listed.{Listed}
 use Rattle.reader.proofs.Line.{line_means}
 use Rattle.reader.proofs.Cut.{line_there}
-use Rattle.reader.proofs.LinesRead.{drop_further}
+use Rattle.reader.proofs.LinesRead.{drop_further, listed_front}
+use Rattle.std.specs.Prelude.{Some, None}
+use Rattle.std.proofs.lemmas.Option.{same_Some}
 
 -- ---- after the last line
 
-listed_front : (n : ℕ) (out : List ℤ) → n ≤ length out → Listed (take n out ++ []) out n out
-listed_front n out l = rw (append-nil (take n out)) (record { count = sym (length-take-le n out l); list = sym (take-append-drop n out) })
-
-module _ (bs : List ℕ) (p : Progress) (out : List ℤ) (r : Room bs [] p out) where
+module _ {bs : List ℕ} {p : Progress} {out : List ℤ} (r : Room bs [] p out) where
   -- where bytes are left over there is room for one number more
-  pub left_room : p.going ≡ true → p.at < length bs → p.numbers < length out
+  pub left_room : p.at < length bs → p.numbers < length out
   unfolding all_numbers read_lines
-  left_room g h =
+  left_room h =
       let all : length (all_numbers bs [] p out) ≡ p.numbers + 1 =
-      rw (g, drop-cons bs p.at 0 h) (simp length-append (omega (arith, length-take-le p.numbers out r.front))) in
+      rw (drop-cons bs p.at 0 h) (simp length-append (omega (arith, length-take-le p.numbers out r.front))) in
       omega (arith, all, r.fits)
 
-  pub whole_stopped : p.going ≡ false → Listed (all_numbers bs [] p out) out p.numbers out
-  unfolding all_numbers
-  whole_stopped g = rw g (listed_front p.numbers out r.front)
-
-  pub whole_done : p.going ≡ true → length bs ≤ p.at → Listed (all_numbers bs [] p out) out p.numbers out
+  pub whole_done : length bs ≤ p.at → Listed (all_numbers bs [] p out) out p.numbers out
   unfolding all_numbers read_lines
-  whole_done g h = rw (g, drop_of_length-le bs h) (listed_front p.numbers out r.front)
+  whole_done h = rw (drop_of_length-le bs h) (listed_front p.numbers out r.front)
 
-  pub whole_left : p.going ≡ true → p.at < length bs → Listed (all_numbers bs [] p out) out (p.numbers + 1) (set out p.numbers (pos 0))
+  pub whole_left : p.at < length bs → Listed (all_numbers bs [] p out) out (p.numbers + 1) (set out p.numbers (pos 0))
   unfolding all_numbers read_lines
-  whole_left g h =
-      rw (g, drop-cons bs p.at 0 h)
+  whole_left h =
+      rw (drop-cons bs p.at 0 h)
       (record {
-        count = sym (length-append (take p.numbers out) (pos 0 ∷ []) ∙ ap (λ n. n + 1) (length-take-le p.numbers out r.front));
-        list = rw (add-one p.numbers) (set_split out p.numbers (pos 0) (left_room g h) ∙ sym (append_snoc (take p.numbers out) (pos 0) (drop (suc p.numbers) out)));
+        count =
+            sym (length-append (take p.numbers out) (pos 0 ∷ [])
+            ∙ ap (λ n. n + 1) (length-take-le p.numbers out r.front));
+        list =
+            rw (add-one p.numbers)
+            (set_split out p.numbers (pos 0) (left_room h)
+            ∙ sym (append_snoc (take p.numbers out) (pos 0) (drop (suc p.numbers) out)));
       })
 
--- what is listed after some lines is listed of the whole
-pub listed_after : (bs ks : List ℕ) {p q : Progress} {out mid : List ℤ} {r : ℕ} {after : List ℤ} → LinesTaken bs ks p out q mid → q.numbers ≤ length mid → Listed (all_numbers bs [] q mid) mid r after → Listed (all_numbers bs ks p out) out r after
-unfolding all_numbers
-listed_after bs ks {p} {q} {out} {mid} {r} {after} t n h =
-    let all : all_numbers bs ks p out ≡ all_numbers bs [] q mid = ap (λ x. all_numbers bs x p out) (sym (append-nil ks)) ∙ t.same [] in
-    let m : q.numbers ≤ r = omega (arith, h.count, length-append (take q.numbers mid) (cond q.going (read_lines file_width [] (drop q.at bs)) []), length-take-le q.numbers mid n) in
-    record {
-      count = h.count ∙ ap length (sym all);
-      list = h.list ∙ rw (all, drop_further q.numbers r mid out m t.others);
-    }
+-- what the goals of `finish` follow from
+pub ruleset finishes = (left_room, whole_done, whole_left)
 
 -- ---- the header
 
@@ -78,38 +70,45 @@ header_says f ns = line_check f f.header (take (header_columns f) ns) (Line 1)
 -- a header stands at the front of the list, and how far the file is read
 pub record HeaderRead (f : Layout) (bs : List ℕ) (out : List ℤ) (p : Progress) (after : List ℤ) : Type 0 where
   pub read : read_line file_width (header_columns f) bs ≡ some (take (header_columns f) after)
-  pub progress : p ≡ record { going = true; at = line_bytes file_width (header_columns f); numbers = header_columns f }
+  pub progress : p ≡ record { at = line_bytes file_width (header_columns f); numbers = header_columns f }
   pub bytes : line_bytes file_width (header_columns f) ≤ length bs
   pub room : header_columns f ≤ length after
   pub others : drop (header_columns f) after ≡ drop (header_columns f) out
 
-module _ (f : Layout) (bs : List ℕ) (out : List ℤ) {p : Progress} {after : List ℤ} where
-  pub no_header : LineTaken bs (header_columns f) start out p after → p.going ≡ false → Listed (numbers_of file_width f bs) out 0 after
+module _ (f : Layout) (bs : List ℕ) (out : List ℤ) {after : List ℤ} where
+  pub no_header : LineTaken bs (header_columns f) start out None after → Listed (numbers_of file_width f bs) out 0 after
   unfolding past written numbers_of start
-  no_header t g = by (read_line file_width (header_columns f) bs) refl t.progress t.numbers
+  no_header t = by (read_line file_width (header_columns f) bs) refl t.progress t.numbers
     where
-      by : (o : Option (List ℤ)) → read_line file_width (header_columns f) bs ≡ o → p ≡ past (header_columns f) start o → after ≡ written (header_columns f) 0 o out → Listed (numbers_of file_width f bs) out 0 after
+      by : (o : Option (List ℤ)) → read_line file_width (header_columns f) bs ≡ o
+          → None ≡ past (header_columns f) start o
+          → after ≡ written (header_columns f) 0 o out → Listed (numbers_of file_width f bs) out 0 after
       by none o e w = rw (o, numbers_of) (record { count = refl; list = w })
-      by (some zs) o e w = absurd (false≢true (sym g ∙ ap (λ q. q.going) e))
+      by (some zs) o e w = cc
 
-  pub header_read : LineTaken bs (header_columns f) start out p after → p.going ≡ true → HeaderRead f bs out p after
+module _ (f : Layout) (bs : List ℕ) (out : List ℤ) {p : Progress} {after : List ℤ} where
+  pub header_read : LineTaken bs (header_columns f) start out (Some p) after → HeaderRead f bs out p after
   unfolding past written start
-  header_read t g = by (read_line file_width (header_columns f) bs) refl t.progress t.numbers
+  header_read t = by (read_line file_width (header_columns f) bs) refl t.progress t.numbers
     where
-      by : (o : Option (List ℤ)) → read_line file_width (header_columns f) bs ≡ o → p ≡ past (header_columns f) start o → after ≡ written (header_columns f) 0 o out → HeaderRead f bs out p after
-      by none o e w = absurd (false≢true (sym (ap (λ q. q.going) e) ∙ g))
+      by : (o : Option (List ℤ)) → read_line file_width (header_columns f) bs ≡ o
+          → Some p ≡ past (header_columns f) start o → after ≡ written (header_columns f) 0 o out
+          → HeaderRead f bs out p after
+      by none o e w = cc
       by (some zs) o e w =
           let n = ((line_means file_width (header_columns f) bs zs).0 o).count in
           let w' : after ≡ zs ++ drop (header_columns f) out = w ∙ rw (zero-add (header_columns f)) in
           record {
             read = o ∙ ap some (sym (rw w' (take_at zs (drop (header_columns f) out) (header_columns f) n)));
-            progress = e ∙ rw (zero-add (line_bytes file_width (header_columns f)), zero-add (header_columns f));
+            progress =
+                same_Some _ _ e ∙ rw (zero-add (line_bytes file_width (header_columns f)), zero-add (header_columns f));
             bytes = line_there file_width (header_columns f) bs zs o;
             room = rw w' (omega (arith, length-append zs (drop (header_columns f) out)));
             others = rw w' (drop_at zs (drop (header_columns f) out) (header_columns f) n);
           }
 
-  pub header_refused : {n : ℕ} {q : Place} → HeaderRead f bs out p after → header_says f after ≡ Refused n q → Listed (numbers_of file_width f bs) out (header_columns f) after
+  pub header_refused : {n : ℕ} {q : Place} → HeaderRead f bs out p after → header_says f after ≡ Refused n q
+      → Listed (numbers_of file_width f bs) out (header_columns f) after
   unfolding numbers_of header_passes has_passed
   header_refused h e =
       rw (h.read, numbers_of)
@@ -121,36 +120,49 @@ module _ (f : Layout) (bs : List ℕ) (out : List ℤ) {p : Progress} {after : L
       })))
 
   -- all numbers are those of the header and of the lines that it tells of
-  numbers-told : HeaderRead f bs out p after → header_says f after ≡ Passed → all_numbers bs (widths (f.body (take (header_columns f) after))) p after ≡ numbers_of file_width f bs
+  numbers-told : HeaderRead f bs out p after → header_says f after ≡ Passed
+      → all_numbers bs (widths (f.body (take (header_columns f) after))) p after ≡ numbers_of file_width f bs
   unfolding all_numbers numbers_of header_passes has_passed
   numbers-told h e = rw (h.progress, h.read, numbers_of) (rw (e, header_passes))
 
   -- there is room for the lines after the header where there is for all numbers
-  pub header_room : HeaderRead f bs out p after → header_says f after ≡ Passed → length (numbers_of file_width f bs) ≤ length after → Room bs (widths (f.body (take (header_columns f) after))) p after
+  pub header_room : HeaderRead f bs out p after → header_says f after ≡ Passed
+      → length (numbers_of file_width f bs) ≤ length after
+      → Room bs (widths (f.body (take (header_columns f) after))) p after
   header_room h e l = record {
     within = omega (arith, ap (λ q. q.at) h.progress, h.bytes);
     front = omega (arith, ap (λ q. q.numbers) h.progress, h.room);
     fits = omega (arith, ap length (numbers-told h e), l);
   }
 
-  pub header_passed : {r : ℕ} {end : List ℤ} → HeaderRead f bs out p after → header_says f after ≡ Passed → Listed (all_numbers bs (widths (f.body (take (header_columns f) after))) p after) after r end → Listed (numbers_of file_width f bs) out r end
+  pub header_passed : {r : ℕ} {end : List ℤ} → HeaderRead f bs out p after → header_says f after ≡ Passed
+      → Listed (all_numbers bs (widths (f.body (take (header_columns f) after))) p after) after r end
+      → Listed (numbers_of file_width f bs) out r end
   unfolding all_numbers
   header_passed {r} {end} h e l =
       let all = numbers-told h e in
-      let rest = cond p.going (read_lines file_width (widths (f.body (take (header_columns f) after))) (drop p.at bs)) [] in
+      let rest = read_lines file_width (widths (f.body (take (header_columns f) after))) (drop p.at bs) in
       let m : header_columns f ≤ r =
-      omega (arith, l.count, length-append (take p.numbers after) rest, ap (λ q. length (take q.numbers after)) h.progress, length-take-le (header_columns f) after h.room) in
+      omega (
+        arith,
+        l.count,
+        length-append (take p.numbers after) rest,
+        ap (λ q. length (take q.numbers after)) h.progress,
+        length-take-le (header_columns f) after h.room,
+      ) in
       record {
         count = l.count ∙ ap length all;
         list = l.list ∙ rw (all, drop_further (header_columns f) r after out m h.others);
       }
 
 -- and there is room for the header itself
-pub first_room : (f : Layout) (bs : List ℕ) (out : List ℤ) → length (numbers_of file_width f bs) ≤ length out → LineRoom bs (header_columns f) start out
+pub first_room : (f : Layout) (bs : List ℕ) (out : List ℤ) → length (numbers_of file_width f bs) ≤ length out
+    → LineRoom bs (header_columns f) start out
 unfolding numbers_of start
 first_room f bs out l = record { within = omega arith; front = omega arith; fits = fits }
   where
-    front : (zs : List ℤ) → read_line file_width (header_columns f) bs ≡ some zs → length zs ≤ length (numbers_of file_width f bs)
+    front : (zs : List ℤ) → read_line file_width (header_columns f) bs ≡ some zs
+        → length zs ≤ length (numbers_of file_width f bs)
     front zs e = rw (e, numbers_of) (simp length-append (omega arith))
 
     fits : (zs : List ℤ) → read_line file_width (header_columns f) bs ≡ some zs → 0 + header_columns f ≤ length out

@@ -1,13 +1,13 @@
 -- A column read in one pass, each byte taken once, front to back: what is kept after some of its bytes, and how the
 -- program keeps it.
-use Rattle.std.specs.Prelude.{◌≡◌, refl, true, false, cond, List, [], ◌∷◌, ◌++◌, ℕ, ◌+◌, ◌*◌, ◌-◌, ◌/◌, ◌%◌, ◌^◌, ◌≤◌, ◌<◌, eqb, ℤ, pos, negsuc, neg_ℤ, length, get_or, take, drop}
+use Rattle.std.specs.Prelude.{◌≡◌, refl, true, false, cond, List, [], ◌∷◌, ◌++◌, ℕ, ◌+◌, ◌*◌, ◌-◌, ◌/◌, ◌%◌, ◌^◌, ◌≤◌}
+use Rattle.std.specs.Prelude.{◌<◌, eqb, ℤ, pos, negsuc, neg_ℤ, length, get_or, take, Some, None}
+use Rattle.std.specs.Prelude.{Option as Answer}
 use Rattle.std.proofs.Math.Option.{Option, none, some}
 use Rattle.integer.specs.Decimal.{digits_within, digits, right_justified, is_digit}
 use Rattle.reader.specs.Spelling.{spelling, column, read_column}
 use Rattle.reader.specs.File.{file_width}
 use Rattle.reader.specs.declared.column.Kept.{Kept}
-use Rattle.reader.specs.declared.column.Reading.{Reading}
-use Rattle.reader.specs.declared.column.Reading.TheVariants.{Number, Malformed}
 
 -- ---- what is kept: a phase, and the value of the digits
 
@@ -104,24 +104,24 @@ pub record Stepped (c : Kept) (b : ℕ) (r : Kept) : Type 0 where
   pub below : r.phase < 64
   pub value : r.value ≡ c.value * 10 + digit_of b
 
--- what a column says
-unfoldable pub reading_of : Option ℤ → Reading
-reading_of none = Malformed
-reading_of (some z) = Number z
+-- what a column says, as the program answers it
+unfoldable pub reading_of : Option ℤ → Answer ℤ
+reading_of none = None
+reading_of (some z) = Some z
 
 -- the program's state c says r
-pub record Said (c : Kept) (r : Reading) : Type 0 where
+pub record Said (c : Kept) (r : Answer ℤ) : Type 0 where
   pub says : (p : Phase) → c.phase ≡ shift p → r ≡ reading_of (meant p c.value)
 
--- the program's state c is the one after the bytes bs, and after i bytes of the column that begins at a place
+-- the program's state c is the one after the bytes bs, and after the first i bytes of the column bs
 pub record After (bs : List ℕ) (c : Kept) : Type 0 where
   pub phase : c.phase ≡ shift (state_after bs).0
   pub value : c.value ≡ (state_after bs).1
 
-pub record Partway (bs : List ℕ) (at i : ℕ) (c : Kept) : Type 0 where
+pub record Partway (bs : List ℕ) (i : ℕ) (c : Kept) : Type 0 where
   pub most : i ≤ file_width
-  pub state : After (take i (drop at bs)) c
+  pub state : After (take i bs) c
 
--- the first i bytes of the column that begins at a place are spaces, so that nothing is kept of them
-abbrev pub OnlySpaces : List ℕ → ℕ → ℕ → Type 0
-OnlySpaces bs at i = Partway bs at i (record { phase = 6; value = 0 })
+-- the first i bytes of the column bs are spaces, so that nothing is kept of them
+abbrev pub OnlySpaces : List ℕ → ℕ → Type 0
+OnlySpaces bs i = Partway bs i (record { phase = 6; value = 0 })

@@ -1,5 +1,5 @@
 // A column's bytes, taken once each, front to back, into a state of fixed size that copies none of them.
-ghost use Rattle.std.specs.Prelude.{◌≡◌, false, cond, ◌+◌, ◌≤◌, ◌<◌, eqb, length, take, drop};
+ghost use Rattle.std.specs.Prelude.{◌≡◌, ◌≤◌, ◌<◌, length};
 ghost use Rattle.reader.specs.Spelling.{read_column};
 ghost use Rattle.reader.specs.File.{file_width};
 ghost use Rattle.reader.specs.OnePass.{Table, value_bound, Stepped, Said, Partway, OnlySpaces, reading_of};
@@ -17,13 +17,6 @@ const FRONT_BYTES: usize = COLUMN_BYTES - 4;
 struct Kept {
     phase: u64,
     value: u64,
-}
-
-// What a column says.
-#[derive(Clone, Copy)]
-pub enum Reading {
-    Number(i64),
-    Malformed,
 }
 
 // The phases: what no number begins with; only spaces; a minus; a zero alone; digits; a minus and digits.
@@ -76,33 +69,36 @@ const NONE_TAKEN: Kept = Kept {
 };
 
 // The entries of all bytes, made once for a file and lent.
-pub fn table() -> [u64; 256]
-    ensures { Table result }
-{
-    let mut t = [BAD; 256];
-    t[32] = SPACE;
-    t[45] = MINUS;
-    t[48] = ZERO;
-    t[49] = ONE;
-    t[50] = TWO;
-    t[51] = THREE;
-    t[52] = FOUR;
-    t[53] = FIVE;
-    t[54] = SIX;
-    t[55] = SEVEN;
-    t[56] = EIGHT;
-    t[57] = NINE;
-    t
+#[derive(Drop)]
+pub struct Entries {
+    of_byte: [u64; 256],
+    ghost is_table: { Table of_byte },
+}
+
+pub fn table() -> Entries {
+    let mut of_byte = [BAD; 256];
+    of_byte[32] = SPACE;
+    of_byte[45] = MINUS;
+    of_byte[48] = ZERO;
+    of_byte[49] = ONE;
+    of_byte[50] = TWO;
+    of_byte[51] = THREE;
+    of_byte[52] = FOUR;
+    of_byte[53] = FIVE;
+    of_byte[54] = SIX;
+    of_byte[55] = SEVEN;
+    of_byte[56] = EIGHT;
+    of_byte[57] = NINE;
+    Entries { of_byte }
 }
 
 // The state after one byte more.
-fn step(table: &[u64; 256], c: Kept, b: u8) -> Kept
-    requires fact_1 { Table table.now }
-    requires fact_2 { c.phase < 64 }
-    requires fact_3 { c.value < value_bound }
+fn step(entries: &Entries, c: Kept, b: u8) -> Kept
+    requires phase { c.phase < 64 }
+    requires value { c.value < value_bound }
     ensures { Stepped c b result }
 {
-    let entry = table[b as usize];
+    let entry = entries.of_byte[usize::from(b)];
     Kept {
         phase: (entry >> c.phase) % 64,
         value: c.value * 10 + (entry >> 60),
@@ -110,86 +106,62 @@ fn step(table: &[u64; 256], c: Kept, b: u8) -> Kept
 }
 
 // What the state after a column's last byte says.
-fn said(c: Kept) -> Reading
+fn said(c: Kept) -> Option<i64>
     requires { c.value < value_bound }
     ensures { Said c result }
 {
     if c.phase < NOUGHT {
-        return Reading::Malformed;
+        return None;
     }
     let value = c.value as i64;
-    if c.phase == DOWN {
-        return Reading::Number(-value);
-    }
-    Reading::Number(value)
+    Some(if c.phase == DOWN { -value } else { value })
 }
 
 // What the rest of a column says, from its byte `from` on, after the state c.
-fn rest_of(table: &[u64; 256], bytes: &[u8], at: usize, from: usize, c: Kept) -> Reading
-    requires fact_1 { Table table.now }
-    requires fact_2 { at + file_width ≤ length bytes.now }
-    requires fact_3 { Partway bytes.now at from c }
-    ensures { result ≡ reading_of (read_column (take file_width (drop at bytes.now))) }
+fn rest_of(entries: &Entries, bytes: &[u8], from: usize, c: Kept) -> Option<i64>
+    requires whole { length bytes.now ≡ file_width }
+    requires so_far { Partway bytes.now from c }
+    ensures { result ≡ reading_of (read_column bytes.now) }
 {
     let mut kept = c;
-    let mut i = from;
-    while i < COLUMN_BYTES {
-        kept = step(table, kept, bytes[at + i]);
-        i += 1;
+    for b in &bytes[from..] {
+        kept = step(entries, kept, *b);
     }
     said(kept)
 }
 
-// What a column says whose bytes before byte `from` are spaces. Spaces leave the first state as it is, so for speed a
-// loop of its own passes over them, and the first other byte is stepped from the local that was compared. The last byte
-// of a number is a digit, so it is stepped without being compared.
-fn after_spaces(table: &[u64; 256], bytes: &[u8], at: usize, from: usize) -> Reading
-    requires fact_1 { Table table.now }
-    requires fact_2 { at + file_width ≤ length bytes.now }
-    requires fact_3 { OnlySpaces bytes.now at from }
-    ensures { result ≡ reading_of (read_column (take file_width (drop at bytes.now))) }
+// What a column says whose bytes before byte `FRONT_BYTES` are spaces. Spaces leave the first state as it is, so for
+// speed a loop of its own passes over them, and the first other byte is stepped from the local that was compared. The
+// last byte of a number is a digit, so it is stepped without being compared.
+fn after_spaces(entries: &Entries, bytes: &[u8]) -> Option<i64>
+    requires whole { length bytes.now ≡ file_width }
+    requires so_far { OnlySpaces bytes.now FRONT_BYTES }
+    ensures { result ≡ reading_of (read_column bytes.now) }
 {
-    let mut i = from;
-    while i < LAST_BYTE {
-        let b = bytes[at + i];
+    for i in FRONT_BYTES..LAST_BYTE {
+        let b = bytes[i];
         if b != 32 {
-            let c = step(table, NONE_TAKEN, b);
-            return rest_of(table, bytes, at, i + 1, c);
+            return rest_of(entries, bytes, i + 1, step(entries, NONE_TAKEN, b));
         }
-        i += 1;
     }
-    rest_of(table, bytes, at, i, NONE_TAKEN)
+    rest_of(entries, bytes, LAST_BYTE, NONE_TAKEN)
 }
 
-// Whether only spaces have come, after one byte more.
-fn still_blank(before: bool, b: u8) -> bool
-    ensures { result ≡ cond (eqb b 32) before false }
-{
-    if b != 32 {
-        return false;
-    }
-    before
-}
-
-// The column whose first byte has the place `at`: each byte is indexed once, front to back, and goes into the state.
-// Where only spaces have come the state is the first one: the program goes on with that, so that it need not wait for
-// the steps.
-pub fn column(table: &[u64; 256], bytes: &[u8], at: usize) -> Reading
-    requires fact_1 { Table table.now }
-    requires fact_2 { at + file_width ≤ length bytes.now }
-    ensures { result ≡ reading_of (read_column (take file_width (drop at bytes.now))) }
+// What a column says: each byte is indexed once, front to back, and goes into the state. Where only spaces have come
+// the state is the first one: the program goes on with that, so that it need not wait for the steps.
+pub fn column(entries: &Entries, bytes: &[u8]) -> Option<i64>
+    requires { length bytes.now ≡ file_width }
+    ensures { result ≡ reading_of (read_column bytes.now) }
 {
     let mut kept = NONE_TAKEN;
     let mut blank = true;
-    let mut i: usize = 0;
-    while i < FRONT_BYTES {
-        let b = bytes[at + i];
-        kept = step(table, kept, b);
-        blank = still_blank(blank, b);
-        i += 1;
+    for b in &bytes[..FRONT_BYTES] {
+        let b = *b;
+        kept = step(entries, kept, b);
+        blank &= b == 32;
     }
     if blank {
-        return after_spaces(table, bytes, at, i);
+        return after_spaces(entries, bytes);
     }
-    rest_of(table, bytes, at, i, kept)
+    rest_of(entries, bytes, FRONT_BYTES, kept)
 }

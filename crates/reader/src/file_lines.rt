@@ -1,9 +1,7 @@
 // Lines of columns into numbers: a line's numbers are written where the whole line is well formed.
-ghost use Rattle.std.specs.Prelude.{◌≡◌, cond, [], ◌++◌, ◌+◌, ◌≤◌, length, take, drop};
+ghost use Rattle.std.specs.Prelude.{◌≡◌, cond, [], ◌≤◌, length, IfOk, IfErr};
 ghost use Rattle.std.proofs.Math.Option.{none, some};
 ghost use Rattle.lines.specs.Table.{most_columns, Known, line_widths};
-ghost use Rattle.scope.specs.Layers.{layer_columns};
-ghost use Rattle.reader.specs.OnePass.{Table};
 ghost use Rattle.reader.specs.File.{file_width, read_line, table_numbers_of};
 ghost use Rattle.reader.specs.ReadSoFar.{
   start,
@@ -11,6 +9,7 @@ ghost use Rattle.reader.specs.ReadSoFar.{
   LineRoom,
   lines_of,
   LinesTaken,
+  LinesStopped,
   all_numbers,
   Room,
   RoomBefore,
@@ -18,218 +17,169 @@ ghost use Rattle.reader.specs.ReadSoFar.{
 };
 ghost use Rattle.reader.specs.Listed.{Listed};
 
-use crate::column::{COLUMN_BYTES, Reading, column};
+use crate::column::{COLUMN_BYTES, Entries, column};
 use lines::layout::{GROUPS, Group};
 use mesh::sizes::{LAYER_COLUMNS, MOST_LAYERS, MOST_SIDES};
 
-// How far a file is read: whether its lines so far are all well formed, the place of its next byte, and how many
-// numbers it has so far.
+// How far a file is read: the place of its next byte, and how many numbers it has so far.
 #[derive(Clone, Copy)]
 pub struct Progress {
-    pub going: bool,
     pub at: usize,
     pub numbers: usize,
 }
 
-// The line of some columns whose first byte has the place `at`: whether it is well formed, and its numbers.
-fn read_line(table: &[u64; 256], bytes: &[u8], at: usize, columns: usize, line: &mut [i64]) -> bool
-    requires fact_1 { Table table.now }
-    requires fact_2 { at ≤ length bytes.now }
-    requires fact_3 { columns ≤ length line.old }
-    requires fact_4 { columns ≤ most_columns }
-    ensures { read_line file_width columns (drop at bytes.now)
-        ≡ cond result (some (take columns line.new)) none }
+const START: Progress = Progress { at: 0, numbers: 0 };
+
+// The line at the front of these bytes, with as many columns as `line` has numbers: whether it is well formed, and its
+// numbers.
+fn read_line(entries: &Entries, bytes: &[u8], line: &mut [i64]) -> bool
+    requires { length line.old ≤ most_columns }
+    ensures { read_line file_width (length line.old) bytes.now
+        ≡ cond result (some line.new) none }
 {
-    if bytes.len() - at < columns * COLUMN_BYTES + 1 {
+    if bytes.len() < line.len() * COLUMN_BYTES + 1 {
         return false;
     }
-    let mut from = at;
-    let mut j: usize = 0;
-    while j < columns {
-        let reading = column(table, bytes, from);
-        let Reading::Number(z) = reading else {
+    let mut rest = bytes;
+    for number in line.iter_mut() {
+        let (text, after) = rest.split_at(COLUMN_BYTES);
+        let Some(z) = column(entries, text) else {
             return false;
         };
-        line[j] = z;
-        from += COLUMN_BYTES;
-        j += 1;
+        *number = z;
+        rest = after;
     }
-    bytes[from] == 10
+    rest[0] == 10
 }
 
-// The first numbers of a line into a list.
-fn copy(line: &[i64], columns: usize, out: &mut [i64], from: usize)
-    requires fact_1 { columns ≤ length line.now }
-    requires fact_2 { from + columns ≤ length out.old }
-    ensures { out.new
-        ≡ take from out.old ++ take columns line.now
-        ++ drop (from + columns) out.old }
-{
-    let mut j: usize = 0;
-    while j < columns {
-        out[from + j] = line[j];
-        j += 1;
-    }
-}
-
-// One line more. The array `line` is room for its numbers until the whole line is known to be well formed.
+// One line more, with as many columns as `line` has numbers: none where it is not well formed. The slice `line` is room
+// for its numbers until the whole line is known to be.
 fn next_line(
-    table: &[u64; 256],
+    entries: &Entries,
     bytes: &[u8],
     p: Progress,
-    columns: usize,
     line: &mut [i64],
     out: &mut [i64],
-) -> Progress
-    requires fact_1 { Table table.now }
-    requires fact_2 { columns ≤ most_columns }
-    requires fact_3 { columns ≤ length line.old }
-    requires fact_4 { LineRoom bytes.now columns p out.old }
-    ensures { LineTaken bytes.now columns p out.old result out.new }
+) -> Option<Progress>
+    requires few { length line.old ≤ most_columns }
+    requires room { LineRoom bytes.now (length line.old) p out.old }
+    ensures { LineTaken bytes.now (length line.old) p out.old result out.new }
 {
-    let at = p.at;
-    let numbers = p.numbers;
-    if !read_line(table, bytes, at, columns, line) {
-        return Progress {
-            going: false,
-            at,
-            numbers,
-        };
+    if !read_line(entries, &bytes[p.at..], line) {
+        return None;
     }
-    copy(line, columns, out, numbers);
-    Progress {
-        going: true,
-        at: at + columns * COLUMN_BYTES + 1,
-        numbers: numbers + columns,
-    }
+    let columns = line.len();
+    out[p.numbers..p.numbers + columns].copy_from_slice(line);
+    Some(Progress {
+        at: p.at + columns * COLUMN_BYTES + 1,
+        numbers: p.numbers + columns,
+    })
 }
 
-// Lines of a group. The array `line` is lent, so that it is made once for a file.
+// Lines of a group: how far the file is read, or, where a line is not well formed, how many numbers it has. The array
+// `line` is lent, so that it is made once for a file.
 fn read_group(
-    table: &[u64; 256],
+    entries: &Entries,
     bytes: &[u8],
     p: Progress,
     g: Group,
-    line: &mut [i64],
+    line: &mut [i64; MOST_SIDES],
     out: &mut [i64],
-) -> Progress
-    requires fact_1 { Table table.now }
-    requires fact_2 { g.columns ≤ most_columns }
-    requires fact_3 { most_columns ≤ length line.old }
-    requires fact_4 { RoomBefore bytes.now (lines_of g) p out.old }
-    ensures { LinesTaken bytes.now (lines_of g) p out.old result out.new }
+) -> Result<Progress, usize>
+    requires few { g.columns ≤ most_columns }
+    requires room { RoomBefore bytes.now (lines_of g) p out.old }
+    ensures read { IfOk result (λ q. LinesTaken bytes.now (lines_of g) p out.old q out.new) }
+    ensures stopped { IfErr result (λ n. LinesStopped bytes.now (lines_of g) p out.old n out.new) }
 {
-    let lines = g.lines;
-    let columns = g.columns;
+    let line = &mut line[..g.columns];
     let mut q = p;
-    let mut i: usize = 0;
-    while i < lines {
-        if !q.going {
-            return q;
-        }
-        q = next_line(table, bytes, q, columns, line, out);
-        i += 1;
+    for _ in 0..g.lines {
+        q = next_line(entries, bytes, q, line, out).ok_or(q.numbers)?;
     }
-    q
+    Ok(q)
 }
 
 // After the last line: bytes left over add one number more.
-fn finish(bytes: &[u8], p: Progress, out: &mut [i64]) -> usize
+#[tactic(auto, using(crate::proofs::Whole::finishes))]
+pub fn finish(bytes: &[u8], p: Progress, out: &mut [i64]) -> usize
     requires { Room bytes.now [] p out.old }
-    ensures { Listed (all_numbers bytes.now [] p out.old) out.old result
-        out.new }
+    ensures { Listed (all_numbers bytes.now [] p out.old) out.old result out.new }
 {
-    let numbers = p.numbers;
-    if !p.going {
-        return numbers;
+    if p.at < bytes.len() {
+        out[p.numbers] = 0;
+        return p.numbers + 1;
     }
-    let at = p.at;
-    if at < bytes.len() {
-        out[numbers] = 0;
-        return numbers + 1;
-    }
-    numbers
+    p.numbers
 }
 
 // The header, which is the first line, of so many columns.
-pub fn read_header(table: &[u64; 256], bytes: &[u8], columns: usize, out: &mut [i64]) -> Progress
-    requires fact_1 { Table table.now }
-    requires fact_2 { columns ≤ most_columns }
-    requires fact_3 { LineRoom bytes.now columns start out.old }
+pub fn read_header(
+    entries: &Entries,
+    bytes: &[u8],
+    columns: usize,
+    out: &mut [i64],
+) -> Option<Progress>
+    requires few { columns ≤ most_columns }
+    requires room { LineRoom bytes.now columns start out.old }
     ensures { LineTaken bytes.now columns start out.old result out.new }
 {
-    let start = Progress {
-        going: true,
-        at: 0,
-        numbers: 0,
-    };
     let mut line = [0; MOST_SIDES];
-    next_line(table, bytes, start, columns, &mut line, out)
+    next_line(entries, bytes, START, &mut line[..columns], out)
 }
 
-// The groups of lines after a header.
+// The groups of lines after a header, as `read_group` reads one.
 fn read_all(
-    table: &[u64; 256],
+    entries: &Entries,
     bytes: &[u8],
     p: Progress,
     groups: [Group; GROUPS],
-    line: &mut [i64],
     out: &mut [i64],
-) -> Progress
-    requires fact_1 { Table table.now }
-    requires fact_2 { most_columns ≤ length line.old }
-    requires fact_3 { Known groups }
-    requires fact_4 { Room bytes.now (line_widths groups) p out.old }
-    ensures { LinesTaken bytes.now (line_widths groups) p out.old result out.new }
+) -> Result<Progress, usize>
+    requires known { Known groups }
+    requires room { Room bytes.now (line_widths groups) p out.old }
+    ensures read { IfOk result (λ q. LinesTaken bytes.now (line_widths groups) p out.old q out.new) }
+    ensures stopped { IfErr result
+        (λ n. LinesStopped bytes.now (line_widths groups) p out.old n out.new) }
 {
+    let mut line = [0; MOST_SIDES];
     let mut q = p;
-    let mut k: usize = 0;
-    while k < GROUPS {
-        q = read_group(table, bytes, q, groups[k], line, out);
-        k += 1;
+    for g in groups {
+        q = read_group(entries, bytes, q, g, &mut line, out)?;
     }
-    q
+    Ok(q)
 }
 
 // The groups of lines after a header, and what is left over.
 pub fn read_groups(
-    table: &[u64; 256],
+    entries: &Entries,
     bytes: &[u8],
     p: Progress,
     groups: [Group; GROUPS],
     out: &mut [i64],
 ) -> usize
-    requires fact_1 { Table table.now }
-    requires fact_2 { Known groups }
-    requires fact_3 { Room bytes.now (line_widths groups) p out.old }
+    requires known { Known groups }
+    requires room { Room bytes.now (line_widths groups) p out.old }
     ensures { Listed (all_numbers bytes.now (line_widths groups) p out.old)
         out.old result out.new }
 {
-    let mut line = [0; MOST_SIDES];
-    let q = read_all(table, bytes, p, groups, &mut line, out);
-    finish(bytes, q, out)
+    match read_all(entries, bytes, p, groups, out) {
+        Ok(q) => finish(bytes, q, out),
+        Err(numbers) => numbers,
+    }
 }
 
-// The well-formed lines of a table, which has no header: the place of the byte after them says whether more
-// follows. The array `line` is room for a line.
-pub fn read_rows(table: &[u64; 256], bytes: &[u8], line: &mut [i64], out: &mut [i64]) -> Progress
-    requires fact_1 { Table table.now }
-    requires fact_2 { layer_columns ≤ length line.old }
-    requires fact_3 { length (table_numbers_of file_width bytes.now) ≤ length out.old }
+// The well-formed lines of a table, which has no header: the place of the byte after them says whether more follows.
+pub fn read_rows(entries: &Entries, bytes: &[u8], out: &mut [i64]) -> Progress
+    requires { length (table_numbers_of file_width bytes.now) ≤ length out.old }
     ensures { RowsTaken bytes.now out.old result out.new }
 {
-    let mut q = Progress {
-        going: true,
-        at: 0,
-        numbers: 0,
-    };
-    let mut k: usize = 0;
-    while k < MOST_LAYERS {
-        if !q.going {
+    let mut line = [0; LAYER_COLUMNS];
+    let mut q = START;
+    for _ in 0..MOST_LAYERS {
+        let Some(next) = next_line(entries, bytes, q, &mut line, out) else {
             return q;
-        }
-        q = next_line(table, bytes, q, LAYER_COLUMNS, line, out);
-        k += 1;
+        };
+        q = next;
     }
     q
 }

@@ -12,14 +12,13 @@ ghost use Rattle.scope.specs.Mesh.{mesh_layout};
 ghost use Rattle.mesh.specs.MeshContracts.{HeaderThere, FewThings};
 ghost use Rattle.lines.specs.Table.{Known, claim_body};
 ghost use Rattle.reader.specs.File.{file_width, numbers_of, table_numbers_of, widths};
-ghost use Rattle.reader.specs.OnePass.{Table};
 ghost use Rattle.reader.specs.ReadSoFar.{all_numbers, Room};
 ghost use Rattle.reader.specs.Listed.{Listed, ClaimRoom, ClaimListed};
 ghost use Rattle.reader.specs.Most.{most_numbers};
 ghost use Rattle.reader.specs.TableBytes.{most_bytes, bytes_in};
 
-use crate::column::{COLUMN_BYTES, table};
-use crate::file_lines::{Progress, read_groups, read_header, read_rows};
+use crate::column::{COLUMN_BYTES, Entries, table};
+use crate::file_lines::{Progress, finish, read_groups, read_header, read_rows};
 use lines::layout::{
     CLAIM_HEADER, GROUPS, Group, STRESS_COLUMNS, claim_groups, has_part, mesh_groups,
 };
@@ -56,16 +55,15 @@ pub fn most_numbers(bytes: usize) -> usize
 }
 
 // The lines after a mesh's header, which stands at the front of `out`.
-fn mesh_body(table: &[u64; 256], bytes: &[u8], p: Progress, out: &mut [i64]) -> usize
-    requires fact_1 { Table table.now }
-    requires fact_2 { HeaderThere out.old }
-    requires fact_3 { Room bytes.now (widths (mesh_layout.body out.old)) p out.old }
+fn mesh_body(entries: &Entries, bytes: &[u8], p: Progress, out: &mut [i64]) -> usize
+    requires header { HeaderThere out.old }
+    requires room { Room bytes.now (widths (mesh_layout.body out.old)) p out.old }
     ensures { Listed
         (all_numbers bytes.now (widths (mesh_layout.body out.old)) p out.old)
         out.old result out.new }
 {
     let groups = mesh_groups(header_sizes(out), false);
-    read_groups(table, bytes, p, groups, out)
+    read_groups(entries, bytes, p, groups, out)
 }
 
 // The numbers of a mesh file, and how many they are: the list that is lent has room for them.
@@ -75,12 +73,10 @@ pub fn read_mesh(bytes: &[u8], out: &mut [i64]) -> usize
         out.new }
 {
     let entries = table();
-    let p = read_header(&entries, bytes, MESH_HEADER, out);
-    if !p.going {
+    let Some(p) = read_header(&entries, bytes, MESH_HEADER, out) else {
         return 0;
-    }
-    let header = mesh_header(out);
-    let Outcome::Passed = header else {
+    };
+    let Outcome::Passed = mesh_header(out) else {
         return p.numbers;
     };
     mesh_body(&entries, bytes, p, out)
@@ -93,29 +89,22 @@ pub fn read_table(bytes: &[u8], out: &mut [i64]) -> usize
     ensures { Listed (table_numbers_of file_width bytes.now) out.old result
         out.new }
 {
-    let entries = table();
-    let mut line = [0; LAYER_COLUMNS];
-    let p = read_rows(&entries, bytes, &mut line, out);
-    let numbers = p.numbers;
-    if p.at < bytes.len() {
-        out[numbers] = 0;
-        return numbers + 1;
-    }
-    numbers
+    let p = read_rows(&table(), bytes, out);
+    finish(bytes, p, out)
 }
 
 // The lines after a claim's header, which stands at the front of `out`.
-fn claim_body(table: &[u64; 256], bytes: &[u8], p: Progress, s: Sizes, out: &mut [i64]) -> usize
-    requires fact_1 { Table table.now }
-    requires fact_2 { FewThings s }
-    requires fact_3 { Room bytes.now (widths (claim_body s (has_field out.old) (has_multipliers out.old))) p out.old }
+fn claim_body(entries: &Entries, bytes: &[u8], p: Progress, s: Sizes, out: &mut [i64]) -> usize
+    requires few { FewThings s }
+    requires room { Room bytes.now
+        (widths (claim_body s (has_field out.old) (has_multipliers out.old))) p out.old }
     ensures { Listed
         (all_numbers bytes.now
         (widths (claim_body s (has_field out.old) (has_multipliers out.old))) p out.old)
         out.old result out.new }
 {
     let groups = claim_groups(s, has_part(out, 0), has_part(out, 1));
-    read_groups(table, bytes, p, groups, out)
+    read_groups(entries, bytes, p, groups, out)
 }
 
 // The numbers of a claim file, and how many they are: for every mesh with these sizes and so many pairs.
@@ -124,12 +113,10 @@ pub fn read_claim(bytes: &[u8], s: Sizes, out: &mut [i64]) -> usize
     ensures { ClaimListed bytes.now s out.old result out.new }
 {
     let entries = table();
-    let p = read_header(&entries, bytes, CLAIM_HEADER, out);
-    if !p.going {
+    let Some(p) = read_header(&entries, bytes, CLAIM_HEADER, out) else {
         return 0;
-    }
-    let header = claim_header(out);
-    let Outcome::Passed = header else {
+    };
+    let Outcome::Passed = claim_header(out) else {
         return p.numbers;
     };
     claim_body(&entries, bytes, p, s, out)
@@ -142,11 +129,8 @@ pub fn body_bytes(groups: [Group; GROUPS]) -> usize
     ensures fact_2 { result ≤ most_bytes }
 {
     let mut sum: usize = 0;
-    let mut i: usize = 0;
-    while i < GROUPS {
-        let g = groups[i];
+    for g in groups {
         sum += g.lines * (g.columns * COLUMN_BYTES + 1);
-        i += 1;
     }
     sum
 }

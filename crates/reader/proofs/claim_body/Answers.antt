@@ -12,11 +12,7 @@ unfolding has_field has_multipliers
 read_groups-requires c =
     let t = c.claim_groups-groups.ensures in
     let flags = ap₂ (λ (a b : Bool). widths (claim_body c.args.s a b)) c.has_part.ensures c.has_part-2.ensures in
-    record {
-      fact_1 = c.requires.fact_1;
-      fact_2 = known t;
-      fact_3 = rw (widths-meant t ∙ flags) c.requires.fact_3;
-    }
+    record { known = known t; room = rw (widths-meant t ∙ flags) c.requires.room }
 
 pub returns : goal.returns
 unfolding has_field has_multipliers

@@ -8,9 +8,8 @@ mesh_groups-groups-requires c = few_sizes c.header_sizes.ensures
 
 pub read_groups-requires : goal.read_groups-requires
 read_groups-requires c =
-    let p = c.requires in
     let t = c.mesh_groups-groups.ensures in
-    record { fact_1 = p.fact_1; fact_2 = known t; fact_3 = rw (mesh_lines_lem t c.header_sizes.ensures) p.fact_3 }
+    record { known = known t; room = rw (mesh_lines_lem t c.header_sizes.ensures) c.requires.room }
 
 pub returns : goal.returns
 returns c = rw (mesh_lines_lem c.mesh_groups-groups.ensures c.header_sizes.ensures) at c.read_groups.ensures

@@ -1,11 +1,7 @@
--- `reader::column::after_spaces` meets its contract. The loop's invariant: the bytes passed are spaces, so the state is the first one.
-use Prim.Native.Nat.{◌-◌}
-use Rattle.reader.specs.File.{file_width}
+-- `reader::column::after_spaces` meets its contract. The loop's invariant: the bytes passed are spaces, so the state is
+-- the first one.
 use Rattle.reader.specs.OnePass.{OnlySpaces}
 use Rattle.reader.proofs.column.after_spaces.Given as goal
 
 abbrev pub invariant-loop-i : goal.invariant-loop-i
-invariant-loop-i l = OnlySpaces l.bytes l.at l.i
-
-abbrev pub decreases-loop-i : goal.decreases-loop-i
-decreases-loop-i l = file_width - l.i
+invariant-loop-i l = OnlySpaces l.bytes l.i

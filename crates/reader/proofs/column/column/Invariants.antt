@@ -2,13 +2,11 @@
 -- first one where these are spaces.
 use mathlib.Core.Path.{◌≡◌}
 use mathlib.Core.Bool.{true}
-use Prim.Native.Nat.{◌-◌}
-use Rattle.reader.specs.File.{file_width}
 use Rattle.reader.specs.OnePass.{Partway, OnlySpaces}
 use Rattle.reader.proofs.column.column.Given as goal
 
-abbrev pub invariant-loop-i : goal.invariant-loop-i
-invariant-loop-i l = Partway l.bytes l.at l.i l.kept × (l.blank ≡ true → OnlySpaces l.bytes l.at l.i)
-
-abbrev pub decreases-loop-i : goal.decreases-loop-i
-decreases-loop-i l = file_width - l.i
+abbrev pub invariant-loop-b : goal.invariant-loop-b
+invariant-loop-b l = record {
+  state : Partway l.bytes l.b-index l.kept;
+  spaces : l.blank ≡ true → OnlySpaces l.bytes l.b-index;
+}

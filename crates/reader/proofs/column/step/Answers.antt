@@ -5,7 +5,11 @@ use Rattle.reader.proofs.OnePass.{entry_digit, stepped}
 use Rattle.reader.proofs.column.step.Goals as goal
 
 pub overflow_add-result : goal.overflow_add-result
-overflow_add-result c = omega (arith, entry_digit c.args.table.now c.requires.fact_1 c.args.b (omega arith))
+overflow_add-result c =
+    let t = c.args.entries.now in
+    omega (arith, entry_digit t.of_byte t.is_table c.args.b (omega arith))
 
 pub returns : goal.returns
-returns c = stepped c.args.table.now c.requires.fact_1 c.args.b (omega arith) c.args.c
+returns c =
+    let t = c.args.entries.now in
+    rw c.from.ensures (stepped t.of_byte t.is_table c.args.b (omega arith) c.args.c)

@@ -3,6 +3,6 @@
 use Rattle.reader.proofs.Entries.{table_test, table_means}
 use Rattle.reader.proofs.column.table.Goals as goal
 
-pub returns : goal.returns
+pub invariant_of-result : goal.invariant_of-result
 unfolding table_test
-returns c = table_means _ tt
+invariant_of-result c = record { is_table = table_means _ tt }

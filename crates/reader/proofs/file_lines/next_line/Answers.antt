@@ -1,24 +1,20 @@
 -- `reader::file_lines::next_line` meets its contract: the line's numbers are copied where it is well formed.
 -- Assumes nothing.
 use native.Mathlib.Omega.{arith}
-use Rattle.reader.proofs.LinesRead.{line_malformed, line_some, line_formed}
+use lib.ListN.{length}
+use Rattle.std.proofs.lemmas.Slice.{between_to_end}
+use Rattle.reader.proofs.LinesRead.{line_malformed, line_formed}
 use Rattle.reader.proofs.file_lines.next_line.Goals as goal
 
-pub read_line-requires : goal.read_line-requires
-read_line-requires c = record {
-  fact_1 = c.requires.fact_1;
-  fact_2 = c.requires.fact_4.within;
-  fact_3 = c.requires.fact_3;
-  fact_4 = c.requires.fact_2;
-}
-
 pub returns-then-not-read_line : goal.returns-then-not-read_line
-returns-then-not-read_line c = line_malformed _ _ c.args.p _ _ c.read_line.ensures _ c.if-not-read_line.true
-
-pub copy-requires : goal.copy-requires
-copy-requires c =
-    let formed = line_some _ _ c.args.p _ _ c.read_line.ensures c.if-not-read_line.false in
-    record { fact_1 = omega arith; fact_2 = c.requires.fact_4.fits _ formed }
+returns-then-not-read_line c =
+    let bs = c.args.bytes.now in
+    let rest = between_to_end bs c.args.p.at (length bs) (omega arith) in
+    line_malformed _ _ _ _ _ (rw rest at c.read_line.ensures) _ c.if-not-read_line.true
 
 pub returns : goal.returns
-returns c = line_formed _ _ c.args.p _ _ c.read_line.ensures c.if-not-read_line.false c.copy.ensures
+returns c =
+    let bs = c.args.bytes.now in
+    let rest = between_to_end bs c.args.p.at (length bs) (omega arith) in
+    line_formed _ _ _ _ _ (rw rest at c.read_line.ensures) c.if-not-read_line.false (omega arith)
+    (rw c.copy_from_slice.ensures.after)

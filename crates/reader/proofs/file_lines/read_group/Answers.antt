@@ -1,41 +1,35 @@
--- `reader::file_lines::read_group` meets its contract. The loop's invariant: i lines are read.
+-- `reader::file_lines::read_group` meets its contract. The loop's invariant: the lines before the next one are read.
 -- Assumes nothing.
-use mathlib.Core.Path.{refl}
+use mathlib.Core.Path.{◌≡◌}
 use native.Mathlib.Omega.{arith}
-use borrow.Author.Tests.{not-true, not-false}
-use Rattle.reader.specs.ReadSoFar.{lines_of}
+use lib.ListN.{length}
+use Rattle.std.specs.Prelude.{Some, None}
+use Rattle.std.proofs.lemmas.Grind.{common_steps}
 use Rattle.reader.proofs.LinesRead.{group_first, group_room, group_next, group_stops, group_ends}
 use Rattle.reader.proofs.file_lines.read_group.Goals as goal
 
-pub loop-i-init : goal.loop-i-init
-unfolding lines_of
-loop-i-init c = (group_first c.requires.fact_4 _ c.requires.fact_3, refl)
+pub loop-init : goal.loop-init
+loop-init c = group_first _ c.requires.room
 
-pub returns-then-not-q : goal.returns-then-not-q
-unfolding lines_of
-returns-then-not-q c = group_stops c.requires.fact_4 c.loop-i.invariant.0 (not-true _ c.if-not-q.true)
+pub next_line-requires-clause-room : goal.next_line-requires-clause-room
+next_line-requires-clause-room c =
+    let e : length c.loop.line ≡ c.args.g.columns = omega arith in
+    rw e (group_room _ c.requires.room _ c.loop.invariant c.loop-test.true (omega arith))
 
-pub next_line-q-requires : goal.next_line-q-requires
-unfolding lines_of
-next_line-q-requires c =
-    let h = c.loop-i.invariant.0 in
-    let p = c.requires in
-    record {
-      fact_1 = p.fact_1;
-      fact_2 = p.fact_2;
-      fact_3 = omega (arith, h.room, p.fact_2);
-      fact_4 = group_room p.fact_4 h c.loop-i-test.true (not-false _ c.if-not-q.false);
-    }
+pub returns-in_err-q-clause-stopped : goal.returns-in_err-q-clause-stopped
+returns-in_err-q-clause-stopped c =
+    let e : length c.loop.line ≡ c.args.g.columns = omega arith in
+    let none : c.next_line.result ≡ None = grind (arith, common_steps) in
+    let h = rw (e, none) at c.next_line.ensures in
+    let s = group_stops _ c.requires.room _ c.loop.invariant c.loop-test.true (omega arith) h in
+    grind (arith, common_steps)
 
-pub loop-i-preserved : goal.loop-i-preserved
-unfolding lines_of
-loop-i-preserved c =
-    let h = c.loop-i.invariant in (
-      group_next c.requires.fact_4 h.0 c.loop-i-test.true (not-false _ c.if-not-q.false)
-          (omega arith) (omega arith) c.next_line-q.ensures,
-      omega (arith, h.1),
-    )
+pub loop-preserved : goal.loop-preserved
+loop-preserved c =
+    let e : length c.loop.line ≡ c.args.g.columns = omega arith in
+    let some : c.next_line.result ≡ Some c.in_ok-q.q = grind (arith, common_steps) in
+    let h = rw (e, some) at c.next_line.ensures in
+    group_next _ c.requires.room _ c.loop.invariant c.loop-test.true (omega arith) h
 
-pub returns : goal.returns
-unfolding lines_of
-returns c = group_ends c.requires.fact_4 c.loop-i.invariant.0 c.loop-i-test.false
+pub returns-clause-read : goal.returns-clause-read
+returns-clause-read c = group_ends _ c.requires.room _ c.loop.invariant (omega arith)

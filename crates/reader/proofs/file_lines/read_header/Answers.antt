@@ -1,12 +1,12 @@
 -- `reader::file_lines::read_header` meets its contract: the header is the line at the start.
+use lib.Seq.{length-take-le}
 use Rattle.reader.specs.ReadSoFar.{start}
-use borrow.Author.Rules.{rules}
 use Rattle.reader.proofs.file_lines.read_header.Goals as goal
 
-pub next_line-requires : goal.next_line-requires
+pub next_line-requires-clause-room : goal.next_line-requires-clause-room
 unfolding start
-next_line-requires c = search rules
+next_line-requires-clause-room c = let few = c.requires.few in rw length-take-le c.requires.room
 
 pub returns : goal.returns
 unfolding start
-returns c = c.next_line.ensures
+returns c = let few = c.requires.few in rw length-take-le at c.next_line.ensures

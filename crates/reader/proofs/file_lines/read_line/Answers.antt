@@ -1,36 +1,46 @@
--- `reader::file_lines::read_line` meets its contract. The loop's invariant: j columns are read, and what is left follows them.
+-- `reader::file_lines::read_line` meets its contract. The loop's invariant: what is left follows the columns that are
+-- read.
 -- Assumes nothing.
 use mathlib.Core.Path.{sym, ap, ◌∙◌}
 use native.Mathlib.Omega.{arith}
 use mir.Facts.{to_z-of_z}
 use mir.Syntax.{w64}
 use borrow.Author.Rules.{rules}
-use Rattle.reader.specs.declared.column.Reading.TheVariants.{Number}
+use Rattle.std.specs.Prelude.{Some}
 use Rattle.reader.proofs.InLine.{line_short, line_there, line_first, line_next, line_stops, line_ends}
 use Rattle.reader.proofs.file_lines.read_line.Goals as goal
 
-pub returns-then-bytes-at : goal.returns-then-bytes-at
-returns-then-bytes-at c = let a = c.args in line_short a.bytes.now a.at a.columns c.if-bytes-at.true
+pub returns-then-bytes-line : goal.returns-then-bytes-line
+returns-then-bytes-line c = line_short _ _ c.if-bytes-line.true
 
-pub loop-j-init : goal.loop-j-init
-loop-j-init c = line_first _ _ _ _
+pub loop-number-init : goal.loop-number-init
+loop-number-init c = line_first
 
-pub column-reading-requires : goal.column-reading-requires
-column-reading-requires c = record { fact_1 = c.requires.fact_1; fact_2 = omega arith }
+pub split_at-requires : goal.split_at-requires
+split_at-requires c = omega (arith, c.loop-number.invariant.left)
+
+pub column-requires : goal.column-requires
+column-requires c = c.split_at.ensures.front_len
 
 pub returns-in_default : goal.returns-in_default
 returns-in_default c =
-    let a = c.args in
-    line_there a.bytes.now a.at a.columns c.if-bytes-at.false
-    ∙ line_stops _ _ _ _ c.loop-j.invariant c.loop-j-test.true (sym c.in_default.is ∙ c.column-reading.ensures)
+    let h = c.loop-number.invariant in
+    line_there _ _ c.if-bytes-line.false
+    ∙ line_stops h c.loop-number-test.true
+    (sym c.in_default.is ∙ (rw c.split_at.ensures.front at c.column.ensures))
 
-pub loop-j-preserved : goal.loop-j-preserved
-loop-j-preserved c =
-    line_next _ _ _ _ c.loop-j.invariant c.loop-j-test.true (omega arith)
-    (ap Number (to_z-of_z {w = w64} (search rules)) ∙ sym c.in-Number.is ∙ c.column-reading.ensures)
+pub loop-number-preserved : goal.loop-number-preserved
+loop-number-preserved c =
+    let h = c.loop-number.invariant in
+    rw c.split_at.ensures.back
+    (line_next h c.loop-number-test.true (omega arith) (omega (arith, h.left))
+    (ap Some (to_z-of_z {w = w64} (search rules)) ∙ sym c.in-Some.is
+    ∙ (rw c.split_at.ensures.front at c.column.ensures)))
+
+pub bounds-rest-0 : goal.bounds-rest-0
+bounds-rest-0 c = omega (arith, c.loop-number.invariant.left)
 
 pub returns : goal.returns
 returns c =
-    let a = c.args in
-    line_there a.bytes.now a.at a.columns c.if-bytes-at.false
-    ∙ line_ends _ _ _ _ c.loop-j.invariant (omega arith) (omega arith)
+    let h = c.loop-number.invariant in
+    line_there _ _ c.if-bytes-line.false ∙ line_ends h (omega arith) (omega arith) (omega (arith, h.left))

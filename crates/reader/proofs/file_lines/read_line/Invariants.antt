@@ -1,11 +1,9 @@
--- `reader::file_lines::read_line` meets its contract. The loop's invariant: j columns are read, and what is left follows them.
+-- `reader::file_lines::read_line` meets its contract. The loop's invariant: what is left follows the columns that are
+-- read.
 -- Assumes nothing.
-use Prim.Native.Nat.{◌-◌}
+use lib.ListN.{length}
 use Rattle.reader.proofs.InLine.{InLine}
 use Rattle.reader.proofs.file_lines.read_line.Given as goal
 
-abbrev pub invariant-loop-j : goal.invariant-loop-j
-invariant-loop-j l = InLine l.bytes l.at l.columns l.initial.line l.line l.from l.j
-
-abbrev pub decreases-loop-j : goal.decreases-loop-j
-decreases-loop-j l = l.columns - l.j
+abbrev pub invariant-loop-number : goal.invariant-loop-number
+invariant-loop-number l = InLine l.bytes (length l.initial.line) l.line l.rest l.number-index
