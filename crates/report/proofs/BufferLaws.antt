@@ -6,7 +6,7 @@ use Prim.Native.Nat.{ℕ, ◌+◌, ◌≤◌, ◌<◌}
 use native.Mathlib.Omega.{arith}
 use lib.Dec.{T}
 use lib.IntN.{ℤ, pos, negsuc, nat_abs}
-use lib.Signed.{◌≤ℤ◌, ◌<ℤ◌, le_z, non_neg, le_z_yes, yes_non_neg, clash_ℤ}
+use lib.Signed.{le_z, non_neg, le_z_yes, yes_non_neg}
 use lib.Ieee.Bits.{is_true}
 use lib.ListN.{length, take, drop, set, get_or, length-append, length-set, length-drop}
 use lib.Seq.{take_at, drop_at, drop-drop, drop-cons, set_at, length-take-le}
@@ -27,22 +27,27 @@ use Rattle.scope.specs.declared.Verdict.{Verdict}
 use Rattle.scope.specs.declared.Verdict.TheVariants.{Accepted, Refused}
 use Rattle.scope.specs.Answer.{place_number}
 use Rattle.report.specs.Text.{none_text}
-use Rattle.report.specs.Report.{report_bytes, load_text, lower_text, upper_text, open_text, four_columns, report_line, most_decimals, Decimals, is_decimals}
+use Rattle.report.specs.Report.{report_bytes, load_text, lower_text, upper_text, open_text, four_columns, report_line}
+use Rattle.report.specs.Report.{most_decimals, Decimals, is_decimals}
 use Rattle.report.specs.declared.Reported.TheVariants.{Written, TooShort, OtherDecimals}
 use Rattle.report.specs.Buffer.{reported, after_answer, after_report, Reports}
 use Rattle.report.proofs.DivisionLaws.{read}
 
 -- a column behind the `front` that stands already
-behind : (k : ℕ) (front y bytes : List ℕ) → length front ≡ k → put_mid k 28 (front ++ drop k bytes) y ≡ (front ++ y) ++ drop (k + 28) bytes
+behind : (k : ℕ) (front y bytes : List ℕ) → length front ≡ k
+    → put_mid k 28 (front ++ drop k bytes) y ≡ (front ++ y) ++ drop (k + 28) bytes
 behind k front y bytes h =
     let t : take k (front ++ drop k bytes) ≡ front = take_at front (drop k bytes) k h in
     let d : drop k (front ++ drop k bytes) ≡ drop k bytes = drop_at front (drop k bytes) k h in
-    ap₂ (λ x z. x ++ (y ++ drop 28 z)) t d ∙ ap (λ z. front ++ (y ++ z)) (drop-drop 28 k bytes) ∙ sym (append_assoc front y (drop (k + 28) bytes))
+    ap₂ (λ x z. x ++ (y ++ drop 28 z)) t d ∙ ap (λ z. front ++ (y ++ z)) (drop-drop 28 k bytes)
+    ∙ sym (append_assoc front y (drop (k + 28) bytes))
 
 -- how many are lent
-lent : (k : ℕ) (front bytes : List ℕ) → length front ≡ k → k + 28 ≤ length bytes → length (mid_of k 28 (front ++ drop k bytes)) ≡ 28
+lent : (k : ℕ) (front bytes : List ℕ) → length front ≡ k → k + 28 ≤ length bytes
+    → length (mid_of k 28 (front ++ drop k bytes)) ≡ 28
 lent k front bytes h l =
-    ap (λ z. length (take 28 z)) (drop_at front (drop k bytes) k h) ∙ length-take-le 28 (drop k bytes) (rw length-drop (omega arith))
+    ap (λ z. length (take 28 z)) (drop_at front (drop k bytes) k h)
+    ∙ length-take-le 28 (drop k bytes) (rw length-drop (omega arith))
 
 module _ (buffer a b c e : List ℕ) where
   abbrev first : List ℕ
@@ -57,9 +62,11 @@ module _ (buffer a b c e : List ℕ) where
   abbrev fourth : List ℕ
   fourth = put_mid 84 28 third e
 
-  module _ (ka : length a ≡ length (mid_of 0 28 buffer)) (kb : length b ≡ length (mid_of 28 28 first)) (kc : length c ≡ length (mid_of 56 28 second)) (ke : length e ≡ length (mid_of 84 28 third)) where
+  module _ (ka : length a ≡ length (mid_of 0 28 buffer)) (kb : length b ≡ length (mid_of 28 28 first))
+      (kc : length c ≡ length (mid_of 56 28 second)) (ke : length e ≡ length (mid_of 84 28 third)) where
     pub line_long : (i x : ℕ) → length (set fourth i x) ≡ length buffer
-    line_long i x = length-set fourth i x ∙ same_len_mid 84 28 third e ke ∙ same_len_mid 56 28 second c kc ∙ same_len_mid 28 28 first b kb ∙ same_len_mid 0 28 buffer a ka
+    line_long i x = length-set fourth i x ∙ same_len_mid 84 28 third e ke ∙ same_len_mid 56 28 second c kc
+        ∙ same_len_mid 28 28 first b kb ∙ same_len_mid 0 28 buffer a ka
 
     module _ (h : 113 ≤ length buffer) where
       la : length a ≡ 28
@@ -94,49 +101,53 @@ module _ (buffer a b c e : List ℕ) where
 
       line_is : set fourth 112 10 ≡ a ++ (b ++ (c ++ (e ++ (10 ∷ drop 113 buffer))))
       line_is =
-          ap (λ z. set z 112 10) (fourth_is ∙ ap (λ z. (((a ++ b) ++ c) ++ e) ++ z) (drop-cons buffer 112 0 (omega arith)))
+          ap (λ z. set z 112 10)
+          (fourth_is ∙ ap (λ z. (((a ++ b) ++ c) ++ e) ++ z) (drop-cons buffer 112 0 (omega arith)))
           ∙ set_at (((a ++ b) ++ c) ++ e) (get_or buffer 112 0) (drop 113 buffer) 10 112 labce
           ∙ simp append_assoc
 
-      pub line_stored : (p q r s : List ℕ) → a ≡ right_justified 28 p → b ≡ right_justified 28 q → c ≡ right_justified 28 r → e ≡ right_justified 28 s → set fourth 112 10 ≡ four_columns p q r s ++ drop 113 buffer
+      pub line_stored : (p q r s : List ℕ) → a ≡ right_justified 28 p → b ≡ right_justified 28 q
+          → c ≡ right_justified 28 r → e ≡ right_justified 28 s
+          → set fourth 112 10 ≡ four_columns p q r s ++ drop 113 buffer
       unfolding four_columns
       line_stored p q r s i j k l = line_is ∙ sym (simp (← i, ← j, ← k, ← l, append_assoc))
 
 -- ---- by cases of the verdict
 
-pub no_count-column : (o : OpenRows) {now : List ℕ} → o ≡ NoCount → now ≡ right_justified 28 none_text → now ≡ right_justified 28 (open_text o)
+pub no_count-column : (o : OpenRows) {now : List ℕ} → o ≡ NoCount → now ≡ right_justified 28 none_text
+    → now ≡ right_justified 28 (open_text o)
 unfolding open_text
 no_count-column o e f = rw e f
 
-pub count-column : (o : OpenRows) (k : ℕ) {now : List ℕ} → o ≡ Count k → now ≡ right_justified 28 (digits k) → now ≡ right_justified 28 (open_text o)
+pub count-column : (o : OpenRows) (k : ℕ) {now : List ℕ} → o ≡ Count k → now ≡ right_justified 28 (digits k)
+    → now ≡ right_justified 28 (open_text o)
 unfolding open_text
 count-column o k e f = rw e f
 
-pub accepted_line : (d : ℕ) (v : Verdict) (o : OpenRows) (lower upper : Load) (rest : List ℕ) {now : List ℕ} → v ≡ Accepted o lower upper → now ≡ four_columns (digits 0) (open_text o) (lower_text d lower) (upper_text d upper) ++ rest → now ≡ report_line d v ++ rest
+pub accepted_line : (d : ℕ) (v : Verdict) (o : OpenRows) (lower upper : Load) (rest : List ℕ) {now : List ℕ}
+    → v ≡ Accepted o lower upper
+    → now ≡ four_columns (digits 0) (open_text o) (lower_text d lower) (upper_text d upper) ++ rest
+    → now ≡ report_line d v ++ rest
 unfolding report_line
 accepted_line d v o lower upper rest e f = rw e f
 
-pub refused_line_lem : (d : ℕ) (v : Verdict) (k n : ℕ) (place : Place) (rest : List ℕ) {now : List ℕ} → v ≡ Refused k place → n ≡ place_number place → now ≡ four_columns (digits k) (open_text (Count n)) (lower_text d Absent) (upper_text d Absent) ++ rest → now ≡ report_line d v ++ rest
+-- j and n are the refusal's numbers as 64 bits have them
+pub refused_line_lem : (d : ℕ) (v : Verdict) (k j n r : ℕ) (place : Place) (rest : List ℕ) {now : List ℕ}
+    → v ≡ Refused k place → j ≡ k → n ≡ r → r ≡ place_number place
+    → now ≡ four_columns (digits j) (open_text (Count n)) (lower_text d Absent) (upper_text d Absent) ++ rest
+    → now ≡ report_line d v ++ rest
 unfolding report_line open_text lower_text upper_text load_text
-refused_line_lem d v k n place rest e m f = rw (e, ← m) f
+refused_line_lem d v k j n r place rest e f g h i = rw (e, ← h, ← g, ← f) i
 
 -- ---- by the number of decimals
-
--- the test of the code is the definition's
-pub below_zero_lem : {z : ℤ} → z <ℤ pos 0 → is_decimals z ≡ false
-unfolding is_decimals
-below_zero_lem {z = pos n} h = clash_ℤ h (nonneg n)
-below_zero_lem {z = negsuc n} h = refl
-
-pub from_zero : {z : ℤ} → pos 0 ≤ℤ z → is_decimals z ≡ le_z z (pos most_decimals)
-unfolding is_decimals
-from_zero {z} h = rw (is_true (le_z (pos 0) z) (yes_le_z h))
 
 pub these_decimals : {d : ℕ} → d ≤ most_decimals → Decimals (pos d)
 these_decimals {d} h = record { from_0 = nonneg d; to_most = pos_≤ℤ h }
 
 pub is_decimals_lem : {z : ℤ} → Decimals z → is_decimals z ≡ true
-is_decimals_lem {z} h = from_zero h.from_0 ∙ is_true (le_z z (pos most_decimals)) (yes_le_z h.to_most)
+unfolding is_decimals
+is_decimals_lem {z} h =
+    rw (is_true (le_z (pos 0) z) (yes_le_z h.from_0), is_true (le_z z (pos most_decimals)) (yes_le_z h.to_most))
 
 pub decimals_told : (z : ℤ) → is_decimals z ≡ true → Decimals z
 unfolding is_decimals
@@ -167,7 +178,8 @@ module _ (z : ℤ) {b : Bool} (f : SFits w64 z) (e : b ≡ is_decimals (read z))
 
   pub other_decimals : (v : Verdict) (buffer : List ℕ) → not b ≡ true → Reports z v buffer buffer OtherDecimals
   unfolding after_report after_answer reported
-  other_decimals v buffer t = let o = sym is_asked_lem ∙ other b t in record { buffer = rw (o, reported); answer = rw (o, reported) }
+  other_decimals v buffer t = let o = sym is_asked_lem
+      ∙ other b t in record { buffer = rw (o, reported); answer = rw (o, reported) }
 
   module _ (t : not b ≡ false) where
     told : is_decimals z ≡ true
@@ -188,7 +200,8 @@ module _ (z : ℤ) {b : Bool} (f : SFits w64 z) (e : b ≡ is_decimals (read z))
         let s = lt-ltb (length buffer) report_bytes h in
         record { buffer = rw (told, s, reported); answer = rw (told, s, reported) }
 
-    pub written : (v : Verdict) (buffer : List ℕ) {after : List ℕ} → report_bytes ≤ length buffer → after ≡ report_line (nat_abs (read z)) v ++ drop report_bytes buffer → Reports z v buffer after Written
+    pub written : (v : Verdict) (buffer : List ℕ) {after : List ℕ} → report_bytes ≤ length buffer
+        → after ≡ report_line (nat_abs (read z)) v ++ drop report_bytes buffer → Reports z v buffer after Written
     unfolding after_report after_answer reported
     written v buffer h g =
         let s = le-ltb (length buffer) report_bytes h in

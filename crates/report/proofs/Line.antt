@@ -1,16 +1,15 @@
--- The report line has 113 bytes and its columns say what the verdict is: no text is longer than its column, so each column is the text right-justified, and says what the text says.
+-- The report line has 113 bytes and its columns say what the verdict is: no text is longer than its column, so each
+-- column is the text right-justified, and says what the text says.
 use mathlib.Core.Path.{◌≡◌, refl, ap, ◌∙◌}
 use mathlib.Core.Logic.{◌↔◌}
 use mathlib.Core.List.{List, [], ◌∷◌, ◌++◌}
 use mathlib.Core.Option.{some}
 use Prim.Native.Nat.{ℕ, zero, suc, ◌+◌, ◌*◌, ◌^◌, ◌≤◌, ◌<◌}
-use native.Mathlib.Nat.{div-le_self, mul-le-mul_left}
 use native.Mathlib.Omega.{arith}
-use lib.IntN.{ℤ, pos, negsuc, nat_abs, neg_ℤ, ◌*ℤ◌, ◌+ℤ◌, ◌-ℤ◌}
+use lib.IntN.{ℤ, pos, negsuc, nat_abs, ◌*ℤ◌, ◌+ℤ◌, ◌-ℤ◌}
 use lib.Signed.{le_z_yes}
 use lib.ListN.{length, take, drop, length-append}
 use lib.Seq.{take_at, drop-append-add}
-use Rattle.integer.proofs.RingLaws.{nat_abs_neg_ℤ, nat_abs_*ℤ}
 use Rattle.integer.proofs.Order.{≤ℤ_pos}
 use Rattle.integer.specs.Fraction.{◌over◌, ◌≤ᶠ◌, ◌<ᶠ◌}
 use Rattle.integer.specs.Decimal.{digits_within, digits, last_digits, right_justified}
@@ -25,8 +24,11 @@ use Rattle.scope.specs.declared.Verdict.{Verdict}
 use Rattle.scope.specs.declared.Verdict.TheVariants.{Accepted, Refused}
 use Rattle.scope.specs.Answer.{place_number}
 use Rattle.report.specs.Text.{pointed, fixed, none_text, Said, word, number, said}
-use Rattle.report.specs.Report.{column_bytes, most_decimals, load_text, lower_text, upper_text, open_text, four_columns, report_line}
-use Rattle.report.specs.Says.{column_of, HeldLoad, HeldRows, Held, NoLoad, NoLower, NoUpper, LoadSays, no_load, rounded, RowsSay, no_rows, rows, Says, says_accepted, says_refused, LineSays}
+use Rattle.report.specs.Report.{column_bytes, most_decimals, load_text, lower_text, upper_text, open_text, four_columns}
+use Rattle.report.specs.Report.{report_line}
+use Rattle.report.specs.Says.{column_of, HeldLoad, HeldRows, Held, NoLoad, NoLower, NoUpper, LoadSays, no_load, rounded}
+use Rattle.report.specs.Says.{RowsSay, no_rows, rows, Says, says_accepted, says_refused, LineSays}
+use Rattle.report.proofs.DivisionLaws.{floor_small, ceil_small, units_small}
 use Rattle.report.proofs.Text.{said-column, said_none, said-fixed, said-digits, digits-length-64, fixed-length}
 
 -- ---- four texts in four columns
@@ -37,13 +39,15 @@ past i a rest h =
     let n : suc i * 28 ≡ length (right_justified 28 a) + i * 28 = omega arith in
     rw n (drop-append-add (right_justified 28 a) rest (i * 28))
 
-next-column : (i : ℕ) (a rest : List ℕ) → length a ≤ 28 → column_of (suc i) (right_justified 28 a ++ rest) ≡ column_of i rest
+next-column : (i : ℕ) (a rest : List ℕ) → length a ≤ 28
+    → column_of (suc i) (right_justified 28 a ++ rest) ≡ column_of i rest
 unfolding column_of
 next-column i a rest h = ap (take 28) (past i a rest h)
 
 this_column : (a rest : List ℕ) → length a ≤ 28 → said (column_of 0 (right_justified 28 a ++ rest)) ≡ said a
 unfolding column_of
-this_column a rest h = ap said (take_at (right_justified 28 a) rest 28 (right_justified-length 28 a h)) ∙ said-column 28 a
+this_column a rest h = ap said (take_at (right_justified 28 a) rest 28 (right_justified-length 28 a h))
+    ∙ said-column 28 a
 
 module _ (a b c e : List ℕ) (ha : length a ≤ 28) (hb : length b ≤ 28) (hc : length c ≤ 28) (he : length e ≤ 28) where
   after_third : List ℕ
@@ -77,14 +81,17 @@ module _ (a b c e : List ℕ) (ha : length a ≤ 28) (hb : length b ≤ 28) (hc 
 
   said_fourth : said (column_of 3 (four_columns a b c e)) ≡ said e
   unfolding four_columns after_first after_second after_third
-  said_fourth = ap said (next-column 2 a after_first ha ∙ next-column 1 b after_second hb ∙ next-column 0 c after_third hc) ∙ this_column e (10 ∷ []) he
+  said_fourth =
+      ap said (next-column 2 a after_first ha ∙ next-column 1 b after_second hb ∙ next-column 0 c after_third hc)
+      ∙ this_column e (10 ∷ []) he
 
 -- a text that has room in its column, and says s
 record Fits (text : List ℕ) (s : Said) : Type 0 where
   room : length text ≤ 28
   reads : said text ≡ some s
 
-four_say : (d : ℕ) (v : Verdict) {a b c e : List ℕ} {p q r s : Said} → Fits a p → Fits b q → Fits c r → Fits e s → Says d v p q r s → LineSays d v (four_columns a b c e)
+four_say : (d : ℕ) (v : Verdict) {a b c e : List ℕ} {p q r s : Said} → Fits a p → Fits b q → Fits c r → Fits e s
+    → Says d v p q r s → LineSays d v (four_columns a b c e)
 four_say d v {a} {b} {c} {e} {p} {q} {r} {s} fa fb fc fe x = record {
   bytes = four_length a b c e fa.room fb.room fc.room fe.room;
   end = four_end a b c e fa.room fb.room fc.room fe.room;
@@ -108,23 +115,17 @@ fits_none = record { room = omega arith; reads = said_none }
 fits_digits : (k : ℕ) → k < 2 ^ 64 → Fits (digits k) (number (pos k) 0)
 fits_digits k h = let l = digits-length-64 k h in record { room = omega arith; reads = said-digits k }
 
--- rounding makes no number larger
-floor_small : (z : ℤ) (den : ℕ) → nat_abs (floor_div z den) ≤ nat_abs z
-floor_small (pos n) den = div-le_self n den
-floor_small (negsuc n) den = let l = div-le_self n den in omega arith
-
-ceil_small : (z : ℤ) (den : ℕ) → nat_abs (ceil_div z den) ≤ nat_abs z
-ceil_small z den = rw (nat_abs_neg_ℤ (floor_div (neg_ℤ z) den)) (rw (nat_abs_neg_ℤ z) at (floor_small (neg_ℤ z) den))
-
-fits_fixed : (d : ℕ) (num v : ℤ) → d ≤ 7 → nat_abs num ≤ 2 ^ 63 → nat_abs v ≤ nat_abs (num *ℤ pos (10 ^ d)) → Fits (fixed d v) (number v d)
+fits_fixed : (d : ℕ) (num v : ℤ) → d ≤ 7 → nat_abs num ≤ 2 ^ 63 → nat_abs v ≤ nat_abs (num *ℤ pos (10 ^ d))
+    → Fits (fixed d v) (number v d)
 fits_fixed d num v h k l =
-    let m : 10 ^ d * nat_abs num ≤ 10 ^ d * 2 ^ 63 = mul-le-mul_left (10 ^ d) k in
-    let n : nat_abs v ≤ 10 ^ d * 2 ^ 63 = omega (arith, nat_abs_*ℤ num (pos (10 ^ d))) in
+    let n : nat_abs v ≤ 10 ^ d * 2 ^ 63 = omega (arith, units_small num d k) in
     let r = fixed-length d v n in
     record { room = omega arith; reads = said-fixed d v }
 
 -- a load's text and what it says, for a way of rounding that makes no number larger
-module _ (R : ℤ → ℕ → ℤ → Type 0) (round : ℤ → ℕ → ℤ) (small : (z : ℤ) (den : ℕ) → nat_abs (round z den) ≤ nat_abs z) (is : (z : ℤ) (den : ℕ) → 0 < den → R z den (round z den)) (d : ℕ) (h : d ≤ 7) where
+module _ (R : ℤ → ℕ → ℤ → Type 0) (round : ℤ → ℕ → ℤ)
+    (small : (z : ℤ) (den : ℕ) → nat_abs (round z den) ≤ nat_abs z)
+    (is : (z : ℤ) (den : ℕ) → 0 < den → R z den (round z den)) (d : ℕ) (h : d ≤ 7) where
   load_fits : (load : Load) → HeldLoad load → (s : Said) × Fits (load_text round d load) s × LoadSays R d load s
   unfolding load_text
   load_fits Absent x = (word, fits_none, no_load tt)
@@ -132,14 +133,17 @@ module _ (R : ℤ → ℕ → ℤ → Type 0) (round : ℤ → ℕ → ℤ) (sma
   load_fits (Exact num (pos (suc k))) x =
       let z = num *ℤ pos (10 ^ d) in
       let v = round z (suc k) in
-      (number v d, fits_fixed d num v h x (small z (suc k)), rounded num v (suc k) (omega arith) (is z (suc k) (omega arith)))
+      let s = rounded num v (suc k) (omega arith) (is z (suc k) (omega arith)) in
+      (number v d, fits_fixed d num v h x (small z (suc k)), s)
   load_fits (Exact num (negsuc k)) x = (word, fits_none, no_load (le_z_yes tt))
 
-lower_fits : (d : ℕ) → d ≤ 7 → (load : Load) → HeldLoad load → (s : Said) × Fits (lower_text d load) s × LoadSays Floor d load s
+lower_fits : (d : ℕ) → d ≤ 7 → (load : Load) → HeldLoad load
+    → (s : Said) × Fits (lower_text d load) s × LoadSays Floor d load s
 unfolding lower_text
 lower_fits = load_fits Floor floor_div floor_small (λ z den p. floor_div_is z p)
 
-upper_fits : (d : ℕ) → d ≤ 7 → (load : Load) → HeldLoad load → (s : Said) × Fits (upper_text d load) s × LoadSays Ceil d load s
+upper_fits : (d : ℕ) → d ≤ 7 → (load : Load) → HeldLoad load
+    → (s : Said) × Fits (upper_text d load) s × LoadSays Ceil d load s
 unfolding upper_text
 upper_fits = load_fits Ceil ceil_div ceil_small (λ z den p. ceil_div_is z p)
 
@@ -171,13 +175,16 @@ line_says d (Accepted o lower upper) h x =
     let (e, fe, se) = upper_fits d h upper x.2 in
     four_say d (Accepted o lower upper) (fits_digits 0 (omega arith)) fb fc fe (says_accepted sb sc se)
 line_says d (Refused k place) h x =
-    four_say d (Refused k place) (fits_digits k (omega (arith, x.0))) (fits_digits (place_number place) (omega (arith, x.1))) fits_none fits_none (says_refused k place)
+    let a = fits_digits k (omega (arith, x.0)) in
+    let b = fits_digits (place_number place) (omega (arith, x.1)) in
+    four_say d (Refused k place) a b fits_none fits_none (says_refused k place)
 
 -- ---- the word none
 
 load_none : {R : ℤ → ℕ → ℤ → Type 0} {d : ℕ} {load : Load} {s : Said} → LoadSays R d load s → (s ≡ word) ↔ NoLoad load
 load_none (no_load h) = (λ e. h, λ n. refl)
-load_none (rounded num v den p r) = (λ e. let z : ◌≡◌ {A = ℕ} 0 1 = cc in absurd (omega arith), λ n. absurd (omega (arith, ≤ℤ_pos n)))
+load_none (rounded num v den p r) =
+    (λ e. let z : ◌≡◌ {A = ℕ} 0 1 = cc in absurd (omega arith), λ n. absurd (omega (arith, ≤ℤ_pos n)))
 
 third_none : {d : ℕ} {v : Verdict} {a b c e : Said} → Says d v a b c e → (c ≡ word) ↔ NoLower v
 third_none (says_accepted b l u) = load_none l
@@ -187,18 +194,24 @@ fourth_none : {d : ℕ} {v : Verdict} {a b c e : Said} → Says d v a b c e → 
 fourth_none (says_accepted b l u) = load_none u
 fourth_none (says_refused k place) = (λ e. tt, λ n. refl)
 
-second_none : {d : ℕ} {o : OpenRows} {lower upper : Load} {a b c e : Said} → Says d (Accepted o lower upper) a b c e → (b ≡ word) ↔ (o ≡ NoCount)
+second_none : {d : ℕ} {o : OpenRows} {lower upper : Load} {a b c e : Said} → Says d (Accepted o lower upper) a b c e
+    → (b ≡ word) ↔ (o ≡ NoCount)
 second_none (says_accepted no_rows l u) = (λ e. refl, λ n. refl)
-second_none (says_accepted (rows k) l u) = (λ e. let z : ◌≡◌ {A = ℕ} 0 1 = cc in absurd (omega arith), λ n. let z : ◌≡◌ {A = ℕ} 0 1 = cc in absurd (omega arith))
+second_none (says_accepted (rows k) l u) = (
+  λ e. let z : ◌≡◌ {A = ℕ} 0 1 = cc in absurd (omega arith),
+  λ n. let z : ◌≡◌ {A = ℕ} 0 1 = cc in absurd (omega arith),
+)
 
 -- the second column of an accepted claim has the word none exactly when there is no count of open rows
-pub rows_none : (d : ℕ) (o : OpenRows) (lower upper : Load) → d ≤ 7 → Held (Accepted o lower upper) → (said (column_of 1 (report_line d (Accepted o lower upper))) ≡ some word) ↔ (o ≡ NoCount)
+pub rows_none : (d : ℕ) (o : OpenRows) (lower upper : Load) → d ≤ 7 → Held (Accepted o lower upper)
+    → (said (column_of 1 (report_line d (Accepted o lower upper))) ≡ some word) ↔ (o ≡ NoCount)
 rows_none d o lower upper h x =
     let l = line_says d (Accepted o lower upper) h x in
     let t = second_none l.says in
     (λ e. t.0 (cc l.read_second), λ n. l.read_second ∙ ap some (t.1 n))
 
--- the third column has the word none exactly when the field is absent or the claim is refused, the fourth when the multipliers are absent or the claim is refused
+-- the third column has the word none exactly when the field is absent or the claim is refused, the fourth when the
+-- multipliers are absent or the claim is refused
 pub lower_none : (d : ℕ) (v : Verdict) → d ≤ 7 → Held v → (said (column_of 2 (report_line d v)) ≡ some word) ↔ NoLower v
 lower_none d v h x =
     let l = line_says d v h x in
@@ -214,9 +227,11 @@ upper_none d v h x =
 -- ---- the printed loads
 
 -- the floor is at most the load, by less than 10^-d: 0 ≤ load - printed < 10^-d
-pub lower_within : (d den : ℕ) (num v : ℤ) → Floor (num *ℤ pos (10 ^ d)) den v → (v over pos (10 ^ d) ≤ᶠ num over pos den) × (num over pos den <ᶠ (v +ℤ pos 1) over pos (10 ^ d))
+pub lower_within : (d den : ℕ) (num v : ℤ) → Floor (num *ℤ pos (10 ^ d)) den v
+    → (v over pos (10 ^ d) ≤ᶠ num over pos den) × (num over pos den <ᶠ (v +ℤ pos 1) over pos (10 ^ d))
 lower_within d den num v f = (record { cross-≤ = f.at_most }, record { cross-< = f.next_above })
 
 -- the ceiling is at least the load, by less than 10^-d: 0 ≤ printed - load < 10^-d
-pub upper_within : (d den : ℕ) (num v : ℤ) → Ceil (num *ℤ pos (10 ^ d)) den v → (num over pos den ≤ᶠ v over pos (10 ^ d)) × ((v -ℤ pos 1) over pos (10 ^ d) <ᶠ num over pos den)
+pub upper_within : (d den : ℕ) (num v : ℤ) → Ceil (num *ℤ pos (10 ^ d)) den v
+    → (num over pos den ≤ᶠ v over pos (10 ^ d)) × ((v -ℤ pos 1) over pos (10 ^ d) <ᶠ num over pos den)
 upper_within d den num v c = (record { cross-≤ = c.at_least }, record { cross-< = c.last_below })

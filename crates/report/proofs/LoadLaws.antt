@@ -1,74 +1,162 @@
--- A load's text: its pieces stand before one another in the column, and its sign and rounding are those of its magnitude.
+-- A load's text: decimals after zeros, the whole part and the minus, each put before the one that stands already.
 use mathlib.Core.Path.{◌≡◌, refl, sym, ap, ap₂, ◌∙◌}
-use mathlib.Core.Bool.{Bool, true, false, not}
-use mathlib.Core.List.{List, [], ◌∷◌, ◌++◌, append-nil}
+use mathlib.Core.Bool.{Bool, true, false}
+use mathlib.Core.List.{List, [], ◌∷◌, ◌++◌, append-nil, append_assoc}
 use Prim.Native.Nat.{ℕ, zero, suc, ◌+◌, ◌*◌, ◌-◌, ◌/◌, ◌%◌, ◌^◌, ◌≤◌, ◌<◌}
-use native.Mathlib.Nat.{pow-suc, one-le-pow, zero-div, add-div_right, div-add-mod', mod-lt, div-le_of_le-mul, div-le_self}
-use native.Mathlib.Numerals.{add-one}
+use native.Mathlib.Nat.{pow-suc, one-le-pow, div-add-mod', mod-lt, div-le_of_le-mul}
 use native.Mathlib.Omega.{arith}
-use lib.Arith.{digits_div}
-use lib.Dec.{T, ltb}
-use lib.IntN.{ℤ, pos, negsuc, neg_ℤ, nat_abs, ◌*ℤ◌, neg_ℤ-neg_ℤ}
-use lib.ListN.{length, set, replicate, length-append}
-use lib.Signed.{◌≤ℤ◌, ◌<ℤ◌, lt_z, le_z, non_neg, le_z_yes, lt_z_yes, lt_z_no, clash_ℤ, nat_abs-le}
-use mir.Syntax.{w64}
-use mir.Val.{Fits, SFits}
+use lib.IntN.{ℤ, pos, negsuc, nat_abs, ◌*ℤ◌}
+use lib.ListN.{length, take, drop, set, replicate, length-append, length-replicate, replicate-append-replicate}
+use lib.ListN.{take-append-drop}
+use lib.Seq.{take_at, drop_at, take_all, drop-length}
+use lib.Signed.{◌≤ℤ◌, ◌<ℤ◌, lt_z, lt_z_yes, lt_z_no, clash_ℤ, nat_abs-le}
+use mir.Syntax.{w64, w128}
+use mir.Val.{SFits}
 use mir.Facts.{to_z-of_z}
-use borrow.Author.Tests.{lt-ltb}
+use borrow.Rule.Slice.PartMut.{put_mid}
+use Rattle.std.specs.Fmt.{decimal}
 use Rattle.integer.proofs.Machine.{is_true, is_false}
-use Rattle.integer.proofs.TestLaws.{le_z_no}
 use Rattle.integer.proofs.Order.{nonneg, ≤ℤ_pos}
 use Rattle.integer.specs.Decimal.{digits, last_digits, right_justified}
-use Rattle.integer.proofs.DecimalLaws.{digits-length, last_digits-length}
-use Rattle.integer.specs.Round.{floor_div, ceil_div}
+use Rattle.integer.proofs.DecimalLaws.{digits_one, digits_more, digits-length, by_digits, last_digits-length}
 use Rattle.scope.specs.declared.Load.{Load}
 use Rattle.scope.specs.declared.Load.TheVariants.{Absent, Exact}
-use Rattle.report.specs.declared.division.Parts.{Parts}
 use Rattle.report.specs.Text.{pointed, fixed, none_text}
 use Rattle.report.specs.Report.{load_text}
-use Rattle.report.specs.Column.{ending_at, Ends}
-use Rattle.report.specs.Quotient.{parts_of, units_of, rounded_to}
-use Rattle.report.specs.Spelled.{minus_text, decimals_text, round_to}
-use Rattle.report.proofs.DivisionLaws.{read}
-use Rattle.report.proofs.ColumnLaws.{ending_none, ending_last, ending_first, justified_before, justified_alone}
+use Rattle.report.specs.Spelled.{decimals_text, round_to}
+use Rattle.report.proofs.DivisionLaws.{read, wide, is_wide, power_small, round_small, units_small}
+use Rattle.report.proofs.ColumnLaws.{decimal_digits, decimal_short, spaces, put_before, byte_before, justified}
+
+-- ---- the last d digits of a number below 10^d are its digits after zeros
+
+abbrev zeros : ℕ → List ℕ
+zeros n = replicate n 48
+
+last_zeros : (d : ℕ) → last_digits d 0 ≡ zeros d
+unfolding last_digits
+last_zeros zero = refl
+last_zeros (suc d) = ap (λ x. x ++ (48 ∷ [])) (last_zeros d) ∙ push d
+  where
+    push : (n : ℕ) → zeros n ++ (48 ∷ []) ≡ zeros (suc n)
+    push zero = refl
+    push (suc n) = ap (λ l. 48 ∷ l) (push n)
+
+Padded : ℕ → Type 0
+Padded k = (d : ℕ) → k < 10 ^ d → 0 < d → zeros (d - length (digits k)) ++ digits k ≡ last_digits d k
+
+padded_one : (k : ℕ) → k < 10 → Padded k
+unfolding Padded last_digits
+padded_one k h zero l s = absurd (omega arith)
+padded_one k h (suc d) l s =
+    let q : k / 10 ≡ 0 = omega arith in
+    let r : k % 10 ≡ k = omega arith in
+    let n : suc d - 1 ≡ d = omega arith in
+    rw (digits_one k h, q, r) (rw n (ap (λ x. x ++ ((48 + k) ∷ [])) (sym (last_zeros d))))
+
+padded_more : (k : ℕ) → 10 ≤ k → Padded (k / 10) → Padded k
+unfolding Padded last_digits
+padded_more k h p zero l s = absurd (omega arith)
+padded_more k h p (suc zero) l s = absurd (omega arith)
+padded_more k h p (suc (suc d)) l s =
+    let ds = digits (k / 10) in
+    let n : suc (suc d) - length (ds ++ ((48 + k % 10) ∷ [])) ≡ suc d - length ds =
+    omega (arith, length-append ds ((48 + k % 10) ∷ [])) in
+    let small : k / 10 < 10 ^ suc d = omega (arith, pow-suc 10 (suc d)) in
+    rw (digits_more k h, n, ← append_assoc) (ap (λ x. x ++ ((48 + k % 10) ∷ [])) (p (suc d) small (omega arith)))
+
+padded : (d k : ℕ) → k < 10 ^ d → 0 < d → zeros (d - length (digits k)) ++ digits k ≡ last_digits d k
+unfolding Padded
+padded d k = by_digits Padded padded_one padded_more k d
 
 -- ---- the decimals
+
+-- zeros are put at the end of a blank column
+zeros_put : (a d : ℕ) {blank put : List ℕ} → blank ≡ spaces (a + d)
+    → put ≡ replicate (length (take (length blank - a) (drop a blank))) 48
+    → put_mid a (length blank - a) blank put ≡ spaces a ++ zeros d
+zeros_put a d {blank} {put} e f =
+    let c : blank ≡ spaces a ++ spaces d = e ∙ sym (replicate-append-replicate a d 32) in
+    let k : length blank - a ≡ d = omega (arith, ap length e, length-replicate {A = ℕ} (a + d) 32) in
+    let n = length-replicate {A = ℕ} d 32 in
+    let x : drop a blank ≡ spaces d = ap (drop a) c ∙ drop_at (spaces a) (spaces d) a (length-replicate a 32) in
+    let y : take a blank ≡ spaces a = ap (take a) c ∙ take_at (spaces a) (spaces d) a (length-replicate a 32) in
+    let z : put ≡ zeros d = f ∙ ap zeros (ap length (ap₂ take k x ∙ take_all d (spaces d) (omega arith)) ∙ n) in
+    let t : drop (length blank - a) (drop a blank) ≡ [] =
+    ap₂ drop k x ∙ ap (λ i. drop i (spaces d)) (sym n) ∙ drop-length (spaces d) in
+    ap₂ ◌++◌ y (ap₂ ◌++◌ z t ∙ append-nil (zeros d))
+
+-- and digits over the last of them
+digits_put : (a d k from : ℕ) {before after : List ℕ} → before ≡ spaces a ++ zeros d → k < 10 ^ d → 0 < d → k < 2 ^ 64
+    → from + length (decimal k) ≡ a + d → drop from after ≡ decimal k ++ drop (a + d) before
+    → take from after ≡ take from before → after ≡ spaces a ++ last_digits d k
+digits_put a d k from {before} {after} b s p f e u t =
+    let n = length (digits k) in
+    let c = decimal_digits k f in
+    let l : n ≤ d = digits-length d k p s in
+    let m = d - n in
+    let x : d ≡ m + n = omega arith in
+    let front = spaces a ++ zeros m in
+    let w : before ≡ front ++ zeros n =
+    b ∙ ap (λ z. spaces a ++ z) (ap zeros x ∙ sym (replicate-append-replicate m n 48))
+    ∙ sym (append_assoc (spaces a) (zeros m) (zeros n)) in
+    let la = length-replicate {A = ℕ} a 32 in
+    let long : length front ≡ from =
+    length-append (spaces a) (zeros m) ∙ omega (arith, la, length-replicate {A = ℕ} m 48, ap length c) in
+    let whole : a + d ≡ length before =
+    sym (ap length b ∙ length-append (spaces a) (zeros d) ∙ ap₂ ◌+◌ la (length-replicate {A = ℕ} d 48)) in
+    let none : drop (a + d) before ≡ [] = ap (λ i. drop i before) whole ∙ drop-length before in
+    sym (take-append-drop from after)
+    ∙ ap₂ ◌++◌
+    (t ∙ ap (take from) w ∙ take_at front (zeros n) from long)
+    (u ∙ ap₂ ◌++◌ c none ∙ append-nil (digits k))
+    ∙ append_assoc (spaces a) (zeros m) (digits k)
+    ∙ ap (λ z. spaces a ++ z) (padded d k s p)
 
 decimals_short : (d k : ℕ) → d ≤ 7 → length (decimals_text d k) ≤ 8
 unfolding decimals_text
 decimals_short zero k h = omega arith
 decimals_short (suc d) k h = omega (arith, last_digits-length (suc d) k)
 
-pub no_decimals : (d k : ℕ) {column : List ℕ} → d ≡ 0 → Ends 28 (decimals_text d k) column 28 column
+pub no_place : (d k : ℕ) → d ≡ 0 → 28 + length (decimals_text d k) ≡ 28
 unfolding decimals_text
-no_decimals zero k {column} h = record { starts = refl; bytes = sym (ending_none 28 column) }
-no_decimals (suc d) k h = absurd (omega arith)
+no_place zero k h = refl
+no_place (suc d) k h = absurd (omega arith)
 
-pub with_point : (d k : ℕ) {first now : List ℕ} → length first ≡ 28 → d ≤ 7 → (d ≡ 0 → ⊥) → now ≡ ending_at 28 (last_digits d k) first → Ends 28 (decimals_text d k) first (27 - d) (set now (27 - d) 46)
+pub no_decimals : (d k : ℕ) {column : List ℕ} → d ≡ 0 → column ≡ spaces 28 → column ≡ spaces 28 ++ decimals_text d k
 unfolding decimals_text
-with_point zero k l h z e = absurd (z refl)
-with_point (suc d) k {first} {now} l h z e =
-    let n = last_digits-length (suc d) k in
-    let at : 27 - suc d ≡ 28 - length (last_digits (suc d) k) - 1 = omega arith in
-    record {
-      starts = omega arith;
-      bytes = rw (e, at) (ending_first 28 (last_digits (suc d) k) 46 first (omega arith) (omega arith));
-    }
+no_decimals zero k h e = e ∙ sym (append-nil (spaces 28))
+no_decimals (suc d) k h e = absurd (omega arith)
 
--- ---- the minus
+pub point_place : (d k : ℕ) → d ≤ 7 → (d ≡ 0 → ⊥) → 28 - d - 1 + length (decimals_text d k) ≡ 28
+unfolding decimals_text
+point_place zero k h z = absurd (z refl)
+point_place (suc d) k h z = omega (arith, last_digits-length (suc d) k)
 
-pub minus-put : (end : ℕ) (minus : Bool) (bytes : List ℕ) → 0 < end → end ≤ length bytes → minus ≡ true → set bytes (end - 1) 45 ≡ ending_at end (minus_text minus) bytes
-unfolding minus_text
-minus-put end minus bytes h l e = rw e (sym (ending_last end [] 45 bytes (omega arith) l ∙ ending_none (end - 1) (set bytes (end - 1) 45)))
+pub with_point : (d k from : ℕ) (blank after : List ℕ) {put : List ℕ} → d ≤ 7 → (d ≡ 0 → ⊥) → k < 10 ^ d → k < 2 ^ 64
+    → blank ≡ spaces 28 → put ≡ replicate (length (take (length blank - (28 - d)) (drop (28 - d) blank))) 48
+    → from + length (decimal k) ≡ 28
+    → drop from after ≡ decimal k ++ drop 28 (put_mid (28 - d) (length blank - (28 - d)) blank put)
+    → take from after ≡ take from (put_mid (28 - d) (length blank - (28 - d)) blank put)
+    → set after (28 - d - 1) 46 ≡ spaces (28 - d - 1) ++ decimals_text d k
+unfolding decimals_text
+with_point zero k from blank after h z s f b p e u t = absurd (z refl)
+with_point (suc d) k from blank after {put} h z s f b p e u t =
+    let a = 28 - suc d in
+    let n : 28 ≡ a + suc d = omega arith in
+    let x = zeros_put a (suc d) (b ∙ ap spaces n) p in
+    let y : after ≡ spaces a ++ last_digits (suc d) k =
+    digits_put a (suc d) k from x s (omega arith) f (e ∙ n)
+    (u ∙ ap (λ i. decimal k ++ drop i (put_mid a (length blank - a) blank put)) n) t in
+    byte_before a 46 (last_digits (suc d) k) y (omega arith)
 
-pub minus-left : (end : ℕ) (minus : Bool) (bytes : List ℕ) → minus ≡ false → bytes ≡ ending_at end (minus_text minus) bytes
-unfolding minus_text
-minus-left end minus bytes e = rw e (sym (ending_none end bytes))
-
-minus_short : (minus : Bool) → length (minus_text minus) ≤ 1
-unfolding minus_text
-minus_short true = omega arith
-minus_short false = omega arith
+pub zeros_long : (d : ℕ) (blank : List ℕ) {put : List ℕ} → d ≤ 7 → blank ≡ spaces 28
+    → put ≡ replicate (length (take (length blank - (28 - d)) (drop (28 - d) blank))) 48
+    → 28 ≤ length (put_mid (28 - d) (length blank - (28 - d)) blank put)
+zeros_long d blank h b p =
+    let a = 28 - d in
+    let n : 28 ≡ a + d = omega arith in
+    rw (zeros_put a d (b ∙ ap spaces n) p)
+    (omega (arith, length-append (spaces a) (zeros d), length-replicate {A = ℕ} a 32, length-replicate {A = ℕ} d 48))
 
 -- ---- the pieces together
 
@@ -82,182 +170,132 @@ last_of (suc d) x y =
     let r : (x * 10 ^ suc d + y) % 10 ≡ y % 10 = omega arith in
     rw (q, r) (ap (λ l. l ++ ((48 + y % 10) ∷ [])) (last_of d x (y / 10)))
 
-pointed_pieces : (d x y : ℕ) → y < 10 ^ d → pointed d (x * 10 ^ d + y) ≡ digits x ++ decimals_text d y
+pieces : (d k : ℕ) → digits (k / 10 ^ d) ++ decimals_text d (k % 10 ^ d) ≡ pointed d k
 unfolding pointed decimals_text
-pointed_pieces zero x y h =
-    let e : x * 10 ^ 0 + y ≡ x = omega arith in
-    ap digits e ∙ sym (append-nil (digits x))
-pointed_pieces (suc d) x y h = ap₂ (λ q l. digits q ++ (46 ∷ l)) (digits_div x h) (last_of (suc d) x y)
+pieces zero k = let e : k / 1 ≡ k = omega arith in append-nil (digits (k / 1)) ∙ ap digits e
+pieces (suc d) k =
+    let n = 10 ^ suc d in
+    ap (λ l. digits (k / n) ++ (46 ∷ l))
+    (sym (last_of (suc d) (k / n) (k % n)) ∙ ap (last_digits (suc d)) (div-add-mod' k n))
 
--- there is room before the point for every whole part, and before that for a minus
-whole_short : (k : ℕ) → k ≤ 2 ^ 63 → length (digits k) ≤ 19
-whole_short k h = digits-length 19 k (omega arith) (omega arith)
+fixed_above : (d : ℕ) (v : ℤ) → pos 0 ≤ℤ v → fixed d v ≡ pointed d (nat_abs v)
+unfolding fixed
+fixed_above d (pos k) h = refl
+fixed_above d (negsuc k) h = absurd h.le
 
-pub whole_room : (d k : ℕ) {first after : List ℕ} {point : ℕ} → d ≤ 7 → Ends 28 (decimals_text d k) first point after → 20 ≤ point
-whole_room d k h e = omega (arith, decimals_short d k h)
+fixed_below : (d : ℕ) (v : ℤ) → v <ℤ pos 0 → fixed d v ≡ 45 ∷ pointed d (nat_abs v)
+unfolding fixed
+fixed_below d (pos k) h = clash_ℤ h (nonneg k)
+fixed_below d (negsuc k) h = refl
 
-pub minus_room : (d k whole : ℕ) {first middle after : List ℕ} {point from : ℕ} → d ≤ 7 → whole ≤ 2 ^ 63 → Ends 28 (decimals_text d k) first point middle → Ends point (digits whole) middle from after → 0 < from
-minus_room d k whole h l e f = omega (arith, whole_room d k h e, whole_short whole l)
+-- units, power and ten are v's magnitude and 10^d as the code has them
+module _ (v : ℤ) (d : ℕ) (f : SFits w128 v) {units power ten : ℕ} (u : units ≡ nat_abs (wide v)) (p : power ≡ 10 ^ d)
+    (t : ten ≡ power) where
+  ten_is : ten ≡ 10 ^ d
+  ten_is = t ∙ p
 
-module _ (d : ℕ) (p : Parts) (k : p.whole ≤ 2 ^ 63) (short : p.part < 10 ^ d) (h : d ≤ 7) where
-  pub units_column : (minus : Bool) (first : List ℕ) {blanked dec digs now : List ℕ} {point from : ℕ} → length first ≡ 28 → blanked ≡ replicate (length first) 32 → Ends 28 (decimals_text d p.part) blanked point dec → Ends point (digits p.whole) dec from digs → now ≡ ending_at from (minus_text minus) digs → now ≡ right_justified 28 (minus_text minus ++ pointed d (units_of d p))
-  unfolding units_of
-  units_column minus first {blanked} {dec} {digs} {now} {point} {from} l b e f g =
-      let t = decimals_text d p.part in
-      let w = digits p.whole in
-      let ds = decimals_short d p.part h in
-      let ws = whole_short p.whole k in
-      let ms = minus_short minus in
-      let n = length-append w t in
-      let a : blanked ≡ replicate 28 32 = b ∙ ap (λ i. replicate i 32) l in
-      let x : dec ≡ right_justified 28 t = e.bytes ∙ ap (ending_at 28 t) a ∙ justified_alone 28 t (omega arith) in
-      let y : digs ≡ right_justified 28 (w ++ t) = f.bytes ∙ ap₂ (λ i c. ending_at i w c) e.starts x ∙ justified_before 28 w t (omega arith) in
-      let s : from ≡ 28 - length (w ++ t) = omega arith in
-      let z : now ≡ right_justified 28 (minus_text minus ++ (w ++ t)) = g ∙ ap₂ (λ i c. ending_at i (minus_text minus) c) s y ∙ justified_before 28 (minus_text minus) (w ++ t) (omega arith) in
-      z ∙ ap (λ c. right_justified 28 (minus_text minus ++ c)) (sym (pointed_pieces d p.whole p.part short))
+  units_are : units ≡ nat_abs v
+  units_are = u ∙ ap nat_abs (to_z-of_z f)
 
--- ---- rounding by magnitude
+  pub ten_some : 0 < ten
+  ten_some = rw ten_is (one-le-pow d 10 (omega arith))
 
-ceil_suc : (n den : ℕ) → 0 < den → rounded_to true (suc n) den ≡ suc (n / den)
-unfolding rounded_to
-ceil_suc n den h =
-    let e : suc n + (den - 1) ≡ n + den = omega arith in
-    ap (λ x. x / den) e ∙ add-div_right n h ∙ add-one (n / den)
+  pub part_small : units % ten < 10 ^ d
+  part_small = rw (← ten_is) (mod-lt units ten_some)
 
-ceil_zero : (den : ℕ) → 0 < den → rounded_to true 0 den ≡ 0
-unfolding rounded_to
-ceil_zero den h =
-    let e : 0 + (den - 1) ≡ 0 * den + (den - 1) = omega arith in
-    ap (λ x. x / den) e ∙ digits_div 0 (omega arith)
+  module _ (h : nat_abs v ≤ 10 ^ d * 2 ^ 63) where
+    pub whole_small : units / ten ≤ 2 ^ 63
+    whole_small = rw (ten_is, units_are) (div-le_of_le-mul (10 ^ d) h)
 
-floor_negative : (n den : ℕ) → 0 < den → floor_div (neg_ℤ (pos n)) den ≡ neg_ℤ (pos (rounded_to true n den))
-floor_negative zero den h = ap pos (zero-div den) ∙ ap (λ x. neg_ℤ (pos x)) (sym (ceil_zero den h))
-floor_negative (suc n) den h = ap (λ x. neg_ℤ (pos x)) (sym (ceil_suc n den h))
+    whole_short : length (decimal (units / ten)) ≤ 19
+    whole_short = let l = whole_small in decimal_short 19 (units / ten) (omega arith) (omega arith) (omega arith)
 
-ceil_positive : (n den : ℕ) → 0 < den → ceil_div (pos n) den ≡ pos (rounded_to true n den)
-ceil_positive n den h = ap neg_ℤ (floor_negative n den h) ∙ neg_ℤ-neg_ℤ (pos (rounded_to true n den))
+    body_is : decimal (units / ten) ++ decimals_text d (units % ten) ≡ pointed d (nat_abs v)
+    body_is =
+        let l = whole_small in
+        ap (λ x. x ++ decimals_text d (units % ten)) (decimal_digits (units / ten) (omega arith))
+        ∙ ap₂ (λ n m. digits (n / m) ++ decimals_text d (n % m)) units_are ten_is
+        ∙ pieces d (nat_abs v)
 
-ceil_negative : (n den : ℕ) → ceil_div (neg_ℤ (pos n)) den ≡ neg_ℤ (pos (rounded_to false n den))
-unfolding rounded_to
-ceil_negative n den = ap (λ z. neg_ℤ (floor_div z den)) (neg_ℤ-neg_ℤ (pos n))
+    module _ (few : d ≤ 7) {point : ℕ} (place : point + length (decimals_text d (units % ten)) ≡ 28) where
+      pub whole_room : length (decimal (units / ten)) ≤ point
+      whole_room = omega (arith, whole_short, decimals_short d (units % ten) few)
 
-round_positive : (up : Bool) (n den : ℕ) → 0 < den → round_to up (pos n) den ≡ pos (rounded_to up n den)
-unfolding rounded_to
-round_positive false n den h = refl
-round_positive true n den h = ceil_positive n den h
+      module _ (from : ℕ) (e : from + length (decimal (units / ten)) ≡ point) where
+        pub minus_room : 1 ≤ from
+        minus_room = omega (arith, whole_short, decimals_short d (units % ten) few)
 
-round_negative : (up : Bool) (n den : ℕ) → 0 < den → round_to up (neg_ℤ (pos n)) den ≡ neg_ℤ (pos (rounded_to (not up) n den))
-round_negative false n den h = floor_negative n den h
-round_negative true n den h = ceil_negative n den
+        body_ends : from + length (pointed d (nat_abs v)) ≡ 28
+        body_ends =
+            omega (arith, ap length body_is, length-append (decimal (units / ten)) (decimals_text d (units % ten)))
 
--- a zero has no minus
-fixed_negative : (d k : ℕ) → fixed d (neg_ℤ (pos k)) ≡ minus_text (ltb 0 k) ++ pointed d k
-unfolding fixed minus_text
-fixed_negative d zero = refl
-fixed_negative d (suc k) = rw (lt-ltb 0 (suc k) (omega arith))
+        module _ (now : List ℕ) {dec : List ℕ} (b : dec ≡ spaces point ++ decimals_text d (units % ten))
+            (w : drop from now ≡ decimal (units / ten) ++ drop point dec) (k : take from now ≡ take from dec) where
+          body_put : now ≡ spaces from ++ pointed d (nat_abs v)
+          body_put =
+              put_before point from (decimal (units / ten)) (decimals_text d (units % ten)) b e w k
+              ∙ ap (λ x. spaces from ++ x) body_is
 
--- ---- a load that is there
+          pub above_put : lt_z (wide v) (pos 0) ≡ false → now ≡ right_justified 28 (fixed d v)
+          above_put s =
+              let a = lt_z_no (is_false (ap (λ z. lt_z z (pos 0)) (to_z-of_z f)) s) in
+              body_put ∙ justified 28 from (pointed d (nat_abs v)) body_ends
+              ∙ ap (right_justified 28) (sym (fixed_above d v a))
 
-rounded_small : (up : Bool) (n den : ℕ) → 0 < den → rounded_to up n den ≤ n
-unfolding rounded_to
-rounded_small false n den h = div-le_self n den
-rounded_small true zero den h = rw (ceil_zero den h) (omega arith)
-rounded_small true (suc n) den h = rw (ceil_suc n den h) (omega (arith, div-le_self n den))
-
-units_zero : (d x y : ℕ) → ltb 0 (x + y) ≡ ltb 0 (x * 10 ^ d + y)
-units_zero d zero y =
-    let e : 0 + y ≡ 0 * 10 ^ d + y = omega arith in
-    ap (ltb 0) e
-units_zero d (suc x) y =
-    let l = one-le-pow d 10 (omega arith) in
-    lt-ltb 0 (suc x + y) (omega arith) ∙ sym (lt-ltb 0 (suc x * 10 ^ d + y) (omega arith))
-
-module _ (d m den : ℕ) (up : Bool) (p : Parts) (e : p ≡ parts_of d (rounded_to up (m * 10 ^ d) den)) where
-  units_are : units_of d p ≡ rounded_to up (m * 10 ^ d) den
-  unfolding parts_of units_of
-  units_are = rw e (div-add-mod' (rounded_to up (m * 10 ^ d) den) (10 ^ d))
-
-  pub whole_small : 0 < den → m ≤ 2 ^ 63 → p.whole ≤ 2 ^ 63
-  unfolding parts_of
-  whole_small h l =
-      let n : rounded_to up (m * 10 ^ d) den ≤ 10 ^ d * m = omega (arith, rounded_small up (m * 10 ^ d) den h) in
-      rw e (omega (arith, div-le_of_le-mul (10 ^ d) n))
-
-  pub part_short : p.part < 10 ^ d
-  unfolding parts_of
-  part_short = rw e (mod-lt (rounded_to up (m * 10 ^ d) den) (omega (arith, one-le-pow d 10 (omega arith))))
-
-positive_text : (d m den : ℕ) (up : Bool) (p : Parts) → p ≡ parts_of d (rounded_to up (m * 10 ^ d) den) → 0 < den → (num : ℤ) → m ≡ nat_abs num → pos 0 ≤ℤ num → minus_text false ++ pointed d (units_of d p) ≡ fixed d (round_to up (num *ℤ pos (10 ^ d)) den)
-unfolding fixed minus_text
-positive_text d m den up p e h (pos n) k l =
-    ap (pointed d) (units_are d m den up p e ∙ ap (λ x. rounded_to up (x * 10 ^ d) den) k) ∙ ap (fixed d) (sym (round_positive up (n * 10 ^ d) den h))
-positive_text d m den up p e h (negsuc n) k l = absurd l.le
-
-negative_text : (d m den : ℕ) (up minus : Bool) (p : Parts) → p ≡ parts_of d (rounded_to (not up) (m * 10 ^ d) den) → 0 < den → (num : ℤ) → m ≡ nat_abs num → num <ℤ pos 0 → minus ≡ ltb 0 (p.whole + p.part) → minus_text minus ++ pointed d (units_of d p) ≡ fixed d (round_to up (num *ℤ pos (10 ^ d)) den)
-unfolding units_of
-negative_text d m den up minus p e h (pos n) k l g = clash_ℤ l (nonneg n)
-negative_text d m den up minus p e h (negsuc n) k l g =
-    let v = rounded_to (not up) (suc n * 10 ^ d) den in
-    let u : units_of d p ≡ v = units_are d m den (not up) p e ∙ ap (λ x. rounded_to (not up) (x * 10 ^ d) den) k in
-    let s : minus ≡ ltb 0 v = g ∙ units_zero d p.whole p.part ∙ ap (ltb 0) u in
-    ap₂ (λ b x. minus_text b ++ pointed d x) s u ∙ sym (fixed_negative d v) ∙ ap (fixed d) (sym (round_negative up (suc n * 10 ^ d) den h))
-
--- the same by what the code knows of the numerator
-
-pub magnitude_small : (num : ℤ) {m : ℕ} → SFits w64 num → m ≡ nat_abs (read num) → m ≤ 2 ^ 63
-magnitude_small num f k = rw (k, to_z-of_z f) (nat_abs-le num f.sfits)
-
-pub exact_above : (d m den : ℕ) (up : Bool) (p : Parts) (num : ℤ) {now : List ℕ} → 0 < den → SFits w64 num → m ≡ nat_abs (read num) → lt_z (read num) (pos 0) ≡ false → p ≡ parts_of d (rounded_to up (m * 10 ^ d) den) → now ≡ right_justified 28 (minus_text false ++ pointed d (units_of d p)) → now ≡ right_justified 28 (fixed d (round_to up (num *ℤ pos (10 ^ d)) den))
-exact_above d m den up p num h f k l e g =
-    let r = to_z-of_z f in
-    let n : pos 0 ≤ℤ num = lt_z_no (is_false (ap (λ z. lt_z z (pos 0)) r) l) in
-    g ∙ ap (right_justified 28) (positive_text d m den up p e h num (k ∙ ap nat_abs r) n)
-
-pub exact_below : (d m den : ℕ) (up minus : Bool) (p : Parts) (num : ℤ) {now : List ℕ} → 0 < den → SFits w64 num → m ≡ nat_abs (read num) → lt_z (read num) (pos 0) ≡ true → p ≡ parts_of d (rounded_to (not up) (m * 10 ^ d) den) → minus ≡ ltb 0 (p.whole + p.part) → now ≡ right_justified 28 (minus_text minus ++ pointed d (units_of d p)) → now ≡ right_justified 28 (fixed d (round_to up (num *ℤ pos (10 ^ d)) den))
-exact_below d m den up minus p num h f k l e s g =
-    let r = to_z-of_z f in
-    let n : num <ℤ pos 0 = lt_z_yes (is_true (ap (λ z. lt_z z (pos 0)) r) l) in
-    g ∙ ap (right_justified 28) (negative_text d m den up minus p e h num (k ∙ ap nat_abs r) n s)
+          pub below_put : lt_z (wide v) (pos 0) ≡ true → set now (from - 1) 45 ≡ right_justified 28 (fixed d v)
+          below_put s =
+              let a = lt_z_yes (is_true (ap (λ z. lt_z z (pos 0)) (to_z-of_z f)) s) in
+              byte_before from 45 (pointed d (nat_abs v)) body_put (omega (arith, minus_room))
+              ∙ justified 28 (from - 1) (45 ∷ pointed d (nat_abs v)) (omega (arith, body_ends, minus_room))
+              ∙ ap (right_justified 28) (sym (fixed_below d v a))
 
 -- ---- any load
 
-pub absent_column : (round : ℤ → ℕ → ℤ) (d : ℕ) (load : Load) {now : List ℕ} → load ≡ Absent → now ≡ right_justified 28 none_text → now ≡ right_justified 28 (load_text round d load)
+exact_text : (round : ℤ → ℕ → ℤ) (d : ℕ) (num den : ℤ) → pos 0 <ℤ den
+    → load_text round d (Exact num den) ≡ fixed d (round (num *ℤ pos (10 ^ d)) (nat_abs den))
+unfolding load_text
+exact_text round d num (pos zero) h = absurd h.lt
+exact_text round d num (pos (suc k)) h = refl
+exact_text round d num (negsuc k) h = absurd h.lt
+
+none_text_of : (round : ℤ → ℕ → ℤ) (d : ℕ) (num den : ℤ) → den ≤ℤ pos 0 → load_text round d (Exact num den) ≡ none_text
+unfolding load_text
+none_text_of round d num (pos zero) h = refl
+none_text_of round d num (pos (suc k)) h = absurd (omega (arith, ≤ℤ_pos h))
+none_text_of round d num (negsuc k) h = refl
+
+pub absent_column : (round : ℤ → ℕ → ℤ) (d : ℕ) (load : Load) {now : List ℕ} → load ≡ Absent
+    → now ≡ right_justified 28 none_text → now ≡ right_justified 28 (load_text round d load)
 unfolding load_text
 absent_column round d load e f = rw e f
 
-module _ (den : ℤ) (f : SFits w64 den) where
-  above : le_z (read den) (pos 0) ≡ false → (k : ℕ) × (den ≡ pos (suc k)) × (k < 2 ^ 63 - 1)
-  above l = go den f (le_z_no (is_false (ap (λ z. le_z z (pos 0)) (to_z-of_z f)) l))
-    where
-      go : (den : ℤ) → SFits w64 den → pos 0 <ℤ den → (k : ℕ) × (den ≡ pos (suc k)) × (k < 2 ^ 63 - 1)
-      go (pos zero) f l = absurd l.lt
-      go (pos (suc k)) f l = (k, refl, omega (arith, f.sfits))
-      go (negsuc k) f l = absurd l.lt
+module _ (num den : ℤ) (g : SFits w64 den) where
+  pub no_load_column : (round : ℤ → ℕ → ℤ) (d : ℕ) (load : Load) {now : List ℕ} → load ≡ Exact num den
+      → lt_z (pos 0) (read den) ≡ false → now ≡ right_justified 28 none_text
+      → now ≡ right_justified 28 (load_text round d load)
+  no_load_column round d load e l n =
+      let h = lt_z_no (is_false (ap (λ z. lt_z (pos 0) z) (to_z-of_z g)) l) in
+      n ∙ ap (right_justified 28) (sym (ap (load_text round d) e ∙ none_text_of round d num den h))
 
-  module _ (l : le_z (read den) (pos 0) ≡ false) where
-    pub den_nonneg : T (non_neg (read den))
-    den_nonneg = rw (to_z-of_z f, (above l).1) tt
+  module _ (f : SFits w64 num) (up : Bool) (d : ℕ) (few : d ≤ 7) {v : ℤ}
+      (r : v ≡ round_to up (read num *ℤ pos (10 ^ d)) (nat_abs (read den))) where
+    rounded_is : v ≡ round_to up (num *ℤ pos (10 ^ d)) (nat_abs den)
+    rounded_is = r ∙ ap₂ (λ n m. round_to up (n *ℤ pos (10 ^ d)) (nat_abs m)) (to_z-of_z f) (to_z-of_z g)
 
-    pub den_positive : 0 < nat_abs (read den)
-    den_positive = rw (to_z-of_z f, (above l).1) (omega arith)
+    rounded_short : nat_abs v ≤ 10 ^ d * 2 ^ 63
+    rounded_short =
+        rw rounded_is
+        (omega (arith, round_small up (num *ℤ pos (10 ^ d)) (nat_abs den), units_small num d (nat_abs-le num f.sfits)))
 
-    pub den_small : nat_abs (read den) < 2 ^ 63
-    den_small = rw (to_z-of_z f, (above l).1) (omega (arith, (above l).2))
+    rounded_wide : wide v ≡ v
+    rounded_wide = is_wide v (omega (arith, rounded_short, power_small d few)) refl
 
-    pub den_fits : Fits w64 (nat_abs (read den))
-    den_fits = omega (arith, den_small)
+    pub load_room : nat_abs (wide v) ≤ 10 ^ d * 2 ^ 63
+    load_room = rw rounded_wide rounded_short
 
-  pub no_load_column : (round : ℤ → ℕ → ℤ) (d : ℕ) (load : Load) (num : ℤ) {now : List ℕ} → load ≡ Exact num den → le_z (read den) (pos 0) ≡ true → now ≡ right_justified 28 none_text → now ≡ right_justified 28 (load_text round d load)
-  unfolding load_text
-  no_load_column round d load num e l g = g ∙ ap (right_justified 28) (sym (ap (load_text round d) e ∙ go den (le_z_yes (is_true (ap (λ z. le_z z (pos 0)) (to_z-of_z f)) l))))
-    where
-      go : (den : ℤ) → den ≤ℤ pos 0 → load_text round d (Exact num den) ≡ none_text
-      go (pos zero) l = refl
-      go (pos (suc k)) l = absurd (omega (arith, ≤ℤ_pos l))
-      go (negsuc k) l = refl
-
-  pub load_column : (round : ℤ → ℕ → ℤ) (d : ℕ) (load : Load) (num : ℤ) {now : List ℕ} → load ≡ Exact num den → SFits w64 num → le_z (read den) (pos 0) ≡ false → now ≡ right_justified 28 (fixed d (round (read num *ℤ pos (10 ^ d)) (nat_abs (read den)))) → now ≡ right_justified 28 (load_text round d load)
-  unfolding load_text
-  load_column round d load num e n l g =
-      let p = (above l).1 in
-      rw (e, p) (g ∙ ap (λ z. right_justified 28 (fixed d (round (z *ℤ pos (10 ^ d)) (nat_abs (read den))))) (to_z-of_z n) ∙ ap (λ z. right_justified 28 (fixed d (round (num *ℤ pos (10 ^ d)) (nat_abs z)))) (to_z-of_z f ∙ p))
+    pub load_column : (load : Load) {now : List ℕ} → load ≡ Exact num den → lt_z (pos 0) (read den) ≡ true
+        → now ≡ right_justified 28 (fixed d (wide v)) → now ≡ right_justified 28 (load_text (round_to up) d load)
+    load_column load e l n =
+        let h = lt_z_yes (is_true (ap (λ z. lt_z (pos 0) z) (to_z-of_z g)) l) in
+        n ∙ ap (λ z. right_justified 28 (fixed d z)) (rounded_wide ∙ rounded_is)
+        ∙ ap (right_justified 28) (sym (ap (load_text (round_to up) d) e ∙ exact_text (round_to up) d num den h))

@@ -1,11 +1,7 @@
--- A load's text in pieces, as it is written: a minus, the whole part, and the decimals.
+-- A load's text as it is written: the decimals apart from the whole part, and rounded to one of two sides.
 use Rattle.std.specs.Prelude.{Bool, true, false, List, [], ◌∷◌, ℕ, zero, suc, ℤ}
 use Rattle.integer.specs.Decimal.{last_digits}
 use Rattle.integer.specs.Round.{floor_div, ceil_div}
-
-unfoldable pub minus_text : Bool → List ℕ
-minus_text false = []
-minus_text true = 45 ∷ []
 
 -- the point and the last d digits of k, and no point where d is 0
 unfoldable pub decimals_text : ℕ → ℕ → List ℕ

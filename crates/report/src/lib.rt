@@ -58,16 +58,14 @@ fn put_open(column: &mut [u8], open_rows: OpenRows)
 {
     match open_rows {
         OpenRows::Absent => put_none(column),
-        OpenRows::Count(k) => {
-            put_number(column, k);
-        }
+        OpenRows::Count(k) => put_number(column, k),
     }
 }
 
 // Four columns and byte 10. The second is a number or none, as the open rows are.
 fn put_line(buffer: &mut [u8], number: u64, second: OpenRows, lower: Load, upper: Load, d: usize)
-    requires fact_1 { d ≤ most_decimals }
-    requires fact_2 { report_bytes ≤ length buffer.old }
+    requires few_decimals { d ≤ most_decimals }
+    requires room { report_bytes ≤ length buffer.old }
     ensures { buffer.new
         ≡ four_columns (digits number) (open_text second) (lower_text d lower) (upper_text d upper)
         ++ drop report_bytes buffer.old }
@@ -81,8 +79,8 @@ fn put_line(buffer: &mut [u8], number: u64, second: OpenRows, lower: Load, upper
 
 // "Accepted .. reports: 0; the open rows ..; l/n; W/m"; "Refused: number, place, none, none"
 fn write_line(v: Verdict, buffer: &mut [u8], d: usize)
-    requires fact_1 { report_bytes ≤ length buffer.old }
-    requires fact_2 { d ≤ most_decimals }
+    requires room { report_bytes ≤ length buffer.old }
+    requires few_decimals { d ≤ most_decimals }
     ensures { buffer.new ≡ report_line d v ++ drop report_bytes buffer.old }
 {
     match v {
@@ -90,12 +88,17 @@ fn write_line(v: Verdict, buffer: &mut [u8], d: usize)
             open_rows,
             lower,
             upper,
-        } => {
-            put_line(buffer, 0, open_rows, lower, upper, d);
-        }
+        } => put_line(buffer, 0, open_rows, lower, upper, d),
         Verdict::Refused { number, place } => {
-            let second = OpenRows::Count(place_number(place) as u64);
-            put_line(buffer, number as u64, second, Load::Absent, Load::Absent, d);
+            let second = OpenRows::Count(u64::from(place_number(place)));
+            put_line(
+                buffer,
+                u64::from(number),
+                second,
+                Load::Absent,
+                Load::Absent,
+                d,
+            );
         }
     }
 }
@@ -103,10 +106,7 @@ fn write_line(v: Verdict, buffer: &mut [u8], d: usize)
 fn has_decimals(decimals: i64) -> bool
     ensures { result ≡ is_decimals decimals }
 {
-    if decimals < 0 {
-        return false;
-    }
-    decimals <= MOST_DECIMALS
+    (0..=MOST_DECIMALS).contains(&decimals)
 }
 
 // The report of a verdict, with so many decimals, at the front of the buffer that is lent.

@@ -1,97 +1,58 @@
 // A load in a column: decimals, whole part and minus, written from the end.
-ghost use Rattle.std.specs.Prelude.{◌≡◌, ◌++◌, ◌+◌, ◌^◌, ◌≤◌, ◌<◌, ltb, pos, ◌*ℤ◌, length};
+ghost use Rattle.std.specs.Prelude.{◌≡◌, ◌++◌, ◌+◌, ◌*◌, ◌^◌, ◌≤◌, ◌<◌, nat_abs, length, replicate};
 ghost use Rattle.integer.specs.Decimal.{right_justified};
-ghost use Rattle.report.specs.Text.{pointed, fixed};
+ghost use Rattle.report.specs.Text.{fixed};
 ghost use Rattle.report.specs.Report.{column_bytes, load_text, most_decimals};
-ghost use Rattle.report.specs.Column.{ending_at, Ends};
-ghost use Rattle.report.specs.Quotient.{units_of};
-ghost use Rattle.report.specs.Spelled.{minus_text, decimals_text, round_to};
+ghost use Rattle.report.specs.Spelled.{decimals_text, round_to};
 
-use crate::column::{WIDTH, blank, put_digits, put_last_digits, put_none};
-use crate::division::{Parts, magnitude, rounded};
+use crate::column::{WIDTH, put_none};
+use crate::division::rounded;
+use itoa::write_digits;
 use scope::Load;
 
-// The point and d decimals at the end of a column; their first place is answered.
+// The point and d decimals at the end of a blank column; the place of the point is answered, or the end where d is 0.
 fn put_decimals(column: &mut [u8], part: u64, d: usize) -> usize
-    requires fact_1 { length column.old ≡ column_bytes }
-    requires fact_2 { d ≤ most_decimals }
-    ensures { Ends column_bytes (decimals_text d part) column.old result column.new }
+    requires blank { column.old ≡ replicate column_bytes 32 }
+    requires part_fits { part < 10 ^ d }
+    requires few_decimals { d ≤ most_decimals }
+    ensures place { result + length (decimals_text d part) ≡ column_bytes }
+    ensures text { column.new ≡ replicate result 32 ++ decimals_text d part }
 {
     if d == 0 {
         return WIDTH;
     }
-    put_last_digits(column, WIDTH, d, part);
-    let at = WIDTH - 1 - d;
-    column[at] = b'.';
-    at
+    column[WIDTH - d..].fill(b'0');
+    write_digits(part, column, WIDTH);
+    let point = WIDTH - d - 1;
+    column[point] = b'.';
+    point
 }
 
-fn put_minus(column: &mut [u8], end: usize, minus: bool)
-    requires fact_1 { 0 < end }
-    requires fact_2 { end ≤ length column.old }
-    ensures { column.new ≡ ending_at end (minus_text minus) column.old }
+// v / 10^d, with no point where d is 0.
+fn put_fixed(column: &mut [u8], v: i128, d: usize)
+    requires whole_column { length column.old ≡ column_bytes }
+    requires has_room { nat_abs v ≤ 10 ^ d * 2 ^ 63 }
+    requires few_decimals { d ≤ most_decimals }
+    ensures { column.new ≡ right_justified column_bytes (fixed d v) }
 {
-    if minus {
-        column[end - 1] = b'-';
+    let units = v.unsigned_abs();
+    let ten = u128::from(10u64.pow(d as u32));
+    column.fill(b' ');
+    let point = put_decimals(column, (units % ten) as u64, d);
+    let from = write_digits((units / ten) as u64, column, point);
+    if v < 0 {
+        column[from - 1] = b'-';
     }
 }
 
-// A number of units, with a minus or without.
-fn put_units(column: &mut [u8], minus: bool, p: Parts, d: usize)
-    requires fact_1 { length column.old ≡ column_bytes }
-    requires fact_2 { p.whole ≤ 2 ^ 63 }
-    requires fact_3 { p.part < 10 ^ d }
-    requires fact_4 { d ≤ most_decimals }
-    ensures { column.new ≡ right_justified column_bytes (minus_text minus ++ pointed d (units_of d p)) }
-{
-    blank(column);
-    let point = put_decimals(column, p.part, d);
-    let from = put_digits(column, point, p.whole);
-    put_minus(column, from, minus);
-}
-
-fn above_zero(p: Parts) -> bool
-    ensures { result ≡ ltb 0 (p.whole + p.part) }
-{
-    if 0 < p.whole {
-        return true;
-    }
-    0 < p.part
-}
-
-// num / den, rounded once: below 0 the magnitude goes the other way, and "a zero has no minus".
-fn put_exact(column: &mut [u8], num: i64, den: u64, up: bool, d: usize)
-    requires fact_1 { length column.old ≡ column_bytes }
-    requires fact_2 { 0 < den }
-    requires fact_3 { den < 2 ^ 63 }
-    requires fact_4 { d ≤ most_decimals }
-    ensures { column.new
-        ≡ right_justified column_bytes (fixed d (round_to up (num *ℤ pos (10 ^ d)) den)) }
-{
-    let m = magnitude(num);
-    if num < 0 {
-        let below = rounded(m, den, !up, d);
-        put_units(column, above_zero(below), below, d);
-        return;
-    }
-    let p = rounded(m, den, up, d);
-    put_units(column, false, p, d);
-}
-
-// A load, or none where there is none.
+// A load rounded once, or none where there is none.
 pub fn put_load(column: &mut [u8], load: Load, up: bool, d: usize)
-    requires fact_1 { length column.old ≡ column_bytes }
-    requires fact_2 { d ≤ most_decimals }
+    requires whole_column { length column.old ≡ column_bytes }
+    requires few_decimals { d ≤ most_decimals }
     ensures { column.new ≡ right_justified column_bytes (load_text (round_to up) d load) }
 {
     match load {
-        Load::Absent => put_none(column),
-        Load::Exact { num, den } => {
-            if den <= 0 {
-                put_none(column);
-                return;
-            }
-            put_exact(column, num, den as u64, up, d);
-        }
+        Load::Exact { num, den } if 0 < den => put_fixed(column, rounded(num, den, up, d), d),
+        _ => put_none(column),
     }
 }

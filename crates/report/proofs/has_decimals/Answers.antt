@@ -1,14 +1,28 @@
--- Below 0 there is no such number; from 0 the code asks the second half of the test.
-use mathlib.Core.Path.{sym, ◌∙◌}
-use native.Mathlib.Omega.{arith}
-use Rattle.integer.proofs.Machine.{machine, unbounded, told, decides}
-use Rattle.report.proofs.BufferLaws.{below_zero_lem, from_zero}
+-- The two tests of the range are those of the definition.
+use Rattle.std.proofs.Common.{◌≡◌, sym, ap₂, ◌∙◌, ◌&&◌, Ordering, Less, Equal, Greater, pos, ℤ, ◌<ℤ◌, arith}
+use Rattle.std.specs.Ordering.{MatchOrdering, is_le, int_cmp}
+use Rattle.std.specs.Cmp.{int_ranks}
+use Rattle.std.specs.Int.Signed.{le_z}
+use Rattle.std.proofs.lemmas.Int.{ints}
+use mir.Facts.{to_z-of_z}
+use lib.Ieee.Bits.{is_true, is_false}
+use Rattle.integer.proofs.TestLaws.{yes_le_z, no_le_z}
+use Rattle.report.specs.Report.{most_decimals, is_decimals}
 use Rattle.report.proofs.has_decimals.Goals as goal
 
-pub returns-then-decimals-lt0 : goal.returns-then-decimals-lt0
-returns-then-decimals-lt0 c = sym (below_zero_lem (told c.if-decimals-lt0.true (search (machine, unbounded) depth 30) (omega arith)))
+ranked : (x y : ℤ) (o : Ordering) → MatchOrdering o (x <ℤ y) (x ≡ y) (y <ℤ x) → is_le o ≡ le_z x y
+ranked x y Less h = sym (is_true (le_z x y) (yes_le_z {a = x} {b = y} (omega (arith, ints))))
+ranked x y Equal h = sym (is_true (le_z x y) (yes_le_z {a = x} {b = y} (omega (arith, ints))))
+ranked x y Greater h = sym (is_false (le_z x y) (no_le_z h))
+
+at_most : (x y : ℤ) → is_le (int_cmp x y) ≡ le_z x y
+at_most x y = ranked x y (int_cmp x y) (int_ranks x y)
 
 pub returns : goal.returns
+unfolding is_decimals
 returns c =
-    decides (search (machine, unbounded) depth 30) (omega arith)
-    ∙ sym (from_zero (told c.if-decimals-lt0.false (search (machine, unbounded) depth 30) (omega arith)))
+    let z = c.args.decimals in
+    let n = c.new.ensures in
+    c.contains.ensures.value
+    ∙ rw (n.start, n.end, n.exhausted, to_z-of_z c.ranges.decimals)
+    (ap₂ ◌&&◌ (at_most (pos 0) z) (at_most z (pos most_decimals)))

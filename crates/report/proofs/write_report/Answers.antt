@@ -1,4 +1,5 @@
--- Another number of decimals comes first, then a buffer under 113 bytes; each is left as it was. Any other buffer has the line at its front.
+-- Another number of decimals comes first, then a buffer under 113 bytes; each is left as it was. Any other buffer has
+-- the line at its front.
 use Rattle.report.proofs.BufferLaws.{other_decimals, too_short, decimals_nonneg, decimals_fit, decimals_most, written}
 use Rattle.report.proofs.write_report.Goals as goal
 
@@ -11,8 +12,8 @@ returns-then-buffer-lt-LINE c = search too_short
 pub overflow_cast-decimals : goal.overflow_cast-decimals
 overflow_cast-decimals c = (search decimals_nonneg, search decimals_fit)
 
-pub write_line-requires-clause-fact_2 : goal.write_line-requires-clause-fact_2
-write_line-requires-clause-fact_2 c = search decimals_most
+pub write_line-requires-clause-few_decimals : goal.write_line-requires-clause-few_decimals
+write_line-requires-clause-few_decimals c = search decimals_most
 
 pub returns : goal.returns
 returns c = search written

@@ -1,18 +1,25 @@
--- Down is the quotient itself, and so is up where nothing is left; else up is one unit more.
-use Rattle.report.proofs.DivisionLaws.{rounded_down, rounded_exact, unit_fits, rounded_up}
+-- The product fits 128 bits, and so does its opposite; Euclid's quotient is the floor, and that of the opposite is the
+-- ceiling's opposite.
+use Rattle.report.proofs.DivisionLaws.{product_fits, opposite_fits, not_minus_one, ceil_fits, rounded_up, rounded_down}
 use Rattle.report.proofs.division.rounded.Goals as goal
 
-pub returns-then-not-up : goal.returns-then-not-up
-returns-then-not-up c = search rounded_down
+pub overflow_mul-units : goal.overflow_mul-units
+overflow_mul-units c = search product_fits
 
-pub returns-then-q-eq0 : goal.returns-then-q-eq0
-returns-then-q-eq0 c = search rounded_exact
+pub overflow_sub-units : goal.overflow_sub-units
+overflow_sub-units c = search opposite_fits
 
-pub next_unit-requires : goal.next_unit-requires
-next_unit-requires c =
-    let a = c.args in
-    let f = unit_fits a.d a.m a.den c.divided-q.result c.divided-q.ensures c.requires.fact_1 in
-    record { fact_1 = f.whole_small; fact_2 = f.part_short; fact_3 = c.requires.fact_4 }
+pub div_euclid-requires-clause-no_overflow : goal.div_euclid-requires-clause-no_overflow
+div_euclid-requires-clause-no_overflow c = search not_minus_one
 
-pub returns : goal.returns
-returns c = search rounded_up
+pub overflow_sub-result : goal.overflow_sub-result
+overflow_sub-result c = search ceil_fits
+
+pub returns-then-up : goal.returns-then-up
+returns-then-up c = search rounded_up
+
+pub div_euclid-requires-else-up-clause-no_overflow : goal.div_euclid-requires-else-up-clause-no_overflow
+div_euclid-requires-else-up-clause-no_overflow c = search not_minus_one
+
+pub returns-else-up : goal.returns-else-up
+returns-else-up c = search rounded_down

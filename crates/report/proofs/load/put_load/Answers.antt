@@ -1,21 +1,16 @@
--- Each arm of the enum is a case of its text.
-use Rattle.report.proofs.LoadLaws.{absent_column, den_nonneg, den_positive, den_small, den_fits, no_load_column, load_column}
+-- Each arm of the enum is a case of its text, and so is a denominator that is not above 0.
+use Rattle.report.proofs.LoadLaws.{absent_column, no_load_column, load_room, load_column}
 use Rattle.report.proofs.load.put_load.Goals as goal
+use Rattle.report.proofs.load.put_load.Goals.{in_default-via-in-Exact+else-den-gt0, in_default-via-in_default}
 
-pub returns-then-den-le0 : goal.returns-then-den-le0
-returns-then-den-le0 c = search no_load_column
+pub put_fixed-requires-clause-has_room : goal.put_fixed-requires-clause-has_room
+put_fixed-requires-clause-has_room c = search load_room
 
-pub overflow_cast-den : goal.overflow_cast-den
-overflow_cast-den c = (search den_nonneg, search den_fits)
+pub returns-in-Exact : goal.returns-in-Exact
+returns-in-Exact c = search load_column
 
-pub put_exact-requires-clause-fact_2 : goal.put_exact-requires-clause-fact_2
-put_exact-requires-clause-fact_2 c = search den_positive
-
-pub put_exact-requires-clause-fact_3 : goal.put_exact-requires-clause-fact_3
-put_exact-requires-clause-fact_3 c = search den_small
-
-pub returns-in-Absent : goal.returns-in-Absent
-returns-in-Absent c = search absent_column
-
-pub returns-else-den-le0 : goal.returns-else-den-le0
-returns-else-den-le0 c = search load_column
+pub returns-in_default : goal.returns-in_default
+returns-in_default c = elim c.in_default.branch [
+  | in_default-via-in-Exact+else-den-gt0 w ↦ search no_load_column
+  | in_default-via-in_default w ↦ search absent_column
+]
