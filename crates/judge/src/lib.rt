@@ -11,6 +11,7 @@ ghost use Rattle.mesh.specs.MeshContracts.{FewThings, Counted};
 ghost use Rattle.scope.specs.Table.{has_table};
 ghost use Rattle.verdict.specs.JudgeContracts.{SoundMesh, TabledAnswered};
 ghost use Rattle.reader.specs.File.{file_width, table_numbers_of};
+ghost use Rattle.reader.specs.Most.{mesh_room, claim_room};
 ghost use Rattle.judge.specs.Judge.{mesh_numbers, claim_numbers, files_verdict};
 ghost use Rattle.judge.specs.ClaimBytes.{claim_bytes};
 ghost use Rattle.judge.specs.MeshFileJudged.{MeshJudged};
@@ -58,7 +59,7 @@ pub fn judge_mesh_file(mesh: &[u8], table: &[u8], numbers: &mut [i64]) -> Judged
         numbers.new }
 {
     let count = read_mesh(mesh, numbers);
-    if table.len() == 0 {
+    if table.is_empty() {
         let answer = judge_mesh(&numbers[..count]);
         return JudgedMesh { count, answer };
     }
@@ -68,50 +69,48 @@ pub fn judge_mesh_file(mesh: &[u8], table: &[u8], numbers: &mut [i64]) -> Judged
 
 // The verdict on a claim file on a judged mesh with the numbers m, these sizes and these pairs, with room for the
 // claim's numbers.
-fn judge_claim_in(m: &[i64], s: Sizes, pairs: &[u8], claim: &[u8], numbers: &mut [i64]) -> Verdict
-    requires fact_1 { SoundMesh m.now s pairs.now }
-    requires fact_2 { length (claim_numbers file_width m.now claim.now) ≤ length numbers.old }
+fn judge_claim_in<const ROOM: usize>(m: &[i64], s: Sizes, pairs: &[u8], claim: &[u8]) -> Verdict
+    requires mesh_passed { SoundMesh m.now s pairs.now }
+    requires fits { length (claim_numbers file_width m.now claim.now) ≤ ROOM }
+    requires small { ROOM ≤ claim_room }
     ensures { result
         ≡ claim_verdict m.now (claim_numbers file_width m.now claim.now) }
 {
+    let numbers: &mut [i64] = &mut [0; ROOM];
     let count = read_claim(claim, s, numbers);
     judge_claim(m, s, pairs, &numbers[..count])
 }
 
 // The verdict on a claim file on a judged mesh with the numbers m, these sizes and these pairs.
+#[tactic(auto, using(crate::proofs::FilesJudged::claim_by_length))]
 pub fn judge_claim_file(m: &[i64], s: Sizes, pairs: &[u8], claim: &[u8]) -> Verdict
     requires { SoundMesh m.now s pairs.now }
     ensures { result
         ≡ claim_verdict m.now (claim_numbers file_width m.now claim.now) }
 {
-    let room = most_numbers(claim.len());
-    if room <= SMALL_ROOM {
-        let mut small = [0i64; SMALL_ROOM];
-        return judge_claim_in(m, s, pairs, claim, &mut small);
+    match most_numbers(claim.len()) {
+        ..=SMALL_ROOM => judge_claim_in::<SMALL_ROOM>(m, s, pairs, claim),
+        ..=MIDDLE_CLAIM => judge_claim_in::<MIDDLE_CLAIM>(m, s, pairs, claim),
+        _ => judge_claim_in::<CLAIM_ROOM>(m, s, pairs, claim),
     }
-    if room <= MIDDLE_CLAIM {
-        let mut middle = [0i64; MIDDLE_CLAIM];
-        return judge_claim_in(m, s, pairs, claim, &mut middle);
-    }
-    let mut large = [0i64; CLAIM_ROOM];
-    judge_claim_in(m, s, pairs, claim, &mut large)
 }
 
 // The verdict on a mesh file, a table file and a claim file, with room for the mesh's numbers.
-fn judge_files_in(mesh: &[u8], table: &[u8], claim: &[u8], numbers: &mut [i64]) -> Verdict
-    requires { length (mesh_numbers file_width mesh.now) ≤ length numbers.old }
+fn judge_files_in<const ROOM: usize>(mesh: &[u8], table: &[u8], claim: &[u8]) -> Verdict
+    requires fits { length (mesh_numbers file_width mesh.now) ≤ ROOM }
+    requires small { ROOM ≤ mesh_room }
     ensures { result ≡ files_verdict file_width mesh.now table.now claim.now }
 {
+    let numbers: &mut [i64] = &mut [0; ROOM];
     let judged = judge_mesh_file(mesh, table, numbers);
-    let count = judged.count;
-    let answer = judged.answer;
-    let outcome = answer.outcome;
-    match outcome {
+    match judged.answer.outcome {
         Outcome::Refused { number, place } => Verdict::Refused { number, place },
-        Outcome::Passed => {
-            let m = &numbers[..count];
-            judge_claim_file(m, answer.sizes, &answer.pairs, claim)
-        }
+        Outcome::Passed => judge_claim_file(
+            &numbers[..judged.count],
+            judged.answer.sizes,
+            &judged.answer.pairs,
+            claim,
+        ),
     }
 }
 
@@ -120,17 +119,11 @@ fn judge_files_in(mesh: &[u8], table: &[u8], claim: &[u8], numbers: &mut [i64]) 
 pub fn judge_files(mesh: &[u8], table: &[u8], claim: &[u8]) -> Verdict
     ensures { result ≡ files_verdict file_width mesh.now table.now claim.now }
 {
-    let room = most_numbers(mesh.len());
-    if room <= SMALL_ROOM {
-        let mut small = [0i64; SMALL_ROOM];
-        return judge_files_in(mesh, table, claim, &mut small);
+    match most_numbers(mesh.len()) {
+        ..=SMALL_ROOM => judge_files_in::<SMALL_ROOM>(mesh, table, claim),
+        ..=MIDDLE_MESH => judge_files_in::<MIDDLE_MESH>(mesh, table, claim),
+        _ => judge_files_in::<MESH_ROOM>(mesh, table, claim),
     }
-    if room <= MIDDLE_MESH {
-        let mut middle = [0i64; MIDDLE_MESH];
-        return judge_files_in(mesh, table, claim, &mut middle);
-    }
-    let mut large = [0i64; MESH_ROOM];
-    judge_files_in(mesh, table, claim, &mut large)
 }
 
 // The bytes of a claim file that begins with these numbers: for every mesh with these sizes and so many pairs.

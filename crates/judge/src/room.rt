@@ -61,9 +61,6 @@ fn sizes_for(s: Sizes) -> MeshSizes
     requires { FewThings s }
     ensures { (m : List ℤ) → Counted m s → result ≡ sizes_for Passed m }
 {
-    let field = claim_bytes(s, &[1, 0]);
-    let multipliers = claim_bytes(s, &[0, 1]);
-    let both = claim_bytes(s, &[1, 1]);
     MeshSizes {
         number: 0,
         place: 0,
@@ -72,9 +69,9 @@ fn sizes_for(s: Sizes) -> MeshSizes
         jump_rows: count_of(s.jumps, JUMP_ROWS),
         strength_rows: count_of(s.pairs, s.sides),
         columns: count_of(s.nodes, STRESS_COLUMNS),
-        field_bytes: field as u64,
-        multipliers_bytes: multipliers as u64,
-        both_bytes: both as u64,
+        field_bytes: claim_bytes(s, &[1, 0]) as u64,
+        multipliers_bytes: claim_bytes(s, &[0, 1]) as u64,
+        both_bytes: claim_bytes(s, &[1, 1]) as u64,
     }
 }
 
@@ -84,10 +81,8 @@ pub fn mesh_sizes(mesh: &[u8], table: &[u8]) -> MeshSizes
 {
     let mut numbers = [0i64; MESH_ROOM];
     let judged = judge_mesh_file(mesh, table, &mut numbers);
-    let answer = judged.answer;
-    let outcome = answer.outcome;
-    match outcome {
+    match judged.answer.outcome {
         Outcome::Refused { number, place } => no_sizes(number, place_number(place)),
-        Outcome::Passed => sizes_for(answer.sizes),
+        Outcome::Passed => sizes_for(judged.answer.sizes),
     }
 }

@@ -3,11 +3,12 @@
 
 #![tactic(auto)]
 
-ghost use Rattle.std.specs.Prelude.{◌≡◌, ◌||◌, List, ℕ, min, ◌≤◌, eqb, ℤ, length};
+ghost use Rattle.std.specs.Prelude.{◌≡◌, List, ℕ, ◌≤◌, ℤ, length};
 ghost use Rattle.scope.specs.declared.Outcome.TheVariants.{Passed, Refused as Fails};
 ghost use Rattle.mesh.specs.MeshContracts.{Counted};
 ghost use Rattle.verdict.specs.JudgeContracts.{SoundMesh};
 ghost use Rattle.reader.specs.File.{file_width};
+ghost use Rattle.reader.specs.Most.{mesh_room};
 ghost use Rattle.judge.specs.Judge.{mesh_numbers, mesh_from, mesh_outcome};
 ghost use Rattle.run.specs.Run.{own_bytes, ends_run, RunAnswers};
 ghost use Rattle.run.specs.NextClaim.{SomeMesh, NextOf};
@@ -46,35 +47,13 @@ fn answer_of(reports: usize, bytes: usize) -> RunAnswer
     }
 }
 
-fn least(a: usize, b: usize) -> usize
-    ensures { result ≡ min a b }
-{
-    if a < b {
-        return a;
-    }
-    b
-}
-
-// 11, 12 or 13.
-fn is_of_lines(number: u32) -> bool
-    ensures { result ≡ (eqb number 11 || eqb number 12 || eqb number 13) }
-{
-    if number == 11 {
-        return true;
-    }
-    if number == 12 {
-        return true;
-    }
-    number == 13
-}
-
 // "A claim refused with 11, 12 or 13 ends the run"
 fn ends_run(v: Verdict) -> bool
     ensures { result ≡ ends_run v }
 {
     match v {
         Verdict::Accepted { .. } => false,
-        Verdict::Refused { number, place: _ } => is_of_lines(number),
+        Verdict::Refused { number, .. } => [11, 12, 13].contains(&number),
     }
 }
 
@@ -84,10 +63,10 @@ fn own_bytes(s: Sizes, left: &[u8]) -> usize
     ensures { (m : List ℤ) → Counted m s → result ≡ length (own_bytes m left.now) }
 {
     let mut header = [0i64; HEADER_ROOM];
-    let end = least(CLAIM_HEADER_BYTES, left.len());
+    let end = CLAIM_HEADER_BYTES.min(left.len());
     let count = read_claim(&left[..end], s, &mut header);
     let bytes = claim_bytes(s, &header[..count]);
-    least(bytes, left.len())
+    bytes.min(left.len())
 }
 
 // The next claim on a judged mesh with the numbers m, these sizes and these pairs.
@@ -106,24 +85,20 @@ fn run_claims(m: &[i64], s: Sizes, pairs: &[u8], claims: &[u8], reports: &mut [u
     ensures { RunAnswers Passed m.now claims.now reports.old result
         reports.new }
 {
-    let mut at: usize = 0;
-    let mut from: usize = 0;
-    let mut count: usize = 0;
-    while LINE <= reports.len() - from {
+    let room = reports.len() / LINE;
+    let mut at = 0;
+    for count in 0..room {
         if at == claims.len() {
             return answer_of(count, at);
         }
         let next = next_claim(m, s, pairs, &claims[at..]);
-        let v = next.verdict;
-        write_report(v, &mut reports[from..], USUAL_DECIMALS);
-        from += LINE;
-        count += 1;
-        if ends_run(v) {
-            return answer_of(count, at);
+        write_report(next.verdict, &mut reports[count * LINE..], USUAL_DECIMALS);
+        if ends_run(next.verdict) {
+            return answer_of(count + 1, at);
         }
         at += next.bytes;
     }
-    answer_of(count, at)
+    answer_of(room, at)
 }
 
 // The run on a refused mesh: "A refused mesh writes its report once, even with no claim byte, and takes no claim"
@@ -139,47 +114,43 @@ fn run_refused(number: u32, place: Place, reports: &mut [u8]) -> RunAnswer
 }
 
 // The run on a mesh file and a table file, which is none where it is empty, with room for the mesh's numbers.
-fn run_in(
+fn run_in<const ROOM: usize>(
     mesh: &[u8],
     table: &[u8],
     claims: &[u8],
     reports: &mut [u8],
-    numbers: &mut [i64],
 ) -> RunAnswer
-    requires { length (mesh_numbers file_width mesh.now) ≤ length numbers.old }
+    requires fits { length (mesh_numbers file_width mesh.now) ≤ ROOM }
+    requires small { ROOM ≤ mesh_room }
     ensures { RunAnswers (mesh_outcome file_width mesh.now table.now)
         (mesh_from file_width mesh.now table.now) claims.now
         reports.old result reports.new }
 {
+    let numbers: &mut [i64] = &mut [0; ROOM];
     let judged = judge_mesh_file(mesh, table, numbers);
-    let count = judged.count;
-    let answer = judged.answer;
-    let outcome = answer.outcome;
-    match outcome {
+    match judged.answer.outcome {
         Outcome::Refused { number, place } => run_refused(number, place, reports),
-        Outcome::Passed => {
-            let m = &numbers[..count];
-            run_claims(m, answer.sizes, &answer.pairs, claims, reports)
-        }
+        Outcome::Passed => run_claims(
+            &numbers[..judged.count],
+            judged.answer.sizes,
+            &judged.answer.pairs,
+            claims,
+            reports,
+        ),
     }
 }
 
 // The reports of the claims on a mesh file and a table file, one after another at the front of the buffer that is lent.
 // The room for the mesh's numbers is chosen by its bytes, as in `judge_files`.
+#[tactic(auto, using(judge::proofs::FilesJudged::mesh_by_length))]
 pub fn check_run(mesh: &[u8], table: &[u8], claims: &[u8], reports: &mut [u8]) -> RunAnswer
     ensures { RunAnswers (mesh_outcome file_width mesh.now table.now)
         (mesh_from file_width mesh.now table.now) claims.now
         reports.old result reports.new }
 {
-    let room = most_numbers(mesh.len());
-    if room <= SMALL_ROOM {
-        let mut small = [0i64; SMALL_ROOM];
-        return run_in(mesh, table, claims, reports, &mut small);
+    match most_numbers(mesh.len()) {
+        ..=SMALL_ROOM => run_in::<SMALL_ROOM>(mesh, table, claims, reports),
+        ..=MIDDLE_MESH => run_in::<MIDDLE_MESH>(mesh, table, claims, reports),
+        _ => run_in::<MESH_ROOM>(mesh, table, claims, reports),
     }
-    if room <= MIDDLE_MESH {
-        let mut middle = [0i64; MIDDLE_MESH];
-        return run_in(mesh, table, claims, reports, &mut middle);
-    }
-    let mut large = [0i64; MESH_ROOM];
-    run_in(mesh, table, claims, reports, &mut large)
 }

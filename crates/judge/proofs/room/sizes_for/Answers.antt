@@ -5,4 +5,7 @@ use Rattle.judge.proofs.room.sizes_for.Goals as goal
 pub returns : goal.returns
 returns c =
     λ m k.
-    counts_are k c.count_of.ensures c.count_of-2.ensures c.count_of-3.ensures c.count_of-4.ensures c.count_of-5.ensures (c.claim_bytes-field.ensures m k) (c.claim_bytes-multipliers.ensures m k) (c.claim_bytes-both.ensures m k)
+    counts_are k c.count_of.ensures c.count_of-2.ensures c.count_of-3.ensures c.count_of-4.ensures c.count_of-5.ensures
+    (c.claim_bytes.ensures m k)
+    (c.claim_bytes-2.ensures m k)
+    (c.claim_bytes-3.ensures m k)
