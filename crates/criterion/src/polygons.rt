@@ -1,11 +1,22 @@
 // The three polygons: their corners as constant tables, and what a strength row reads of each side.
-ghost use Rattle.std.specs.Prelude.{◌≡◌, ◌<◌, length};
-ghost use Rattle.integer.specs.Bounds.{Is};
-ghost use Rattle.scope.specs.Polygon.{polygon_of};
+ghost use Rattle.std.specs.Prelude.{◌≡◌, ◌<◌, ◌≤◌, length, take};
+ghost use Rattle.std.proofs.Props.{props};
+ghost use Rattle.integer.specs.Bounds.{Is, Within};
 ghost use Rattle.scope.specs.Bounds.{most_radius};
-ghost use Rattle.criterion.specs.StrengthContracts.{Listed, next, Corners, StepIs, StepsFrom, Steps};
+ghost use Rattle.scope.specs.Mesh.{most_sides};
+ghost use Rattle.scope.specs.Polygon.{polygon_of};
+ghost use Rattle.criterion.specs.StrengthContracts.{
+  Listed,
+  next,
+  Corners,
+  pairs_of,
+  StepIs,
+  StepsFrom,
+  SidesAre,
+};
 
-use mesh::sizes::MOST_SIDES;
+use crate::steps::Step;
+use mesh::limits::MOST_SIDES;
 
 // "counterclockwise from (r, 0)".
 const TWELVE: [(i64, i64); 12] = [
@@ -85,17 +96,6 @@ const THIRTY_SIX: [(i64, i64); 36] = [
     (63, -16),
 ];
 
-// Three numbers for each side of the largest polygon.
-const STEP_NUMBERS: usize = 3 * MOST_SIDES;
-
-// A side by what its strength row reads: the step (c - a, d - b), and ad - bc.
-#[derive(Clone, Copy)]
-struct Step {
-    run: i64,
-    rise: i64,
-    cross: i64,
-}
-
 // The corner after corner k: after the last comes the first.
 fn after(k: usize, sides: usize) -> usize
     requires { k < sides }
@@ -120,30 +120,35 @@ fn step_of(corners: &[(i64, i64)], k: usize) -> Step
     }
 }
 
-// All sides of the polygon with these corners: run, rise and cross product of side k from place 3k on.
-fn steps_from(corners: &[(i64, i64)]) -> [i64; STEP_NUMBERS]
+// What stands past a polygon's last side.
+const NONE: Step = Step {
+    run: 0,
+    rise: 0,
+    cross: 0,
+};
+
+// All sides of the polygon with these corners.
+fn steps_from(corners: &[(i64, i64)]) -> [Step; MOST_SIDES]
     requires { Corners corners.now }
     ensures { StepsFrom result corners.now }
 {
-    let mut steps = [0; STEP_NUMBERS];
+    let mut steps = [NONE; MOST_SIDES];
     for k in 0..corners.len() {
-        let step = step_of(corners, k);
-        steps[3 * k] = step.run;
-        steps[3 * k + 1] = step.rise;
-        steps[3 * k + 2] = step.cross;
+        steps[k] = step_of(corners, k);
     }
     steps
 }
 
-// The sides of the polygon of a mesh with this many sides.
-pub fn steps_of(sides: usize) -> [i64; STEP_NUMBERS]
+// The radius of the circle around the polygon of a mesh with this many sides, and its corners.
+fn circle_of(sides: usize) -> (i64, &'static [(i64, i64)])
     requires { Listed sides }
-    ensures { Steps (polygon_of sides) sides result }
+    ensures radius { result.0 ≡ (polygon_of sides).radius }
+    ensures corners { result.1.now ≡ pairs_of (polygon_of sides).corners }
 {
     match sides {
-        12 => steps_from(&TWELVE),
-        20 => steps_from(&TWENTY),
-        _ => steps_from(&THIRTY_SIX),
+        12 => (5, &TWELVE),
+        20 => (25, &TWENTY),
+        _ => (65, &THIRTY_SIX),
     }
 }
 
@@ -152,9 +157,39 @@ pub fn radius_of(sides: usize) -> i64
     requires { Listed sides }
     ensures { Is result (polygon_of sides).radius most_radius }
 {
-    match sides {
-        12 => 5,
-        20 => 25,
-        _ => 65,
+    circle_of(sides).0
+}
+
+// A polygon inside a circle: its sides counterclockwise, as many of the steps as `count` says, and the radius.
+#[derive(Clone, Copy)]
+pub struct Polygon {
+    pub steps: [Step; MOST_SIDES],
+    pub count: usize,
+    pub radius: i64,
+    pub ghost few: { count ≤ most_sides },
+    pub ghost radius_fits: { Within most_radius radius },
+    pub ghost circle: { radius ≡ (polygon_of count).radius },
+    pub ghost drawn: { SidesAre (polygon_of count) (take count steps) } by { Prim.hlevel props },
+}
+
+impl Polygon {
+    // The polygon of a mesh with this many sides.
+    pub fn of(sides: usize) -> Polygon
+        requires { Listed sides }
+        ensures { result.count ≡ sides }
+    {
+        let (radius, corners) = circle_of(sides);
+        Polygon {
+            steps: steps_from(corners),
+            count: sides,
+            radius,
+        }
+    }
+
+    // Its sides.
+    pub fn sides(&self) -> &[Step]
+        ensures { result.now ≡ take self.now.count self.now.steps }
+    {
+        &self.steps[..self.count]
     }
 }

@@ -3,4 +3,7 @@
 #![tactic(auto)]
 
 pub mod equality_rows;
-pub mod row_sums;
+mod geometry;
+mod parts;
+pub mod row;
+mod tractions;

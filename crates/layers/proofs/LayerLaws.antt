@@ -1,9 +1,9 @@
 -- The search for the first layer that has a height, and overlaps by pairs: two layers share a height from lo to hi
--- exactly where both have begun, neither has ended and hi is not passed.
+-- exactly where both have begun, neither has ended and hi is not passed. A test that is asked of each layer.
 use mathlib.Core.Path.{◌≡◌, refl, sym, ◌∙◌, ap, ap₂, subst}
 use mathlib.Core.Bool.{Bool, true, false, cond, not, ◌&&◌}
 use mathlib.Core.List.{List}
-use Prim.Native.Nat.{ℕ, ◌*◌, ◌≤◌, ◌<◌, max}
+use Prim.Native.Nat.{ℕ, ◌+◌, ◌*◌, ◌≤◌, ◌<◌, max}
 use native.Mathlib.Omega.{arith}
 use lib.Dec.{T}
 use lib.IntN.{ℤ, pos, negsuc, ◌*ℤ◌, nat_abs}
@@ -12,20 +12,22 @@ use Rattle.std.proofs.Common.{Option, None, Some, Ordering, Less, Equal, Greater
 use Rattle.std.specs.Cmp.{int_ranks}
 use Rattle.std.specs.Ordering.{MatchOrdering}
 use Rattle.std.specs.Int.{int_max}
-use Rattle.std.specs.Option.{MatchOption, unwrap_or}
+use Rattle.std.specs.Option.{MatchOption, IfNone}
 use Rattle.std.proofs.lemmas.Int.{by_lt_z}
 use Rattle.integer.specs.Bounds.{Within, Is}
 use Rattle.integer.proofs.Machine.{Machine, Flag, peaks, left_below, right_below, flag_le_z, flag_lt_z}
 use Rattle.integer.proofs.TestLaws.{same_test}
 use Rattle.integer.proofs.Linear.{linear, facts, ◌&◌, nothing}
 use Rattle.integer.proofs.Order.{≤ℤ_trans, ≤ℤ_antisym, <ℤ→≤ℤ, <ℤ→≢, ≡→≤ℤ, nonneg, ≤ℤ_pos}
-use Rattle.scope.specs.declared.Outcome.{Outcome}
-use Rattle.scope.specs.declared.Outcome.TheVariants.{Passed, Refused}
-use Rattle.scope.specs.Checks.{◌then◌, some_below}
+use Rattle.scope.specs.declared.Place.{Place}
+use Rattle.scope.specs.Cases.Outcome.{Passed, Refused}
+use Rattle.scope.specs.Checks.{demand, some_below, all_below}
 use Rattle.scope.specs.Rows.{first_where}
-use Rattle.scope.specs.Layers.{bottom, top, Has, Apart, apart}
+use Rattle.scope.specs.Layers.{layers, layer_line, bottom, top, Has, has, Apart, apart}
 use Rattle.scope.proofs.Decides.{Decides, both, opposite, some_below_lem, at_mostℤ, belowℤ, is_yes, is_no}
 use Rattle.scope.proofs.Layers.{first_is, apart_says}
+use Rattle.scope.proofs.Answered.{test_held, test_failed}
+use Rattle.lines.proofs.Loops.{Phase, all_more, each_below, phase-at, phase_all}
 use Rattle.layers.specs.LayerContracts.{higher, meeting, meet}
 
 pub nonneg_pos : {z : ℤ} → pos 0 ≤ℤ z → z ≡ pos (nat_abs z)
@@ -37,25 +39,31 @@ nonneg_pos {z = negsuc n} l = absurd l.le
 fails : {b : Bool} → b ≡ false → T (not b)
 fails e = subst (λ (b : Bool). T (not b)) (sym e) tt
 
--- the first of n places that was found, or n
-pub first_or_end :
-    (f : ℕ → Bool) (n : ℕ) (r : Option ℕ) →
+-- the first of the layers that was found, and otherwise there is none
+pub first_found :
+    (t : List ℤ) (q : ℕ) {n : ℕ} →
+    n ≡ layers t →
+    (r : Option ℕ) →
     MatchOption r
-    ((k : ℕ) → 0 ≤ k → k < n → f k ≡ false)
-    (λ i. (0 ≤ i) × (i < n) × (f i ≡ true) × ((k : ℕ) → 0 ≤ k → k < i → f k ≡ false)) →
-    unwrap_or r n ≡ first_where f n
-first_or_end f n None none =
-    first_is f n n (record {
+    ((i : ℕ) → 0 ≤ i → i < n → has t q i ≡ false)
+    (λ i. (0 ≤ i) × (i < n) × (has t q i ≡ true) × ((k : ℕ) → 0 ≤ k → k < i → has t q k ≡ false)) →
+    MatchOption r
+    (first_where (has t q) (layers t) ≡ layers t)
+    (λ i. (i < n) × (i ≡ first_where (has t q) (layers t)))
+first_found t q e None none =
+    sym (first_is (has t q) (layers t) (layers t) (record {
       fits = omega arith;
-      before = λ k l. fails (none k (omega arith) l);
+      before = λ i l. fails (none i (omega arith) (omega arith));
       passes = λ l. absurd (omega arith);
-    })
-first_or_end f n (Some i) (_, there, passes, before) =
-    first_is f n i (record {
-      fits = omega arith;
-      before = λ k l. fails (before k (omega arith) l);
-      passes = λ l. subst T (sym passes) tt;
-    })
+    }))
+first_found t q e (Some i) (_, there, passes, before) = (
+  there,
+  first_is (has t q) (layers t) i (record {
+    fits = omega arith;
+    before = λ k l. fails (before k (omega arith) l);
+    passes = λ l. subst T (sym passes) tt;
+  }),
+)
 
 -- ---- a test by an order, and a test and another
 
@@ -211,8 +219,32 @@ apart_by_pairs t lo hi i =
     from : Apart t lo hi i → ¬ Pair
     from a (j, b, m) = let w = pair_shares t lo hi i j m in a w.0 w.1 w.2 w.3 j b w.4
 
--- ---- one check after another
+-- ---- a test of each layer, refused at its line
 
-pub refusal_stays : {a : Outcome} (b : Outcome) → ¬ (a ≡ Passed) → a ≡ (a then b)
-refusal_stays {a = Passed} b h = absurd (h refl)
-refusal_stays {a = Refused n p} b h = refl
+module _ (t : List ℤ) (holds : ℕ → Bool) {n i : ℕ} (counted : n ≡ layers t) (passed : all_below holds i ≡ true) where
+  -- it is asked of layer i
+  module _ {b : Bool} (test : b ≡ holds i) where
+    pub layer_refused :
+        i < n →
+        {k : ℕ} {p : Place} →
+        Refused k p ≡ demand b 46 (layer_line i) →
+        Refused k p ≡ Phase holds 46 layer_line (layers t)
+    layer_refused l e =
+        let fails = test_failed b 46 (layer_line i) e in
+        e
+        ∙ ap (λ (b : Bool). demand b 46 (layer_line i)) fails
+        ∙ phase-at holds 46 layer_line (layers t) (each_below holds i passed) (omega arith) (sym test ∙ fails) refl
+
+    pub layer_passed : Passed ≡ demand b 46 (layer_line i) → all_below holds (i + 1) ≡ true
+    layer_passed e = all_more holds passed (sym test ∙ test_held b 46 (layer_line i) e)
+
+  -- it has been asked of all
+  pub all_layers_passed : n ≤ i → Passed ≡ Phase holds 46 layer_line (layers t)
+  all_layers_passed l =
+      phase_all holds 46 layer_line (layers t) (λ k b. each_below holds i passed k (omega arith))
+
+-- ---- what is said where there is none
+
+pub if_none : {A P : Type 0} (o : Option A) → P → IfNone o P
+if_none None p = p
+if_none (Some x) p = tt

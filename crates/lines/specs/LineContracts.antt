@@ -2,15 +2,14 @@
 -- `proofs/GroupLaws.antt`.
 use Rattle.std.specs.Prelude.{◌≡◌, List, [], ◌∷◌, ℕ, ◌+◌, ◌*◌, ◌≤◌, ◌<◌, ℤ, leb, length, take, drop}
 use Rattle.scope.specs.declared.Place.TheVariants.{Line}
-use Rattle.scope.specs.declared.Outcome.{Outcome}
-use Rattle.mesh.specs.declared.sizes.Sizes.{Sizes}
+use Rattle.scope.specs.Cases.Outcome.{Outcome}
 use Rattle.scope.specs.Checks.{demand, ◌then◌, lowest}
 use Rattle.scope.specs.Columns.{Limit, between}
 use Rattle.scope.specs.Layout.{Group, Layout, width}
 use Rattle.scope.specs.Mesh.{mesh_header}
 use Rattle.scope.specs.Verdict.{line_check}
-use Rattle.mesh.specs.MeshContracts.{FewThings}
-use Rattle.lines.specs.Table.{group_count, most_lines, most_columns}
+use Rattle.lines.specs.declared.layout.File.{File}
+use Rattle.lines.specs.Table.{form_number, group_count, most_lines, most_columns}
 
 -- the limits whose least and whose most numbers are listed
 unfoldable pub ranges : List ℤ → List ℤ → List Limit
@@ -48,22 +47,17 @@ pub record NumberedFrom (f : Layout) (form : ℕ) : Type 0 where
   pub form_is : f.form_number ≡ form
   pub limit_is : f.limit_number ≡ form + 1
 
--- a refusal for form is 1 in a mesh and 11 in a claim
-abbrev pub most_form : ℕ
-most_form = 11
+-- those of a mesh and its table, and of a claim
+abbrev pub file_numbers : File → Layout
+file_numbers file = numbered (form_number file)
 
 -- the line after the last, where each group has as many lines as it can; a table's lines are numbered from 1,001
 abbrev pub most_line : ℕ
 most_line = 1001 + group_count * most_lines
 
 -- counts and line numbers are small, so that no sum of them overflows
-pub record FewColumns (count columns form line : ℕ) : Type 0 where
+pub record FewColumns (count columns line : ℕ) : Type 0 where
   pub few_lines : count ≤ most_lines
   pub some_column : 0 < columns
   pub few_columns : columns ≤ most_columns
-  pub form_most : form ≤ most_form
   pub line_most : line ≤ most_line
-
-pub record FewLines (s : Sizes) (count columns form line : ℕ) : Type 0 where
-  pub things : FewThings s
-  pub few : FewColumns count columns form line

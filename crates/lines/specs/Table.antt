@@ -1,6 +1,8 @@
 -- The table of a file's groups as the code keeps it, and the groups of the definitions that it stands for.
 use Rattle.std.specs.Prelude.{◌≡◌, Bool, cond, List, [], ◌∷◌, ◌++◌, map, ℕ, ◌≤◌, ◌<◌, length, replicate}
 use Rattle.mesh.specs.declared.sizes.Sizes.{Sizes}
+use Rattle.lines.specs.declared.layout.File.{File}
+use Rattle.lines.specs.declared.layout.File.TheVariants as F
 use Rattle.lines.specs.declared.layout.Rule.{Rule}
 use Rattle.lines.specs.declared.layout.Rule.TheVariants.{Soil, Element, Tabled as TabledElement, Edge, Jump, Layer}
 use Rattle.lines.specs.declared.layout.Kind.{Kind}
@@ -22,6 +24,11 @@ most_lines = most_nodes
 
 abbrev pub most_columns : ℕ
 most_columns = most_sides
+
+-- 1 "mesh form", 11 "claim form": the number of a file's refusals of form; that of limits is one more
+abbrev pub form_number : File → ℕ
+form_number F.Mesh = 1
+form_number F.Claim = 11
 
 -- lines whose columns all have one limit
 unfoldable pub even_lines : ℕ → ℕ → Limit → Group
@@ -70,13 +77,13 @@ pub record Tabled (s : Sizes) (gs : List Code.Group) (body : List Group) : Type 
   pub table : Table s gs
   pub same : map (meant s) gs ≡ body
 
--- ---- the groups after the header, on a mesh with these sizes
+-- ---- the groups after the header, on a mesh with these sizes and so many pairs
 
 unfoldable pub mesh_body : Sizes → Bool → List Group
 mesh_body s tabled = mesh_lines (cond tabled 0 1) s.nodes s.elements s.soils s.edges s.jumps
 
-unfoldable pub claim_body : Sizes → Bool → Bool → List Group
-claim_body s = claim_lines s.nodes s.elements s.edges s.jumps s.pairs s.sides
+unfoldable pub claim_body : Sizes → ℕ → Bool → Bool → List Group
+claim_body s pairs = claim_lines s.nodes s.elements s.edges s.jumps pairs s.sides
 
 -- ---- what is counted over some groups of the code
 

@@ -2,20 +2,20 @@
 ghost use Rattle.std.specs.Prelude.{◌≡◌, ◌<◌, ◌≤◌, ◌^◌, true, length, ◌+ℤ◌, ◌*ℤ◌};
 ghost use Rattle.integer.specs.Bounds.{Within};
 ghost use Rattle.integer.specs.Tests.{eq_z};
+ghost use Rattle.scope.specs.Answer.{reason_number, outcome_of};
 ghost use Rattle.scope.specs.Columns.{between, within, all_within};
 ghost use Rattle.scope.specs.Layout.{width};
 ghost use Rattle.scope.specs.Checks.{demand};
 ghost use Rattle.scope.specs.Verdict.{line_check, rules_hold};
-ghost use Rattle.mesh.specs.MeshContracts.{FewThings};
 ghost use Rattle.lines.specs.Table.{ruled_lines};
-ghost use Rattle.lines.specs.LineContracts.{ranges, AsMany, numbered, line_step, most_form, FewLines};
+ghost use Rattle.lines.specs.LineContracts.{ranges, AsMany, file_numbers, line_step, FewColumns};
 
 use crate::layout::{
-    EDGE_ENDS, EDGE_LEAST, EDGE_MOST, LAYER_LEAST, LAYER_LIMITS, LAYER_MOST, Rule, SOIL_LEAST,
-    SOIL_MOST,
+    EDGE_ENDS, EDGE_LEAST, EDGE_MOST, File, LAYER_LEAST, LAYER_LIMITS, LAYER_MOST, Rule,
+    SOIL_LEAST, SOIL_MOST,
 };
 use mesh::sizes::Sizes;
-use scope::{Outcome, Place};
+use scope::{Outcome, Place, Reason, Refusal};
 
 // z is from lo to hi.
 pub fn is_within(z: i64, lo: i64, hi: i64) -> bool
@@ -36,14 +36,11 @@ pub fn limits_hold(s: &[i64], lo: &[i64], hi: &[i64]) -> bool
 }
 
 // A refusal at a line.
-pub fn refused(number: u32, line: usize) -> Outcome
-    requires { line < 2 ^ 32 }
-    ensures { result ≡ Outcome.Refused number (Place.Line line) }
+pub fn at_line(reason: Reason, line: usize) -> Refusal
+    requires small_line { line < 2 ^ 32 }
+    ensures { result ≡ record { number = reason_number reason; place = Place.Line line } }
 {
-    Outcome::Refused {
-        number,
-        place: Place::Line(line as u32),
-    }
+    reason.at(Place::Line(line as u32))
 }
 
 // p² + q² is h².
@@ -57,14 +54,14 @@ fn right_angle(p: i64, q: i64, h: i64) -> bool
 }
 
 // A test that is asked of a line.
-pub fn demand(holds: bool, number: u32, line: usize) -> Outcome
-    requires { line < 2 ^ 32 }
-    ensures { result ≡ demand holds number (Place.Line line) }
+pub fn demand(holds: bool, reason: Reason, line: usize) -> Outcome
+    requires small_line { line < 2 ^ 32 }
+    ensures { outcome_of result ≡ demand holds (reason_number reason) (Place.Line line) }
 {
     if holds {
-        Outcome::Passed
+        Ok(())
     } else {
-        refused(number, line)
+        Err(at_line(reason, line))
     }
 }
 
@@ -83,36 +80,50 @@ fn within_limits(rule: Rule, s: &[i64]) -> bool
 
 // The rule of a line whose numbers are within their limits: a soil's right angle, or that what the line names is there.
 fn rule_check(rule: Rule, s: &[i64], sizes: Sizes, line: usize) -> Outcome
-    requires few_things { FewThings sizes }
     requires small_line { line < 2 ^ 32 }
     requires whole { (z : Sizes) → length s.now ≡ width (ruled_lines rule z 0) }
     requires in_limits { all_within (ruled_lines rule sizes 0).limits s.now ≡ true }
-    ensures { result ≡ rules_hold (ruled_lines rule sizes 0).rules s.now (Place.Line line) }
+    ensures { outcome_of result ≡ rules_hold (ruled_lines rule sizes 0).rules s.now (Place.Line line) }
 {
     let n = sizes.nodes as i64;
     let soils = sizes.soils as i64;
-    let corners_and_soil = [n, n, n, n, soils];
     match rule {
-        Rule::Soil => demand(right_angle(s[0], s[1], s[2]), 3, line),
-        Rule::Element => demand(limits_hold(s, &[1, 1, 1, 1, 1], &corners_and_soil), 4, line),
-        Rule::Tabled => demand(limits_hold(s, &[1, 1, 1, 1, 0], &corners_and_soil), 4, line),
-        Rule::Edge => demand(limits_hold(&s[..EDGE_ENDS], &[1, 1], &[n, n]), 4, line),
-        Rule::Jump => demand(limits_hold(s, &[1, 1, 1, 1], &[n, n, n, n]), 4, line),
-        Rule::Layer => demand(limits_hold(&s[LAYER_LIMITS..], &[1], &[soils]), 4, line),
+        Rule::Soil => demand(right_angle(s[0], s[1], s[2]), Reason::RightAngle, line),
+        Rule::Element => demand(
+            limits_hold(s, &[1, 1, 1, 1, 1], &[n, n, n, n, soils]),
+            Reason::Name,
+            line,
+        ),
+        Rule::Tabled => demand(
+            limits_hold(s, &[1, 1, 1, 1, 0], &[n, n, n, n, soils]),
+            Reason::Name,
+            line,
+        ),
+        Rule::Edge => demand(
+            limits_hold(&s[..EDGE_ENDS], &[1, 1], &[n, n]),
+            Reason::Name,
+            line,
+        ),
+        Rule::Jump => demand(
+            limits_hold(s, &[1, 1, 1, 1], &[n, n, n, n]),
+            Reason::Name,
+            line,
+        ),
+        Rule::Layer => demand(
+            limits_hold(&s[LAYER_LIMITS..], &[1], &[soils]),
+            Reason::Name,
+            line,
+        ),
     }
 }
 
 // The numbers of a line, of which none is missing.
-fn line_check(rule: Rule, s: &[i64], sizes: Sizes, form: u32, line: usize) -> Outcome
-    requires few_things { FewThings sizes }
+fn line_check(rule: Rule, s: &[i64], sizes: Sizes, file: File, line: usize) -> Outcome
     requires small_line { line < 2 ^ 32 }
-    requires small_form { form ≤ most_form }
     requires whole { (z : Sizes) → length s.now ≡ width (ruled_lines rule z 0) }
-    ensures { result ≡ line_check (numbered form) (ruled_lines rule sizes 0) s.now (Place.Line line) }
+    ensures { outcome_of result ≡ line_check (file_numbers file) (ruled_lines rule sizes 0) s.now (Place.Line line) }
 {
-    if !within_limits(rule, s) {
-        return refused(form + 1, line);
-    }
+    demand(within_limits(rule, s), file.limit(), line)?;
     rule_check(rule, s, sizes, line)
 }
 
@@ -122,17 +133,16 @@ pub fn line_at(
     s: &[i64],
     columns: usize,
     sizes: Sizes,
-    form: u32,
+    file: File,
     line: usize,
     k: usize,
 ) -> Outcome
-    requires { FewLines sizes k columns form line × (columns ≡ width (ruled_lines rule sizes 0)) }
-    ensures { result ≡ line_step (numbered form) (ruled_lines rule sizes 0) s.now line k }
+    requires few { FewColumns k columns line }
+    requires wide { columns ≡ width (ruled_lines rule sizes 0) }
+    ensures { outcome_of result ≡ line_step (file_numbers file) (ruled_lines rule sizes 0) s.now line k }
 {
     let from = k * columns;
     let end = from + columns;
-    if s.len() < end {
-        return refused(form, line + k);
-    }
-    line_check(rule, &s[from..end], sizes, form, line + k)
+    demand(end <= s.len(), file.form(), line + k)?;
+    line_check(rule, &s[from..end], sizes, file, line + k)
 }

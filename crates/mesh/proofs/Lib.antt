@@ -1,2 +1,4 @@
 -- Where each number of a mesh stands, and its bounds.
 pub mod Places
+-- How many pairs a mesh that passes has.
+pub mod PairLaws

@@ -13,13 +13,13 @@ use Rattle.integer.proofs.Order.{≤ℤ_pos}
 use Rattle.mesh.specs.declared.sizes.Sizes.{Sizes}
 use Rattle.scope.specs.Columns.{at}
 use Rattle.scope.specs.Layout.{groups, numbers_before, count, entry}
-use Rattle.scope.specs.Mesh.{mesh_header_columns, soil_columns, node_columns, element_columns, edge_columns, jump_columns, mesh_header, soil_lines, node_lines, element_lines, edge_lines, jump_lines, mesh_layout, mesh_groups, nodes, elements, soils, edges, sides, jumps, p, q, h, cohesion, soil_entry, x, y, corner, element_soil, edge_entry, from_node, to_node, jump_entry, jump_from, jump_to, facing_from, facing_to}
+use Rattle.scope.specs.Mesh.{most_nodes, most_elements, most_soils, most_edges, most_sides, most_jumps, mesh_header_columns, soil_columns, node_columns, element_columns, edge_columns, jump_columns, mesh_header, soil_lines, node_lines, element_lines, edge_lines, jump_lines, mesh_layout, mesh_groups, nodes, elements, soils, edges, sides, jumps, p, q, h, cohesion, soil_entry, x, y, corner, element_soil, edge_entry, from_node, to_node, jump_entry, jump_from, jump_to, facing_from, facing_to}
 use Rattle.scope.specs.Filled.{soil_place}
 use Rattle.scope.specs.NumberRanges.{Between, MeshFacts, SoilFacts, EdgeFacts, JumpFacts}
 use Rattle.scope.proofs.NumberRanges.{some_sides_lem}
 use Rattle.scope.proofs.PolygonRule.{listed_polygon}
 use Rattle.scope.proofs.SumBounds.{apart}
-use Rattle.mesh.specs.MeshContracts.{Sized, SizesAre, HeaderThere, FewThings, NodeAt, nodes_from, elements_from, edges_from, jumps_from, jump_node}
+use Rattle.mesh.specs.MeshContracts.{Sized, SizesAre, HeaderThere, NodeAt, nodes_from, elements_from, edges_from, jumps_from, jump_node}
 
 -- ---- counts
 
@@ -66,37 +66,49 @@ module _ {m : List ℤ} (f : HeaderThere m) where
   pub jumps-there : There 0 m 5
   jumps-there = (omega (arith, f.there), f.counts.jumps_least)
 
-  -- the sizes that are made of the counts
-  pub sizes_are : {a b c d e g : ℕ} → a ≡ count (at m 0) → b ≡ count (at m 1) → c ≡ count (at m 2) → d ≡ count (at m 3) → e ≡ count (at m 4) → g ≡ count (at m 5) → SizesAre m (record { nodes = a; elements = b; soils = c; edges = d; sides = e; jumps = g; pairs = 0 })
+  -- sizes with these counts
+  pub sizes_are : {s : Sizes} → s.nodes ≡ count (at m 0) → s.elements ≡ count (at m 1) → s.soils ≡ count (at m 2) → s.edges ≡ count (at m 3) → s.sides ≡ count (at m 4) → s.jumps ≡ count (at m 5) → SizesAre m s
   unfolding nodes elements soils edges sides jumps
-  sizes_are ea eb ec ed ee eg = record { counts = f.counts; nodes_are = ea; elements_are = eb; soils_are = ec; edges_are = ed; sides_are = ee; jumps_are = eg; pairs_few = omega arith }
+  sizes_are ea eb ec ed ee eg = record { counts = f.counts; nodes_are = ea; elements_are = eb; soils_are = ec; edges_are = ed; sides_are = ee; jumps_are = eg }
+
+  -- each count is within its limits
+  pub few_nodes : count (at m 0) ≤ most_nodes
+  unfolding nodes
+  few_nodes = f.counts.nodes_most
+
+  pub few_elements : count (at m 1) ≤ most_elements
+  unfolding elements
+  few_elements = f.counts.elements_most
+
+  pub few_soils : count (at m 2) ≤ most_soils
+  unfolding soils
+  few_soils = f.counts.soils_most
+
+  pub few_edges : count (at m 3) ≤ most_edges
+  unfolding edges
+  few_edges = f.counts.edges_most
+
+  pub some_side : 0 < count (at m 4)
+  unfolding sides
+  some_side = (listed_polygon (sides m) f.counts.sides_listed).fits.some_sides
+
+  pub few_sides : count (at m 4) ≤ most_sides
+  unfolding sides
+  few_sides = (listed_polygon (sides m) f.counts.sides_listed).fits.few_sides
+
+  pub few_jumps : count (at m 5) ≤ most_jumps
+  unfolding jumps
+  few_jumps = f.counts.jumps_most
 
 -- the lines of a mesh that are sound begin with a header
 pub header_there : {m : List ℤ} → MeshFacts m → HeaderThere m
 header_there f = record { there = omega (arith, f.size); counts = f.counts }
 
 pub sized : {m : List ℤ} {s : Sizes} → MeshFacts m → SizesAre m s → Sized m s
-sized f k = record { facts = f; nodes_are = k.nodes_are; elements_are = k.elements_are; soils_are = k.soils_are; edges_are = k.edges_are; sides_are = k.sides_are; jumps_are = k.jumps_are; pairs_few = k.pairs_few }
+sized f k = record { facts = f; nodes_are = k.nodes_are; elements_are = k.elements_are; soils_are = k.soils_are; edges_are = k.edges_are; sides_are = k.sides_are; jumps_are = k.jumps_are }
 
 pub as_sizes : {m : List ℤ} {s : Sizes} → Sized m s → SizesAre m s
-as_sizes k = record { counts = k.facts.counts; nodes_are = k.nodes_are; elements_are = k.elements_are; soils_are = k.soils_are; edges_are = k.edges_are; sides_are = k.sides_are; jumps_are = k.jumps_are; pairs_few = k.pairs_few }
-
-pub few_sizes : {m : List ℤ} {s : Sizes} → SizesAre m s → FewThings s
-few_sizes {m} k =
-    let polygon = (listed_polygon (sides m) k.counts.sides_listed).fits in
-    record {
-      few_soils = omega (arith, k.soils_are, k.counts.soils_most);
-      few_nodes = omega (arith, k.nodes_are, k.counts.nodes_most);
-      few_elements = omega (arith, k.elements_are, k.counts.elements_most);
-      few_edges = omega (arith, k.edges_are, k.counts.edges_most);
-      some_side = omega (arith, k.sides_are, polygon.some_sides);
-      few_sides = omega (arith, k.sides_are, polygon.few_sides);
-      few_jumps = omega (arith, k.jumps_are, k.counts.jumps_most);
-      few_pairs = k.pairs_few;
-    }
-
-pub few_things : {m : List ℤ} {s : Sizes} → Sized m s → FewThings s
-few_things k = few_sizes (as_sizes k)
+as_sizes k = record { counts = k.facts.counts; nodes_are = k.nodes_are; elements_are = k.elements_are; soils_are = k.soils_are; edges_are = k.edges_are; sides_are = k.sides_are; jumps_are = k.jumps_are }
 
 -- ---- bounds
 

@@ -1,4 +1,3 @@
--- Contracts between functions, nothing that a reader must believe: sums over multipliers, the limit, the open rows.
+-- Contracts between functions, nothing that a reader must believe: sums over multipliers, the open rows.
 pub mod MultiplierContracts
-pub mod LimitContracts
 pub mod OpenContracts

@@ -5,7 +5,7 @@
 #![tactic(auto)]
 
 ghost use Rattle.std.specs.Prelude.{◌≡◌};
-ghost use Rattle.scope.specs.Answer.{number_of, place_of};
+ghost use Rattle.scope.specs.Answer.{number_of, place_of, verdict_of};
 ghost use Rattle.scope.specs.TableVerdict.{tabled_verdict};
 ghost use Rattle.numbers.specs.NumbersAnswer.{answer_of};
 ghost use Rattle.report.specs.Buffer.{reported_number, reported_place};
@@ -15,9 +15,9 @@ ghost use Rattle.pechuvo.specs.Promises.{RunAsked, SizesAsked};
 use judge::judge_files;
 use judge::room::{MeshSizes, mesh_sizes};
 use numbers::numbers_answer::NumbersAnswer;
-use report::{Reported, write_report};
+use report::{ReportError, write_report};
 use run::{RunAnswer, check_run};
-use scope::{Verdict, place_number};
+use scope::Verdict;
 
 // What is returned: 0 and 0 for an accepted claim, else a refusal's number and its place.
 #[repr(C)]
@@ -29,35 +29,33 @@ pub struct Answer {
 
 // 0 and 0, or the refusal's number and place.
 fn verdict_answer(v: Verdict) -> Answer
-    ensures { (result.number ≡ number_of v) × (result.place ≡ place_of v) }
+    ensures number { result.number ≡ number_of (verdict_of v) }
+    ensures place { result.place ≡ place_of (verdict_of v) }
 {
     match v {
-        Verdict::Accepted { .. } => Answer {
+        Ok(_) => Answer {
             number: 0,
             place: 0,
         },
-        Verdict::Refused { number, place } => Answer {
-            number,
-            place: place_number(place),
+        Err(refusal) => Answer {
+            number: refusal.number,
+            place: refusal.place.number(),
         },
     }
 }
 
 // "43, place 0" for another number of decimals; "41, place 0: buffer under 113 bytes"; else the verdict's number and
 // place.
-fn answer_of(v: Verdict, reported: Reported) -> Answer
-    ensures { (result.number ≡ reported_number v reported) × (result.place ≡ reported_place v reported) }
+fn answer_of(v: Verdict, reported: Result<(), ReportError>) -> Answer
+    ensures number { result.number ≡ reported_number (verdict_of v) reported }
+    ensures place { result.place ≡ reported_place (verdict_of v) reported }
 {
     match reported {
-        Reported::OtherDecimals => Answer {
-            number: 43,
+        Ok(()) => verdict_answer(v),
+        Err(error) => Answer {
+            number: error.number(),
             place: 0,
         },
-        Reported::TooShort => Answer {
-            number: 41,
-            place: 0,
-        },
-        Reported::Written => verdict_answer(v),
     }
 }
 

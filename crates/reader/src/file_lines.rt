@@ -19,7 +19,7 @@ ghost use Rattle.reader.specs.Listed.{Listed};
 
 use crate::column::{COLUMN_BYTES, Entries, column};
 use lines::layout::{GROUPS, Group};
-use mesh::sizes::{LAYER_COLUMNS, MOST_LAYERS, MOST_SIDES};
+use mesh::limits::{LAYER_COLUMNS, MOST_LAYERS, MOST_SIDES};
 
 // How far a file is read: the place of its next byte, and how many numbers it has so far.
 #[derive(Clone, Copy)]

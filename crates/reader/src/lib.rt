@@ -9,7 +9,7 @@ mod file_lines;
 ghost use Rattle.std.specs.Prelude.{◌≡◌, ◌≤◌, length};
 ghost use Rattle.scope.specs.Columns.{has_field, has_multipliers};
 ghost use Rattle.scope.specs.Mesh.{mesh_layout};
-ghost use Rattle.mesh.specs.MeshContracts.{HeaderThere, FewThings};
+ghost use Rattle.mesh.specs.MeshContracts.{HeaderThere};
 ghost use Rattle.lines.specs.Table.{Known, claim_body};
 ghost use Rattle.reader.specs.File.{file_width, numbers_of, table_numbers_of, widths};
 ghost use Rattle.reader.specs.ReadSoFar.{all_numbers, Room};
@@ -23,12 +23,12 @@ use lines::layout::{
     CLAIM_HEADER, GROUPS, Group, STRESS_COLUMNS, claim_groups, has_part, mesh_groups,
 };
 use lines::line_checks::{claim_header, mesh_header};
-use mesh::sizes::{
+use mesh::limits::{
     EDGE_ROWS, ELEMENT_ROWS, JUMP_ROWS, LAYER_COLUMNS, MESH_HEADER, MESH_NUMBERS, MOST_EDGES,
-    MOST_ELEMENTS, MOST_JUMPS, MOST_LAYERS, MOST_NODES, MOST_PAIRS, MOST_SIDES, Sizes,
-    header_sizes,
+    MOST_ELEMENTS, MOST_JUMPS, MOST_LAYERS, MOST_NODES, MOST_PAIRS, MOST_SIDES,
 };
-use scope::Outcome;
+use mesh::pairs::ClaimSizes;
+use mesh::sizes::Sizes;
 
 // The most numbers of a mesh file, of a table file and of a claim file: their headers, as many lines as there can be,
 // and one for bytes left over.
@@ -62,7 +62,7 @@ fn mesh_body(entries: &Entries, bytes: &[u8], p: Progress, out: &mut [i64]) -> u
         (all_numbers bytes.now (widths (mesh_layout.body out.old)) p out.old)
         out.old result out.new }
 {
-    let groups = mesh_groups(header_sizes(out), false);
+    let groups = mesh_groups(Sizes::of_header(out), false);
     read_groups(entries, bytes, p, groups, out)
 }
 
@@ -76,9 +76,9 @@ pub fn read_mesh(bytes: &[u8], out: &mut [i64]) -> usize
     let Some(p) = read_header(&entries, bytes, MESH_HEADER, out) else {
         return 0;
     };
-    let Outcome::Passed = mesh_header(out) else {
+    if mesh_header(out).is_err() {
         return p.numbers;
-    };
+    }
     mesh_body(&entries, bytes, p, out)
 }
 
@@ -94,13 +94,12 @@ pub fn read_table(bytes: &[u8], out: &mut [i64]) -> usize
 }
 
 // The lines after a claim's header, which stands at the front of `out`.
-fn claim_body(entries: &Entries, bytes: &[u8], p: Progress, s: Sizes, out: &mut [i64]) -> usize
-    requires few { FewThings s }
+fn claim_body(entries: &Entries, bytes: &[u8], p: Progress, s: ClaimSizes, out: &mut [i64]) -> usize
     requires room { Room bytes.now
-        (widths (claim_body s (has_field out.old) (has_multipliers out.old))) p out.old }
+        (widths (claim_body s.sizes s.pairs (has_field out.old) (has_multipliers out.old))) p out.old }
     ensures { Listed
         (all_numbers bytes.now
-        (widths (claim_body s (has_field out.old) (has_multipliers out.old))) p out.old)
+        (widths (claim_body s.sizes s.pairs (has_field out.old) (has_multipliers out.old))) p out.old)
         out.old result out.new }
 {
     let groups = claim_groups(s, has_part(out, 0), has_part(out, 1));
@@ -108,7 +107,7 @@ fn claim_body(entries: &Entries, bytes: &[u8], p: Progress, s: Sizes, out: &mut 
 }
 
 // The numbers of a claim file, and how many they are: for every mesh with these sizes and so many pairs.
-pub fn read_claim(bytes: &[u8], s: Sizes, out: &mut [i64]) -> usize
+pub fn read_claim(bytes: &[u8], s: ClaimSizes, out: &mut [i64]) -> usize
     requires { ClaimRoom bytes.now s out.old }
     ensures { ClaimListed bytes.now s out.old result out.new }
 {
@@ -116,17 +115,17 @@ pub fn read_claim(bytes: &[u8], s: Sizes, out: &mut [i64]) -> usize
     let Some(p) = read_header(&entries, bytes, CLAIM_HEADER, out) else {
         return 0;
     };
-    let Outcome::Passed = claim_header(out) else {
+    if claim_header(out).is_err() {
         return p.numbers;
-    };
+    }
     claim_body(&entries, bytes, p, s, out)
 }
 
 // The bytes of the lines of a table: a column takes `COLUMN_BYTES`, and a line one more.
 pub fn body_bytes(groups: [Group; GROUPS]) -> usize
     requires { Known groups }
-    ensures fact_1 { result ≡ bytes_in groups }
-    ensures fact_2 { result ≤ most_bytes }
+    ensures sum { result ≡ bytes_in groups }
+    ensures few { result ≤ most_bytes }
 {
     let mut sum: usize = 0;
     for g in groups {

@@ -15,21 +15,14 @@ use mir.Syntax.{w64}
 use mir.Val.{Fits, SFits}
 use borrow.Author.Tests.{lt-ltb, le-ltb}
 use borrow.Rule.Slice.PartMut.{mid_of, post_of, put_mid, same_len_mid}
-use Rattle.integer.specs.Decimal.{digits, right_justified}
+use Rattle.std.specs.Prelude.{Ok, Err}
+use Rattle.integer.specs.Decimal.{right_justified}
 use Rattle.integer.proofs.Order.{nonneg, pos_≤ℤ, ≤ℤ_pos}
 use Rattle.integer.proofs.TestLaws.{yes_le_z}
-use Rattle.scope.specs.declared.Place.{Place}
-use Rattle.scope.specs.declared.Load.{Load}
-use Rattle.scope.specs.declared.Load.TheVariants.{Absent}
-use Rattle.scope.specs.declared.OpenRows.{OpenRows}
-use Rattle.scope.specs.declared.OpenRows.TheVariants.{Absent as NoCount, Count}
-use Rattle.scope.specs.declared.Verdict.{Verdict}
-use Rattle.scope.specs.declared.Verdict.TheVariants.{Accepted, Refused}
-use Rattle.scope.specs.Answer.{place_number}
-use Rattle.report.specs.Text.{none_text}
-use Rattle.report.specs.Report.{report_bytes, load_text, lower_text, upper_text, open_text, four_columns, report_line}
+use Rattle.scope.specs.Cases.Verdict.{Verdict}
+use Rattle.report.specs.Report.{report_bytes, four_columns, report_line}
 use Rattle.report.specs.Report.{most_decimals, Decimals, is_decimals}
-use Rattle.report.specs.declared.Reported.TheVariants.{Written, TooShort, OtherDecimals}
+use Rattle.report.specs.declared.ReportError.TheVariants.{OtherDecimals, ShortBuffer}
 use Rattle.report.specs.Buffer.{reported, after_answer, after_report, Reports}
 use Rattle.report.proofs.DivisionLaws.{read}
 
@@ -112,33 +105,6 @@ module _ (buffer a b c e : List ℕ) where
       unfolding four_columns
       line_stored p q r s i j k l = line_is ∙ sym (simp (← i, ← j, ← k, ← l, append_assoc))
 
--- ---- by cases of the verdict
-
-pub no_count-column : (o : OpenRows) {now : List ℕ} → o ≡ NoCount → now ≡ right_justified 28 none_text
-    → now ≡ right_justified 28 (open_text o)
-unfolding open_text
-no_count-column o e f = rw e f
-
-pub count-column : (o : OpenRows) (k : ℕ) {now : List ℕ} → o ≡ Count k → now ≡ right_justified 28 (digits k)
-    → now ≡ right_justified 28 (open_text o)
-unfolding open_text
-count-column o k e f = rw e f
-
-pub accepted_line : (d : ℕ) (v : Verdict) (o : OpenRows) (lower upper : Load) (rest : List ℕ) {now : List ℕ}
-    → v ≡ Accepted o lower upper
-    → now ≡ four_columns (digits 0) (open_text o) (lower_text d lower) (upper_text d upper) ++ rest
-    → now ≡ report_line d v ++ rest
-unfolding report_line
-accepted_line d v o lower upper rest e f = rw e f
-
--- j and n are the refusal's numbers as 64 bits have them
-pub refused_line_lem : (d : ℕ) (v : Verdict) (k j n r : ℕ) (place : Place) (rest : List ℕ) {now : List ℕ}
-    → v ≡ Refused k place → j ≡ k → n ≡ r → r ≡ place_number place
-    → now ≡ four_columns (digits j) (open_text (Count n)) (lower_text d Absent) (upper_text d Absent) ++ rest
-    → now ≡ report_line d v ++ rest
-unfolding report_line open_text lower_text upper_text load_text
-refused_line_lem d v k j n r place rest e f g h i = rw (e, ← h, ← g, ← f) i
-
 -- ---- by the number of decimals
 
 pub these_decimals : {d : ℕ} → d ≤ most_decimals → Decimals (pos d)
@@ -176,10 +142,11 @@ module _ (z : ℤ) {b : Bool} (f : SFits w64 z) (e : b ≡ is_decimals (read z))
   is_asked_lem : b ≡ is_decimals z
   is_asked_lem = e ∙ ap is_decimals (to_z-of_z f)
 
-  pub other_decimals : (v : Verdict) (buffer : List ℕ) → not b ≡ true → Reports z v buffer buffer OtherDecimals
+  pub other_decimals : (v : Verdict) (buffer : List ℕ) → not b ≡ true → Reports z v buffer buffer (Err OtherDecimals)
   unfolding after_report after_answer reported
-  other_decimals v buffer t = let o = sym is_asked_lem
-      ∙ other b t in record { buffer = rw (o, reported); answer = rw (o, reported) }
+  other_decimals v buffer t =
+      let o = sym is_asked_lem ∙ other b t in
+      record { buffer = rw (o, reported); answer = rw (o, reported) }
 
   module _ (t : not b ≡ false) where
     told : is_decimals z ≡ true
@@ -194,14 +161,15 @@ module _ (z : ℤ) {b : Bool} (f : SFits w64 z) (e : b ≡ is_decimals (read z))
     pub decimals_fit : Fits w64 (nat_abs (read z))
     decimals_fit = omega (arith, decimals_most)
 
-    pub too_short : (v : Verdict) (buffer : List ℕ) → length buffer < report_bytes → Reports z v buffer buffer TooShort
+    pub too_short : (v : Verdict) (buffer : List ℕ) → length buffer < report_bytes
+        → Reports z v buffer buffer (Err ShortBuffer)
     unfolding after_report after_answer reported
     too_short v buffer h =
         let s = lt-ltb (length buffer) report_bytes h in
         record { buffer = rw (told, s, reported); answer = rw (told, s, reported) }
 
     pub written : (v : Verdict) (buffer : List ℕ) {after : List ℕ} → report_bytes ≤ length buffer
-        → after ≡ report_line (nat_abs (read z)) v ++ drop report_bytes buffer → Reports z v buffer after Written
+        → after ≡ report_line (nat_abs (read z)) v ++ drop report_bytes buffer → Reports z v buffer after (Ok tt)
     unfolding after_report after_answer reported
     written v buffer h g =
         let s = le-ltb (length buffer) report_bytes h in

@@ -16,12 +16,12 @@ use Rattle.integer.specs.Decimal.{digits_within, digits, last_digits, right_just
 use Rattle.integer.proofs.DecimalLaws.{right_justified-length}
 use Rattle.integer.specs.Round.{floor_div, ceil_div, Floor, Ceil}
 use Rattle.integer.proofs.RoundLaws.{floor_div_is, ceil_div_is}
-use Rattle.scope.specs.declared.Load.{Load}
-use Rattle.scope.specs.declared.Load.TheVariants.{Absent, Exact}
-use Rattle.scope.specs.declared.OpenRows.{OpenRows}
-use Rattle.scope.specs.declared.OpenRows.TheVariants.{Absent as NoCount, Count}
-use Rattle.scope.specs.declared.Verdict.{Verdict}
-use Rattle.scope.specs.declared.Verdict.TheVariants.{Accepted, Refused}
+use Rattle.scope.specs.Cases.Load.{Load}
+use Rattle.scope.specs.Cases.Load.{Absent, Exact}
+use Rattle.scope.specs.Cases.OpenRows.{OpenRows}
+use Rattle.scope.specs.Cases.OpenRows.{Absent as NoCount, Count}
+use Rattle.scope.specs.Cases.Verdict.{Verdict}
+use Rattle.scope.specs.Cases.Verdict.{Accepted, Refused}
 use Rattle.scope.specs.Answer.{place_number}
 use Rattle.report.specs.Text.{pointed, fixed, none_text, Said, word, number, said}
 use Rattle.report.specs.Report.{column_bytes, most_decimals, load_text, lower_text, upper_text, open_text, four_columns}

@@ -19,8 +19,7 @@ use Rattle.integer.proofs.Machine.{is_true, is_false}
 use Rattle.integer.proofs.Order.{nonneg, ≤ℤ_pos}
 use Rattle.integer.specs.Decimal.{digits, last_digits, right_justified}
 use Rattle.integer.proofs.DecimalLaws.{digits_one, digits_more, digits-length, by_digits, last_digits-length}
-use Rattle.scope.specs.declared.Load.{Load}
-use Rattle.scope.specs.declared.Load.TheVariants.{Absent, Exact}
+use Rattle.scope.specs.Cases.Load.{Exact}
 use Rattle.report.specs.Text.{pointed, fixed, none_text}
 use Rattle.report.specs.Report.{load_text}
 use Rattle.report.specs.Spelled.{decimals_text, round_to}
@@ -264,18 +263,12 @@ none_text_of round d num (pos zero) h = refl
 none_text_of round d num (pos (suc k)) h = absurd (omega (arith, ≤ℤ_pos h))
 none_text_of round d num (negsuc k) h = refl
 
-pub absent_column : (round : ℤ → ℕ → ℤ) (d : ℕ) (load : Load) {now : List ℕ} → load ≡ Absent
-    → now ≡ right_justified 28 none_text → now ≡ right_justified 28 (load_text round d load)
-unfolding load_text
-absent_column round d load e f = rw e f
-
 module _ (num den : ℤ) (g : SFits w64 den) where
-  pub no_load_column : (round : ℤ → ℕ → ℤ) (d : ℕ) (load : Load) {now : List ℕ} → load ≡ Exact num den
-      → lt_z (pos 0) (read den) ≡ false → now ≡ right_justified 28 none_text
-      → now ≡ right_justified 28 (load_text round d load)
-  no_load_column round d load e l n =
+  pub no_load_column : (round : ℤ → ℕ → ℤ) (d : ℕ) {now : List ℕ} → lt_z (pos 0) (read den) ≡ false
+      → now ≡ right_justified 28 none_text → now ≡ right_justified 28 (load_text round d (Exact num den))
+  no_load_column round d l n =
       let h = lt_z_no (is_false (ap (λ z. lt_z (pos 0) z) (to_z-of_z g)) l) in
-      n ∙ ap (right_justified 28) (sym (ap (load_text round d) e ∙ none_text_of round d num den h))
+      n ∙ ap (right_justified 28) (sym (none_text_of round d num den h))
 
   module _ (f : SFits w64 num) (up : Bool) (d : ℕ) (few : d ≤ 7) {v : ℤ}
       (r : v ≡ round_to up (read num *ℤ pos (10 ^ d)) (nat_abs (read den))) where
@@ -293,9 +286,9 @@ module _ (num den : ℤ) (g : SFits w64 den) where
     pub load_room : nat_abs (wide v) ≤ 10 ^ d * 2 ^ 63
     load_room = rw rounded_wide rounded_short
 
-    pub load_column : (load : Load) {now : List ℕ} → load ≡ Exact num den → lt_z (pos 0) (read den) ≡ true
-        → now ≡ right_justified 28 (fixed d (wide v)) → now ≡ right_justified 28 (load_text (round_to up) d load)
-    load_column load e l n =
+    pub load_column : {now : List ℕ} → lt_z (pos 0) (read den) ≡ true → now ≡ right_justified 28 (fixed d (wide v))
+        → now ≡ right_justified 28 (load_text (round_to up) d (Exact num den))
+    load_column l n =
         let h = lt_z_yes (is_true (ap (λ z. lt_z (pos 0) z) (to_z-of_z g)) l) in
         n ∙ ap (λ z. right_justified 28 (fixed d z)) (rounded_wide ∙ rounded_is)
-        ∙ ap (right_justified 28) (sym (ap (load_text (round_to up) d) e ∙ exact_text (round_to up) d num den h))
+        ∙ ap (right_justified 28) (sym (exact_text (round_to up) d num den h))

@@ -1,6 +1,7 @@
 // A load in a column: decimals, whole part and minus, written from the end.
 ghost use Rattle.std.specs.Prelude.{◌≡◌, ◌++◌, ◌+◌, ◌*◌, ◌^◌, ◌≤◌, ◌<◌, nat_abs, length, replicate};
 ghost use Rattle.integer.specs.Decimal.{right_justified};
+ghost use Rattle.scope.specs.Answer.{load_of};
 ghost use Rattle.report.specs.Text.{fixed};
 ghost use Rattle.report.specs.Report.{column_bytes, load_text, most_decimals};
 ghost use Rattle.report.specs.Spelled.{decimals_text, round_to};
@@ -46,13 +47,13 @@ fn put_fixed(column: &mut [u8], v: i128, d: usize)
 }
 
 // A load rounded once, or none where there is none.
-pub fn put_load(column: &mut [u8], load: Load, up: bool, d: usize)
+pub fn put_load(column: &mut [u8], load: Option<Load>, up: bool, d: usize)
     requires whole_column { length column.old ≡ column_bytes }
     requires few_decimals { d ≤ most_decimals }
-    ensures { column.new ≡ right_justified column_bytes (load_text (round_to up) d load) }
+    ensures { column.new ≡ right_justified column_bytes (load_text (round_to up) d (load_of load)) }
 {
     match load {
-        Load::Exact { num, den } if 0 < den => put_fixed(column, rounded(num, den, up, d), d),
+        Some(Load { num, den }) if 0 < den => put_fixed(column, rounded(num, den, up, d), d),
         _ => put_none(column),
     }
 }

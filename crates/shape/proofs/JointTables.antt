@@ -3,7 +3,7 @@
 use mathlib.Core.Path.{◌≡◌, refl, sym, ◌∙◌, ap, ap₂, subst}
 use mathlib.Core.Bool.{Bool, true, false, cond, not, ◌&&◌, ◌||◌, and-true}
 use mathlib.Core.List.{List, [], ◌∷◌}
-use Prim.Native.Nat.{ℕ, suc, ◌+◌, ◌*◌, ◌/◌, ◌%◌, ◌<◌}
+use Prim.Native.Nat.{ℕ, suc, ◌+◌, ◌<◌}
 use native.Mathlib.Numerals.{add-one}
 use native.Mathlib.Omega.{arith}
 use lib.IntN.{ℤ, pos, ◌-ℤ◌}
@@ -19,10 +19,9 @@ use Rattle.scope.specs.Mesh.{most_nodes, most_elements, nodes, elements, edges, 
 use Rattle.scope.specs.Mesh.{facing_to}
 use Rattle.scope.specs.Tests.{has_side, has_ends, outer_side, used_by_jump, free_side, same_point, is_joint}
 use Rattle.mesh.specs.MeshContracts.{Sized, NodeAt, jump_node}
-use Rattle.shape.specs.ShapeContracts.{no_byte, Holds, put, is_none, is_untaken, used_byte, byte_at, at_place}
+use Rattle.shape.specs.ShapeContracts.{no_byte, Holds, put, is_none, is_untaken, used_byte, byte_at}
 use Rattle.shape.specs.ShapeContracts.{edge_byte, EdgeTable, jump_byte, JumpTable}
-use Rattle.shape.proofs.MeshLaws.{side_fits}
-use Rattle.shape.proofs.ByteTables.{kept, holds_as, same_place, put_one}
+use Rattle.shape.proofs.Tables.{kept, holds_as, put_free}
 use Rattle.shape.proofs.SideTables.{bytes_to, byte_of, edge_untaken, edge_none}
 
 -- ---- coordinates
@@ -52,9 +51,9 @@ module _ (m : List ℤ) (a b : ℕ) where
 
 -- ---- bytes of used sides
 
-pub no_jump_yet : (m : List ℤ) {t : List ℕ} → EdgeTable m (edges m) t → JumpTable m 0 t
+pub no_jump_yet : (m : List ℤ) {t : List (List ℕ)} → EdgeTable m (edges m) t → JumpTable m 0 t
 unfolding jump_byte some_below
-no_jump_yet m h = bytes_to h (holds_as h.bytes (λ v. refl))
+no_jump_yet m h = bytes_to h (holds_as h.bytes (λ a b. refl))
 
 used_untaken : (used : Bool) (e : ℕ)
     → is_untaken (cond used (cond (is_untaken e) used_byte e) e) ≡ is_untaken e && not used
@@ -75,7 +74,7 @@ used_none true e = by (is_untaken e) refl
 
 module _ (m : List ℤ) {s : Sizes} (k : Sized m s) where
   -- a side is free exactly where its byte is an element's and the reverse has none
-  free_is : (j : ℕ) {t : List ℕ} → JumpTable m j t → {a b : ℕ} → a < nodes m → b < nodes m
+  free_is : (j : ℕ) {t : List (List ℕ)} → JumpTable m j t → {a b : ℕ} → a < nodes m → b < nodes m
       → free_side m j a b ≡ is_untaken (byte_at t a b) && is_none (byte_at t b a)
   unfolding free_side outer_side jump_byte
   free_is j {t} h {a} {b} i l =
@@ -96,7 +95,7 @@ module _ (m : List ℤ) {s : Sizes} (k : Sized m s) where
       regroup true false false true = refl
       regroup true false false false = refl
 
-  module _ (j : ℕ) {t : List ℕ} (h : JumpTable m j t) {a b c d : ℕ} (ea : NodeAt a m (jump_node m j 0))
+  module _ (j : ℕ) {t : List (List ℕ)} (h : JumpTable m j t) {a b c d : ℕ} (ea : NodeAt a m (jump_node m j 0))
       (eb : NodeAt b m (jump_node m j 1)) (ec : NodeAt c m (jump_node m j 2)) (ed : NodeAt d m (jump_node m j 3)) where
     pub joint_is : is_joint m j
         ≡ (((is_untaken (byte_at t a b) && is_none (byte_at t b a))
@@ -115,25 +114,30 @@ module _ (m : List ℤ) {s : Sizes} (k : Sized m s) where
             && same_point m (f v) (i v)
 
     -- its two sides are used
-    pub use_more : {u w : List ℕ} → u ≡ put is_untaken t (a * most_nodes + b) used_byte
-        → w ≡ put is_untaken u (d * most_nodes + c) used_byte → JumpTable m (j + 1) w
+    pub use_more : {u w : List (List ℕ)} → u ≡ put is_untaken t a b used_byte → w ≡ put is_untaken u d c used_byte
+        → JumpTable m (j + 1) w
     unfolding jump_byte some_below used_by_jump jump_from jump_to facing_from facing_to
     use_more {u} {w} e f =
         bytes_to h
-        (subst (λ (n : ℕ). Holds (length t) (at_place (jump_byte m n)) w) (sym (add-one j))
-        (subst (Holds (length t) (at_place (jump_byte m (suc j)))) (sym f)
-        (holds_as (put_one is_untaken once (side_fits k h.room ed.there ec.there) used_byte) step)))
+        (subst (λ (n : ℕ). Holds 0 (length t) most_nodes (jump_byte m n) w) (sym (add-one j))
+        (subst (Holds 0 (length t) most_nodes (jump_byte m (suc j))) (sym f)
+        (holds_as (put_free is_untaken once (row ed) (column ec) used_byte) step)))
       where
-        now : ℕ → ℕ
-        now = at_place (jump_byte m j)
+        now : ℕ → ℕ → ℕ
+        now = jump_byte m j
 
-        own : ℕ → ℕ
-        own v = cond (eqb (a * most_nodes + b) v) (kept is_untaken (now v) used_byte) (now v)
+        row : {p i : ℕ} → NodeAt p m i → p < length t
+        row i = omega (arith, i.there, h.room)
 
-        once : Holds (length t) own u
+        column : {p i : ℕ} → NodeAt p m i → p < most_nodes
+        column i = omega (arith, i.there, i.few)
+
+        own : ℕ → ℕ → ℕ
+        own p q = cond (eqb a p && eqb b q) (kept is_untaken (now p q) used_byte) (now p q)
+
+        once : Holds 0 (length t) most_nodes own u
         once =
-            subst (Holds (length t) own) (sym e)
-            (put_one is_untaken h.bytes (side_fits k h.room ea.there eb.there) used_byte)
+            subst (Holds 0 (length t) most_nodes own) (sym e) (put_free is_untaken h.bytes (row ea) (column eb) used_byte)
 
         again : (z : ℕ) (p : Bool) → is_untaken z ≡ p
             → kept is_untaken (cond p used_byte z) used_byte ≡ cond p used_byte z
@@ -159,18 +163,11 @@ module _ (m : List ℤ) {s : Sizes} (k : Sized m s) where
         regroup true true false z = twice z
         regroup true true true z = ap (λ (r : ℕ). kept is_untaken r used_byte) (twice z) ∙ twice z
 
-        place : {p q i l : ℕ} → NodeAt p m i → NodeAt q m l → (v : ℕ)
-            → eqb (p * most_nodes + q) v ≡ eqb i (v / most_nodes) && eqb l (v % most_nodes)
-        place {p} {q} i l v =
-            same_place most_nodes p q (omega (arith, l.there, l.few)) v
-            ∙ ap₂ (λ (r z : ℕ). eqb r (v / most_nodes) && eqb z (v % most_nodes)) i.same l.same
-
-        step : (v : ℕ) → cond (eqb (d * most_nodes + c) v) (kept is_untaken (own v) used_byte) (own v)
-            ≡ at_place (jump_byte m (suc j)) v
-        step v =
-            ap₂ (λ (i o : Bool). cond i (kept is_untaken (cond o (kept is_untaken (now v) used_byte) (now v)) used_byte)
-            (cond o (kept is_untaken (now v) used_byte) (now v))) (place ed ec v) (place ea eb v)
-            ∙ regroup (some_below (used_by_jump m (v / most_nodes) (v % most_nodes)) j)
-            (eqb (jump_from m j) (v / most_nodes) && eqb (jump_to m j) (v % most_nodes))
-            (eqb (facing_to m j) (v / most_nodes) && eqb (facing_from m j) (v % most_nodes))
-            (edge_byte m (edges m) (v / most_nodes) (v % most_nodes))
+        step : (p q : ℕ) → cond (eqb d p && eqb c q) (kept is_untaken (own p q) used_byte) (own p q)
+            ≡ jump_byte m (suc j) p q
+        step p q =
+            ap₂ (λ (i o : Bool). cond i (kept is_untaken (cond o (kept is_untaken (now p q) used_byte) (now p q)) used_byte)
+            (cond o (kept is_untaken (now p q) used_byte) (now p q)))
+            (ap₂ (λ (x y : ℕ). eqb x p && eqb y q) ed.same ec.same) (ap₂ (λ (x y : ℕ). eqb x p && eqb y q) ea.same eb.same)
+            ∙ regroup (some_below (used_by_jump m p q) j) (eqb (jump_from m j) p && eqb (jump_to m j) q)
+            (eqb (facing_to m j) p && eqb (facing_from m j) q) (edge_byte m (edges m) p q)

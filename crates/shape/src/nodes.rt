@@ -1,35 +1,32 @@
 // 7: each node is in an element, that is, it is marked with a soil.
-ghost use Rattle.std.specs.Prelude.{◌≡◌, ◌<◌, ◌≤◌};
-ghost use Rattle.scope.specs.Checks.{some_below};
-ghost use Rattle.scope.specs.Mesh.{most_nodes, most_soils, elements};
+ghost use Rattle.std.specs.Prelude.{◌≡◌, [], ◌<◌, get_or};
+ghost use Rattle.std.specs.List.{list_any};
+ghost use Rattle.scope.specs.Answer.{outcome_of};
+ghost use Rattle.scope.specs.Mesh.{most_nodes, elements};
 ghost use Rattle.scope.specs.Phases.{check_phase};
 ghost use Rattle.scope.specs.Refusals.{nodes_phase};
-ghost use Rattle.mesh.specs.MeshContracts.{Sized};
-ghost use Rattle.shape.specs.ShapeContracts.{MarkTable, is_marked};
+ghost use Rattle.shape.specs.ShapeContracts.{MarkTable};
 
-use crate::marks::{MARKS, marked};
-use mesh::sizes::Sizes;
-use scope::{Outcome, Place};
+use crate::marks::Marks;
+use crate::phases::demand;
+use mesh::Mesh;
+use scope::{Outcome, Place, Reason};
 
-// Whether node v is marked with one of so many soils.
-fn some_soil(marks: &[u8; MARKS], soils: usize, v: usize) -> bool
-    requires { (v < most_nodes) × (soils ≤ most_soils) }
-    ensures { result ≡ some_below (is_marked marks.now v) soils }
+// Whether node v is marked with a soil.
+fn some_soil(marks: &Marks, v: usize) -> bool
+    requires { v < most_nodes }
+    ensures { result ≡ list_any (λ marked. marked) (get_or marks.now v []) }
 {
-    (0..soils).any(|soil| marked(marks, v, soil))
+    marks[v].contains(&true)
 }
 
-pub fn nodes_check(m: &[i64], s: Sizes, marks: &[u8; MARKS]) -> Outcome
-    requires { Sized m.now s × MarkTable m.now (elements m.now) marks.now }
-    ensures { result ≡ check_phase (nodes_phase m.now) }
+pub fn nodes_check(m: &Mesh, marks: &Marks) -> Outcome
+    requires { MarkTable m.now.numbers.now (elements m.now.numbers.now) marks.now }
+    ensures { outcome_of result ≡ check_phase (nodes_phase m.now.numbers.now) }
 {
-    for v in 0..s.nodes {
-        if !some_soil(marks, s.soils, v) {
-            return Outcome::Refused {
-                number: 7,
-                place: Place::Node(v as u32 + 1),
-            };
-        }
+    for v in 0..m.sizes.nodes {
+        let place = Place::Node(v as u32 + 1);
+        demand(some_soil(marks, v), Reason::NoElement, place)?;
     }
-    Outcome::Passed
+    Ok(())
 }

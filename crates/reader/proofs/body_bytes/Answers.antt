@@ -22,5 +22,5 @@ overflow_add-sum-in-loop-g c =
 pub loop-g-preserved : goal.loop-g-preserved
 loop-g-preserved c = summed_next c.requires c.loop-g.invariant c.loop-g-test.true
 
-pub returns-clause-fact_1 : goal.returns-clause-fact_1
-returns-clause-fact_1 c = summed_end c.requires c.loop-g.invariant c.loop-g-test.false
+pub returns-clause-sum : goal.returns-clause-sum
+returns-clause-sum c = summed_end c.requires c.loop-g.invariant c.loop-g-test.false

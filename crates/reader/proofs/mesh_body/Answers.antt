@@ -1,15 +1,11 @@
 -- `reader::mesh_body` meets its contract: the header tells the table, whose numbers fit.
-use Rattle.mesh.proofs.Places.{few_sizes}
 use Rattle.reader.proofs.LinesAfterHeader.{known, mesh_lines_lem}
 use Rattle.reader.proofs.mesh_body.Goals as goal
-
-pub mesh_groups-groups-requires : goal.mesh_groups-groups-requires
-mesh_groups-groups-requires c = few_sizes c.header_sizes.ensures
 
 pub read_groups-requires : goal.read_groups-requires
 read_groups-requires c =
     let t = c.mesh_groups-groups.ensures in
-    record { known = known t; room = rw (mesh_lines_lem t c.header_sizes.ensures) c.requires.room }
+    record { known = known t; room = rw (mesh_lines_lem t c.of_header.ensures) c.requires.room }
 
 pub returns : goal.returns
-returns c = rw (mesh_lines_lem c.mesh_groups-groups.ensures c.header_sizes.ensures) at c.read_groups.ensures
+returns c = rw (mesh_lines_lem c.mesh_groups-groups.ensures c.of_header.ensures) at c.read_groups.ensures

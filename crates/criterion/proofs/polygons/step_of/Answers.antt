@@ -1,6 +1,9 @@
 -- `step_of` meets its contract: differences and products of the coordinates of two corners.
+use mathlib.Core.Path.{◌∙◌}
 use native.Mathlib.Omega.{arith}
-use Rattle.integer.proofs.Machine.{machine, fits, is}
+use Rattle.integer.specs.Bounds.{Within}
+use Rattle.integer.proofs.Machine.{machine, fits, exact, by_value}
+use Rattle.scope.specs.Bounds.{most_step, most_cross}
 use Rattle.criterion.specs.StrengthContracts.{table_run, table_rise, table_cross}
 use Rattle.criterion.proofs.polygons.step_of.Goals as goal
 
@@ -24,15 +27,37 @@ overflow_sub-result-3 c =
     let d = c.requires.corners.y c.after.result in
     fits (search machine depth 30) (omega arith)
 
+pub invariant_of-result : goal.invariant_of-result
+unfolding table_run table_rise table_cross
+invariant_of-result c =
+    let t = c.requires.corners in
+    let l = c.requires.there in
+    let a = t.x c.args.k in
+    let b = t.y c.args.k in
+    let c' = t.x c.after.result in
+    let d = t.y c.after.result in
+    record {
+      run_fits =
+          by_value (Within most_step) (search machine depth 30) (omega arith)
+          (rw c.after.ensures.next (t.run c.args.k l));
+      rise_fits =
+          by_value (Within most_step) (search machine depth 30) (omega arith)
+          (rw c.after.ensures.next (t.rise c.args.k l));
+      cross_fits =
+          by_value (Within most_cross) (search machine depth 30) (omega arith)
+          (rw c.after.ensures.next (t.cross c.args.k l));
+    }
+
 pub returns : goal.returns
 unfolding table_run table_rise table_cross
 returns c =
-    let a = c.requires.corners.x c.args.k in
-    let b = c.requires.corners.y c.args.k in
-    let c' = c.requires.corners.x c.after.result in
-    let d = c.requires.corners.y c.after.result in
+    let t = c.requires.corners in
+    let a = t.x c.args.k in
+    let b = t.y c.args.k in
+    let c' = t.x c.after.result in
+    let d = t.y c.after.result in
     record {
-      run = is (search machine depth 30) (omega arith) (rw c.after.ensures.next);
-      rise = is (search machine depth 30) (omega arith) (rw c.after.ensures.next);
-      cross = is (search machine depth 30) (omega arith) (rw c.after.ensures.next);
+      run = exact (search machine depth 30) (omega arith) ∙ rw c.after.ensures.next;
+      rise = exact (search machine depth 30) (omega arith) ∙ rw c.after.ensures.next;
+      cross = exact (search machine depth 30) (omega arith) ∙ rw c.after.ensures.next;
     }

@@ -1,6 +1,5 @@
 -- `steps_from` meets its contract: one side more in each turn.
 use native.Mathlib.Omega.{arith}
-use Rattle.integer.proofs.Machine.{machine, exact}
 use Rattle.criterion.proofs.SideLaws.{no_steps, one_step_more}
 use Rattle.criterion.proofs.polygons.steps_from.Goals as goal
 
@@ -8,9 +7,4 @@ pub loop-k-init : goal.loop-k-init
 loop-k-init c = no_steps _
 
 pub loop-k-preserved : goal.loop-k-preserved
-loop-k-preserved c =
-    let h = c.step_of-step.ensures in
-    one_step_more _ _ _ (omega (arith, c.requires.few)) c.loop-k.invariant
-    (exact (search machine depth 30) (omega arith))
-    (exact (search machine depth 30) (omega arith))
-    (exact (search machine depth 30) (omega arith))
+loop-k-preserved c = one_step_more _ _ _ (omega (arith, c.requires.few)) c.loop-k.invariant c.step_of.ensures

@@ -1,30 +1,32 @@
--- `tops_check` meets its contract. The invariant: the layers passed hold.
-use mathlib.Core.Path.{refl, sym, ◌∙◌}
-use native.Mathlib.Omega.{arith}
+-- `tops_check` meets its contract: the first layer that fails, or none.
+use mathlib.Core.Path.{refl, ◌∙◌}
 use Rattle.scope.specs.Checks.{all_below}
-use Rattle.scope.specs.Layers.{layers, layer_line, top_above}
+use Rattle.scope.specs.Layers.{top_above}
 use Rattle.scope.specs.Phases.{check_phase}
-use Rattle.lines.proofs.Loops.{all_more, each_below, phase-at, phase_all}
+use Rattle.scope.proofs.Answered.{passed_on}
+use Rattle.layers.proofs.LayerLaws.{layer_refused, layer_passed, all_layers_passed}
 use Rattle.layers.proofs.layer_checks.tops_check.Goals as goal
 
 pub loop-i-init : goal.loop-i-init
 unfolding all_below
 loop-i-init c = refl
 
-pub returns-then-not-top_above : goal.returns-then-not-top_above
+pub returns-in_err-demand : goal.returns-in_err-demand
 unfolding check_phase
-returns-then-not-top_above c =
-    c.refused_line.ensures
-    ∙ phase-at (top_above _) 46 layer_line (layers _) (each_below _ _ c.loop-i.invariant)
-    (omega (arith, c.requires.counted))
-    (sym c.top_above.ensures ∙ c.if-not-top_above.true)
-    refl
+returns-in_err-demand c =
+    let table = c.args.layers.now in
+    passed_on c.from_residual.result c.in_err-demand.field-0.0 c.from_residual.ensures.1
+    ∙ layer_refused table.numbers.now (top_above _) table.counted c.loop-i.invariant c.top_above.ensures
+    c.loop-i-test.true c.in_err-demand.ensures
 
 pub loop-i-preserved : goal.loop-i-preserved
-loop-i-preserved c = all_more (top_above _) c.loop-i.invariant (sym c.top_above.ensures ∙ c.if-not-top_above.false)
+loop-i-preserved c =
+    let table = c.args.layers.now in
+    layer_passed table.numbers.now (top_above _) table.counted c.loop-i.invariant c.top_above.ensures
+    c.in_ok-demand.ensures
 
 pub returns : goal.returns
 unfolding check_phase
 returns c =
-    phase_all (top_above _) 46 layer_line (layers _)
-    (λ k l. each_below _ _ c.loop-i.invariant k (omega (arith, c.requires.counted)))
+    let table = c.args.layers.now in
+    all_layers_passed table.numbers.now (top_above _) table.counted c.loop-i.invariant c.loop-i-test.false

@@ -11,6 +11,5 @@ unfolding at
 returns c =
     let a = c.args in
     let s = a.s.now in
-    all_from_yields_List (within (between a.lo a.hi)) _ _ _ c.all.ensures.ran (YieldsList-from_slice s cc)
-    (λ x b q k. search (rules, tests))
+    all_from_yields_List (within (between a.lo a.hi)) _ _ _ c.all.ensures.ran (YieldsList-from_slice s cc) (λ x b q k. search (rules, tests))
     ∙ all_elements (within (between a.lo a.hi)) s (pos 0)

@@ -8,5 +8,4 @@ use Rattle.lines.proofs.LineLaws.{listed}
 use Rattle.lines.proofs.line_checks.is_sides.Goals as goal
 
 pub returns : goal.returns
-returns c = (rw (to_z-of_z c.ranges.z) at c.contains.ensures.value)
-    ∙ listed c.args.z (pos 12 ∷ pos 20 ∷ pos most_sides ∷ [])
+returns c = (rw (to_z-of_z c.ranges.z) at c.contains.ensures.value) ∙ listed c.args.z (pos 12 ∷ pos 20 ∷ pos most_sides ∷ [])

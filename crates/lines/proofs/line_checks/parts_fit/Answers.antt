@@ -13,8 +13,7 @@ pub returns-then-field-eq1 : goal.returns-then-field-eq1
 returns-then-field-eq1 c =
     let a = c.args in
     decides (search (machine, unbounded) depth 30) (omega arith)
-    ∙ with_field_lem a.field a.multipliers a.n a.l
-    (told c.if-field-eq1.true (search (machine, unbounded) depth 30) (omega arith))
+    ∙ with_field_lem a.field a.multipliers a.n a.l (told c.if-field-eq1.true (search (machine, unbounded) depth 30) (omega arith))
 
 pub returns-then-n-eq0 : goal.returns-then-n-eq0
 returns-then-n-eq0 c =
@@ -22,8 +21,7 @@ returns-then-n-eq0 c =
     let none = apart c.if-field-eq1.false (search (machine, unbounded) depth 30) (omega arith) in
     let there = told c.if-n-eq0.true.0 (search (machine, unbounded) depth 30) (omega arith) in
     let zero = told c.if-n-eq0.true.1 (search (machine, unbounded) depth 30) (omega arith) in
-    decides (search (machine, unbounded) depth 30) (omega arith)
-    ∙ no_field a.field a.multipliers a.n a.l none there zero
+    decides (search (machine, unbounded) depth 30) (omega arith) ∙ no_field a.field a.multipliers a.n a.l none there zero
 
 fails : {t b : Bool} → t ≡ false → false ≡ b → t ≡ b
 fails e f = e ∙ f
@@ -44,6 +42,5 @@ returns-else-n-eq0 c =
       | else-multipliers-eq1 w ↦
           let f = w.if-multipliers-eq1.false in
           let e = ne_eqb _ 1 f in
-          fails (cc) (no_part a.field a.multipliers a.n a.l none
-          (apart f (search (machine, unbounded) depth 30) (omega arith)))
+          fails (cc) (no_part a.field a.multipliers a.n a.l none (apart f (search (machine, unbounded) depth 30) (omega arith)))
     ]

@@ -23,6 +23,5 @@ unfolding within
 returns c =
     let a = c.args in
     let n = c.new.ensures in
-    c.contains.ensures.value
-    ∙ rw (n.start, n.end, n.exhausted, to_z-of_z c.ranges.z, to_z-of_z c.ranges.lo, to_z-of_z c.ranges.hi)
+    c.contains.ensures.value ∙ rw (n.start, n.end, n.exhausted, to_z-of_z c.ranges.z, to_z-of_z c.ranges.lo, to_z-of_z c.ranges.hi)
     (ap₂ ◌&&◌ (at_most a.lo a.z) (at_most a.z a.hi))

@@ -23,7 +23,6 @@ pub returns : goal.returns
 returns c =
     let a = c.args in
     all_from_yields_List inside c.all.new.self _ c.all.result c.all.ensures.ran
-    (YieldsList-from_zip (YieldsList-from_zip (YieldsList-from_slice a.s.now cc) (YieldsList-from_slice a.lo.now cc))
-    (YieldsList-from_slice a.hi.now cc))
+    (YieldsList-from_zip (YieldsList-from_zip (YieldsList-from_slice a.s.now cc) (YieldsList-from_slice a.lo.now cc)) (YieldsList-from_slice a.hi.now cc))
     (λ x b q k. search (rules, tests))
     ∙ each a.lo.now a.hi.now a.s.now

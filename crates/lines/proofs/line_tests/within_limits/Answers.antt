@@ -30,11 +30,7 @@ slice_bounds-limits_hold-start c = let w = wide Edge c.in-Edge.is c.requires.who
 pub limits_hold-requires-in-Edge : goal.limits_hold-requires-in-Edge
 limits_hold-requires-in-Edge c =
     let w = wide Edge c.in-Edge.is c.requires.whole in
-    rw (take_rest c.args.s.now 2) (record {
-      least = omega (arith, length-drop 2 c.args.s.now);
-      most = omega
-          (arith, length-drop 2 c.args.s.now);
-    })
+    rw (take_rest c.args.s.now 2) (record { least = omega (arith, length-drop 2 c.args.s.now); most = omega (arith, length-drop 2 c.args.s.now) })
 
 pub slice_bounds-limits_hold-end-in-Layer : goal.slice_bounds-limits_hold-end-in-Layer
 slice_bounds-limits_hold-end-in-Layer c =
@@ -60,8 +56,7 @@ pub returns-in-Layer : goal.returns-in-Layer
 unfolding ruled_lines layer_lines up_to ranges
 returns-in-Layer c z = rw c.in-Layer.is (c.limits_hold-in-Layer.ensures ∙ sym (layer_limits z.soils c.args.s.now))
 
-no_limits : {rule : Rule} (z : Sizes) (s : List ℤ) → (rule ≡ Element) ⊎ ((rule ≡ Tabled) ⊎ (rule ≡ Jump)) →
-    true ≡ all_within (ruled_lines rule z 0).limits s
+no_limits : {rule : Rule} (z : Sizes) (s : List ℤ) → (rule ≡ Element) ⊎ ((rule ≡ Tabled) ⊎ (rule ≡ Jump)) → true ≡ all_within (ruled_lines rule z 0).limits s
 unfolding ruled_lines element_lines jump_lines
 no_limits z s (inl e) = rw e (sym (all_free element_columns s))
 no_limits z s (inr (inl e)) = rw e (sym (all_free element_columns s))

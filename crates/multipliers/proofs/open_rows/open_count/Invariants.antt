@@ -5,4 +5,6 @@ use Rattle.multipliers.proofs.OpenLaws.{open_test}
 use Rattle.multipliers.proofs.open_rows.open_count.Given as goal
 
 abbrev pub invariant-loop-a : goal.invariant-loop-a
-invariant-loop-a l = l.count ≡ count_below (open_test l.m l.c l.y) (pair_first l.m l.a)
+invariant-loop-a l =
+    let m = l.claim.mesh.mesh.numbers.now in
+    l.count ≡ count_below (open_test m l.claim.numbers.now l.rows.multipliers.now) (pair_first m l.a)

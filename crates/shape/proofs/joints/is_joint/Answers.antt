@@ -7,7 +7,7 @@ pub returns-then-same_point : goal.returns-then-same_point
 returns-then-same_point c =
     let p = c.requires in
     let is =
-    joint_is _ p.0 _ p.2 c.jump_node-from.ensures c.jump_node-to.ensures
+    joint_is _ c.args.m.now.sized _ p.used c.jump_node-from.ensures c.jump_node-to.ensures
     c.jump_node-facing_from.ensures c.jump_node-facing_to.ensures in
     grind (arith, is)
 
@@ -15,6 +15,6 @@ pub returns-else-same_point : goal.returns-else-same_point
 returns-else-same_point c =
     let p = c.requires in
     let is =
-    joint_is _ p.0 _ p.2 c.jump_node-from.ensures c.jump_node-to.ensures
+    joint_is _ c.args.m.now.sized _ p.used c.jump_node-from.ensures c.jump_node-to.ensures
     c.jump_node-facing_from.ensures c.jump_node-facing_to.ensures in
     grind (arith, is)

@@ -1,8 +1,14 @@
 -- `own_side` meets its contract: the byte of the side is that of the lowest element that has it.
+use native.Mathlib.Omega.{arith}
+use Rattle.scope.proofs.Triangles.{some_corners}
 use Rattle.shape.proofs.SideTables.{own_side_is}
 use Rattle.shape.proofs.sides.own_side.Goals as goal
+
+pub overflow_add-i : goal.overflow_add-i
+overflow_add-i c = omega (arith, some_corners c.args.m.now.numbers.now c.args.e)
 
 pub returns : goal.returns
 returns c =
     let p = c.requires in
-    own_side_is _ p.0 p.1 p.2 p.3 c.side_place.ensures.place
+    own_side_is _ c.args.m.now.sized p.there p.at_side p.filled c.corner_around-a.ensures.same
+    c.corner_around-b.ensures.same

@@ -1,59 +1,37 @@
 -- `parts_verdict` meets its contract: the field's check, then the multipliers', then what is accepted.
-use mathlib.Core.Path.{sym, ◌∙◌}
-use native.Mathlib.Omega.{arith}
-use Rattle.integer.proofs.Machine.{machine, unbounded, exact}
-use Rattle.criterion.proofs.ClaimLaws.{claim_within, claim_long}
-use Rattle.verdict.proofs.PartLaws.{field_refused, limit_refused, limit_absent, limit_exact, multipliers_are}
-use Rattle.criterion.proofs.StrengthLaws.{sides_listed_lem, steps_as}
+use mathlib.Core.Path.{refl}
+use Rattle.scope.specs.Cases.Verdict.{Accepted}
+use Rattle.scope.specs.Phases.{check_phases}
+use Rattle.scope.specs.Refusals.{multiplier_part}
+use Rattle.scope.specs.Verdict.{answer}
+use Rattle.criterion.proofs.StrengthLaws.{sides_listed_lem}
+use Rattle.verdict.proofs.Handed.{answer_refuses, answer_goes_on}
+use Rattle.verdict.proofs.VerdictLaws.{all_accepted, field_first}
 use Rattle.verdict.proofs.claim_parts.parts_verdict.Goals as goal
 
-pub steps_of-steps-requires : goal.steps_of-steps-requires
-steps_of-steps-requires c = sides_listed_lem c.requires.sized
+pub of-polygon-requires : goal.of-polygon-requires
+of-polygon-requires c = sides_listed_lem c.args.claim.now.mesh.mesh.sized
 
-pub claim_field-requires : goal.claim_field-requires
-claim_field-requires c =
-    let steps = steps_as c.requires.sized.sides_are c.steps_of-steps.ensures in
-    record { lines_passed = c.requires; steps_are = steps }
+pub returns-in_err-claim_field : goal.returns-in_err-claim_field
+returns-in_err-claim_field c =
+    let m = c.args.claim.now.mesh.mesh.numbers.now in
+    let k = c.args.claim.now.numbers.now in
+    answer_refuses c.from_residual.result c.in_err-claim_field.field-0.0
+    (answer (check_phases (multiplier_part m k)) (all_accepted m k))
+    c.from_residual.ensures.1 c.in_err-claim_field.ensures (field_first m k)
 
-pub returns-in-Refused : goal.returns-in-Refused
-returns-in-Refused c = field_refused _ _ (sym c.claim_field.ensures ∙ c.in-Refused.is)
+pub returns-in_err-upper : goal.returns-in_err-upper
+returns-in_err-upper c =
+    let m = c.args.claim.now.mesh.mesh.numbers.now in
+    let k = c.args.claim.now.numbers.now in
+    answer_goes_on c.in_ok-claim_field.ensures (field_first m k)
+    (answer_refuses c.from_residual-in_err-upper.result c.in_err-upper.field-0.0 (all_accepted m k)
+    c.from_residual-in_err-upper.ensures.1 c.in_err-upper.ensures.outcome refl)
 
-pub claim_limit-requires : goal.claim_limit-requires
-claim_limit-requires c =
-    record { fact_1 = c.requires; fact_2 = steps_as c.requires.sized.sides_are c.steps_of-steps.ensures }
-
-pub lower_load-requires : goal.lower_load-requires
-lower_load-requires c =
-    record { has_header = claim_long c.requires.claim; in_range = claim_within c.requires.claim }
-
-pub open_rows-requires : goal.open_rows-requires
-open_rows-requires c =
-    let there = multipliers_are _ _ (sym c.claim_limit.ensures ∙ c.in-Exact.is) in
-    record { fact_1 = (c.requires, there); fact_2 = steps_as c.requires.sized.sides_are c.steps_of-steps.ensures }
-
-pub lower_load-requires-in-Exact : goal.lower_load-requires-in-Exact
-lower_load-requires-in-Exact c =
-    record { has_header = claim_long c.requires.claim; in_range = claim_within c.requires.claim }
-
-pub returns-in-Refused-claim_limit : goal.returns-in-Refused-claim_limit
-returns-in-Refused-claim_limit c =
-    limit_refused _ _
-    (sym c.claim_field.ensures ∙ c.in_default.is)
-    (sym c.claim_limit.ensures ∙ c.in-Refused-claim_limit.is)
-
-pub returns-in-Absent : goal.returns-in-Absent
-returns-in-Absent c =
-    limit_absent _ _
-    (sym c.claim_field.ensures ∙ c.in_default.is)
-    (sym c.claim_limit.ensures ∙ c.in-Absent.is)
-    c.lower_load.ensures
-
-pub returns-in-Exact : goal.returns-in-Exact
-returns-in-Exact c =
-    limit_exact _ _
-    (sym c.claim_field.ensures ∙ c.in_default.is)
-    (sym c.claim_limit.ensures ∙ c.in-Exact.is)
-    c.open_rows.ensures
-    c.lower_load-in-Exact.ensures
-    (exact (search (machine, unbounded) depth 30) (omega arith))
-    (exact (search (machine, unbounded) depth 30) (omega arith))
+pub returns : goal.returns
+returns c =
+    let m = c.args.claim.now.mesh.mesh.numbers.now in
+    let k = c.args.claim.now.numbers.now in
+    answer_goes_on c.in_ok-claim_field.ensures (field_first m k)
+    (answer_goes_on c.in_ok-upper.ensures.outcome refl
+    (λ i. Accepted (c.open_rows.ensures i) (c.lower_load.ensures i) (c.in_ok-upper.ensures.load i)))

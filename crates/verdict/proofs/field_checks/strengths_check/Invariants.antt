@@ -5,4 +5,4 @@ use Rattle.criterion.specs.StrengthContracts.{pair_holds}
 use Rattle.verdict.proofs.field_checks.strengths_check.Given as goal
 
 abbrev pub invariant-loop-a : goal.invariant-loop-a
-invariant-loop-a l = first_failing (pair_holds l.m l.c) l.a ≡ l.a
+invariant-loop-a l = first_failing (pair_holds l.claim.mesh.mesh.numbers.now l.claim.numbers.now) l.a ≡ l.a
