@@ -1,7 +1,8 @@
 /* The check of load factor certificates on quadrilateral soil meshes, for C.
 
    One archive has every call: target/staticlib/libpechuvo.a, which tests/archive builds from
-   crates/pechuvo_c.
+   crates/pechuvo_c. Of other libraries it takes memcpy, memmove and memset, and the compiler's division
+   in 128 bits (__udivti3), which gcc and clang link by themselves.
 
    The calls take every input, whatever its bytes or numbers, and answer in bounded time. They
    read only what is lent, keep nothing from call to call, allocate nothing and write nothing but
