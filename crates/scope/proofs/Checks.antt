@@ -8,8 +8,8 @@ use native.Mathlib.Decide.{dec_lt}
 use native.Mathlib.Omega.{arith}
 use lib.Dec.{T}
 use Rattle.scope.specs.declared.Place.{Place}
-use Rattle.scope.specs.declared.Outcome.{Outcome}
-use Rattle.scope.specs.declared.Outcome.TheVariants.{Passed, Refused}
+use Rattle.scope.specs.Cases.Outcome.{Outcome}
+use Rattle.scope.specs.Cases.Outcome.{Passed, Refused}
 use Rattle.scope.specs.Checks.{demand, ◌then◌, lowest}
 
 -- ---- one check

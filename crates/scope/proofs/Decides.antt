@@ -11,8 +11,8 @@ use lib.Dec.{T, T_not, not_T, eqb, eqb→eq, eqb_refl, leb, leb→le, le→leb}
 use Rattle.integer.specs.Tests.{eq_z}
 use Rattle.integer.proofs.TestLaws.{eq_z_yes, yes_eq_z, yes_le_z, yes_lt_z}
 use Rattle.scope.specs.declared.Place.{Place}
-use Rattle.scope.specs.declared.Outcome.{Outcome}
-use Rattle.scope.specs.declared.Outcome.TheVariants.{Passed, Refused}
+use Rattle.scope.specs.Cases.Outcome.{Outcome}
+use Rattle.scope.specs.Cases.Outcome.{Passed, Refused}
 use Rattle.scope.specs.Checks.{demand, some_below, all_below}
 use Rattle.scope.specs.Rows.{first_where}
 use Rattle.scope.proofs.Checks.{below_suc, demand_passed, demand_refused}

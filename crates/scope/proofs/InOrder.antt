@@ -13,8 +13,8 @@ use borrow.Author.Tests.{ne_eqb, leb-true, ltb-true, ltb-false, le-leb}
 use borrow.Table.Steps.{cases}
 use Rattle.scope.specs.declared.Place.{Place}
 use Rattle.scope.specs.declared.Place.TheVariants.{Line}
-use Rattle.scope.specs.declared.Outcome.{Outcome}
-use Rattle.scope.specs.declared.Outcome.TheVariants.{Refused}
+use Rattle.scope.specs.Cases.Outcome.{Outcome}
+use Rattle.scope.specs.Cases.Outcome.{Refused}
 use Rattle.scope.specs.Checks.{demand, ◌then◌, lowest}
 use Rattle.scope.specs.Layout.{Group, Layout, width, groups, line_count, number_count, line_of, line_numbers}
 use Rattle.scope.specs.Columns.{Rule}

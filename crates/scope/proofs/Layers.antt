@@ -10,7 +10,7 @@ use lib.Dec.{T, T_not, leb}
 use lib.IntN.{ℤ, pos, ◌*ℤ◌}
 use Rattle.scope.specs.declared.Place.{Place}
 use Rattle.scope.specs.declared.Place.TheVariants.{Height}
-use Rattle.scope.specs.declared.Outcome.TheVariants.{Passed, Refused}
+use Rattle.scope.specs.Cases.Outcome.{Passed, Refused}
 use Rattle.scope.specs.Checks.{some_below}
 use Rattle.scope.specs.Phases.{AllPass, RefusedBy, check_phases}
 use Rattle.scope.specs.Layout.{count}

@@ -1,6 +1,7 @@
 -- The theorems about document 01's definitions, each file after those that it uses.
 pub mod Computed
 pub mod Checks
+pub mod Answered
 pub mod Decides
 pub mod Ranges
 pub mod Lines

@@ -7,8 +7,8 @@ use Prim.Native.Nat.{ℕ, zero, suc, ◌≤◌, ◌<◌}
 use native.Mathlib.Omega.{arith}
 use lib.Dec.{leb}
 use Rattle.scope.specs.declared.Place.{Place}
-use Rattle.scope.specs.declared.Outcome.{Outcome}
-use Rattle.scope.specs.declared.Outcome.TheVariants.{Passed, Refused}
+use Rattle.scope.specs.Cases.Outcome.{Outcome}
+use Rattle.scope.specs.Cases.Outcome.{Passed, Refused}
 use Rattle.scope.specs.Checks.{◌then◌, lowest}
 use Rattle.scope.specs.Phases.{Step, Phase, phase, if_part, Below, AllHold, FirstFails, HoldsAt, Everywhere, FailsIn, AllPass, RefusedBy, check_steps, check_phase, check_phases}
 use Rattle.scope.proofs.Checks.{passed_is_not_refused, below_suc, demand_then, then_assoc, then_Passed}

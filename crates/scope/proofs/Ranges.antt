@@ -1,7 +1,7 @@
 -- `any` and `all` over the numbers below n are the tests in a row of the definitions: by what the first of them adds.
 use mathlib.Core.Path.{◌≡◌, refl, sym, ◌∙◌, ap, ap₂}
 use mathlib.Core.Bool.{Bool, true, false, ◌&&◌, ◌||◌}
-use Prim.Native.Nat.{ℕ, zero, suc, ◌+◌, ◌-◌}
+use Prim.Native.Nat.{ℕ, zero, suc, ◌+◌}
 use native.Mathlib.Omega.{arith}
 use Rattle.std.specs.List.{list_any, list_all, range_with_len}
 use Rattle.scope.specs.Checks.{some_below, all_below}

@@ -10,9 +10,9 @@ use lib.IntN.{ℤ, pos}
 use lib.ListN.{length}
 use borrow.Table.Steps.{cases}
 use Rattle.scope.specs.declared.Place.{Place}
-use Rattle.scope.specs.declared.Outcome.{Outcome}
-use Rattle.scope.specs.declared.Outcome.TheVariants.{Passed, Refused as Fails}
-use Rattle.scope.specs.declared.Verdict.TheVariants.{Refused}
+use Rattle.scope.specs.Cases.Outcome.{Outcome}
+use Rattle.scope.specs.Cases.Outcome.{Passed, Refused as Fails}
+use Rattle.scope.specs.Cases.Verdict.{Refused}
 use Rattle.scope.specs.Answer.{place_number, place_for, number_of}
 use Rattle.scope.specs.Checks.{◌then◌}
 use Rattle.scope.specs.Columns.{Rule, at}

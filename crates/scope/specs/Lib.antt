@@ -5,6 +5,7 @@
 -- (Printed, PrintedColumns, Criterion, Meaning, Jumps, Pairs, PolygonRule, RowNumbers). Members only names a thing; Worked
 -- has the numbers of document 01's sheet.
 -- 001 and 003, where a comment names them, are sources that document 01 cites by these numbers.
+pub mod Cases
 pub mod Answer
 pub mod Checks
 pub mod Phases

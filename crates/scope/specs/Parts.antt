@@ -2,7 +2,7 @@
 -- allow W/m, both as exact fractions", in one claim or in two.
 use Rattle.std.specs.Prelude.{◌≡◌, ◌↔◌, ◌⊎◌, List, [], ◌∷◌, map, ℕ, ◌<◌, ℤ, pos, ◌<ℤ◌, length}
 use Rattle.integer.specs.Fraction.{Frac, ◌over◌, ◌≈ᶠ◌, ◌≤ᶠ◌}
-use Rattle.scope.specs.declared.OpenRows.TheVariants.{Count}
+use Rattle.scope.specs.Cases.OpenRows.{Count}
 use Rattle.scope.specs.Members.{◌∈◌}
 use Rattle.scope.specs.Columns.{n, l}
 use Rattle.scope.specs.Rows as R

@@ -3,7 +3,7 @@
 -- A table is the list of its numbers. Its lines are counted from 0 here; a place counts them from 1,001.
 use Rattle.std.specs.Prelude.{◌≡◌, Bool, true, false, cond, List, [], ◌∷◌, ◌++◌, map, ℕ, ◌+◌, ◌*◌, ◌/◌, ◌≤◌, ◌<◌, min, ℤ, pos, neg_ℤ, length}
 use Rattle.scope.specs.declared.Place.TheVariants.{Line}
-use Rattle.scope.specs.declared.Outcome.{Outcome}
+use Rattle.scope.specs.Cases.Outcome.{Outcome}
 use Rattle.scope.specs.Answer.{place_number}
 use Rattle.scope.specs.Phases.{Phase, if_part, check_phases}
 use Rattle.scope.specs.Columns.{between, free, naming}

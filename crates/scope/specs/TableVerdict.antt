@@ -2,7 +2,7 @@
 -- takes a mesh takes the table too"; an empty list is no table. A claim is judged against the filled mesh.
 use Rattle.std.specs.Prelude.{◌≡◌, true, List, ◌++◌, ℕ, ℤ}
 use Rattle.scope.specs.declared.Place.{Place}
-use Rattle.scope.specs.declared.Verdict.{Verdict}
+use Rattle.scope.specs.Cases.Verdict.{Verdict}
 use Rattle.scope.specs.Mesh.{layout_with}
 use Rattle.scope.specs.Phases.{RefusedBy}
 use Rattle.scope.specs.Statements.{LinesSound}

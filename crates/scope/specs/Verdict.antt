@@ -3,14 +3,14 @@
 use Rattle.std.specs.Prelude.{cond, ◌&&◌, List, ℕ, suc, ℤ}
 use Rattle.scope.specs.declared.Place.{Place}
 use Rattle.scope.specs.declared.Place.TheVariants.{Line}
-use Rattle.scope.specs.declared.Outcome.{Outcome}
-use Rattle.scope.specs.declared.Outcome.TheVariants.{Passed, Refused as Fails}
-use Rattle.scope.specs.declared.Load.{Load}
-use Rattle.scope.specs.declared.Load.TheVariants.{Absent, Exact}
-use Rattle.scope.specs.declared.OpenRows.{OpenRows}
-use Rattle.scope.specs.declared.OpenRows.TheVariants.{Absent as NoCount, Count}
-use Rattle.scope.specs.declared.Verdict.{Verdict}
-use Rattle.scope.specs.declared.Verdict.TheVariants.{Accepted, Refused}
+use Rattle.scope.specs.Cases.Outcome.{Outcome}
+use Rattle.scope.specs.Cases.Outcome.{Passed, Refused as Fails}
+use Rattle.scope.specs.Cases.Load.{Load}
+use Rattle.scope.specs.Cases.Load.{Absent, Exact}
+use Rattle.scope.specs.Cases.OpenRows.{OpenRows}
+use Rattle.scope.specs.Cases.OpenRows.{Absent as NoCount, Count}
+use Rattle.scope.specs.Cases.Verdict.{Verdict}
+use Rattle.scope.specs.Cases.Verdict.{Accepted, Refused}
 use Rattle.scope.specs.Phases.{check_steps, check_phases}
 use Rattle.scope.specs.Columns.{Rule, has_field, has_multipliers, n, l}
 use Rattle.scope.specs.Layout.{Group, Layout, group_at, numbers_at}

@@ -1,7 +1,7 @@
 -- Document 01's sheet with borehole tables (document 02, N8): the numbers, and what is said of each.
 use Rattle.std.specs.Prelude.{◌≡◌, List, [], ◌∷◌, ◌++◌, ℤ, pos, negsuc, neg_ℤ, replicate}
 use Rattle.scope.specs.declared.Place.TheVariants.{Line, Height}
-use Rattle.scope.specs.declared.Outcome.TheVariants.{Passed, Refused}
+use Rattle.scope.specs.Cases.Outcome.{Passed, Refused}
 use Rattle.scope.specs.Rows.{joined}
 use Rattle.scope.specs.Filled.{filled}
 use Rattle.scope.specs.Table.{tabled_check}
