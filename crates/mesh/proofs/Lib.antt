@@ -1,2 +1,6 @@
 -- Where each number of a mesh stands, and its bounds.
 pub mod Places
+-- How many pairs a mesh that passes has.
+pub mod PairLaws
+-- Counts are few, whatever mesh they are of.
+pub mod FewCounts

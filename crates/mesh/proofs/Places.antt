@@ -6,20 +6,23 @@ use native.Mathlib.Omega.{arith}
 use lib.IntN.{ℤ, pos, negsuc, nat_abs, neg_ℤ, ◌-ℤ◌}
 use lib.ListN.{length}
 use lib.Signed.{◌≤ℤ◌}
+use mir.Syntax.{w64}
+use mir.Val.{to_z, of_z}
 use Rattle.integer.specs.Bounds.{Within, Is}
 use Rattle.integer.proofs.BoundLaws.{bounds}
 use Rattle.integer.proofs.Linear.{linear, facts, ◌&◌, nothing}
+use Rattle.integer.proofs.Machine.{Is-read}
 use Rattle.integer.proofs.Order.{≤ℤ_pos}
 use Rattle.mesh.specs.declared.sizes.Sizes.{Sizes}
 use Rattle.scope.specs.Columns.{at}
 use Rattle.scope.specs.Layout.{groups, numbers_before, count, entry}
-use Rattle.scope.specs.Mesh.{mesh_header_columns, soil_columns, node_columns, element_columns, edge_columns, jump_columns, mesh_header, soil_lines, node_lines, element_lines, edge_lines, jump_lines, mesh_layout, mesh_groups, nodes, elements, soils, edges, sides, jumps, p, q, h, cohesion, soil_entry, x, y, corner, element_soil, edge_entry, from_node, to_node, jump_entry, jump_from, jump_to, facing_from, facing_to}
+use Rattle.scope.specs.Mesh.{most_nodes, most_elements, most_soils, most_edges, most_sides, most_jumps, mesh_header_columns, soil_columns, node_columns, element_columns, edge_columns, jump_columns, mesh_header, soil_lines, node_lines, element_lines, edge_lines, jump_lines, mesh_layout, mesh_groups, nodes, elements, soils, edges, sides, jumps, p, q, h, cohesion, soil_entry, x, y, corner, element_soil, edge_entry, from_node, to_node, jump_entry, jump_from, jump_to, facing_from, facing_to}
 use Rattle.scope.specs.Filled.{soil_place}
 use Rattle.scope.specs.NumberRanges.{Between, MeshFacts, SoilFacts, EdgeFacts, JumpFacts}
 use Rattle.scope.proofs.NumberRanges.{some_sides_lem}
 use Rattle.scope.proofs.PolygonRule.{listed_polygon}
 use Rattle.scope.proofs.SumBounds.{apart}
-use Rattle.mesh.specs.MeshContracts.{Sized, SizesAre, HeaderThere, FewThings, NodeAt, nodes_from, elements_from, edges_from, jumps_from, jump_node}
+use Rattle.mesh.specs.MeshContracts.{Sized, SizesAre, HeaderThere, NodeAt, nodes_from, elements_from, edges_from, jumps_from, jump_node}
 
 -- ---- counts
 
@@ -44,59 +47,39 @@ abbrev pub There : ℕ → List ℤ → ℕ → Type 0
 There a m k = (k < length m) × (pos a ≤ℤ at m k)
 
 module _ {m : List ℤ} (f : HeaderThere m) where
-  pub nodes-there : There 0 m 0
-  unfolding nodes
-  nodes-there = (omega (arith, f.there), counted (at m 0) (omega (arith, f.counts.nodes_least)))
+  -- each of the header's counts is there
+  pub count_there : (k : ℕ) → k < mesh_header_columns → There 0 m k
+  unfolding nodes elements soils sides
+  count_there zero l = (omega (arith, f.there), counted (at m 0) (omega (arith, f.counts.nodes_least)))
+  count_there (suc zero) l = (omega (arith, f.there), counted (at m 1) (omega (arith, f.counts.elements_least)))
+  count_there (suc (suc zero)) l = (omega (arith, f.there), counted (at m 2) (omega (arith, f.counts.soils_least)))
+  count_there (suc (suc (suc zero))) l = (omega (arith, f.there), f.counts.edges_least)
+  count_there (suc (suc (suc (suc zero)))) l = (omega (arith, f.there), counted (at m 4) (some_sides_lem f.counts))
+  count_there (suc (suc (suc (suc (suc zero))))) l = (omega (arith, f.there), f.counts.jumps_least)
+  count_there (suc (suc (suc (suc (suc (suc k)))))) l = absurd (omega arith)
 
-  pub elements-there : There 0 m 1
-  unfolding elements
-  elements-there = (omega (arith, f.there), counted (at m 1) (omega (arith, f.counts.elements_least)))
-
-  pub soils-there : There 0 m 2
-  unfolding soils
-  soils-there = (omega (arith, f.there), counted (at m 2) (omega (arith, f.counts.soils_least)))
-
-  pub edges-there : There 0 m 3
-  edges-there = (omega (arith, f.there), f.counts.edges_least)
-
-  pub sides-there : There 0 m 4
-  unfolding sides
-  sides-there = (omega (arith, f.there), counted (at m 4) (some_sides_lem f.counts))
-
-  pub jumps-there : There 0 m 5
-  jumps-there = (omega (arith, f.there), f.counts.jumps_least)
-
-  -- the sizes that are made of the counts
-  pub sizes_are : {a b c d e g : ℕ} → a ≡ count (at m 0) → b ≡ count (at m 1) → c ≡ count (at m 2) → d ≡ count (at m 3) → e ≡ count (at m 4) → g ≡ count (at m 5) → SizesAre m (record { nodes = a; elements = b; soils = c; edges = d; sides = e; jumps = g; pairs = 0 })
+  -- sizes with these counts
+  pub sizes_are : {s : Sizes} → s.nodes ≡ count (at m 0) → s.elements ≡ count (at m 1) → s.soils ≡ count (at m 2) → s.edges ≡ count (at m 3) → s.sides ≡ count (at m 4) → s.jumps ≡ count (at m 5) → SizesAre m s
   unfolding nodes elements soils edges sides jumps
-  sizes_are ea eb ec ed ee eg = record { counts = f.counts; nodes_are = ea; elements_are = eb; soils_are = ec; edges_are = ed; sides_are = ee; jumps_are = eg; pairs_few = omega arith }
+  sizes_are ea eb ec ed ee eg = record { counts = f.counts; nodes_are = ea; elements_are = eb; soils_are = ec; edges_are = ed; sides_are = ee; jumps_are = eg }
+
+  -- each count is within its limits
+  pub counts_few : (count (at m 0) ≤ most_nodes) × (count (at m 1) ≤ most_elements) × (count (at m 2) ≤ most_soils) × (count (at m 3) ≤ most_edges) × (0 < count (at m 4)) × (count (at m 4) ≤ most_sides) × (count (at m 5) ≤ most_jumps)
+  unfolding nodes elements soils edges sides jumps
+  counts_few =
+      let k = f.counts in
+      let drawn = (listed_polygon (sides m) k.sides_listed).fits in
+      (k.nodes_most, k.elements_most, k.soils_most, k.edges_most, drawn.some_sides, drawn.few_sides, k.jumps_most)
 
 -- the lines of a mesh that are sound begin with a header
 pub header_there : {m : List ℤ} → MeshFacts m → HeaderThere m
 header_there f = record { there = omega (arith, f.size); counts = f.counts }
 
 pub sized : {m : List ℤ} {s : Sizes} → MeshFacts m → SizesAre m s → Sized m s
-sized f k = record { facts = f; nodes_are = k.nodes_are; elements_are = k.elements_are; soils_are = k.soils_are; edges_are = k.edges_are; sides_are = k.sides_are; jumps_are = k.jumps_are; pairs_few = k.pairs_few }
+sized f k = record { facts = f; nodes_are = k.nodes_are; elements_are = k.elements_are; soils_are = k.soils_are; edges_are = k.edges_are; sides_are = k.sides_are; jumps_are = k.jumps_are }
 
 pub as_sizes : {m : List ℤ} {s : Sizes} → Sized m s → SizesAre m s
-as_sizes k = record { counts = k.facts.counts; nodes_are = k.nodes_are; elements_are = k.elements_are; soils_are = k.soils_are; edges_are = k.edges_are; sides_are = k.sides_are; jumps_are = k.jumps_are; pairs_few = k.pairs_few }
-
-pub few_sizes : {m : List ℤ} {s : Sizes} → SizesAre m s → FewThings s
-few_sizes {m} k =
-    let polygon = (listed_polygon (sides m) k.counts.sides_listed).fits in
-    record {
-      few_soils = omega (arith, k.soils_are, k.counts.soils_most);
-      few_nodes = omega (arith, k.nodes_are, k.counts.nodes_most);
-      few_elements = omega (arith, k.elements_are, k.counts.elements_most);
-      few_edges = omega (arith, k.edges_are, k.counts.edges_most);
-      some_side = omega (arith, k.sides_are, polygon.some_sides);
-      few_sides = omega (arith, k.sides_are, polygon.few_sides);
-      few_jumps = omega (arith, k.jumps_are, k.counts.jumps_most);
-      few_pairs = k.pairs_few;
-    }
-
-pub few_things : {m : List ℤ} {s : Sizes} → Sized m s → FewThings s
-few_things k = few_sizes (as_sizes k)
+as_sizes k = record { counts = k.facts.counts; nodes_are = k.nodes_are; elements_are = k.elements_are; soils_are = k.soils_are; edges_are = k.edges_are; sides_are = k.sides_are; jumps_are = k.jumps_are }
 
 -- ---- bounds
 
@@ -159,9 +142,9 @@ module _ {m : List ℤ} {s : Sizes} (k : Sized m s) where
 
   -- ---- what is read there
 
-  pub soil_read : {r : ℤ} {i c : ℕ} → i < soils m → c < soil_columns → r ≡ at m (mesh_header_columns + i * soil_columns + c) → Is r (soil_entry m i c) 10000
+  pub soil_read : {r : ℤ} {i c : ℕ} → i < soils m → c < soil_columns → r ≡ at m (mesh_header_columns + i * soil_columns + c) → Is (to_z w64 (of_z w64 r)) (soil_entry m i c) 10000
   unfolding soil_entry
-  soil_read {i = i} {c = c} l j e = record { same = e ∙ sym (soil-at i c); inside = soil_bound (k.facts.soil i l) c j }
+  soil_read {i = i} {c = c} l j e = Is-read (record { same = e ∙ sym (soil-at i c); inside = soil_bound (k.facts.soil i l) c j }) (omega arith)
 
   pub x_read : {r : ℤ} {v from : ℕ} → v < nodes m → from ≡ nodes_from s → r ≡ at m (from + v * node_columns + 0) → Is r (x m v) 1000
   unfolding x
@@ -171,9 +154,9 @@ module _ {m : List ℤ} {s : Sizes} (k : Sized m s) where
   unfolding y
   y_read {v = v} l b e = record { same = e ∙ sym (node_at b v 1); inside = bounded 1000 (record { le = tt }) (record { le = tt }) (k.facts.node v l).y_range }
 
-  pub edge_read : {r : ℤ} {g c from : ℕ} → g < edges m → 2 ≤ c → c < edge_columns → from ≡ edges_from s → r ≡ at m (from + g * edge_columns + c) → Is r (edge_entry m g c) 10000
+  pub edge_read : {r : ℤ} {g c from : ℕ} → g < edges m → 2 ≤ c → c < edge_columns → from ≡ edges_from s → r ≡ at m (from + g * edge_columns + c) → Is (to_z w64 (of_z w64 r)) (edge_entry m g c) 10000
   unfolding edge_entry
-  edge_read {g = g} {c = c} l i j b e = record { same = e ∙ sym (edge_at b g c); inside = edge_bound (k.facts.edge g l) c i j }
+  edge_read {g = g} {c = c} l i j b e = Is-read (record { same = e ∙ sym (edge_at b g c); inside = edge_bound (k.facts.edge g l) c i j }) (omega arith)
 
   pub element_there : {e c from : ℕ} → e < elements m → c < element_columns → from ≡ elements_from s → There 1 m (from + e * element_columns + c)
   element_there {e} {c} l i b = (omega (arith, k), subst (λ (z : ℤ). pos 1 ≤ℤ z) (element_at b e c) ((k.facts.element e l).from_one c i))

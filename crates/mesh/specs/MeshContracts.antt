@@ -1,10 +1,9 @@
--- What contracts say of the counts of a mesh and of what is read of it: the sizes of its header, where its groups
--- begin, a node that is there, its node-and-soil pairs.
-use Rattle.std.specs.Prelude.{◌≡◌, List, ℕ, ◌+◌, ◌*◌, ◌-◌, ◌≤◌, ◌<◌, ℤ, length, get_or}
+-- What contracts say of the counts of a mesh and of what is read of it: the sizes of its header, that they are few,
+-- where its groups begin, a node that is there.
+use Rattle.std.specs.Prelude.{◌≡◌, List, ℕ, ◌+◌, ◌*◌, ◌-◌, ◌≤◌, ◌<◌, ℤ, length}
 use Rattle.mesh.specs.declared.sizes.Sizes.{Sizes}
 use Rattle.scope.specs.Layout.{count}
-use Rattle.scope.specs.Mesh.{most_nodes, most_elements, most_soils, most_edges, most_sides, most_jumps, most_pairs, mesh_header_columns, soil_columns, node_columns, element_columns, edge_columns, nodes, elements, soils, edges, sides, jumps, jump_entry}
-use Rattle.scope.specs.Rows.{pair_count, pair_at}
+use Rattle.scope.specs.Mesh.{most_nodes, most_elements, most_soils, most_edges, most_sides, most_jumps, mesh_header_columns, soil_columns, node_columns, element_columns, edge_columns, nodes, elements, soils, edges, sides, jumps, jump_entry}
 use Rattle.scope.specs.NumberRanges.{MeshFacts, Counts}
 
 -- ---- sizes: the counts of a mesh whose lines have passed, and where its groups begin
@@ -17,7 +16,6 @@ pub record Sized (m : List ℤ) (s : Sizes) : Type 0 where
   pub edges_are : s.edges ≡ edges m
   pub sides_are : s.sides ≡ sides m
   pub jumps_are : s.jumps ≡ jumps m
-  pub pairs_few : s.pairs ≤ most_pairs
 
 -- the header of a mesh is there, and its counts are within their limits
 pub record HeaderThere (m : List ℤ) : Type 0 where
@@ -33,10 +31,10 @@ pub record SizesAre (m : List ℤ) (s : Sizes) : Type 0 where
   pub edges_are : s.edges ≡ edges m
   pub sides_are : s.sides ≡ sides m
   pub jumps_are : s.jumps ≡ jumps m
-  pub pairs_few : s.pairs ≤ most_pairs
 
--- counts so small that no place of a number leaves 64 bits
-pub record FewThings (s : Sizes) : Type 0 where
+-- counts so small that no place of a number leaves 64 bits: what the ghost fields of `Sizes` say, so that it is true of
+-- every value of the type (law `few_sizes`)
+pub record FewSizes (s : Sizes) : Type 0 where
   pub few_soils : s.soils ≤ most_soils
   pub few_nodes : s.nodes ≤ most_nodes
   pub few_elements : s.elements ≤ most_elements
@@ -44,7 +42,6 @@ pub record FewThings (s : Sizes) : Type 0 where
   pub some_side : 0 < s.sides
   pub few_sides : s.sides ≤ most_sides
   pub few_jumps : s.jumps ≤ most_jumps
-  pub few_pairs : s.pairs ≤ most_pairs
 
 -- the place of the first number of the nodes, of the elements, of the edges and of the jumps
 abbrev pub nodes_from : Sizes → ℕ
@@ -68,27 +65,3 @@ pub record NodeAt (r : ℕ) (m : List ℤ) (v : ℕ) : Type 0 where
   pub same : r ≡ v
   pub there : r < nodes m
   pub few : nodes m ≤ most_nodes
-
--- ---- pairs (document 02, N2)
-
-abbrev pub paired : Sizes → ℕ → Sizes
-paired s k = record {
-  nodes = s.nodes;
-  elements = s.elements;
-  soils = s.soils;
-  edges = s.edges;
-  sides = s.sides;
-  jumps = s.jumps;
-  pairs = k;
-}
-
--- the sizes of a mesh with its node-and-soil pairs counted: what the lines of a claim go by
-pub record Counted (m : List ℤ) (s : Sizes) : Type 0 where
-  pub sizes : SizesAre m s
-  pub pairs_are : s.pairs ≡ pair_count m
-
--- the pairs as bytes, two for each: the node of pair a stands at 2·a, its soil after it
-pub record PairTable (m : List ℤ) (t : List ℕ) : Type 0 where
-  pub size : length t ≡ 2 * most_pairs
-  pub node : (a : ℕ) → a < pair_count m → get_or t (2 * a) 0 ≡ (pair_at m a).at
-  pub soil : (a : ℕ) → a < pair_count m → get_or t (2 * a + 1) 0 ≡ (pair_at m a).soil
