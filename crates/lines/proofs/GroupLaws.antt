@@ -16,9 +16,10 @@ use lib.Seq.{drop-drop}
 use borrow.Author.Tests.{le-leb, lt-leb}
 use Rattle.scope.specs.declared.Place.{Place}
 use Rattle.scope.specs.declared.Place.TheVariants.{Line}
-use Rattle.scope.specs.declared.Outcome.{Outcome}
-use Rattle.scope.specs.declared.Outcome.TheVariants.{Passed, Refused}
+use Rattle.scope.specs.Cases.Outcome.{Outcome}
+use Rattle.scope.specs.Cases.Outcome.{Passed, Refused}
 use Rattle.mesh.specs.declared.sizes.Sizes.{Sizes}
+use Rattle.lines.specs.declared.layout.TheConstants.{MESH_FILE, CLAIM_FILE}
 use Rattle.lines.specs.declared.layout.Rule.{Rule}
 use Rattle.lines.specs.declared.layout.Rule.TheVariants.{Soil, Element, Tabled, Edge, Jump, Layer}
 use Rattle.scope.specs.Checks.{demand, ◌then◌, lowest}
@@ -32,9 +33,11 @@ use Rattle.scope.specs.Layers.{layer_columns}
 use Rattle.scope.specs.Phases.{check_steps, check_phase, check_phases}
 use Rattle.scope.specs.Refusals.{line_steps}
 use Rattle.scope.specs.Table.{layer_lines, table_lines, table_layout, table_line_phases}
-use Rattle.mesh.specs.MeshContracts.{SizesAre, Counted, HeaderThere}
+use Rattle.mesh.specs.declared.pairs.ClaimSizes.{ClaimSizes}
+use Rattle.mesh.specs.MeshContracts.{SizesAre, HeaderThere}
+use Rattle.mesh.specs.ClaimContracts.{Counted}
 use Rattle.lines.specs.Table.{ruled_lines, mesh_body, claim_body}
-use Rattle.lines.specs.LineContracts.{line_step, group_check, groups_check, numbered, NumberedFrom}
+use Rattle.lines.specs.LineContracts.{line_step, group_check, groups_check, file_numbers}
 use Rattle.scope.proofs.Checks.{then_assoc, lowest_all, all_lowest, first_refused, below_suc, lowest_add, lowest_cong}
 use Rattle.scope.proofs.Lines.{line_here, line_after}
 use Rattle.scope.proofs.NumberRanges.{header_counts as sound_header}
@@ -51,8 +54,8 @@ module _ (rule : Rule) (z : Sizes) (f : Layout) (s : List ℤ) (line : ℕ) wher
   unfolding ruled_lines group_check line_check soil_lines element_lines edge_lines jump_lines layer_lines
   ruled_group n = of rule
     where
-      of : (rule : Rule) →
-          lowest (line_step f (ruled_lines rule z 0) s line) n ≡ group_check f (ruled_lines rule z n) s line
+      of : (rule : Rule) → lowest (line_step f (ruled_lines rule z 0) s line) n
+          ≡ group_check f (ruled_lines rule z n) s line
       of Soil = refl
       of Element = refl
       of Tabled = refl
@@ -69,13 +72,13 @@ module _ (rule : Rule) (z : Sizes) (f : Layout) (s : List ℤ) (line : ℕ) wher
         by i (inl l) = lowest_all ruled_step k h i l
         by i (inr q) = ap ruled_step q ∙ sym e ∙ d
 
-    pub ruled_stops : (n : ℕ) → k < n → {c : ℕ} {p : Place} → o ≡ Refused c p →
-        o ≡ group_check f (ruled_lines rule z n) s line
+    pub ruled_stops : (n : ℕ) → k < n → {c : ℕ} {p : Place} → o ≡ Refused c p
+        → o ≡ group_check f (ruled_lines rule z n) s line
     ruled_stops n l {c} {p} d = d ∙ sym (first_refused ruled_step n c p k (l, lowest_all ruled_step k h, sym e ∙ d))
         ∙ ruled_group n
 
-  pub ruled_ends : (k n : ℕ) → lowest ruled_step k ≡ Passed → k ≡ n →
-      Passed ≡ group_check f (ruled_lines rule z n) s line
+  pub ruled_ends : (k n : ℕ) → lowest ruled_step k ≡ Passed → k ≡ n
+      → Passed ≡ group_check f (ruled_lines rule z n) s line
   ruled_ends k n h e = sym (ap (lowest ruled_step) (sym e) ∙ h) ∙ ruled_group n
 
 -- ---- a file by its groups
@@ -94,17 +97,18 @@ none_left from ns = by (dec_lt from (length ns))
         ∙ sym (le-leb (length (drop from ns)) 0 (omega (arith, length-drop from ns)))
 
 -- a group's lines are the first of the file, and the other groups' lines come after them
-first_group : (f : Layout) (g : Group) (gs : List Group) (ns : List ℤ) (from line : ℕ) →
-    lowest (λ k. placed_check f ns (line + k) (line_of from (g ∷ gs) k)) g.lines ≡ group_check f g (drop from ns) line
+first_group : (f : Layout) (g : Group) (gs : List Group) (ns : List ℤ) (from line : ℕ)
+    → lowest (λ k. placed_check f ns (line + k) (line_of from (g ∷ gs) k)) g.lines ≡ group_check f g (drop from ns) line
 unfolding group_check line_numbers
 first_group f g gs ns from line =
-    lowest_cong (λ k. placed_check f ns (line + k) (line_of from (g ∷ gs) k)) (line_step f g (drop from ns) line)
-    g.lines
-    (λ k h. ap (placed_check f ns (line + k)) (line_here g gs from k h) ∙ ap
-    (λ (l : List ℤ). line_check f g (take (width g) l) (Line (line + k))) (sym (drop-drop (k * width g) from ns)))
+    lowest_cong (λ k. placed_check f ns (line + k) (line_of from (g ∷ gs) k))
+    (line_step f g (drop from ns) line) g.lines
+    (λ k h. ap (placed_check f ns (line + k)) (line_here g gs from k h)
+    ∙ ap (λ (l : List ℤ). line_check f g (take (width g) l) (Line (line + k)))
+    (sym (drop-drop (k * width g) from ns)))
 
-later_groups : (f : Layout) (g : Group) (gs : List Group) (ns : List ℤ) (from line : ℕ) →
-    lowest (λ k. placed_check f ns (line + (g.lines + k)) (line_of from (g ∷ gs) (g.lines + k))) (line_count gs)
+later_groups : (f : Layout) (g : Group) (gs : List Group) (ns : List ℤ) (from line : ℕ)
+    → lowest (λ k. placed_check f ns (line + (g.lines + k)) (line_of from (g ∷ gs) (g.lines + k))) (line_count gs)
     ≡ lowest (λ k. placed_check f ns (line + g.lines + k) (line_of (from + g.lines * width g) gs k)) (line_count gs)
 later_groups f g gs ns from line = lowest_cong _ _ (line_count gs)
     (λ k h. ap₂ (placed_check f ns) (sym (add_assoc line g.lines k)) (after k))
@@ -114,10 +118,10 @@ later_groups f g gs ns from line = lowest_cong _ _ (line_count gs)
         ∙ ap (line_of (from + g.lines * width g) gs) (omega arith)
 
 -- the groups from number `from` on, whose first line is line `line` of the file
-by_groups : (f : Layout) (gs : List Group) (ns : List ℤ) (from line : ℕ) →
-    lowest (λ k. placed_check f ns (line + k) (line_of from gs k)) (line_count gs) then demand
-    (leb (length ns) (from + number_count gs)) f.form_number (Line (line + line_count gs)) ≡ groups_check f gs
-    (drop from ns) line
+by_groups : (f : Layout) (gs : List Group) (ns : List ℤ) (from line : ℕ)
+    → lowest (λ k. placed_check f ns (line + k) (line_of from gs k)) (line_count gs)
+    then demand (leb (length ns) (from + number_count gs)) f.form_number (Line (line + line_count gs))
+    ≡ groups_check f gs (drop from ns) line
 unfolding line_count number_count groups_check lowest
 by_groups f [] ns from line = ap₂ (λ (b : Bool) (k : ℕ). demand b f.form_number (Line k)) (none_left from ns)
     (add-zero line)
@@ -168,8 +172,8 @@ module _ {all : Outcome} {f : Layout} {g : Group} {gs : List Group} {s : List �
   pass_on d q = record { same = h.same ∙ rw (sym e ∙ d, q) }
 
   -- r is what the check of the groups after it says
-  pub go_on : o ≡ Passed → {t : List ℤ} → t ≡ drop (g.lines * width g) s → (hs : List Group) → hs ≡ gs → {r : Outcome} →
-      r ≡ groups_check f hs t (line + g.lines) → r ≡ all
+  pub go_on : o ≡ Passed → {t : List ℤ} → t ≡ drop (g.lines * width g) s → (hs : List Group) → hs ≡ gs → {r : Outcome}
+      → r ≡ groups_check f hs t (line + g.lines) → r ≡ all
   go_on d {t} q hs i e = e ∙ ap (λ (ks : List Group). groups_check f ks t (line + g.lines)) i ∙ sym (pass_on d q).same
 
   -- the numbers of a group that has passed are there
@@ -195,69 +199,59 @@ few_there false e h = omega arith
 
 -- ---- a file from its header on
 
-pub numbered_from : (form : ℕ) → NumberedFrom (numbered form) form
-unfolding numbered
-numbered_from form = record { form_is = refl; limit_is = refl }
-
 -- the groups that the definitions tell, by the sizes that the code is handed
-pub mesh_body_lem : {m : List ℤ} {s : Sizes} (tabled : Bool) → SizesAre m s →
-    mesh_body s tabled ≡ (layout_with tabled).body m
+pub mesh_body_lem : {m : List ℤ} {s : Sizes} (tabled : Bool) → SizesAre m s
+    → mesh_body s tabled ≡ (layout_with tabled).body m
 unfolding layout_with mesh_body
 mesh_body_lem tabled k = rw (k.nodes_are, k.elements_are, k.soils_are, k.edges_are, k.jumps_are)
 
-pub claim_body_lem : {m : List ℤ} {s : Sizes} → Counted m s → (c : List ℤ) →
-    claim_body s (has_field c) (has_multipliers c) ≡ (claim_layout m).body c
+pub claim_body_lem : {m : List ℤ} {s : ClaimSizes} → Counted m s → (c : List ℤ)
+    → claim_body s.sizes s.pairs (has_field c) (has_multipliers c) ≡ (claim_layout m).body c
 unfolding claim_layout claim_body
-claim_body_lem k c = rw (
-  k.sizes.nodes_are,
-  k.sizes.elements_are,
-  k.sizes.edges_are,
-  k.sizes.jumps_are,
-  k.sizes.sides_are,
-  k.pairs_are,
-)
+claim_body_lem k c =
+    let z = k.sizes in
+    rw (z.nodes_are, z.elements_are, z.edges_are, z.jumps_are, z.sides_are, k.pairs_are)
 
 -- only the numbers of its refusals matter of a file
-pub mesh_starts : (tabled : Bool) (m : List ℤ) →
-    Reached (lines_check (layout_with tabled) m) (numbered 1) (mesh_header ∷ (layout_with tabled).body m) m 1
-unfolding groups groups_check group_check line_check layout_with numbered
+pub mesh_starts : (tabled : Bool) (m : List ℤ)
+    → Reached (lines_check (layout_with tabled) m) (file_numbers MESH_FILE) (mesh_header ∷ (layout_with tabled).body m)
+    m 1
+unfolding groups groups_check group_check line_check layout_with file_numbers
 mesh_starts tabled m = record { same = lines_by_groups (layout_with tabled) m }
 
-pub mesh_header_group : (m : List ℤ) → line_at mesh_layout m 0 ≡ group_check (numbered 1) mesh_header m 1
-unfolding group_check lowest line_at line_of line_check groups line_numbers mesh_layout mesh_header numbered
+pub mesh_header_group : (m : List ℤ) → line_at mesh_layout m 0 ≡ group_check (file_numbers MESH_FILE) mesh_header m 1
+unfolding group_check lowest line_at line_of line_check groups line_numbers mesh_layout mesh_header file_numbers
 mesh_header_group m = refl
 
-pub claim_starts : (m c : List ℤ) →
-    Reached (lines_check (claim_layout m) c) (numbered 11) (claim_header ∷ (claim_layout m).body c) c 1
-unfolding groups groups_check group_check line_check claim_layout numbered
+pub claim_starts : (m c : List ℤ)
+    → Reached (lines_check (claim_layout m) c) (file_numbers CLAIM_FILE) (claim_header ∷ (claim_layout m).body c) c 1
+unfolding groups groups_check group_check line_check claim_layout file_numbers
 claim_starts m c = record { same = lines_by_groups (claim_layout m) c }
 
-pub claim_header_group : (c : List ℤ) →
-    line_check (claim_layout []) claim_header (take claim_header_columns c) (Line 1) ≡ group_check (numbered 11)
-    claim_header c 1
-unfolding group_check lowest line_check claim_header claim_layout numbered
+pub claim_header_group : (c : List ℤ)
+    → line_check (claim_layout []) claim_header (take claim_header_columns c) (Line 1)
+    ≡ group_check (file_numbers CLAIM_FILE) claim_header c 1
+unfolding group_check lowest line_check claim_header claim_layout file_numbers
 claim_header_group c = refl
 
 -- ---- a table
 
 -- line k of a table stands in its one group
-layer_line_lem : (t m : List ℤ) (k : ℕ) → k < table_lines t →
-    line_of 0 (groups (table_layout m) t) k ≡ record {
-      group = layer_lines (table_lines t) (soils m);
-      first =
-          0 + 0 * layer_columns + (k - 0) * layer_columns;
-    }
+layer_line_lem : (t m : List ℤ) (k : ℕ) → k < table_lines t
+    → line_of 0 (groups (table_layout m) t) k
+    ≡ record { group = layer_lines (table_lines t) (soils m); first = 0 + 0 * layer_columns + (k - 0) * layer_columns }
 unfolding table_layout groups layer_lines
 layer_line_lem t m k l =
     line_after (layer_lines 0 (soils m)) (layer_lines (table_lines t) (soils m) ∷ []) 0 k (omega arith)
     ∙ line_here (layer_lines (table_lines t) (soils m)) [] (0 + 0 * layer_columns) (k - 0) (omega arith)
 
 -- the lines of a table are those of the group, and then what is left over
-pub table_check : (t m : List ℤ) (s : Sizes) → soils m ≡ s.soils →
-    check_phases (table_line_phases t m) ≡ group_check (numbered 1) (ruled_lines Layer s (table_lines t)) t 1001
+pub table_check : (t m : List ℤ) (s : Sizes) → soils m ≡ s.soils
+    → check_phases (table_line_phases t m)
+    ≡ group_check (file_numbers MESH_FILE) (ruled_lines Layer s (table_lines t)) t 1001
     then demand (leb (length t) (table_lines t * layer_columns)) 1 (Line (1001 + table_lines t))
 unfolding check_phases check_phase table_layout groups line_count number_count layer_lines lowest group_check
-    ruled_lines line_numbers line_check numbered
+    ruled_lines line_numbers line_check file_numbers
 table_check t m s e =
     let lines : line_count (groups (table_layout m) t) ≡ table_lines t = omega arith in
     let numbers : number_count (groups (table_layout m) t) ≡ table_lines t * layer_columns = omega arith in
@@ -270,19 +264,20 @@ table_check t m s e =
     above : ℕ → Placed → Outcome
     above k l = check_steps (line_steps (table_layout m) l.group (line_numbers t l)) (Line (1000 + suc k))
 
-    step : (k : ℕ) →
-        above k (record {
+    step : (k : ℕ)
+        → above k
+        (record {
           group = layer_lines (table_lines t) (soils m);
-          first =
-              0 + 0 * layer_columns + (k - 0) * layer_columns;
-        }) ≡ line_step (numbered 1)
-        (ruled_lines Layer s (table_lines t)) t 1001 k
+          first = 0 + 0 * layer_columns + (k - 0) * layer_columns;
+        })
+        ≡ line_step (file_numbers MESH_FILE) (ruled_lines Layer s (table_lines t)) t 1001 k
     step k =
         let first : 0 + 0 * layer_columns + (k - 0) * layer_columns ≡ k * layer_columns = omega arith in
         let place : 1000 + suc k ≡ 1001 + k = omega arith in
-        ap₂ (λ (a p : ℕ). check_steps (line_steps (table_layout m) (layer_lines (table_lines t) (soils m))
-        (take layer_columns (drop a t))) (Line p)) first place
-        ∙ ap (λ (ss : ℕ). line_check (numbered 1) (layer_lines (table_lines t) ss)
+        ap₂ (λ (a p : ℕ). check_steps
+        (line_steps (table_layout m) (layer_lines (table_lines t) (soils m)) (take layer_columns (drop a t)))
+        (Line p)) first place
+        ∙ ap (λ (ss : ℕ). line_check (file_numbers MESH_FILE) (layer_lines (table_lines t) ss)
         (take layer_columns (drop (k * layer_columns) t)) (Line (1001 + k))) e
 
 -- ---- what a header says where it has passed
@@ -290,26 +285,19 @@ table_check t m s e =
 pub header_counts : (m : List ℤ) → line_at mesh_layout m 0 ≡ Passed → HeaderThere m
 unfolding mesh_header
 header_counts m e =
-    let p : line_check mesh_layout mesh_header (take mesh_header_columns m) (Line 1) ≡ Passed = mesh_header_line m
-    ∙ e in
+    let p : line_check mesh_layout mesh_header (take mesh_header_columns m) (Line 1) ≡ Passed =
+    mesh_header_line m ∙ e in
+    let whole = passed_whole mesh_layout mesh_header (take mesh_header_columns m) (Line 1) p in
     record {
-      there = omega (
-        arith,
-        length-take mesh_header_columns m,
-        passed_whole mesh_layout mesh_header
-            (take mesh_header_columns m) (Line 1) p,
-      );
+      there = omega (arith, length-take mesh_header_columns m, whole);
       counts = sound_header m ((line_passed mesh_layout m 0).says e);
     }
 
 -- a claim whose header has passed has its four numbers
-pub claim_header_there : (c : List ℤ) →
-    line_check (claim_layout []) claim_header (take claim_header_columns c) (Line 1) ≡ Passed →
-    claim_header_columns ≤ length c
+pub claim_header_there : (c : List ℤ)
+    → line_check (claim_layout []) claim_header (take claim_header_columns c) (Line 1) ≡ Passed
+    → claim_header_columns ≤ length c
 unfolding claim_header
-claim_header_there c e = omega (
-  arith,
-  length-take claim_header_columns c,
-  passed_whole (claim_layout []) claim_header
-      (take claim_header_columns c) (Line 1) e,
-)
+claim_header_there c e =
+    let whole = passed_whole (claim_layout []) claim_header (take claim_header_columns c) (Line 1) e in
+    omega (arith, length-take claim_header_columns c, whole)

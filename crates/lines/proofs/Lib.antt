@@ -1,5 +1,6 @@
 -- Laws of the checks of lines.
 pub mod Loops
+pub mod Asked
 pub mod LineLaws
 pub mod TableLaws
 pub mod GroupLaws

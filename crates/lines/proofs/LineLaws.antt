@@ -1,18 +1,19 @@
--- Laws of the check of one line: numbers within limits by induction on the list of limits, form and limits and rules by
--- the tests that led there.
+-- Laws of the check of one line, one for each return and each turn of a loop: numbers within limits by induction on
+-- the list, form and limits and rules by the tests that led there.
 use mathlib.Core.Path.{◌≡◌, refl, sym, ◌∙◌, ap, ap₂, subst}
-use mathlib.Core.Bool.{Bool, true, false, not, cond, ◌&&◌, ◌||◌, and-true}
+use mathlib.Core.Bool.{Bool, true, false, not, ◌&&◌, ◌||◌, and-true}
 use mathlib.Core.List.{List, [], ◌∷◌, ◌++◌, map}
 use Rattle.std.proofs.Math.Bool.{and_assoc}
 use Prim.Native.Nat.{ℕ, zero, suc, ◌+◌, ◌<◌, ◌≤◌}
+use native.Mathlib.Decide.{dec_lt}
 use native.Mathlib.Omega.{arith}
 use lib.IntN.{ℤ, pos, negsuc, ◌+ℤ◌, ◌*ℤ◌}
 use lib.Signed.{le_z, le_z_yes}
-use lib.Dec.{T}
+use lib.Dec.{T, leb, leb→le}
 use lib.Ieee.Bits.{is_true, is_false}
 use lib.ListN.{length, get_or, take, drop, replicate, length-take}
 use lib.Seq.{drop-cons}
-use borrow.Author.Tests.{eq-eqb, ne_eqb}
+use borrow.Author.Tests.{eq-eqb, ne_eqb, le-leb}
 use mir.Syntax.{w64}
 use mir.Val.{SFits, to_z, of_z}
 use mir.Facts.{to_z-of_z, to_z_pos}
@@ -27,22 +28,21 @@ use Rattle.std.specs.Ordering.{int_eq}
 use Rattle.std.proofs.lemmas.Bool.Decides.{same_from_decides, Decides-int_eq}
 use Rattle.scope.specs.declared.Place.{Place}
 use Rattle.scope.specs.declared.Place.TheVariants.{Line}
-use Rattle.scope.specs.declared.Outcome.TheVariants.{Passed, Refused}
-use Rattle.scope.specs.Checks.{demand}
+use Rattle.scope.specs.Cases.Outcome.{Passed, Refused}
+use Rattle.scope.specs.Checks.{demand, ◌then◌}
+use Rattle.scope.proofs.Checks.{demand_then}
 use Rattle.scope.specs.Columns as C
 use Rattle.scope.specs.Columns.{Limit, between, free, within, is_one_of, all_within, Rule, right_angle, naming, parts}
 use Rattle.scope.specs.Columns.{has_field, has_multipliers, names, all_named, rule_test, at}
 use Rattle.scope.specs.Layout.{Group, Layout, width, groups, line_of, line_numbers}
 use Rattle.scope.specs.Verdict.{line_check, line_at, rules_hold}
-use Rattle.scope.specs.Mesh.{most_nodes, most_sides, most_jumps, mesh_header_columns, soil_columns, element_columns}
-use Rattle.scope.specs.Mesh.{edge_columns, jump_columns, mesh_layout, mesh_header, soil_lines, element_lines}
-use Rattle.scope.specs.Mesh.{edge_lines, jump_lines}
-use Rattle.scope.specs.Layers.{layer_columns}
+use Rattle.scope.specs.Mesh.{most_nodes, most_sides, most_jumps, mesh_header_columns, soil_columns, mesh_layout}
+use Rattle.scope.specs.Mesh.{mesh_header, soil_lines, element_lines, edge_lines, jump_lines}
 use Rattle.scope.specs.Table.{layer_lines}
 use Rattle.mesh.specs.declared.sizes.Sizes.{Sizes}
 use Rattle.lines.specs.declared.layout.Rule.{Rule as Lines}
 use Rattle.lines.specs.declared.layout.Rule.TheVariants.{Soil, Element, Tabled, Edge, Jump, Layer}
-use Rattle.lines.specs.Table.{ruled_lines}
+use Rattle.lines.specs.Table.{ruled_lines, rule_width}
 use Rattle.scope.proofs.Refusals.{line_check_passed}
 use Rattle.scope.specs.Refusals.{rule_number}
 
@@ -70,8 +70,11 @@ Decides-eq_z x y = (λ e. eq_z_yes (subst T (sym e) tt), λ e. is_true (eq_z x y
 pub listed : (z : ℤ) (zs : List ℤ) → list_any (λ y. int_eq y z) zs ≡ is_one_of zs z
 unfolding is_one_of
 listed z [] = refl
-listed z (y ∷ zs) = ap₂ ◌||◌ (same_from_decides (int_eq y z) (eq_z z y) (Decides-int_eq y z)
-    (λ e. sym ((Decides-eq_z z y).0 e), λ e. (Decides-eq_z z y).1 (sym e))) (listed z zs)
+listed z (y ∷ zs) =
+    let back = Decides-eq_z z y in
+    ap₂ ◌||◌
+    (same_from_decides (int_eq y z) (eq_z z y) (Decides-int_eq y z) (λ e. sym (back.0 e), λ e. back.1 (sym e)))
+    (listed z zs)
 
 -- ---- limits
 
@@ -84,8 +87,8 @@ front_within (a ∷ ls) (suc w) [] h = refl
 front_within (a ∷ ls) (suc w) (z ∷ s) h = ap (λ (b : Bool). within a z && b) (front_within ls w s (omega arith))
 
 -- the first limits, and then the others
-pub split_within : (ls ks : List Limit) (s : List ℤ) →
-    all_within (ls ++ ks) s ≡ all_within ls s && all_within ks (drop (length ls) s)
+pub split_within : (ls ks : List Limit) (s : List ℤ)
+    → all_within (ls ++ ks) s ≡ all_within ls s && all_within ks (drop (length ls) s)
 unfolding all_within
 split_within [] ks s = refl
 split_within (a ∷ ls) [] [] = refl
@@ -95,32 +98,41 @@ split_within (a ∷ ls) ks (z ∷ s) = ap (λ (t : Bool). within a z && t) (spli
 
 -- ---- a line: form, limits, rules
 
-pub line_short : (f : Layout) (g : Group) (s : List ℤ) (p : Place) → length s < width g →
-    Refused f.form_number p ≡ line_check f g (take (width g) s) p
+pub line_short : (f : Layout) (g : Group) (s : List ℤ) (p : Place) → length s < width g
+    → Refused f.form_number p ≡ line_check f g (take (width g) s) p
 unfolding line_check
-line_short f g s p h = rw (ne_eqb (length (take (width g) s)) (width g)
-    (λ e. omega (arith, length-take (width g) s, e)))
+line_short f g s p h =
+    rw (ne_eqb (length (take (width g) s)) (width g) (λ e. omega (arith, length-take (width g) s, e)))
 
 -- none of its numbers is missing
-pub line_limits : (f : Layout) (g : Group) (line : List ℤ) (p : Place) {b : Bool} → length line ≡ width g →
-    all_within g.limits line ≡ b → cond b (rules_hold g.rules line p) (Refused f.limit_number p) ≡ line_check f g line p
+pub line_limits : (f : Layout) (g : Group) (line : List ℤ) (p : Place) {b : Bool} → length line ≡ width g
+    → all_within g.limits line ≡ b → demand b f.limit_number p then rules_hold g.rules line p ≡ line_check f g line p
 unfolding line_check rules_hold
-line_limits f g line p whole e = rw (eq-eqb (length line) (width g) whole, e)
+line_limits f g line p {b} whole w = demand_then b f.limit_number p (rules_hold g.rules line p)
+    ∙ rw (eq-eqb (length line) (width g) whole, w)
+
+-- what a test `a <= b` says that fails
+pub past_end : (a b : ℕ) → leb a b ≡ false → b < a
+past_end a b e = by (dec_lt b a)
+  where
+    by : Dec (b < a) → b < a
+    by (yes l) = l
+    by (no l) = absurd (subst T (sym (le-leb a b (omega arith)) ∙ e) tt)
+
+pub not_past_end : (a b : ℕ) → leb a b ≡ true → a ≤ b
+not_past_end a b e = leb→le a b (subst T (sym e) tt)
+
+-- it has as many numbers as columns, or is too short
+pub line_there : (f : Layout) (g : Group) (s : List ℤ) (p : Place) (b : Bool) → (b ≡ false → length s < width g)
+    → demand b f.form_number p then line_check f g (take (width g) s) p ≡ line_check f g (take (width g) s) p
+line_there f g s p true h = refl
+line_there f g s p false h = line_short f g s p (h refl)
 
 -- a line with one rule
-pub one_rule : (r : Rule) (line : List ℤ) (p : Place) {b : Bool} → rule_test r line ≡ b →
-    demand b (rule_number r) p ≡ rules_hold (r ∷ []) line p
+pub one_rule : (r : Rule) (line : List ℤ) (p : Place) {b : Bool} → rule_test r line ≡ b
+    → demand b (rule_number r) p ≡ rules_hold (r ∷ []) line p
 unfolding rules_hold
 one_rule r line p e = rw e
-
--- how many columns the lines with rules of their own have
-abbrev pub rule_width : Lines → ℕ
-rule_width Soil = soil_columns
-rule_width Element = element_columns
-rule_width Tabled = element_columns
-rule_width Edge = edge_columns
-rule_width Jump = jump_columns
-rule_width Layer = layer_columns
 
 -- neither how many things a mesh has nor how many lines there are matters
 pub width_is : (r : Lines) (z : Sizes) (n : ℕ) → width (ruled_lines r z n) ≡ rule_width r
@@ -132,16 +144,12 @@ width_is Edge z n = refl
 width_is Jump z n = refl
 width_is Layer z n = refl
 
-abbrev no_sizes : Sizes
-no_sizes = record { nodes = 0; elements = 0; soils = 0; edges = 0; sides = 0; jumps = 0; pairs = 0 }
-
-pub wide : {rule : Lines} (r : Lines) {n : ℕ} → rule ≡ r → ((z : Sizes) → n ≡ width (ruled_lines rule z 0)) →
-    n ≡ rule_width r
-wide {rule} r e h = h no_sizes ∙ width_is rule no_sizes 0 ∙ ap rule_width e
+pub wide : {rule : Lines} (r : Lines) {n : ℕ} → rule ≡ r → n ≡ rule_width rule → n ≡ rule_width r
+wide r e h = h ∙ ap rule_width e
 
 -- a line that has passed is whole
-pub passed_whole : (f : Layout) (g : Group) (line : List ℤ) (p : Place) → line_check f g line p ≡ Passed →
-    length line ≡ width g
+pub passed_whole : (f : Layout) (g : Group) (line : List ℤ) (p : Place) → line_check f g line p ≡ Passed
+    → length line ≡ width g
 passed_whole f g line p e = ((line_check_passed f g line p).says e).0
 
 -- ---- a soil
@@ -175,16 +183,15 @@ small_angle (p ∷ q ∷ h ∷ s) l e =
 -- the rule of a soil, of the numbers as the machine reads them
 pub angle_read : (s : List ℤ) → SmallAngle s →
     rule_test right_angle s
-    ≡ eq_z (read (get_or s 0 (pos 0)) *ℤ read (get_or s 0 (pos 0)) +ℤ read (get_or s 1 (pos 0)) *ℤ read
-    (get_or s 1 (pos 0)))
+    ≡ eq_z
+    (read (get_or s 0 (pos 0)) *ℤ read (get_or s 0 (pos 0)) +ℤ read (get_or s 1 (pos 0)) *ℤ read (get_or s 1 (pos 0)))
     (read (get_or s 2 (pos 0)) *ℤ read (get_or s 2 (pos 0)))
 unfolding rule_test at
 angle_read s a =
     rw (
       to_z-of_z (Within-SFits a.p (omega arith)),
       to_z-of_z (Within-SFits a.q (omega arith)),
-      to_z-of_z
-          (Within-SFits a.h (omega arith)),
+      to_z-of_z (Within-SFits a.h (omega arith)),
     )
 
 -- ---- numbers that name things
@@ -208,29 +215,29 @@ abbrev pub named : ℕ × ℕ → Limit
 named b = between (pos b.0) (pos b.1)
 
 -- they have limits of their own
-pub names_within : (bs : List (ℕ × ℕ)) (k : ℕ) (s : List ℤ) → k + length bs ≤ length s →
-    rule_test (naming (columns_from k bs)) s ≡ all_within (map named bs) (drop k s)
+pub names_within : (bs : List (ℕ × ℕ)) (k : ℕ) (s : List ℤ) → k + length bs ≤ length s
+    → rule_test (naming (columns_from k bs)) s ≡ all_within (map named bs) (drop k s)
 unfolding rule_test all_named names at all_within within
 names_within [] k s h = refl
 names_within (b ∷ bs) k s h = rw (drop-cons s k (pos 0) (omega arith))
     (ap (λ (t : Bool). within (named b) (get_or s k (pos 0)) && t) (names_within bs (suc k) s (omega arith)))
 
 -- so a line whose one rule is that they are named is refused where these limits fail
-pub names_check : (bs : List (ℕ × ℕ)) (k : ℕ) (s : List ℤ) (p : Place) {b : Bool} → k + length bs ≤ length s →
-    b ≡ all_within (map named bs) (drop k s) → demand b 4 p ≡ rules_hold (naming (columns_from k bs) ∷ []) s p
+pub names_check : (bs : List (ℕ × ℕ)) (k : ℕ) (s : List ℤ) (p : Place) {b : Bool} → k + length bs ≤ length s
+    → b ≡ all_within (map named bs) (drop k s) → demand b 4 p ≡ rules_hold (naming (columns_from k bs) ∷ []) s p
 unfolding rule_number
 names_check bs k s p l e = one_rule (naming (columns_from k bs)) s p (names_within bs k s l ∙ sym e)
 
-pub edge_limits : (ns : ℕ) (s : List ℤ) →
-    all_within (edge_lines 0 ns).limits s ≡ all_within (drop 2 (edge_lines 0 ns).limits) (drop 2 s)
+pub edge_limits : (ns : ℕ) (s : List ℤ) → all_within (edge_lines 0 ns).limits s
+    ≡ all_within (drop 2 (edge_lines 0 ns).limits) (drop 2 s)
 unfolding edge_lines all_within within
 edge_limits ns [] = refl
 edge_limits ns (a ∷ []) = refl
 edge_limits ns (a ∷ b ∷ s) = refl
 
 -- a layer: two limits, and the name of its soil
-pub layer_limits : (ss : ℕ) (s : List ℤ) →
-    all_within (layer_lines 0 ss).limits s ≡ all_within (take 2 (layer_lines 0 ss).limits) (take 2 s)
+pub layer_limits : (ss : ℕ) (s : List ℤ) → all_within (layer_lines 0 ss).limits s
+    ≡ all_within (take 2 (layer_lines 0 ss).limits) (take 2 s)
 unfolding layer_lines all_within within
 layer_limits ss [] = refl
 layer_limits ss (a ∷ []) = refl
@@ -239,8 +246,8 @@ layer_limits ss (a ∷ b ∷ d ∷ s) = refl
 
 -- ---- the header of a mesh
 
-pub mesh_header_line : (m : List ℤ) →
-    line_check mesh_layout mesh_header (take mesh_header_columns m) (Line 1) ≡ line_at mesh_layout m 0
+pub mesh_header_line : (m : List ℤ) → line_check mesh_layout mesh_header (take mesh_header_columns m) (Line 1)
+    ≡ line_at mesh_layout m 0
 unfolding line_at line_of groups line_numbers mesh_layout mesh_header
 mesh_header_line m = refl
 
@@ -263,8 +270,7 @@ mesh_header_limits m l =
     (rw (
       drop-cons m 4 (pos 0) (omega arith),
       drop-cons m 5 (pos 0) (omega arith),
-      and-true
-          (within (between (pos 0) (pos most_jumps)) (get_or m 5 (pos 0))),
+      and-true (within (between (pos 0) (pos most_jumps)) (get_or m 5 (pos 0))),
     ) refl)
 
 pub first_fails : {a d : Bool} (b : Bool) → d ≡ a && b → a ≡ false → d ≡ false
@@ -294,10 +300,10 @@ module _ (f g n l : ℤ) where
   no_field a b d = rw (is_false (eq_z f (pos 1)) (no_eq_z a), b, d)
 
 -- the rule of the numbers as the machine reads them
-pub parts_read : (c : List ℤ) → SFits w64 (get_or c 0 (pos 0)) → SFits w64 (get_or c 1 (pos 0)) →
-    SFits w64 (get_or c 2 (pos 0)) → SFits w64 (get_or c 3 (pos 0)) →
+pub parts_read : (c : List ℤ) → SFits w64 (get_or c 0 (pos 0)) → SFits w64 (get_or c 1 (pos 0))
+    → SFits w64 (get_or c 2 (pos 0)) → SFits w64 (get_or c 3 (pos 0)) →
     rule_test parts c
-    ≡ rule_test parts (read (get_or c 0 (pos 0)) ∷ read (get_or c 1 (pos 0)) ∷ read (get_or c 2 (pos 0)) ∷ read
-    (get_or c 3 (pos 0)) ∷ [])
+    ≡ rule_test parts
+    (read (get_or c 0 (pos 0)) ∷ read (get_or c 1 (pos 0)) ∷ read (get_or c 2 (pos 0)) ∷ read (get_or c 3 (pos 0)) ∷ [])
 unfolding rule_test has_field has_multipliers C.n C.l at
 parts_read c f g h i = rw (to_z-of_z f, to_z-of_z g, to_z-of_z h, to_z-of_z i)

@@ -1,5 +1,5 @@
--- Loops over tests, one law for each turn and each way out, and what the search for the lowest place says of checks: by
--- what it is to be the lowest.
+-- Loops over tests, one law for each turn and each way out, and what the search for the lowest place says of checks:
+-- by what it is to be the lowest.
 use mathlib.Core.Path.{◌≡◌, refl, sym, ◌∙◌, ap, ap₂, subst}
 use mathlib.Core.Logic.{◌⊎◌, inl, inr}
 use mathlib.Core.Bool.{Bool, true, false, not, cond, ◌&&◌, and-false, and-true}
@@ -14,9 +14,9 @@ use native.Mathlib.Omega.{arith}
 use lib.Dec.{T, eqb}
 use borrow.Author.Tests.{eq-eqb}
 use Rattle.scope.specs.declared.Place.{Place}
-use Rattle.scope.specs.declared.Outcome.{Outcome}
-use Rattle.scope.specs.declared.Outcome.TheVariants.{Passed, Refused}
-use Rattle.scope.specs.Checks.{demand, ◌then◌, lowest, all_below}
+use Rattle.scope.specs.Cases.Outcome.{Outcome}
+use Rattle.scope.specs.Cases.Outcome.{Passed, Refused}
+use Rattle.scope.specs.Checks.{demand, lowest, all_below}
 use Rattle.scope.specs.Rows.{first_where}
 use Rattle.scope.proofs.Checks.{below_suc, all_lowest, first_refused}
 use Rattle.scope.proofs.Decides.{First, first_where_lem}
@@ -64,8 +64,8 @@ all_front f (suc n) = ap (λ (b : Bool). b && f (suc n)) (all_front f n)
     ∙ and_assoc (f 0) (all_below (λ k. f (suc k)) n) (f (suc n))
 
 -- the test of each element
-pub all_elements : {A : Type 0} (test : A → Bool) (s : List A) (d : A) →
-    list_all test s ≡ all_below (λ k. test (get_or s k d)) (length s)
+pub all_elements : {A : Type 0} (test : A → Bool) (s : List A) (d : A)
+    → list_all test s ≡ all_below (λ k. test (get_or s k d)) (length s)
 unfolding all_below
 all_elements test [] d = refl
 all_elements test (x ∷ s) d = ap (λ (b : Bool). test x && b) (all_elements test s d)
@@ -96,8 +96,8 @@ module _ (holds : ℕ → Bool) (n : ℕ) {r : ℕ} (e : r ≡ first_failing hol
   fails_there l = failing (holds r) (found.passes l)
 
 -- and such a place is the lowest
-pub first_is : (holds : ℕ → Bool) (n : ℕ) {i : ℕ} → i ≤ n → ((k : ℕ) → k < i → holds k ≡ true) →
-    (i < n → holds i ≡ false) → i ≡ first_failing holds n
+pub first_is : (holds : ℕ → Bool) (n : ℕ) {i : ℕ} → i ≤ n → ((k : ℕ) → k < i → holds k ≡ true)
+    → (i < n → holds i ≡ false) → i ≡ first_failing holds n
 first_is holds n {i} within before here = by (dec_lt (first_failing holds n) i) (dec_lt i (first_failing holds n))
   where
     clash : {b : Bool} → b ≡ true → b ≡ false → ⊥
@@ -115,8 +115,8 @@ module _ (holds : ℕ → Bool) {i : ℕ} (h : first_failing holds i ≡ i) wher
   search_more k = ap (first_failing holds) (add-one i) ∙ by (eqb (first_failing holds i) i) (eq-eqb _ _ h)
       ∙ sym (add-one i)
     where
-      by : (b : Bool) → b ≡ true →
-          elim b [ true ↦ cond (not (holds i)) i (suc i) | false ↦ first_failing holds i ] ≡ suc i
+      by : (b : Bool) → b ≡ true → elim b [ true ↦ cond (not (holds i)) i (suc i) | false ↦ first_failing holds i ]
+          ≡ suc i
       by b e = rw (e, k)
 
   pub search_stops : (n : ℕ) → i < n → holds i ≡ false → i ≡ first_failing holds n
@@ -132,16 +132,12 @@ module _ (holds : ℕ → Bool) (c : ℕ) (p : ℕ → Place) (n : ℕ) where
   abbrev step : ℕ → Outcome
   step k = demand (holds k) c (p k)
 
-  pub phase-at : {r : ℕ} {q : Place} → ((k : ℕ) → k < r → holds k ≡ true) → r < n → holds r ≡ false → q ≡ p r →
-      Refused c q ≡ Phase holds c p n
+  pub phase-at : {r : ℕ} {q : Place} → ((k : ℕ) → k < r → holds k ≡ true) → r < n → holds r ≡ false → q ≡ p r
+      → Refused c q ≡ Phase holds c p n
   phase-at {r} before l fails d =
       ap (Refused c) d
-      ∙ sym (first_refused step n c (p r) r (
-        l,
-        λ k j. ap (λ (t : Bool). demand t c (p k)) (before k j),
-        ap
-            (λ (t : Bool). demand t c (p r)) fails,
-      ))
+      ∙ sym (first_refused step n c (p r) r
+      (l, λ k j. ap (λ (t : Bool). demand t c (p k)) (before k j), ap (λ (t : Bool). demand t c (p r)) fails))
 
   pub phase_all : ((k : ℕ) → k < n → holds k ≡ true) → Passed ≡ Phase holds c p n
   phase_all each = sym (all_lowest step n (λ k l. ap (λ (t : Bool). demand t c (p k)) (each k l)))
@@ -153,11 +149,3 @@ module _ (holds : ℕ → Bool) (c : ℕ) (p : ℕ → Place) (n : ℕ) where
 
     pub phase_done : count ≤ r → Passed ≡ Phase holds c p n
     phase_done l = phase_all (λ k j. holds_before holds count e k (omega arith))
-
--- ---- one row of checks after another: the first refuses, or passes
-
-pub then_refuses : {a : Outcome} (b : Outcome) {c : ℕ} {p : Place} → a ≡ Refused c p → Refused c p ≡ a then b
-then_refuses b e = sym (ap (λ (o : Outcome). o then b) e)
-
-pub then_goes_on : {a b r : Outcome} → a ≡ Passed → r ≡ b → r ≡ a then b
-then_goes_on {b = b} e d = d ∙ sym (ap (λ (o : Outcome). o then b) e)

@@ -1,5 +1,5 @@
--- Going through the groups of a table, one after another: what is still to be said is what the check of the groups from
--- group i on says.
+-- Going through the groups of a table, one after another: what is still to be said is what the check of the groups
+-- from group i on says.
 use mathlib.Core.Path.{◌≡◌, refl, sym, ◌∙◌, ap, ap₂, subst}
 use mathlib.Core.List.{List, ◌∷◌, map}
 use mathlib.Core.Bool.{Bool}
@@ -11,8 +11,8 @@ use lib.Dec.{eqb, leb}
 use borrow.Author.Tests.{ne_eqb, lt-leb}
 use Rattle.scope.specs.declared.Place.{Place}
 use Rattle.scope.specs.declared.Place.TheVariants.{Line}
-use Rattle.scope.specs.declared.Outcome.{Outcome}
-use Rattle.scope.specs.declared.Outcome.TheVariants.{Passed, Refused}
+use Rattle.scope.specs.Cases.Outcome.{Outcome}
+use Rattle.scope.specs.Cases.Outcome.{Passed, Refused}
 use Rattle.scope.specs.Checks.{demand}
 use Rattle.scope.specs.Layout.{Layout, width}
 use Rattle.mesh.specs.declared.sizes.Sizes.{Sizes}
@@ -30,13 +30,13 @@ no_group = record { kind = Ruled Soil; lines = 0; columns = 0 }
 
 -- the groups before group i have passed: `rest` are the numbers from the next one on, which begins in line `line` of
 -- the file
-pub record Through (all : Outcome) (f : Layout) (z : Sizes) (gs : List Code.Group) (rest : List ℤ) (line i : ℕ) : Type
-    0 where
+pub record Through (all : Outcome) (f : Layout) (z : Sizes) (gs : List Code.Group) (rest : List ℤ)
+    (line i : ℕ) : Type 0 where
   pub few_lines : line ≤ 2 + i * most_lines
   pub still : Reached all f (map (meant z) (drop i gs)) rest line
 
-pub through_start : (f : Layout) (z : Sizes) (gs : List Code.Group) (s : List ℤ) →
-    Through (groups_check f (map (meant z) gs) s 2) f z gs s 2 0
+pub through_start : (f : Layout) (z : Sizes) (gs : List Code.Group) (s : List ℤ)
+    → Through (groups_check f (map (meant z) gs) s 2) f z gs s 2 0
 through_start f z gs s = record { few_lines = omega arith; still = reached f (map (meant z) gs) s 2 }
 
 module _ {all : Outcome} {f : Layout} {z : Sizes} {gs : List Code.Group} {rest : List ℤ} {line i : ℕ} (t : Table z gs)
@@ -61,13 +61,13 @@ module _ {all : Outcome} {f : Layout} {z : Sizes} {gs : List Code.Group} {rest :
 
       pub through_there : o ≡ Passed → g.lines * g.columns ≤ length rest
       through_there r =
-          let more = passed_there this e (omega (arith, this_good.wide, this_good.some_column)) r in
+          let more = passed_there this e (omega (arith, this_good.wide, this_good.few.some_column)) r in
           omega (arith, more, numbers)
 
-      pub through_next : o ≡ Passed → {next : List ℤ} → next ≡ drop (g.lines * g.columns) rest →
-          Through all f z gs next (line + g.lines) (i + 1)
+      pub through_next : o ≡ Passed → {next : List ℤ} → next ≡ drop (g.lines * g.columns) rest
+          → Through all f z gs next (line + g.lines) (i + 1)
       through_next r {next} q = record {
-        few_lines = omega (arith, this_good.few_lines, h.few_lines);
+        few_lines = omega (arith, this_good.few.few_lines, h.few_lines);
         still =
             subst (λ (n : ℕ). Reached all f (map (meant z) (drop (i + 1) gs)) next (line + n)) (lines_meant z g)
             (pass_on this e r (q ∙ ap (λ (n : ℕ). drop n rest) (sym numbers)));

@@ -2,14 +2,13 @@
 -- `proofs/GroupLaws.antt`.
 use Rattle.std.specs.Prelude.{◌≡◌, List, [], ◌∷◌, ℕ, ◌+◌, ◌*◌, ◌≤◌, ◌<◌, ℤ, leb, length, take, drop}
 use Rattle.scope.specs.declared.Place.TheVariants.{Line}
-use Rattle.scope.specs.declared.Outcome.{Outcome}
-use Rattle.mesh.specs.declared.sizes.Sizes.{Sizes}
+use Rattle.scope.specs.Cases.Outcome.{Outcome}
 use Rattle.scope.specs.Checks.{demand, ◌then◌, lowest}
 use Rattle.scope.specs.Columns.{Limit, between}
 use Rattle.scope.specs.Layout.{Group, Layout, width}
 use Rattle.scope.specs.Mesh.{mesh_header}
 use Rattle.scope.specs.Verdict.{line_check}
-use Rattle.mesh.specs.MeshContracts.{FewThings}
+use Rattle.lines.specs.declared.layout.FileNumbers.{FileNumbers}
 use Rattle.lines.specs.Table.{group_count, most_lines, most_columns}
 
 -- the limits whose least and whose most numbers are listed
@@ -39,31 +38,17 @@ groups_check f [] s line = demand (leb (length s) 0) f.form_number (Line line)
 groups_check f (g ∷ gs) s line = group_check f g s line then groups_check f gs (drop (g.lines * width g) s)
     (line + g.lines)
 
--- a file of which only the numbers of its refusals are told: `form` for form, and `form` + 1 for limits
-unfoldable pub numbered : ℕ → Layout
-numbered form = record { form_number = form; limit_number = form + 1; header = mesh_header; body = λ ns. [] }
-
--- a file's refusals have these numbers
-pub record NumberedFrom (f : Layout) (form : ℕ) : Type 0 where
-  pub form_is : f.form_number ≡ form
-  pub limit_is : f.limit_number ≡ form + 1
-
--- a refusal for form is 1 in a mesh and 11 in a claim
-abbrev pub most_form : ℕ
-most_form = 11
+-- a file of which only the numbers of its refusals are told
+unfoldable pub file_numbers : FileNumbers → Layout
+file_numbers f = record { form_number = f.form; limit_number = f.limit; header = mesh_header; body = λ ns. [] }
 
 -- the line after the last, where each group has as many lines as it can; a table's lines are numbered from 1,001
 abbrev pub most_line : ℕ
 most_line = 1001 + group_count * most_lines
 
 -- counts and line numbers are small, so that no sum of them overflows
-pub record FewColumns (count columns form line : ℕ) : Type 0 where
+pub record FewColumns (count columns line : ℕ) : Type 0 where
   pub few_lines : count ≤ most_lines
   pub some_column : 0 < columns
   pub few_columns : columns ≤ most_columns
-  pub form_most : form ≤ most_form
   pub line_most : line ≤ most_line
-
-pub record FewLines (s : Sizes) (count columns form line : ℕ) : Type 0 where
-  pub things : FewThings s
-  pub few : FewColumns count columns form line

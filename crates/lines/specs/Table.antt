@@ -1,5 +1,5 @@
 -- The table of a file's groups as the code keeps it, and the groups of the definitions that it stands for.
-use Rattle.std.specs.Prelude.{◌≡◌, Bool, cond, List, [], ◌∷◌, ◌++◌, map, ℕ, ◌≤◌, ◌<◌, length, replicate}
+use Rattle.std.specs.Prelude.{◌≡◌, Bool, cond, List, [], ◌∷◌, ◌++◌, map, ℕ, ◌≤◌, ◌<◌, length, replicate, All}
 use Rattle.mesh.specs.declared.sizes.Sizes.{Sizes}
 use Rattle.lines.specs.declared.layout.Rule.{Rule}
 use Rattle.lines.specs.declared.layout.Rule.TheVariants.{Soil, Element, Tabled as TabledElement, Edge, Jump, Layer}
@@ -8,7 +8,9 @@ use Rattle.lines.specs.declared.layout.Kind.TheVariants.{Ruled, Even}
 use Rattle.lines.specs.declared.layout.Group as Code
 use Rattle.scope.specs.Columns.{Limit, between}
 use Rattle.scope.specs.Layout.{Group, width}
-use Rattle.scope.specs.Mesh.{most_nodes, most_sides, soil_lines, element_lines, edge_lines, jump_lines, mesh_lines}
+use Rattle.scope.specs.Mesh.{most_nodes, most_sides, soil_columns, element_columns, edge_columns, jump_columns}
+use Rattle.scope.specs.Mesh.{soil_lines, element_lines, edge_lines, jump_lines, mesh_lines}
+use Rattle.scope.specs.Layers.{layer_columns}
 use Rattle.scope.specs.Table.{layer_lines}
 use Rattle.scope.specs.Claim.{claim_lines}
 
@@ -36,6 +38,15 @@ ruled_lines Edge s count = edge_lines count s.nodes
 ruled_lines Jump s count = jump_lines count s.nodes
 ruled_lines Layer s count = layer_lines count s.soils
 
+-- how many columns they have
+abbrev pub rule_width : Rule → ℕ
+rule_width Soil = soil_columns
+rule_width Element = element_columns
+rule_width TabledElement = element_columns
+rule_width Edge = edge_columns
+rule_width Jump = jump_columns
+rule_width Layer = layer_columns
+
 unfoldable pub kind_lines : Kind → Sizes → ℕ → ℕ → Group
 kind_lines (Ruled r) s count columns = ruled_lines r s count
 kind_lines (Even lo hi) s count columns = even_lines count columns (between lo hi)
@@ -44,12 +55,16 @@ kind_lines (Even lo hi) s count columns = even_lines count columns (between lo h
 abbrev pub meant : Sizes → Code.Group → Group
 meant s g = kind_lines g.kind s g.lines g.columns
 
--- its columns are those of the definitions, and it is so small that no sum of its counts overflows
-pub record Good (s : Sizes) (g : Code.Group) : Type 0 where
-  pub wide : g.columns ≡ width (meant s g)
+-- so few lines and columns that no sum of a group's counts overflows
+pub record Few (g : Code.Group) : Type 0 where
   pub few_lines : g.lines ≤ most_lines
   pub some_column : 0 < g.columns
   pub few_columns : g.columns ≤ most_columns
+
+-- its columns are those of the definitions, and they and its lines are few
+pub record Good (s : Sizes) (g : Code.Group) : Type 0 where
+  pub wide : g.columns ≡ width (meant s g)
+  pub few : Few g
 
 abbrev pub AllGood : Sizes → List Code.Group → Type 0
 AllGood s [] = Unit {0}
@@ -60,23 +75,23 @@ pub record Table (s : Sizes) (gs : List Code.Group) : Type 0 where
   pub size : length gs ≡ group_count
   pub good : AllGood s gs
 
--- such groups on some mesh
+-- as many groups as a file has, whatever the mesh, each of few lines and few columns
 pub record Known (gs : List Code.Group) : Type 0 where
-  pub sizes : Sizes
-  pub table : Table sizes gs
+  pub size : length gs ≡ group_count
+  pub few : All Few gs
 
 -- the groups gs of the code stand for the groups `body` of the definitions
 pub record Tabled (s : Sizes) (gs : List Code.Group) (body : List Group) : Type 0 where
   pub table : Table s gs
   pub same : map (meant s) gs ≡ body
 
--- ---- the groups after the header, on a mesh with these sizes
+-- ---- the groups after the header, on a mesh with these sizes and so many pairs
 
 unfoldable pub mesh_body : Sizes → Bool → List Group
 mesh_body s tabled = mesh_lines (cond tabled 0 1) s.nodes s.elements s.soils s.edges s.jumps
 
-unfoldable pub claim_body : Sizes → Bool → Bool → List Group
-claim_body s = claim_lines s.nodes s.elements s.edges s.jumps s.pairs s.sides
+unfoldable pub claim_body : Sizes → ℕ → Bool → Bool → List Group
+claim_body s pairs = claim_lines s.nodes s.elements s.edges s.jumps pairs s.sides
 
 -- ---- what is counted over some groups of the code
 

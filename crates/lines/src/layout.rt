@@ -1,18 +1,20 @@
 // The lines of a mesh, of a claim and of a borehole table, as one table: the limits of the headers, then groups of
 // lines, and of each its kind, how many lines it has and how many columns each.
 // Whatever goes through a file's lines goes through this table: the reader, the checks of lines, the bytes of a claim.
-ghost use Rattle.std.specs.Prelude.{◌≡◌, cond, pos, neg_ℤ};
+ghost use Rattle.std.specs.Prelude.{◌≡◌, cond, pos};
 ghost use Rattle.integer.specs.Tests.{eq_z};
 ghost use Rattle.scope.specs.Columns.{at};
 ghost use Rattle.scope.specs.Claim.{if_there};
-ghost use Rattle.mesh.specs.MeshContracts.{FewThings};
-ghost use Rattle.lines.specs.Table.{Tabled, mesh_body, claim_body};
+ghost use Rattle.lines.specs.Table.{Known, Tabled, mesh_body, claim_body};
 
-use mesh::sizes::{
+use mesh::limits::{
     EDGE_COLUMNS, EDGE_ROWS, ELEMENT_COLUMNS, ELEMENT_ROWS, JUMP_COLUMNS, JUMP_ROWS, LAYER_COLUMNS,
     MESH_HEADER, MOST_EDGES, MOST_ELEMENTS, MOST_JUMPS, MOST_NODES, MOST_SIDES, MOST_SOILS,
-    NODE_COLUMNS, SOIL_COLUMNS, Sizes,
+    NODE_COLUMNS, SOIL_COLUMNS,
 };
+use mesh::pairs::ClaimSizes;
+use mesh::sizes::Sizes;
+use scope::Reason;
 
 // The groups of lines after a header: in a mesh soils, nodes, elements, edges, jumps; in a claim stresses, and
 // multipliers of elements, of edges, of jumps and of node-and-soil pairs.
@@ -72,6 +74,26 @@ pub const LAYER_MOST: [i64; LAYER_LIMITS] = [2000, 2000];
 // "its lines are numbered from 1,001" (document 02, N8).
 pub const FIRST_LAYER: usize = 1001;
 
+// The numbers that a file's refusals have: of a line that lacks a number, or of a number that no line takes, and of a
+// number outside its limits.
+#[derive(Clone, Copy)]
+pub struct FileNumbers {
+    pub form: u32,
+    pub limit: u32,
+}
+
+// Those of a mesh and its table: 1 and 2.
+pub const MESH_FILE: FileNumbers = FileNumbers {
+    form: Reason::MeshForm as u32,
+    limit: Reason::MeshLimit as u32,
+};
+
+// Those of a claim: 11 and 12.
+pub const CLAIM_FILE: FileNumbers = FileNumbers {
+    form: Reason::ClaimForm as u32,
+    limit: Reason::ClaimLimit as u32,
+};
+
 // The lines that have rules of their own: a soil its limits and a right angle, an element the names of its nodes and
 // its soil, and so where there is a table but that the soil may be 0, an edge its limits and the names of its nodes, a
 // jump the names of its nodes, a layer its limits and the name of its soil.
@@ -100,6 +122,13 @@ pub struct Group {
     pub columns: usize,
 }
 
+// The groups of lines after a header, in their order: each has few lines, and few columns.
+#[derive(Clone, Copy)]
+pub struct Groups {
+    pub of: [Group; GROUPS],
+    pub ghost known: { Known of },
+}
+
 // Lines with rules of their own.
 fn ruled(rule: Rule, lines: usize, columns: usize) -> Group
     ensures { result ≡ record { kind = Kind.Ruled rule; lines = lines; columns = columns } }
@@ -122,13 +151,6 @@ fn even(lo: i64, hi: i64, lines: usize, columns: usize) -> Group
     }
 }
 
-// Lines whose numbers are from -k to k.
-fn up_to(k: u32, lines: usize, columns: usize) -> Group
-    ensures { result ≡ record { kind = Kind.Even (neg_ℤ (pos k)) (pos k); lines = lines; columns = columns } }
-{
-    even(-i64::from(k), i64::from(k), lines, columns)
-}
-
 // The lines of elements, where there is a table and where there is none.
 fn element_rule(tabled: bool) -> Rule
     ensures { result ≡ cond tabled Rule.Tabled Rule.Element }
@@ -137,17 +159,17 @@ fn element_rule(tabled: bool) -> Rule
 }
 
 // The groups of a mesh with these sizes, that has a table or has none.
-pub fn mesh_groups(s: Sizes, tabled: bool) -> [Group; GROUPS]
-    requires { FewThings s }
-    ensures { Tabled s result (mesh_body s tabled) }
+pub fn mesh_groups(s: Sizes, tabled: bool) -> Groups
+    ensures { Tabled s result.of (mesh_body s tabled) }
 {
-    [
+    let of = [
         ruled(Rule::Soil, s.soils, SOIL_COLUMNS),
         even(0, 1000, s.nodes, NODE_COLUMNS),
         ruled(element_rule(tabled), s.elements, ELEMENT_COLUMNS),
         ruled(Rule::Edge, s.edges, EDGE_COLUMNS),
         ruled(Rule::Jump, s.jumps, JUMP_COLUMNS),
-    ]
+    ];
+    Groups { of }
 }
 
 // Whether number k of a claim's header says that its part is there.
@@ -166,15 +188,35 @@ pub fn if_there(there: bool, k: usize) -> usize
 }
 
 // The groups of a claim on a mesh with these sizes and so many pairs, with a field and with multipliers or without.
-pub fn claim_groups(s: Sizes, field: bool, multipliers: bool) -> [Group; GROUPS]
-    requires { FewThings s }
-    ensures { Tabled s result (claim_body s field multipliers) }
+pub fn claim_groups(s: ClaimSizes, field: bool, multipliers: bool) -> Groups
+    ensures { Tabled s.sizes result.of (claim_body s.sizes s.pairs field multipliers) }
 {
-    [
-        up_to(1000000000, if_there(field, s.nodes), STRESS_COLUMNS),
-        up_to(100000, if_there(multipliers, s.elements), ELEMENT_ROWS),
-        up_to(100000, if_there(multipliers, s.edges), EDGE_ROWS),
-        up_to(100000, if_there(multipliers, s.jumps), JUMP_ROWS),
-        even(0, 10000, if_there(multipliers, s.pairs), s.sides),
-    ]
+    let of = [
+        even(
+            -1000000000,
+            1000000000,
+            if_there(field, s.sizes.nodes),
+            STRESS_COLUMNS,
+        ),
+        even(
+            -100000,
+            100000,
+            if_there(multipliers, s.sizes.elements),
+            ELEMENT_ROWS,
+        ),
+        even(
+            -100000,
+            100000,
+            if_there(multipliers, s.sizes.edges),
+            EDGE_ROWS,
+        ),
+        even(
+            -100000,
+            100000,
+            if_there(multipliers, s.sizes.jumps),
+            JUMP_ROWS,
+        ),
+        even(0, 10000, if_there(multipliers, s.pairs), s.sizes.sides),
+    ];
+    Groups { of }
 }

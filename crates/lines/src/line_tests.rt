@@ -2,20 +2,20 @@
 ghost use Rattle.std.specs.Prelude.{◌≡◌, ◌<◌, ◌≤◌, ◌^◌, true, length, ◌+ℤ◌, ◌*ℤ◌};
 ghost use Rattle.integer.specs.Bounds.{Within};
 ghost use Rattle.integer.specs.Tests.{eq_z};
+ghost use Rattle.scope.specs.Answer.{outcome_of};
+ghost use Rattle.scope.specs.Cases.Outcome.{Refused};
 ghost use Rattle.scope.specs.Columns.{between, within, all_within};
 ghost use Rattle.scope.specs.Layout.{width};
-ghost use Rattle.scope.specs.Checks.{demand};
 ghost use Rattle.scope.specs.Verdict.{line_check, rules_hold};
-ghost use Rattle.mesh.specs.MeshContracts.{FewThings};
-ghost use Rattle.lines.specs.Table.{ruled_lines};
-ghost use Rattle.lines.specs.LineContracts.{ranges, AsMany, numbered, line_step, most_form, FewLines};
+ghost use Rattle.lines.specs.Table.{ruled_lines, rule_width};
+ghost use Rattle.lines.specs.LineContracts.{ranges, AsMany, file_numbers, line_step, FewColumns};
 
 use crate::layout::{
-    EDGE_ENDS, EDGE_LEAST, EDGE_MOST, LAYER_LEAST, LAYER_LIMITS, LAYER_MOST, Rule, SOIL_LEAST,
-    SOIL_MOST,
+    EDGE_ENDS, EDGE_LEAST, EDGE_MOST, FileNumbers, LAYER_LEAST, LAYER_LIMITS, LAYER_MOST, Rule,
+    SOIL_LEAST, SOIL_MOST,
 };
 use mesh::sizes::Sizes;
-use scope::{Outcome, Place};
+use scope::{Outcome, Place, Reason, Refusal, demand};
 
 // z is from lo to hi.
 pub fn is_within(z: i64, lo: i64, hi: i64) -> bool
@@ -35,15 +35,15 @@ pub fn limits_hold(s: &[i64], lo: &[i64], hi: &[i64]) -> bool
         .all(|((z, lo), hi)| is_within(*z, *lo, *hi))
 }
 
-// A refusal at a line.
+// A refusal at a line, with this number.
 pub fn refused(number: u32, line: usize) -> Outcome
-    requires { line < 2 ^ 32 }
-    ensures { result ≡ Outcome.Refused number (Place.Line line) }
+    requires small_line { line < 2 ^ 32 }
+    ensures { outcome_of result ≡ Refused number (Place.Line line) }
 {
-    Outcome::Refused {
+    Err(Refusal {
         number,
         place: Place::Line(line as u32),
-    }
+    })
 }
 
 // p² + q² is h².
@@ -56,64 +56,59 @@ fn right_angle(p: i64, q: i64, h: i64) -> bool
     p * p + q * q == h * h
 }
 
-// A test that is asked of a line.
-pub fn demand(holds: bool, number: u32, line: usize) -> Outcome
-    requires { line < 2 ^ 32 }
-    ensures { result ≡ demand holds number (Place.Line line) }
-{
-    if holds {
-        Outcome::Passed
-    } else {
-        refused(number, line)
-    }
+// The numbers of a line with a rule of its own, none of which is missing.
+#[derive(Clone, Copy)]
+struct RuledLine<'a> {
+    rule: Rule,
+    numbers: &'a [i64],
+    ghost whole: { length numbers.now ≡ rule_width rule },
 }
 
-// The numbers of a line are within the limits of their columns: the names of nodes and of soils have none.
-fn within_limits(rule: Rule, s: &[i64]) -> bool
-    requires whole { (z : Sizes) → length s.now ≡ width (ruled_lines rule z 0) }
-    ensures { (z : Sizes) → result ≡ all_within (ruled_lines rule z 0).limits s.now }
-{
-    match rule {
-        Rule::Soil => limits_hold(s, &SOIL_LEAST, &SOIL_MOST),
-        Rule::Edge => limits_hold(&s[EDGE_ENDS..], &EDGE_LEAST, &EDGE_MOST),
-        Rule::Layer => limits_hold(&s[..LAYER_LIMITS], &LAYER_LEAST, &LAYER_MOST),
-        Rule::Element | Rule::Tabled | Rule::Jump => true,
+impl RuledLine<'_> {
+    // They are within the limits of their columns: the names of nodes and of soils have none.
+    fn within_limits(&self) -> bool
+        ensures { (z : Sizes) → result ≡ all_within (ruled_lines self.now.rule z 0).limits self.now.numbers.now }
+    {
+        let s = self.numbers;
+        match self.rule {
+            Rule::Soil => limits_hold(s, &SOIL_LEAST, &SOIL_MOST),
+            Rule::Edge => limits_hold(&s[EDGE_ENDS..], &EDGE_LEAST, &EDGE_MOST),
+            Rule::Layer => limits_hold(&s[..LAYER_LIMITS], &LAYER_LEAST, &LAYER_MOST),
+            Rule::Element | Rule::Tabled | Rule::Jump => true,
+        }
     }
-}
 
-// The rule of a line whose numbers are within their limits: a soil's right angle, or that what the line names is there.
-fn rule_check(rule: Rule, s: &[i64], sizes: Sizes, line: usize) -> Outcome
-    requires few_things { FewThings sizes }
-    requires small_line { line < 2 ^ 32 }
-    requires whole { (z : Sizes) → length s.now ≡ width (ruled_lines rule z 0) }
-    requires in_limits { all_within (ruled_lines rule sizes 0).limits s.now ≡ true }
-    ensures { result ≡ rules_hold (ruled_lines rule sizes 0).rules s.now (Place.Line line) }
-{
-    let n = sizes.nodes as i64;
-    let soils = sizes.soils as i64;
-    let corners_and_soil = [n, n, n, n, soils];
-    match rule {
-        Rule::Soil => demand(right_angle(s[0], s[1], s[2]), 3, line),
-        Rule::Element => demand(limits_hold(s, &[1, 1, 1, 1, 1], &corners_and_soil), 4, line),
-        Rule::Tabled => demand(limits_hold(s, &[1, 1, 1, 1, 0], &corners_and_soil), 4, line),
-        Rule::Edge => demand(limits_hold(&s[..EDGE_ENDS], &[1, 1], &[n, n]), 4, line),
-        Rule::Jump => demand(limits_hold(s, &[1, 1, 1, 1], &[n, n, n, n]), 4, line),
-        Rule::Layer => demand(limits_hold(&s[LAYER_LIMITS..], &[1], &[soils]), 4, line),
+    // The rule of a line that is within its limits: a soil's right angle, or that what the line names is there.
+    fn rule_check(&self, sizes: Sizes, place: Place) -> Outcome
+        requires in_limits { all_within (ruled_lines self.now.rule sizes 0).limits self.now.numbers.now ≡ true }
+        ensures { outcome_of result ≡ rules_hold (ruled_lines self.now.rule sizes 0).rules self.now.numbers.now place }
+    {
+        let s = self.numbers;
+        let n = sizes.nodes as i64;
+        let soils = sizes.soils as i64;
+        let named = match self.rule {
+            Rule::Soil => {
+                let right = right_angle(s[0], s[1], s[2]);
+                return demand(right, Reason::RightAngle.at(place));
+            }
+            Rule::Element => limits_hold(s, &[1, 1, 1, 1, 1], &[n, n, n, n, soils]),
+            Rule::Tabled => limits_hold(s, &[1, 1, 1, 1, 0], &[n, n, n, n, soils]),
+            Rule::Edge => limits_hold(&s[..EDGE_ENDS], &[1, 1], &[n, n]),
+            Rule::Jump => limits_hold(s, &[1, 1, 1, 1], &[n, n, n, n]),
+            Rule::Layer => limits_hold(&s[LAYER_LIMITS..], &[1], &[soils]),
+        };
+        demand(named, Reason::Name.at(place))
     }
-}
 
-// The numbers of a line, of which none is missing.
-fn line_check(rule: Rule, s: &[i64], sizes: Sizes, form: u32, line: usize) -> Outcome
-    requires few_things { FewThings sizes }
-    requires small_line { line < 2 ^ 32 }
-    requires small_form { form ≤ most_form }
-    requires whole { (z : Sizes) → length s.now ≡ width (ruled_lines rule z 0) }
-    ensures { result ≡ line_check (numbered form) (ruled_lines rule sizes 0) s.now (Place.Line line) }
-{
-    if !within_limits(rule, s) {
-        return refused(form + 1, line);
+    // The limits, and then the rule.
+    fn check(&self, sizes: Sizes, file: FileNumbers, place: Place) -> Outcome
+        ensures { outcome_of result
+            ≡ line_check (file_numbers file) (ruled_lines self.now.rule sizes 0) self.now.numbers.now place }
+    {
+        let number = file.limit;
+        demand(self.within_limits(), Refusal { number, place })?;
+        self.rule_check(sizes, place)
     }
-    rule_check(rule, s, sizes, line)
 }
 
 // Line k of some lines of one kind at the front of a list, the first of them in line `line` of the file.
@@ -122,17 +117,19 @@ pub fn line_at(
     s: &[i64],
     columns: usize,
     sizes: Sizes,
-    form: u32,
+    file: FileNumbers,
     line: usize,
     k: usize,
 ) -> Outcome
-    requires { FewLines sizes k columns form line × (columns ≡ width (ruled_lines rule sizes 0)) }
-    ensures { result ≡ line_step (numbered form) (ruled_lines rule sizes 0) s.now line k }
+    requires few { FewColumns k columns line }
+    requires wide { columns ≡ width (ruled_lines rule sizes 0) }
+    ensures { outcome_of result ≡ line_step (file_numbers file) (ruled_lines rule sizes 0) s.now line k }
 {
+    let place = Place::Line((line + k) as u32);
     let from = k * columns;
     let end = from + columns;
-    if s.len() < end {
-        return refused(form, line + k);
-    }
-    line_check(rule, &s[from..end], sizes, form, line + k)
+    let number = file.form;
+    demand(end <= s.len(), Refusal { number, place })?;
+    let numbers = &s[from..end];
+    RuledLine { rule, numbers }.check(sizes, file, place)
 }

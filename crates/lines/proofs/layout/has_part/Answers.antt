@@ -11,8 +11,8 @@ use Rattle.scope.specs.Columns.{at}
 use Rattle.lines.proofs.LineLaws.{Decides-eq_z}
 use Rattle.lines.proofs.layout.has_part.Goals as goal
 
-found : (s : List ℤ) (k : ℕ) (one : Bor ℤ) → one.now ≡ pos 1 → (o : Option (Bor ℤ)) →
-    MatchOption o (length s ≤ k) (λ x. (k < length s) × HoldsAt (λ y. x.now ≡ y) s k) →
+found : (s : List ℤ) (k : ℕ) (one : Bor ℤ) → one.now ≡ pos 1 → (o : Option (Bor ℤ))
+    → MatchOption o (length s ≤ k) (λ x. (k < length s) × HoldsAt (λ y. x.now ≡ y) s k) →
     option_eq (λ x y. int_eq x.now y.now) o (Some one) ≡ eq_z (at s k) (pos 1)
 unfolding at
 found s k one e None h = sym (ap (λ (z : ℤ). eq_z z (pos 1)) (get_or-eq_default s (pos 0) h))

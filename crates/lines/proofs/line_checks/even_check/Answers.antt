@@ -1,25 +1,29 @@
 -- `even_check` meets its contract: each return by what the numbers of the whole lines say of the lines.
-use mathlib.Core.Path.{◌∙◌}
+use mathlib.Core.Path.{sym, ◌∙◌}
 use native.Mathlib.Omega.{arith}
-use Rattle.lines.specs.LineContracts.{numbered}
-use Rattle.lines.proofs.GroupLaws.{numbered_from}
-use Rattle.lines.proofs.EvenLaws.{none_outside, first_outside, outside_there, even_outside, even_whole}
+use Rattle.lines.specs.LineContracts.{file_numbers}
+use Rattle.lines.proofs.EvenLaws.{first_found, even_outside, even_short, even_passed}
 use Rattle.lines.proofs.line_checks.even_check.Goals as goal
 
-pub returns-then-not-all_within : goal.returns-then-not-all_within
-returns-then-not-all_within c =
-    let whole = c.min-whole in
-    let some = c.if-not-all_within.true in
-    let first = c.first_outside-run.ensures.fact_1 in
-    let r = first_outside c.args.s.now c.args.count c.args.columns whole.result c.ranges.lo c.ranges.hi
-    c.requires.some_column whole.ensures c.all_within.ensures some first in
-    let l = outside_there c.args.s.now c.args.count c.args.columns whole.result c.ranges.lo c.ranges.hi
-    c.requires.some_column whole.ensures c.all_within.ensures some first in
-    c.refused.ensures ∙ even_outside r (numbered _) (numbered_from _) c.args.line l
+pub returns-in-Some : goal.returns-in-Some
+unfolding file_numbers
+returns-in-Some c =
+    let a = c.args in
+    let r = first_found a.s.now a.count a.columns c.min-whole.result c.ranges.lo c.ranges.hi
+    c.requires.few.some_column c.min-whole.ensures c.in-Some.ensures.found in
+    c.refused.ensures ∙ even_outside r (file_numbers a.file) a.line c.in-Some.ensures.in_count
+
+pub returns-then-whole-count : goal.returns-then-whole-count
+unfolding file_numbers
+returns-then-whole-count c =
+    let a = c.args in
+    let r = first_found a.s.now a.count a.columns c.min-whole.result c.ranges.lo c.ranges.hi
+    c.requires.few.some_column c.min-whole.ensures (sym c.in_default.ensures.none) in
+    c.refused-then-whole-count.ensures ∙ even_short r (file_numbers a.file) a.line (omega arith) c.if-whole-count.true
 
 pub returns : goal.returns
 returns c =
-    let whole = c.min-whole in
-    let r = none_outside c.args.s.now c.args.count c.args.columns whole.result c.ranges.lo c.ranges.hi
-    c.requires.some_column whole.ensures c.all_within.ensures c.if-not-all_within.false in
-    c.demand.ensures ∙ even_whole r (numbered _) (numbered_from _) c.args.line (omega arith)
+    let a = c.args in
+    let r = first_found a.s.now a.count a.columns c.min-whole.result c.ranges.lo c.ranges.hi
+    c.requires.few.some_column c.min-whole.ensures (sym c.in_default.ensures.none) in
+    even_passed r (file_numbers a.file) a.line (omega arith) c.if-whole-count.false

@@ -15,21 +15,16 @@ unfolding kind_lines
 ruled_check-requires c =
     let g = c.requires.good in
     let z = c.args.sizes in
-    let columns = ap (λ (k : Kind). width (kind_lines k z c.args.g.lines c.args.g.columns)) c.in-Ruled.is in (
-      record {
-        things = c.requires.few_things;
-        few =
-            record {
-              few_lines = g.few_lines;
-              some_column = g.some_column;
-              few_columns = g.few_columns;
-              form_most =
-                  c.requires.small_form;
-              line_most = c.requires.small_line;
-            };
-      },
-      g.wide ∙ columns ∙ width_is _ z _ ∙ sym (width_is _ z 0),
-    )
+    let columns = ap (λ (k : Kind). width (kind_lines k z c.args.g.lines c.args.g.columns)) c.in-Ruled.is in
+    record {
+      few = record {
+        few_lines = g.few.few_lines;
+        some_column = g.few.some_column;
+        few_columns = g.few.few_columns;
+        line_most = c.requires.small_line;
+      };
+      wide = g.wide ∙ columns ∙ width_is _ z _ ∙ sym (width_is _ z 0);
+    }
 
 pub returns-in-Ruled : goal.returns-in-Ruled
 unfolding kind_lines

@@ -1,37 +1,54 @@
 -- `mesh_header` meets its contract: each return by the law of the check that it stands for.
 use mathlib.Core.Path.{◌≡◌, ◌∙◌, sym}
-use native.Mathlib.Omega.{arith}
-use lib.ListN.{take}
+use mathlib.Core.List.{List}
+use lib.Dec.{leb}
+use lib.IntN.{ℤ}
+use lib.ListN.{length, take}
 use lib.Seq.{length-take-le}
+use Rattle.scope.specs.declared.Place.TheVariants.{Line}
+use Rattle.scope.specs.Checks.{demand, ◌then◌}
 use Rattle.scope.specs.Columns.{all_within}
 use Rattle.scope.specs.Mesh.{mesh_header_columns, mesh_layout, mesh_header}
-use Rattle.scope.specs.Verdict.{rules_hold}
+use Rattle.scope.specs.Verdict.{line_check, line_at, rules_hold}
+use Rattle.scope.proofs.Answered as A
+use Rattle.scope.proofs.Answered.{first_refuses, test_held}
+use Rattle.scope.proofs.Checks.{then_Passed}
 use Rattle.lines.specs.LineContracts.{ranges}
-use Rattle.lines.proofs.LineLaws.{line_short, line_limits, mesh_header_line, mesh_header_limits, last_read, first_fails}
-use Rattle.lines.proofs.LineLaws.{second_decides, so, not_so}
+use Rattle.lines.proofs.LineLaws.{line_there, line_limits, past_end, not_past_end, mesh_header_line}
+use Rattle.lines.proofs.LineLaws.{mesh_header_limits, last_read, first_fails, second_decides, so, not_so}
 use borrow.Author.Rules.{rules}
 use Rattle.lines.proofs.line_checks.mesh_header.Goals.{then-counts, else-counts}
 use Rattle.lines.proofs.line_checks.mesh_header.Goals as goal
 
-pub returns-then-m-lt-MESH_HEADER : goal.returns-then-m-lt-MESH_HEADER
+-- the line is there
+header_there : (m : List ℤ) → demand (leb mesh_header_columns (length m)) 1 (Line 1)
+    then line_check mesh_layout mesh_header (take mesh_header_columns m) (Line 1) ≡ line_at mesh_layout m 0
 unfolding mesh_header mesh_layout
-returns-then-m-lt-MESH_HEADER c =
+header_there m = line_there mesh_layout mesh_header m (Line 1) (leb mesh_header_columns (length m)) (past_end _ _)
+    ∙ mesh_header_line m
+
+pub returns-in_err-demand : goal.returns-in_err-demand
+returns-in_err-demand c =
     let m = c.args.m.now in
-    c.refused.ensures ∙ line_short mesh_layout mesh_header m _ c.if-m-lt-MESH_HEADER.true ∙ mesh_header_line m
+    first_refuses c.from_residual.result c.in_err-demand.field-0.0
+    (line_check mesh_layout mesh_header (take mesh_header_columns m) (Line 1))
+    c.from_residual.ensures.1 (rw c.at.ensures at c.in_err-demand.ensures) (header_there m)
 
 pub returns : goal.returns
 unfolding mesh_header mesh_layout ranges rules_hold
 returns c =
     let m = c.args.m.now in
-    let limits = mesh_header_limits m (omega arith) in
-    let holds : all_within mesh_header.limits (take mesh_header_columns m) ≡ c.if-counts.demand = elim
-    c.if-counts.branch [
+    let there = not_past_end _ _ (test_held _ _ _ c.in_ok-demand.ensures) in
+    let limits = mesh_header_limits m there in
+    let holds : all_within mesh_header.limits (take mesh_header_columns m) ≡ c.if-counts.in_limits =
+    elim c.if-counts.branch [
       | then-counts w ↦ second_decides limits (so c.limits_hold-counts.ensures w.if-counts.true)
-          ∙ last_read (search rules) (search rules) ∙ sym w.sides_and_jumps.ensures ∙ sym w.demand-is
+          ∙ last_read (search rules) (search rules) ∙ sym w.sides_and_jumps-in_limits.ensures ∙ sym w.in_limits-is
       | else-counts w ↦ first_fails _ limits (not_so c.limits_hold-counts.ensures w.if-counts.false)
-          ∙ sym (w.demand-is ∙ w.if-counts.false)
+          ∙ sym (w.in_limits-is ∙ w.if-counts.false)
     ] in
-    c.demand.ensures
-    ∙ line_limits mesh_layout mesh_header (take mesh_header_columns m) _
-    (length-take-le mesh_header_columns m (omega arith)) holds
-    ∙ mesh_header_line m
+    A.second_decides (rw c.at.ensures at c.in_ok-demand.ensures) (header_there m)
+    ((rw c.at-2.ensures at c.demand-2.ensures)
+    ∙ sym (then_Passed (demand c.if-counts.in_limits 2 (Line 1)))
+    ∙ line_limits mesh_layout mesh_header (take mesh_header_columns m) (Line 1)
+    (length-take-le mesh_header_columns m there) holds)

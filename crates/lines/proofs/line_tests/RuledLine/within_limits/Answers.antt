@@ -1,4 +1,4 @@
--- `within_limits` meets its contract: of each kind of line, the columns that have limits.
+-- `RuledLine::within_limits` meets its contract: of each kind of line, the columns that have limits.
 use mathlib.Core.Path.{◌≡◌, ◌∙◌, sym}
 use mathlib.Core.Bool.{true}
 use mathlib.Core.List.{List}
@@ -16,35 +16,33 @@ use Rattle.lines.specs.declared.layout.Rule.TheVariants.{Soil, Element, Tabled, 
 use Rattle.lines.specs.LineContracts.{ranges}
 use Rattle.lines.specs.Table.{ruled_lines}
 use Rattle.lines.proofs.LineLaws.{all_free, edge_limits, layer_limits, wide}
-use Rattle.lines.proofs.line_tests.within_limits.Goals as goal
+use Rattle.lines.proofs.line_tests.RuledLine.within_limits.Goals as goal
 
 pub limits_hold-requires : goal.limits_hold-requires
-limits_hold-requires c = let w = wide Soil c.in-Soil.is c.requires.whole in record { least = sym w; most = sym w }
+limits_hold-requires c = let w = wide Soil c.in-Soil.is c.args.self.now.whole in record { least = sym w; most = sym w }
 
 pub slice_bounds-limits_hold-count : goal.slice_bounds-limits_hold-count
-slice_bounds-limits_hold-count c = let w = wide Edge c.in-Edge.is c.requires.whole in omega arith
+slice_bounds-limits_hold-count c = let w = wide Edge c.in-Edge.is c.args.self.now.whole in omega arith
 
 pub slice_bounds-limits_hold-start : goal.slice_bounds-limits_hold-start
-slice_bounds-limits_hold-start c = let w = wide Edge c.in-Edge.is c.requires.whole in omega arith
+slice_bounds-limits_hold-start c = let w = wide Edge c.in-Edge.is c.args.self.now.whole in omega arith
 
 pub limits_hold-requires-in-Edge : goal.limits_hold-requires-in-Edge
 limits_hold-requires-in-Edge c =
-    let w = wide Edge c.in-Edge.is c.requires.whole in
-    rw (take_rest c.args.s.now 2) (record {
-      least = omega (arith, length-drop 2 c.args.s.now);
-      most = omega
-          (arith, length-drop 2 c.args.s.now);
-    })
+    let w = wide Edge c.in-Edge.is c.args.self.now.whole in
+    let s = c.args.self.now.numbers.now in
+    rw (take_rest s 2) (record { least = omega (arith, length-drop 2 s); most = omega (arith, length-drop 2 s) })
 
 pub slice_bounds-limits_hold-end-in-Layer : goal.slice_bounds-limits_hold-end-in-Layer
 slice_bounds-limits_hold-end-in-Layer c =
-    let w = wide Layer c.in-Layer.is c.requires.whole in
-    omega (arith, length-take 2 c.args.s.now)
+    let w = wide Layer c.in-Layer.is c.args.self.now.whole in
+    omega (arith, length-take 2 c.args.self.now.numbers.now)
 
 pub limits_hold-requires-in-Layer : goal.limits_hold-requires-in-Layer
 limits_hold-requires-in-Layer c =
-    let w = wide Layer c.in-Layer.is c.requires.whole in
-    record { least = omega (arith, length-take 2 c.args.s.now); most = omega (arith, length-take 2 c.args.s.now) }
+    let w = wide Layer c.in-Layer.is c.args.self.now.whole in
+    let front = length-take 2 c.args.self.now.numbers.now in
+    record { least = omega (arith, front); most = omega (arith, front) }
 
 pub returns-in-Soil : goal.returns-in-Soil
 unfolding ruled_lines soil_lines up_to ranges
@@ -53,19 +51,20 @@ returns-in-Soil c z = rw c.in-Soil.is c.limits_hold.ensures
 pub returns-in-Edge : goal.returns-in-Edge
 unfolding ruled_lines edge_lines up_to ranges
 returns-in-Edge c z =
-    let s = c.args.s.now in
+    let s = c.args.self.now.numbers.now in
     rw c.in-Edge.is (c.limits_hold-in-Edge.ensures ∙ rw (take_rest s 2) (sym (edge_limits z.nodes s)))
 
 pub returns-in-Layer : goal.returns-in-Layer
 unfolding ruled_lines layer_lines up_to ranges
-returns-in-Layer c z = rw c.in-Layer.is (c.limits_hold-in-Layer.ensures ∙ sym (layer_limits z.soils c.args.s.now))
+returns-in-Layer c z = rw c.in-Layer.is (c.limits_hold-in-Layer.ensures
+    ∙ sym (layer_limits z.soils c.args.self.now.numbers.now))
 
-no_limits : {rule : Rule} (z : Sizes) (s : List ℤ) → (rule ≡ Element) ⊎ ((rule ≡ Tabled) ⊎ (rule ≡ Jump)) →
-    true ≡ all_within (ruled_lines rule z 0).limits s
+no_limits : {rule : Rule} (z : Sizes) (s : List ℤ) → (rule ≡ Element) ⊎ ((rule ≡ Tabled) ⊎ (rule ≡ Jump))
+    → true ≡ all_within (ruled_lines rule z 0).limits s
 unfolding ruled_lines element_lines jump_lines
 no_limits z s (inl e) = rw e (sym (all_free element_columns s))
 no_limits z s (inr (inl e)) = rw e (sym (all_free element_columns s))
 no_limits z s (inr (inr e)) = rw e (sym (all_free jump_columns s))
 
 pub returns-in-Element : goal.returns-in-Element
-returns-in-Element c z = no_limits z c.args.s.now c.in-Element.is
+returns-in-Element c z = no_limits z c.args.self.now.numbers.now c.in-Element.is
