@@ -23,14 +23,14 @@ use Rattle.scope.proofs.Filled.{given-length, given_cong, given_kept, given_set,
 use Rattle.scope.proofs.Filled.{height_kept, place_kept, nodes_kept, elements_kept, soils_kept, edges_kept}
 use Rattle.scope.proofs.Filled.{sides_kept, jumps_kept}
 use Rattle.mesh.specs.declared.sizes.Sizes.{Sizes}
-use Rattle.mesh.specs.MeshContracts.{Sized, SizesAre, FewThings}
-use Rattle.mesh.proofs.Places.{as_sizes, few_things}
+use Rattle.mesh.specs.MeshContracts.{Sized, SizesAre}
+use Rattle.mesh.proofs.Places.{as_sizes}
 use Rattle.layers.specs.LayerContracts.{soils_to, Fillable}
 
 abbrev one : ℕ → ℤ
 one e = pos 1
 
-module _ {t : List ℤ} {n : ℕ} {m : List ℤ} {s : Sizes} (f : Fillable t n m s) where
+module _ {t m : List ℤ} {s : Sizes} (f : Fillable t m s) where
   facts : MeshFacts (given one m)
   unfolding with_soils
   facts = f.sized.facts
@@ -62,15 +62,14 @@ module _ {t : List ℤ} {n : ℕ} {m : List ℤ} {s : Sizes} (f : Fillable t n m
         edges_are = k.edges_are ∙ edges_kept one m ∙ sym (edges_kept (soils_to t m e) m);
         sides_are = k.sides_are ∙ sides_kept one m ∙ sym (sides_kept (soils_to t m e) m);
         jumps_are = k.jumps_are ∙ jumps_kept one m ∙ sym (jumps_kept (soils_to t m e) m);
-        pairs_few = k.pairs_few;
       }
 
   pub elements_are_lem : s.elements ≡ elements m
   unfolding with_soils
   elements_are_lem = f.sized.elements_are ∙ elements_kept one m
 
-  pub few_elements_lem : FewThings s × (elements m ≤ most_elements)
-  few_elements_lem = (few_things f.sized, omega (arith, facts.counts.elements_most, elements_kept one m))
+  pub few_elements_lem : elements m ≤ most_elements
+  few_elements_lem = omega (arith, facts.counts.elements_most, elements_kept one m)
 
   -- where the soil of element e stands
   module _ (e : ℕ) (l : e < elements m) where
@@ -115,26 +114,22 @@ module _ {t : List ℤ} {n : ℕ} {m : List ℤ} {s : Sizes} (f : Fillable t n m
         given_kept (soils_to t m e) (soils_to t m (e + 1)) m e l place_there same_but
         (subst (λ (k : ℕ). ¬ (at m k ≡ pos 0)) place other)
 
-    -- the layer that was found
-    module _ {q i : ℕ} (eq : q ≡ height_of (given (soils_to t m e) m) e) (ei : i ≡ first_where (has t q) n) where
+    -- the layer that is searched
+    module _ {q : ℕ} (eq : q ≡ height_of (given (soils_to t m e) m) e) where
       height : q ≡ height_of m e
       height = eq ∙ height_kept (soils_to t m e) m (sized_to e).facts e l
 
-      found : i ≡ (layer e l).layer
-      found =
-          ei
-          ∙ ap (first_where (has t q)) f.table.counted
-          ∙ ap (λ (x : ℕ). first_where (has t x) (layers t)) height
-          ∙ soil_found t (height_of m e) (layer e l)
+      found : first_where (has t q) (layers t) ≡ (layer e l).layer
+      found = ap (λ (x : ℕ). first_where (has t x) (layers t)) height ∙ soil_found t (height_of m e) (layer e l)
 
-      pub found_there : i < n
-      found_there = omega (arith, found, (layer e l).there, f.table.counted)
+      pub is_found : ¬ (first_where (has t q) (layers t) ≡ layers t)
+      is_found none = omega (arith, found, (layer e l).there)
 
       pub soil_set :
           {k : ℕ} {z : ℤ} →
           k ≡ soil_place m e →
           at m k ≡ pos 0 →
-          z ≡ soil t i →
+          z ≡ soil t (first_where (has t q) (layers t)) →
           set (given (soils_to t m e) m) k z ≡ given (soils_to t m (e + 1)) m
       soil_set {k} {z} place zero d =
           let to : z ≡ soils_to t m (e + 1) e =

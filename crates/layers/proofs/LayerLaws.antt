@@ -12,18 +12,16 @@ use Rattle.std.proofs.Common.{Option, None, Some, Ordering, Less, Equal, Greater
 use Rattle.std.specs.Cmp.{int_ranks}
 use Rattle.std.specs.Ordering.{MatchOrdering}
 use Rattle.std.specs.Int.{int_max}
-use Rattle.std.specs.Option.{MatchOption, unwrap_or}
+use Rattle.std.specs.Option.{MatchOption, IfNone, IfSome}
 use Rattle.std.proofs.lemmas.Int.{by_lt_z}
 use Rattle.integer.specs.Bounds.{Within, Is}
 use Rattle.integer.proofs.Machine.{Machine, Flag, peaks, left_below, right_below, flag_le_z, flag_lt_z}
 use Rattle.integer.proofs.TestLaws.{same_test}
 use Rattle.integer.proofs.Linear.{linear, facts, ◌&◌, nothing}
 use Rattle.integer.proofs.Order.{≤ℤ_trans, ≤ℤ_antisym, <ℤ→≤ℤ, <ℤ→≢, ≡→≤ℤ, nonneg, ≤ℤ_pos}
-use Rattle.scope.specs.declared.Outcome.{Outcome}
-use Rattle.scope.specs.declared.Outcome.TheVariants.{Passed, Refused}
-use Rattle.scope.specs.Checks.{◌then◌, some_below}
+use Rattle.scope.specs.Checks.{some_below}
 use Rattle.scope.specs.Rows.{first_where}
-use Rattle.scope.specs.Layers.{bottom, top, Has, Apart, apart}
+use Rattle.scope.specs.Layers.{layers, bottom, top, Has, has, Apart, apart}
 use Rattle.scope.proofs.Decides.{Decides, both, opposite, some_below_lem, at_mostℤ, belowℤ, is_yes, is_no}
 use Rattle.scope.proofs.Layers.{first_is, apart_says}
 use Rattle.layers.specs.LayerContracts.{higher, meeting, meet}
@@ -37,25 +35,35 @@ nonneg_pos {z = negsuc n} l = absurd l.le
 fails : {b : Bool} → b ≡ false → T (not b)
 fails e = subst (λ (b : Bool). T (not b)) (sym e) tt
 
--- the first of n places that was found, or n
-pub first_or_end :
-    (f : ℕ → Bool) (n : ℕ) (r : Option ℕ) →
+-- the first of the layers that was found, and otherwise there is none
+pub first_found :
+    (t : List ℤ) (q : ℕ) {n : ℕ} →
+    n ≡ layers t →
+    (r : Option ℕ) →
     MatchOption r
-    ((k : ℕ) → 0 ≤ k → k < n → f k ≡ false)
-    (λ i. (0 ≤ i) × (i < n) × (f i ≡ true) × ((k : ℕ) → 0 ≤ k → k < i → f k ≡ false)) →
-    unwrap_or r n ≡ first_where f n
-first_or_end f n None none =
-    first_is f n n (record {
-      fits = omega arith;
-      before = λ k l. fails (none k (omega arith) l);
-      passes = λ l. absurd (omega arith);
-    })
-first_or_end f n (Some i) (_, there, passes, before) =
-    first_is f n i (record {
+    ((i : ℕ) → 0 ≤ i → i < n → has t q i ≡ false)
+    (λ i. (0 ≤ i) × (i < n) × (has t q i ≡ true) × ((k : ℕ) → 0 ≤ k → k < i → has t q k ≡ false)) →
+    IfSome r (λ i. (i < n) × (i ≡ first_where (has t q) (layers t)))
+    × IfNone r (first_where (has t q) (layers t) ≡ layers t)
+first_found t q e None none = (
+  tt,
+  sym (first_is (has t q) (layers t) (layers t) (record {
+    fits = omega arith;
+    before = λ i l. fails (none i (omega arith) (omega arith));
+    passes = λ l. absurd (omega arith);
+  })),
+)
+first_found t q e (Some i) (_, there, passes, before) = (
+  (
+    there,
+    first_is (has t q) (layers t) i (record {
       fits = omega arith;
       before = λ k l. fails (before k (omega arith) l);
       passes = λ l. subst T (sym passes) tt;
-    })
+    }),
+  ),
+  tt,
+)
 
 -- ---- a test by an order, and a test and another
 
@@ -210,9 +218,3 @@ apart_by_pairs t lo hi i =
 
     from : Apart t lo hi i → ¬ Pair
     from a (j, b, m) = let w = pair_shares t lo hi i j m in a w.0 w.1 w.2 w.3 j b w.4
-
--- ---- one check after another
-
-pub refusal_stays : {a : Outcome} (b : Outcome) → ¬ (a ≡ Passed) → a ≡ (a then b)
-refusal_stays {a = Passed} b h = absurd (h refl)
-refusal_stays {a = Refused n p} b h = refl

@@ -1,23 +1,29 @@
 -- What contracts say of a table of layers that is handed around, of two layers that meet, and of a mesh that is filled.
-use Rattle.std.specs.Prelude.{◌≡◌, Bool, cond, ◌&&◌, List, ℕ, ◌*◌, ◌≤◌, ◌<◌, ℤ, pos, ltb, length, set}
+use Rattle.std.specs.Prelude.{Bool, cond, ◌&&◌, List, ℕ, ◌≤◌, ◌<◌, ℤ, pos, ltb, length, set}
 use Rattle.std.specs.Int.Signed.{le_z, lt_z}
-use Rattle.integer.specs.Bounds.{AllWithin}
+use Rattle.integer.specs.Bounds.{AllWithin, Is}
 use Rattle.integer.specs.Tests.{eq_z}
 use Rattle.scope.specs.Columns.{at}
 use Rattle.scope.specs.Mesh.{soils}
 use Rattle.scope.specs.NumberRanges.{Between}
-use Rattle.scope.specs.Layers.{most_layers, layer_columns, most_level, layers, bottom, top, soil, soil_at, lowest, highest}
+use Rattle.scope.specs.Layers.{most_layers, most_level, layers, bottom, top, soil, soil_at, lowest, highest}
 use Rattle.scope.specs.Filled.{height_of, with_soils}
 use Rattle.scope.specs.LayerRows.{TableSound}
 use Rattle.mesh.specs.declared.sizes.Sizes.{Sizes}
 use Rattle.mesh.specs.MeshContracts.{Sized}
+use Rattle.layers.specs.declared.table.Layer.{Layer}
 
--- a table of n layers whose lines have passed
-pub record TableRead (t : List ℤ) (n : ℕ) : Type 0 where
-  pub counted : n ≡ layers t
-  pub whole : n * layer_columns ≤ length t
-  pub few : n ≤ most_layers
+-- a table whose lines have passed
+pub record TableRead (t : List ℤ) : Type 0 where
+  pub few : layers t ≤ most_layers
   pub limits : AllWithin most_level t
+
+-- the code's layer is layer i of the table t, which is there
+pub record IsLayer (l : Layer) (t : List ℤ) (i : ℕ) : Type 0 where
+  pub there : i < layers t
+  pub bottom : Is l.bottom (bottom t i) most_level
+  pub top : Is l.top (top t i) most_level
+  pub soil : Is l.soil (soil t i) most_level
 
 -- ---- two layers
 
@@ -48,8 +54,7 @@ unfoldable pub named : List ℤ → ℕ → List ℤ
 named ns k = cond (ltb k (length ns) && eq_z (at ns k) (pos 0)) (set ns k (pos 1)) ns
 
 -- a mesh whose lines have passed with soil 1 for each soil 0, and a table that has passed for it
-pub record Fillable (t : List ℤ) (n : ℕ) (m : List ℤ) (s : Sizes) : Type 0 where
-  pub table : TableRead t n
+pub record Fillable (t m : List ℤ) (s : Sizes) : Type 0 where
   pub sized : Sized (with_soils m) s
   pub named : (i : ℕ) → i < layers t → Between (pos 1) (pos (soils m)) (soil t i)
   pub sound : TableSound t (lowest m) (highest m)

@@ -6,8 +6,9 @@ ghost use Rattle.mesh.specs.MeshContracts.{SizesAre};
 ghost use Rattle.layers.specs.LayerContracts.{named, soils_to, Fillable};
 
 use crate::heights::element_height;
-use crate::layer_tests::{layer_of, soil_of};
-use mesh::sizes::{Sizes, soil_place};
+use crate::table::Layers;
+use mesh::Mesh;
+use mesh::sizes::Sizes;
 
 // Number k becomes 1 where it is there and 0.
 fn name_soil(ns: &mut [i64], k: usize)
@@ -24,29 +25,37 @@ pub fn name_soils(m: &mut [i64], s: Sizes)
     ensures { m.new ≡ with_soils m.old }
 {
     for e in 0..s.elements {
-        name_soil(m, soil_place(s, e));
+        name_soil(m, s.soil_place(e));
     }
 }
 
 // Element e of the mesh m takes its soil, in a list where the elements before it have theirs, and the others soil 1.
-fn take_soil(m: &[i64], s: Sizes, t: &[i64], n: usize, e: usize, out: &mut [i64])
-    requires { Fillable t.now n m.now s × (e < elements m.now)
-        × (out.old ≡ given (soils_to t.now m.now e) m.now) }
-    ensures { out.new ≡ given (soils_to t.now m.now (e + 1)) m.now }
+fn take_soil(m: &[i64], s: Sizes, layers: &Layers, e: usize, out: &mut [i64])
+    requires fillable { Fillable layers.now.numbers.now m.now s }
+    requires there { e < elements m.now }
+    requires so_far { out.old ≡ given (soils_to layers.now.numbers.now m.now e) m.now }
+    ensures { out.new ≡ given (soils_to layers.now.numbers.now m.now (e + 1)) m.now }
 {
-    let k = soil_place(s, e);
+    let k = s.soil_place(e);
     if m[k] == 0 {
-        let i = layer_of(t, n, element_height(out, s, e));
-        out[k] = soil_of(t, n, i);
+        // The heights of m, which has no soil here, are those of `out`.
+        let named = Mesh {
+            numbers: out,
+            sizes: s,
+        };
+        if let Some(i) = layers.layer_of(element_height(&named, e)) {
+            out[k] = layers.layer(i).soil;
+        }
     }
 }
 
 // The list `out`, which is the mesh m with soil 1 for each soil 0, becomes the mesh filled from the table.
-pub fn fill(m: &[i64], s: Sizes, t: &[i64], n: usize, out: &mut [i64])
-    requires { Fillable t.now n m.now s × (out.old ≡ with_soils m.now) }
-    ensures { out.new ≡ filled t.now m.now }
+pub fn fill(m: &[i64], s: Sizes, layers: &Layers, out: &mut [i64])
+    requires fillable { Fillable layers.now.numbers.now m.now s }
+    requires named { out.old ≡ with_soils m.now }
+    ensures { out.new ≡ filled layers.now.numbers.now m.now }
 {
     for e in 0..s.elements {
-        take_soil(m, s, t, n, e, out);
+        take_soil(m, s, layers, e, out);
     }
 }

@@ -5,4 +5,4 @@
 pub mod filling;
 pub mod heights;
 pub mod layer_checks;
-pub mod layer_tests;
+pub mod table;

@@ -5,10 +5,10 @@ use Rattle.layers.proofs.FillingLaws.{elements_are_lem, none_filled, all_filled}
 use Rattle.layers.proofs.filling.fill.Goals as goal
 
 pub loop-e-init : goal.loop-e-init
-loop-e-init c = c.requires.1 ∙ none_filled _ _
+loop-e-init c = c.requires.named ∙ none_filled _ _
 
-pub take_soil-requires : goal.take_soil-requires
-take_soil-requires c = let f = c.requires.0 in (f, omega (arith, elements_are_lem f), c.loop-e.invariant)
+pub take_soil-requires-clause-there : goal.take_soil-requires-clause-there
+take_soil-requires-clause-there c = omega (arith, elements_are_lem c.requires.fillable)
 
 pub returns : goal.returns
-returns c = c.loop-e.invariant ∙ all_filled _ _ (omega (arith, elements_are_lem c.requires.0))
+returns c = c.loop-e.invariant ∙ all_filled _ _ (omega (arith, elements_are_lem c.requires.fillable))

@@ -5,4 +5,4 @@ use Rattle.layers.specs.LayerContracts.{soils_to}
 use Rattle.layers.proofs.filling.fill.Given as goal
 
 abbrev pub invariant-loop-e : goal.invariant-loop-e
-invariant-loop-e l = l.out ≡ given (soils_to l.t l.m l.e) l.m
+invariant-loop-e l = l.out ≡ given (soils_to l.layers.numbers.now l.m l.e) l.m

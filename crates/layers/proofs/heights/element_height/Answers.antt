@@ -13,18 +13,18 @@ use Rattle.layers.proofs.heights.element_height.Goals as goal
 pub sum-requires-clause-fits : goal.sum-requires-clause-fits
 sum-requires-clause-fits c =
     let a = c.args in
-    let few = height_few c.requires.0.facts a.e c.requires.1 in
+    let few = height_few a.m.now.sized.facts a.e c.requires in
     fits_from_yields_list c.map.result _
-    (YieldsList-from_map _ (λ i. count (y a.m.now (corner a.m.now a.e i)))
+    (YieldsList-from_map _ (λ i. count (y a.m.now.numbers.now (corner a.m.now.numbers.now a.e i)))
     (YieldsList-from_range 0 4 4 c.map.ensures.source refl) c.map.ensures.closure (λ x r q k. search rules))
-    (omega (arith, height_is a.m.now a.e))
+    (omega (arith, height_is a.m.now.numbers.now a.e))
 
 pub returns : goal.returns
 returns c =
     let a = c.args in
-    let same : c.sum.result ≡ height_of a.m.now a.e = sum_from_yields_List c.map.result _ c.sum.ensures.ran
-    (YieldsList-from_map _ (λ i. count (y a.m.now (corner a.m.now a.e i)))
+    let same : c.sum.result ≡ height_of a.m.now.numbers.now a.e = sum_from_yields_List c.map.result _ c.sum.ensures.ran
+    (YieldsList-from_map _ (λ i. count (y a.m.now.numbers.now (corner a.m.now.numbers.now a.e i)))
     (YieldsList-from_range 0 4 4 c.map.ensures.source refl) c.map.ensures.closure (λ x r q k. search rules))
-    ∙ height_is a.m.now a.e in
-    let few = height_few c.requires.0.facts a.e c.requires.1 in
-    record { fact_1 = same; fact_2 = omega arith }
+    ∙ height_is a.m.now.numbers.now a.e in
+    let few = height_few a.m.now.sized.facts a.e c.requires in
+    record { same = same; few = omega arith }

@@ -12,12 +12,12 @@ use Rattle.scope.specs.Mesh.{nodes, y}
 use Rattle.layers.proofs.HeightLaws.{low_is}
 use Rattle.layers.proofs.heights.lowest_node.Goals as goal
 
-pub returns-clause-fact_1 : goal.returns-clause-fact_1
-returns-clause-fact_1 c =
-    let a = c.args in
-    let p = c.requires in
-    let numbers = YieldsList-from_range 0 a.s.nodes (nodes a.m.now) c.map.ensures.source (omega (arith, p.nodes_are)) in
+pub returns-clause-same : goal.returns-clause-same
+returns-clause-same c =
+    let m = c.args.m.now in
+    let numbers = YieldsList-from_range 0 m.sizes.nodes (nodes m.numbers.now) c.map.ensures.source
+    (omega (arith, m.sized.nodes_are)) in
     let same = sym (option_map_id _)
     ∙ min_from_yields_List _ _ c.min.ensures.ran
-    (YieldsList-from_map _ (λ v. count (y a.m.now v)) numbers c.map.ensures.closure (λ x r q k. search rules)) in
-    c.unwrap_or.ensures ∙ ap (λ (r : Option ℕ). unwrap_or r 0) same ∙ low_is p.facts
+    (YieldsList-from_map _ (λ v. count (y m.numbers.now v)) numbers c.map.ensures.closure (λ x r q k. search rules)) in
+    c.unwrap_or.ensures ∙ ap (λ (r : Option ℕ). unwrap_or r 0) same ∙ low_is m.sized.facts

@@ -12,9 +12,8 @@ use Rattle.layers.proofs.heights.node_height.Goals as goal
 
 pub returns : goal.returns
 returns c =
-    let r = c.node_y.ensures in
-    let p = c.requires in
-    let a = c.args in
-    let z : to_z w64 (of_z w64 c.node_y.result) ≡ y a.m.now a.v = exact (search machine depth 30) (omega arith) in
-    let e = ap nat_abs z ∙ count_nat_abs (not_negative p.0.facts p.1) in
-    record { same = e; few = omega (arith, e, height_most p.0.facts p.1) }
+    let r = c.y.ensures in
+    let m = c.args.m.now in
+    let z : to_z w64 (of_z w64 c.y.result) ≡ y m.numbers.now c.args.v = exact (search machine depth 30) (omega arith) in
+    let e = ap nat_abs z ∙ count_nat_abs (not_negative m.sized.facts c.requires) in
+    record { same = e; few = omega (arith, e, height_most m.sized.facts c.requires) }

@@ -6,4 +6,4 @@ use Rattle.scope.specs.Layers.{apart}
 use Rattle.layers.proofs.layer_checks.apart_check.Given as goal
 
 abbrev pub invariant-loop-i : goal.invariant-loop-i
-invariant-loop-i l = all_below (apart l.t l.lo l.hi) l.i ≡ true
+invariant-loop-i l = all_below (apart l.layers.numbers.now l.fn.heights.lo l.fn.heights.hi) l.i ≡ true

@@ -1,32 +1,40 @@
--- `gaps_check` meets its contract. The invariant: all heights from lo to below h are in some layer. The measure: h rises.
+-- `gaps_check` meets its contract: the lowest height from which no layer goes on, or none.
+use mathlib.Core.Path.{◌∙◌}
 use native.Mathlib.Omega.{arith}
-use Rattle.layers.proofs.GapLaws.{found_has, rises, covered_more, gap_here, no_gap}
+use Rattle.integer.proofs.Machine.{machine, casts, meets}
+use Rattle.scope.proofs.Answered.{refused_at}
+use Rattle.layers.proofs.GapLaws.{found_has, top_not_negative, top_counted, rises, covered_more, gap_here, no_gap}
 use Rattle.layers.proofs.layer_checks.gaps_check.Goals as goal
 
-pub returns-then-i-n : goal.returns-then-i-n
-returns-then-i-n c =
-    let p = c.requires in
+pub returns-in_default : goal.returns-in_default
+returns-in_default c =
     let inv = c.loop-h.invariant in
-    gap_here _ _ _ inv.1 _ inv.0 (omega (arith, c.loop-h-test.true)) p.0.counted
-    (omega (arith, c.if-i-n.true, c.layer_of-i.ensures))
-    (omega arith)
+    refused_at c.at.ensures
+    ∙ gap_here _ _ _ inv.covered _ inv.risen (omega (arith, c.loop-h-test.true)) c.in_default.ensures.none (omega arith)
 
-pub top_over-h-requires : goal.top_over-h-requires
-top_over-h-requires c = (c.requires.0, c.if-i-n.false, found_has _ _ c.layer_of-i.ensures c.if-i-n.false)
+pub overflow_cast-h-in-loop-h : goal.overflow_cast-h-in-loop-h
+overflow_cast-h-in-loop-h c =
+    let found = c.in-Some.ensures.found in
+    let top = c.layer-h.ensures.top in
+    let least = top_not_negative _ _ _ (found_has _ _ c.args.layers.now.counted found) in (
+      meets (search (machine, casts) depth 30) (omega arith) least,
+      meets (search (machine, casts) depth 30) (omega arith) (omega arith),
+    )
 
 pub loop-h-smaller : goal.loop-h-smaller
 loop-h-smaller c =
-    let has = found_has _ _ c.layer_of-i.ensures c.if-i-n.false in
-    omega (arith, c.loop-h-test.true, rises _ _ _ has c.top_over-h.ensures)
+    let has = found_has _ _ c.args.layers.now.counted c.in-Some.ensures.found in
+    omega (arith, c.loop-h-test.true, rises _ _ _ has (top_counted _ _ _ has c.layer-h.ensures.top))
 
 pub loop-h-preserved : goal.loop-h-preserved
 loop-h-preserved c =
-    let p = c.requires in
     let inv = c.loop-h.invariant in
-    let has = found_has _ _ c.layer_of-i.ensures c.if-i-n.false in
-    let up = rises _ _ _ has c.top_over-h.ensures in
-    let more = covered_more _ _ _ inv.1 (omega (arith, c.if-i-n.false, p.0.counted)) has c.top_over-h.ensures in
-    (omega (arith, inv.0, up), more)
+    let layer = c.layer-h.ensures in
+    let has = found_has _ _ c.args.layers.now.counted c.in-Some.ensures.found in
+    let top = top_counted _ _ _ has layer.top in record {
+      risen = omega (arith, inv.risen, rises _ _ _ has top);
+      covered = covered_more _ _ _ inv.covered layer.there has top;
+    }
 
 pub returns : goal.returns
-returns c = no_gap _ _ _ c.loop-h.invariant.1 _ (omega (arith, c.loop-h-test.false))
+returns c = no_gap _ _ _ c.loop-h.invariant.covered _ (omega (arith, c.loop-h-test.false))

@@ -1,22 +1,40 @@
 -- `layers_check` meets its contract: the tops first, then what is between the lowest node and the highest.
-use mathlib.Core.Path.{sym, ◌∙◌, ap₂}
-use mathlib.Core.List.{[], ◌∷◌}
+use mathlib.Core.Path.{refl, ap₂}
+use mathlib.Core.List.{List, [], ◌∷◌}
 use Prim.Native.Nat.{ℕ}
-use Rattle.scope.specs.Layers.{apart_phase, gaps_phase}
-use Rattle.scope.specs.Phases.{check_phases}
-use Rattle.lines.proofs.Loops.{then_goes_on}
-use Rattle.layers.proofs.LayerLaws.{refusal_stays}
+use lib.IntN.{ℤ}
+use Rattle.scope.specs.Cases.Outcome.{Outcome}
+use Rattle.scope.specs.Layers.{lowest, highest, apart_phase, gaps_phase}
+use Rattle.scope.specs.Phases.{check_phase, check_phases}
+use Rattle.scope.proofs.Answered.{first_refuses, second_decides}
 use Rattle.layers.proofs.layer_checks.layers_check.Goals as goal
 
-pub returns-in_default : goal.returns-in_default
-unfolding check_phases
-returns-in_default c =
-    c.tops_check.ensures ∙ refusal_stays _ (λ e. c.in_default.not-Passed (c.tops_check.ensures ∙ e))
+-- what follows the tops
+abbrev between_nodes : List ℤ → ℕ → ℕ → Outcome
+between_nodes t lo hi = check_phases (apart_phase t lo hi ∷ gaps_phase t lo hi ∷ [])
 
-pub returns-in-Passed : goal.returns-in-Passed
+pub returns-in_err-tops_check : goal.returns-in_err-tops_check
 unfolding check_phases
-returns-in-Passed c =
-    let t = c.args.t.now in
-    let phases = λ (lo hi : ℕ). check_phases (apart_phase t lo hi ∷ gaps_phase t lo hi ∷ []) in
-    then_goes_on (sym c.tops_check.ensures ∙ c.in-Passed.is)
-    (c.between_nodes.ensures ∙ ap₂ phases c.lowest_node.ensures.fact_1 c.highest_node.ensures.fact_1)
+returns-in_err-tops_check c =
+    let m = c.args.m.now.numbers.now in
+    first_refuses c.from_residual.result c.in_err-tops_check.field-0.0
+    (between_nodes c.args.layers.now.numbers.now (lowest m) (highest m))
+    c.from_residual.ensures.1 c.in_err-tops_check.ensures refl
+
+pub returns-in_err-apart_check : goal.returns-in_err-apart_check
+unfolding check_phases
+returns-in_err-apart_check c =
+    let t = c.args.layers.now.numbers.now in
+    let gaps = check_phase (gaps_phase t c.of-heights.result.lo c.of-heights.result.hi) in
+    second_decides c.in_ok-tops_check.ensures refl
+    (first_refuses c.from_residual-in_err-apart_check.result c.in_err-apart_check.field-0.0 gaps
+    c.from_residual-in_err-apart_check.ensures.1 c.in_err-apart_check.ensures
+    (ap₂ (between_nodes t) c.of-heights.ensures.lo c.of-heights.ensures.hi))
+
+pub returns : goal.returns
+unfolding check_phases
+returns c =
+    let t = c.args.layers.now.numbers.now in
+    second_decides c.in_ok-tops_check.ensures refl
+    (second_decides c.in_ok-apart_check.ensures
+    (ap₂ (between_nodes t) c.of-heights.ensures.lo c.of-heights.ensures.hi) c.gaps_check.ensures)

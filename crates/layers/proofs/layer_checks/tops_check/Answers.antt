@@ -1,30 +1,31 @@
--- `tops_check` meets its contract. The invariant: the layers passed hold.
-use mathlib.Core.Path.{refl, sym, ◌∙◌}
+-- `tops_check` meets its contract: the first layer that fails, or none.
+use mathlib.Core.Path.{refl}
 use native.Mathlib.Omega.{arith}
 use Rattle.scope.specs.Checks.{all_below}
 use Rattle.scope.specs.Layers.{layers, layer_line, top_above}
 use Rattle.scope.specs.Phases.{check_phase}
-use Rattle.lines.proofs.Loops.{all_more, each_below, phase-at, phase_all}
+use Rattle.lines.proofs.Asked.{asked_more, asked_stops, asked_all}
 use Rattle.layers.proofs.layer_checks.tops_check.Goals as goal
 
 pub loop-i-init : goal.loop-i-init
 unfolding all_below
 loop-i-init c = refl
 
-pub returns-then-not-top_above : goal.returns-then-not-top_above
+pub returns-in_err-demand : goal.returns-in_err-demand
 unfolding check_phase
-returns-then-not-top_above c =
-    c.refused_line.ensures
-    ∙ phase-at (top_above _) 46 layer_line (layers _) (each_below _ _ c.loop-i.invariant)
-    (omega (arith, c.requires.counted))
-    (sym c.top_above.ensures ∙ c.if-not-top_above.true)
-    refl
+returns-in_err-demand c =
+    let table = c.args.layers.now in
+    asked_stops (top_above _) c.loop-i.invariant c.top_above.ensures c.from_residual.result
+    c.in_err-demand.field-0.0 c.from_residual.ensures.1 c.layer_refusal.ensures c.in_err-demand.ensures layer_line refl
+    (layers table.numbers.now) (omega (arith, c.loop-i-test.true, table.counted))
 
 pub loop-i-preserved : goal.loop-i-preserved
-loop-i-preserved c = all_more (top_above _) c.loop-i.invariant (sym c.top_above.ensures ∙ c.if-not-top_above.false)
+loop-i-preserved c =
+    asked_more (top_above _) c.loop-i.invariant c.top_above.ensures _ _ c.in_ok-demand.ensures
 
 pub returns : goal.returns
 unfolding check_phase
 returns c =
-    phase_all (top_above _) 46 layer_line (layers _)
-    (λ k l. each_below _ _ c.loop-i.invariant k (omega (arith, c.requires.counted)))
+    let table = c.args.layers.now in
+    asked_all (top_above _) c.loop-i.invariant 46 layer_line (layers table.numbers.now)
+    (omega (arith, c.loop-i-test.false, table.counted))

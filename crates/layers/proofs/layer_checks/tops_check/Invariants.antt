@@ -6,4 +6,4 @@ use Rattle.scope.specs.Layers.{top_above}
 use Rattle.layers.proofs.layer_checks.tops_check.Given as goal
 
 abbrev pub invariant-loop-i : goal.invariant-loop-i
-invariant-loop-i l = all_below (top_above l.t) l.i ≡ true
+invariant-loop-i l = all_below (top_above l.layers.numbers.now) l.i ≡ true

@@ -15,8 +15,8 @@ use Rattle.scope.specs.Bounds.{most_coordinate}
 use Rattle.scope.specs.Layers.{most_level, bottom, top}
 use Rattle.layers.specs.LayerContracts.{meeting, meet}
 use Rattle.layers.proofs.LayerLaws.{higher_is, and_second, and_not_first}
-use Rattle.layers.proofs.layer_tests.share.Goals as goal
-use Rattle.layers.proofs.layer_tests.share.Goals.{then-from-hi, else-from-hi}
+use Rattle.layers.proofs.table.Layers.share.Goals as goal
+use Rattle.layers.proofs.table.Layers.share.Goals.{then-from-heights, else-from-heights}
 
 -- the height from which both are there
 from_is :
@@ -40,42 +40,42 @@ first_two t lo hi i j = le_z (meeting t lo i j) (pos hi) && lt_z (meeting t lo i
 pub returns-then-from-a : goal.returns-then-from-a
 unfolding meet
 returns-then-from-a c =
-    let a = c.layer_at-a.ensures in
-    let b = c.layer_at-b.ensures in
+    let a = c.layer-a.ensures in
+    let b = c.layer-b.ensures in
     let from =
-    from_is _ c.args.i c.args.j c.requires.3 a.bottom b.bottom c.max.ensures.value c.max-from.ensures.value in
-    let most = c.requires.4 in
+    from_is _ c.args.i c.args.j c.args.heights.low a.bottom b.bottom c.max.ensures.value c.max-from.ensures.value in
+    let most = c.args.heights.high in
     let end = a.top in
     let other = b.top in
-    let two : c.if-from-hi.value ≡ first_two c.args.t.now c.args.lo c.args.hi c.args.i c.args.j =
-    elim c.if-from-hi.branch [
-      | then-from-hi w ↦
+    let two : c.if-from-heights.value ≡ first_two c.args.self.now.numbers.now c.args.heights.lo c.args.heights.hi c.args.i c.args.j =
+    elim c.if-from-heights.branch [
+      | then-from-heights w ↦
           w.value-is
-          ∙ and_second w.if-from-hi.true
+          ∙ and_second w.if-from-heights.true
           (decides (search (machine, casts) depth 30) (omega arith))
           (decides (search (machine, casts) depth 30) (omega arith))
-      | else-from-hi w ↦
-          w.value-is ∙ and_not_first _ w.if-from-hi.false (decides (search (machine, casts) depth 30) (omega arith))
+      | else-from-heights w ↦
+          w.value-is ∙ and_not_first _ w.if-from-heights.false (decides (search (machine, casts) depth 30) (omega arith))
     ] in
     and_second c.if-from-a.true two (decides (search (machine, casts) depth 30) (omega arith))
 
 pub returns-else-from-a : goal.returns-else-from-a
 unfolding meet
 returns-else-from-a c =
-    let a = c.layer_at-a.ensures in
-    let b = c.layer_at-b.ensures in
+    let a = c.layer-a.ensures in
+    let b = c.layer-b.ensures in
     let from =
-    from_is _ c.args.i c.args.j c.requires.3 a.bottom b.bottom c.max.ensures.value c.max-from.ensures.value in
-    let most = c.requires.4 in
+    from_is _ c.args.i c.args.j c.args.heights.low a.bottom b.bottom c.max.ensures.value c.max-from.ensures.value in
+    let most = c.args.heights.high in
     let end = a.top in
-    let two : c.if-from-hi.value ≡ first_two c.args.t.now c.args.lo c.args.hi c.args.i c.args.j =
-    elim c.if-from-hi.branch [
-      | then-from-hi w ↦
+    let two : c.if-from-heights.value ≡ first_two c.args.self.now.numbers.now c.args.heights.lo c.args.heights.hi c.args.i c.args.j =
+    elim c.if-from-heights.branch [
+      | then-from-heights w ↦
           w.value-is
-          ∙ and_second w.if-from-hi.true
+          ∙ and_second w.if-from-heights.true
           (decides (search (machine, casts) depth 30) (omega arith))
           (decides (search (machine, casts) depth 30) (omega arith))
-      | else-from-hi w ↦
-          w.value-is ∙ and_not_first _ w.if-from-hi.false (decides (search (machine, casts) depth 30) (omega arith))
+      | else-from-heights w ↦
+          w.value-is ∙ and_not_first _ w.if-from-heights.false (decides (search (machine, casts) depth 30) (omega arith))
     ] in
     and_not_first _ c.if-from-a.false two

@@ -4,12 +4,12 @@ use native.Mathlib.Omega.{arith}
 use Rattle.integer.proofs.Machine.{machine, casts, decides}
 use Rattle.scope.specs.Layers.{has}
 use Rattle.layers.proofs.LayerLaws.{flag_contains}
-use Rattle.layers.proofs.layer_tests.has_height.Goals as goal
+use Rattle.layers.proofs.table.Layers.has_height.Goals as goal
 
 pub returns : goal.returns
 unfolding has
 returns c =
-    let bottom = c.layer_at-layer.ensures.bottom in
-    let top = c.layer_at-layer.ensures.top in
-    let most = c.requires.2 in
+    let bottom = c.layer-layer.ensures.bottom in
+    let top = c.layer-layer.ensures.top in
+    let most = c.requires.low in
     c.contains.ensures.value ∙ decides (search (machine, casts, flag_contains) depth 30) (omega arith)
