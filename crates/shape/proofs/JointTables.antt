@@ -3,7 +3,7 @@
 use mathlib.Core.Path.{◌≡◌, refl, sym, ◌∙◌, ap, ap₂, subst}
 use mathlib.Core.Bool.{Bool, true, false, cond, not, ◌&&◌, ◌||◌, and-true}
 use mathlib.Core.List.{List, [], ◌∷◌}
-use Prim.Native.Nat.{ℕ, suc, ◌+◌, ◌*◌, ◌/◌, ◌%◌, ◌<◌}
+use Prim.Native.Nat.{ℕ, suc, ◌+◌, ◌<◌}
 use native.Mathlib.Numerals.{add-one}
 use native.Mathlib.Omega.{arith}
 use lib.IntN.{ℤ, pos, ◌-ℤ◌}
@@ -18,11 +18,12 @@ use Rattle.scope.specs.Checks.{some_below}
 use Rattle.scope.specs.Mesh.{most_nodes, most_elements, nodes, elements, edges, x, y, jump_from, jump_to, facing_from}
 use Rattle.scope.specs.Mesh.{facing_to}
 use Rattle.scope.specs.Tests.{has_side, has_ends, outer_side, used_by_jump, free_side, same_point, is_joint}
-use Rattle.mesh.specs.MeshContracts.{Sized, NodeAt, jump_node}
-use Rattle.shape.specs.ShapeContracts.{no_byte, Holds, put, is_none, is_untaken, used_byte, byte_at, at_place}
+use Rattle.mesh.specs.declared.entries.Jump.{Jump}
+use Rattle.mesh.specs.EntryContracts.{JumpOf}
+use Rattle.mesh.specs.MeshContracts.{Sized, NodeAt}
+use Rattle.shape.specs.ShapeContracts.{no_byte, Holds, put, is_none, is_untaken, used_byte, byte_at}
 use Rattle.shape.specs.ShapeContracts.{edge_byte, EdgeTable, jump_byte, JumpTable}
-use Rattle.shape.proofs.MeshLaws.{side_fits}
-use Rattle.shape.proofs.ByteTables.{kept, holds_as, same_place, put_one}
+use Rattle.shape.proofs.Tables.{kept, holds_as, put_free}
 use Rattle.shape.proofs.SideTables.{bytes_to, byte_of, edge_untaken, edge_none}
 
 -- ---- coordinates
@@ -52,9 +53,9 @@ module _ (m : List ℤ) (a b : ℕ) where
 
 -- ---- bytes of used sides
 
-pub no_jump_yet : (m : List ℤ) {t : List ℕ} → EdgeTable m (edges m) t → JumpTable m 0 t
+pub no_jump_yet : (m : List ℤ) {t : List (List ℕ)} → EdgeTable m (edges m) t → JumpTable m 0 t
 unfolding jump_byte some_below
-no_jump_yet m h = bytes_to h (holds_as h.bytes (λ v. refl))
+no_jump_yet m h = bytes_to h (holds_as h.bytes (λ a b. refl))
 
 used_untaken : (used : Bool) (e : ℕ)
     → is_untaken (cond used (cond (is_untaken e) used_byte e) e) ≡ is_untaken e && not used
@@ -75,7 +76,7 @@ used_none true e = by (is_untaken e) refl
 
 module _ (m : List ℤ) {s : Sizes} (k : Sized m s) where
   -- a side is free exactly where its byte is an element's and the reverse has none
-  free_is : (j : ℕ) {t : List ℕ} → JumpTable m j t → {a b : ℕ} → a < nodes m → b < nodes m
+  free_is : (j : ℕ) {t : List (List ℕ)} → JumpTable m j t → {a b : ℕ} → a < nodes m → b < nodes m
       → free_side m j a b ≡ is_untaken (byte_at t a b) && is_none (byte_at t b a)
   unfolding free_side outer_side jump_byte
   free_is j {t} h {a} {b} i l =
@@ -96,44 +97,51 @@ module _ (m : List ℤ) {s : Sizes} (k : Sized m s) where
       regroup true false false true = refl
       regroup true false false false = refl
 
-  module _ (j : ℕ) {t : List ℕ} (h : JumpTable m j t) {a b c d : ℕ} (ea : NodeAt a m (jump_node m j 0))
-      (eb : NodeAt b m (jump_node m j 1)) (ec : NodeAt c m (jump_node m j 2)) (ed : NodeAt d m (jump_node m j 3)) where
+  module _ (j : ℕ) {t : List (List ℕ)} (h : JumpTable m j t) {r : Jump} (is : JumpOf r m j) where
     pub joint_is : is_joint m j
-        ≡ (((is_untaken (byte_at t a b) && is_none (byte_at t b a))
-        && (is_untaken (byte_at t d c) && is_none (byte_at t c d))) && same_point m a c) && same_point m b d
+        ≡ (((is_untaken (byte_at t r.from r.to) && is_none (byte_at t r.to r.from))
+        && (is_untaken (byte_at t r.facing_to r.facing_from) && is_none (byte_at t r.facing_from r.facing_to)))
+        && same_point m r.from r.facing_from)
+        && same_point m r.to r.facing_to
     unfolding is_joint jump_from jump_to facing_from facing_to
     joint_is =
-        sym (same ea.same eb.same ec.same ed.same)
-        ∙ ap₂ (λ (p q : Bool). ((p && q) && same_point m a c) && same_point m b d) (free_is j h ea.there eb.there)
-        (free_is j h ed.there ec.there)
+        sym (same is.from.same is.to.same is.facing_from.same is.facing_to.same)
+        ∙ ap₂ (λ (p q : Bool). ((p && q) && same_point m r.from r.facing_from) && same_point m r.to r.facing_to)
+        (free_is j h is.from.there is.to.there) (free_is j h is.facing_to.there is.facing_from.there)
       where
-        same : {p q r u : ℕ} → a ≡ p → b ≡ q → c ≡ r → d ≡ u
+        same : {a b c d p q u v : ℕ} → a ≡ p → b ≡ q → c ≡ u → d ≡ v
             → ((free_side m j a b && free_side m j d c) && same_point m a c) && same_point m b d
-            ≡ ((free_side m j p q && free_side m j u r) && same_point m p r) && same_point m q u
+            ≡ ((free_side m j p q && free_side m j v u) && same_point m p u) && same_point m q v
         same e f g i =
             λ v. ((free_side m j (e v) (f v) && free_side m j (i v) (g v)) && same_point m (e v) (g v))
             && same_point m (f v) (i v)
 
     -- its two sides are used
-    pub use_more : {u w : List ℕ} → u ≡ put is_untaken t (a * most_nodes + b) used_byte
-        → w ≡ put is_untaken u (d * most_nodes + c) used_byte → JumpTable m (j + 1) w
+    pub use_more : {u w : List (List ℕ)} → u ≡ put is_untaken t r.from r.to used_byte
+        → w ≡ put is_untaken u r.facing_to r.facing_from used_byte → JumpTable m (j + 1) w
     unfolding jump_byte some_below used_by_jump jump_from jump_to facing_from facing_to
     use_more {u} {w} e f =
         bytes_to h
-        (subst (λ (n : ℕ). Holds (length t) (at_place (jump_byte m n)) w) (sym (add-one j))
-        (subst (Holds (length t) (at_place (jump_byte m (suc j)))) (sym f)
-        (holds_as (put_one is_untaken once (side_fits k h.room ed.there ec.there) used_byte) step)))
+        (subst (λ (n : ℕ). Holds 0 (length t) most_nodes (jump_byte m n) w) (sym (add-one j))
+        (subst (Holds 0 (length t) most_nodes (jump_byte m (suc j))) (sym f)
+        (holds_as (put_free is_untaken once (row is.facing_to) (column is.facing_from) used_byte) step)))
       where
-        now : ℕ → ℕ
-        now = at_place (jump_byte m j)
+        now : ℕ → ℕ → ℕ
+        now = jump_byte m j
 
-        own : ℕ → ℕ
-        own v = cond (eqb (a * most_nodes + b) v) (kept is_untaken (now v) used_byte) (now v)
+        row : {p i : ℕ} → NodeAt p m i → p < length t
+        row i = omega (arith, i.there, h.room)
 
-        once : Holds (length t) own u
+        column : {p i : ℕ} → NodeAt p m i → p < most_nodes
+        column i = omega (arith, i.there, i.few)
+
+        own : ℕ → ℕ → ℕ
+        own p q = cond (eqb r.from p && eqb r.to q) (kept is_untaken (now p q) used_byte) (now p q)
+
+        once : Holds 0 (length t) most_nodes own u
         once =
-            subst (Holds (length t) own) (sym e)
-            (put_one is_untaken h.bytes (side_fits k h.room ea.there eb.there) used_byte)
+            subst (Holds 0 (length t) most_nodes own) (sym e)
+            (put_free is_untaken h.bytes (row is.from) (column is.to) used_byte)
 
         again : (z : ℕ) (p : Bool) → is_untaken z ≡ p
             → kept is_untaken (cond p used_byte z) used_byte ≡ cond p used_byte z
@@ -159,18 +167,14 @@ module _ (m : List ℤ) {s : Sizes} (k : Sized m s) where
         regroup true true false z = twice z
         regroup true true true z = ap (λ (r : ℕ). kept is_untaken r used_byte) (twice z) ∙ twice z
 
-        place : {p q i l : ℕ} → NodeAt p m i → NodeAt q m l → (v : ℕ)
-            → eqb (p * most_nodes + q) v ≡ eqb i (v / most_nodes) && eqb l (v % most_nodes)
-        place {p} {q} i l v =
-            same_place most_nodes p q (omega (arith, l.there, l.few)) v
-            ∙ ap₂ (λ (r z : ℕ). eqb r (v / most_nodes) && eqb z (v % most_nodes)) i.same l.same
-
-        step : (v : ℕ) → cond (eqb (d * most_nodes + c) v) (kept is_untaken (own v) used_byte) (own v)
-            ≡ at_place (jump_byte m (suc j)) v
-        step v =
-            ap₂ (λ (i o : Bool). cond i (kept is_untaken (cond o (kept is_untaken (now v) used_byte) (now v)) used_byte)
-            (cond o (kept is_untaken (now v) used_byte) (now v))) (place ed ec v) (place ea eb v)
-            ∙ regroup (some_below (used_by_jump m (v / most_nodes) (v % most_nodes)) j)
-            (eqb (jump_from m j) (v / most_nodes) && eqb (jump_to m j) (v % most_nodes))
-            (eqb (facing_to m j) (v / most_nodes) && eqb (facing_from m j) (v % most_nodes))
-            (edge_byte m (edges m) (v / most_nodes) (v % most_nodes))
+        step : (p q : ℕ)
+            → cond (eqb r.facing_to p && eqb r.facing_from q) (kept is_untaken (own p q) used_byte) (own p q)
+            ≡ jump_byte m (suc j) p q
+        step p q =
+            ap₂ (λ (i o : Bool). cond i
+            (kept is_untaken (cond o (kept is_untaken (now p q) used_byte) (now p q)) used_byte)
+            (cond o (kept is_untaken (now p q) used_byte) (now p q)))
+            (ap₂ (λ (x y : ℕ). eqb x p && eqb y q) is.facing_to.same is.facing_from.same)
+            (ap₂ (λ (x y : ℕ). eqb x p && eqb y q) is.from.same is.to.same)
+            ∙ regroup (some_below (used_by_jump m p q) j) (eqb (jump_from m j) p && eqb (jump_to m j) q)
+            (eqb (facing_to m j) p && eqb (facing_from m j) q) (edge_byte m (edges m) p q)

@@ -1,30 +1,27 @@
 -- What the machine has of a mesh's elements, edges and jumps is what the checks of its shape ask: corners, turns,
 -- lines, outer edges; and what the checks say in their order.
-use mathlib.Core.Path.{◌≡◌, refl, sym, ◌∙◌, ap, ap₂}
+use mathlib.Core.Path.{◌≡◌, sym, ◌∙◌, ap, ap₂}
 use mathlib.Core.Bool.{Bool}
 use mathlib.Core.List.{List, [], ◌∷◌}
-use Prim.Native.Nat.{ℕ, suc, ◌+◌, ◌*◌, ◌-◌, ◌%◌, ◌≤◌, ◌<◌}
+use Prim.Native.Nat.{ℕ, suc, ◌+◌, ◌-◌, ◌%◌, ◌<◌}
 use native.Mathlib.Omega.{arith}
 use lib.IntN.{ℤ, pos, ◌-ℤ◌, ◌*ℤ◌}
 use lib.Signed.{lt_z}
 use Rattle.integer.specs.Bounds.{Is}
 use Rattle.mesh.specs.declared.sizes.Sizes.{Sizes}
 use Rattle.scope.specs.Layout.{groups, lines_before}
-use Rattle.scope.specs.Mesh.{most_nodes, mesh_header, soil_lines}
+use Rattle.scope.specs.Mesh.{mesh_header, soil_lines}
 use Rattle.scope.specs.Mesh.{node_lines, element_lines, edge_lines, jump_lines, mesh_layout, mesh_groups, nodes}
 use Rattle.scope.specs.Mesh.{elements, corner, corner_count, around, edge_line, jump_line}
 use Rattle.mesh.specs.MeshContracts.{Sized}
 use Rattle.scope.specs.Tests.{turn, left_turn_at}
-use Rattle.scope.specs.declared.Place.{Place}
-use Rattle.scope.specs.declared.Outcome.{Outcome}
-use Rattle.scope.specs.declared.Outcome.TheVariants.{Passed, Refused}
+use Rattle.scope.specs.Cases.Outcome.{Outcome}
 use Rattle.scope.specs.Checks.{◌then◌}
-use Rattle.scope.specs.Phases.{Phase, check_phase, check_phases}
-use Rattle.scope.specs.Refusals.{turns_phase, own_sides_phase, nodes_phase, edges_phase, joints_phase, pairs_phase}
-use Rattle.scope.specs.Refusals.{shape_phases}
+use Rattle.scope.specs.Phases.{check_phase, check_phases}
+use Rattle.scope.specs.Refusals.{turns_phase, pairs_phase, shape_phases}
+use Rattle.shape.specs.ShapeContracts.{side_phases}
 use Rattle.scope.proofs.Phases.{check_join}
 use Rattle.scope.proofs.Triangles.{around_below, around_is}
-use Rattle.lines.proofs.Loops.{then_refuses, then_goes_on}
 
 -- ---- the corners of an element
 
@@ -34,11 +31,6 @@ around-corner m e i h = sym (around_is m e i _ (sym h))
 pub around-there : {m : List ℤ} {s : Sizes} → Sized m s → {e : ℕ} → e < elements m → (i : ℕ) → around m e i < nodes m
 unfolding around
 around-there {m} k {e} l i = (k.facts.element e l).corner_there (i % corner_count m e) (around_below m e i)
-
--- the place of a side in a table
-pub side_fits : {m : List ℤ} {s : Sizes} → Sized m s → {a b n : ℕ} → nodes m * most_nodes ≤ n
-    → a < nodes m → b < nodes m → a * most_nodes + b < n
-side_fits k r i j = omega (arith, k.facts.counts.nodes_most)
 
 -- a cross product of numbers that the machine has
 pub cross_from : {ux uy vx vy p q r s : ℤ} {A B C D : ℕ} → Is ux p A → Is uy q B → Is vx r C → Is vy s D
@@ -74,24 +66,8 @@ module _ (m : List ℤ) where
 
 -- ---- the phases in their order
 
-module _ (m : List ℤ) where
-  abbrev sides_to_joints : List Phase
-  sides_to_joints = own_sides_phase m ∷ nodes_phase m ∷ edges_phase m ∷ joints_phase m ∷ []
-
-  shape_checked : check_phases (shape_phases m)
-      ≡ check_phase (turns_phase m) then (check_phases sides_to_joints then check_phase (pairs_phase m))
-  unfolding check_phases
-  shape_checked =
-      ap (λ (o : Outcome). check_phase (turns_phase m) then o) (check_join sides_to_joints (pairs_phase m ∷ []))
-
-  pub turns_refuse : {k : ℕ} {p : Place} → check_phase (turns_phase m) ≡ Refused k p
-      → Refused k p ≡ check_phases (shape_phases m)
-  turns_refuse e = then_refuses _ e ∙ sym shape_checked
-
-  module _ (e : check_phase (turns_phase m) ≡ Passed) where
-    pub rest_refuses : {k : ℕ} {p : Place} → check_phases sides_to_joints ≡ Refused k p
-        → Refused k p ≡ check_phases (shape_phases m)
-    rest_refuses f = then_goes_on e (then_refuses _ f) ∙ sym shape_checked
-
-    pub pairs_last : check_phases sides_to_joints ≡ Passed → check_phase (pairs_phase m) ≡ check_phases (shape_phases m)
-    pairs_last f = then_goes_on e (then_goes_on f refl) ∙ sym shape_checked
+pub shape_checked : (m : List ℤ) → check_phase (turns_phase m)
+    then (check_phases (side_phases m) then check_phase (pairs_phase m)) ≡ check_phases (shape_phases m)
+unfolding check_phases
+shape_checked m =
+    ap (λ (o : Outcome). check_phase (turns_phase m) then o) (sym (check_join (side_phases m) (pairs_phase m ∷ [])))

@@ -3,13 +3,13 @@
 use mathlib.Core.Path.{◌≡◌, refl, sym, ◌∙◌, ap, ap₂, subst}
 use mathlib.Core.Bool.{Bool, true, false, cond, not, ◌&&◌, and_assoc, and_comm, true≢false}
 use mathlib.Core.List.{List}
-use Prim.Native.Nat.{ℕ, suc, ◌+◌, ◌*◌, ◌/◌, ◌%◌, ◌≤◌, ◌<◌}
+use Prim.Native.Nat.{ℕ, suc, ◌+◌, ◌≤◌, ◌<◌}
 use native.Mathlib.Numerals.{add-one}
 use native.Mathlib.Decide.{ℕ_discrete}
 use native.Mathlib.Omega.{arith}
 use lib.IntN.{ℤ}
 use lib.Dec.{eqb}
-use lib.ListN.{length, get_or, replicate, length-replicate}
+use lib.ListN.{length, replicate, length-replicate}
 use borrow.Author.Tests.{eqb-true, eqb-false, lt-ltb, le-ltb, eq-eqb, ne_eqb}
 use Rattle.mesh.specs.declared.sizes.Sizes.{Sizes}
 use Rattle.scope.specs.Checks.{some_below, all_below}
@@ -18,26 +18,24 @@ use Rattle.scope.specs.Mesh.{to_node}
 use Rattle.scope.specs.Rows.{first_where}
 use Rattle.scope.specs.Tests.{own_side_at, has_ends, has_side, own_sides, outer_side, outer_edge}
 use Rattle.mesh.specs.MeshContracts.{Sized}
-use Rattle.shape.specs.ShapeContracts.{no_byte, Holds, is_none, put, keep_first, byte_below, byte_at, at_place}
+use Rattle.shape.specs.ShapeContracts.{no_byte, Holds, is_none, put, keep_first, byte_below, byte_at}
 use Rattle.shape.specs.ShapeContracts.{SideBytes, side_byte, SideTable, edge_byte, EdgeTable, is_untaken}
-use Rattle.shape.proofs.MeshLaws.{around-there, side_fits}
-use Rattle.shape.proofs.ByteTables.{holds_as, holds_each, same_place, put_one, first_below, first_found, some_there}
-use Rattle.shape.proofs.ByteTables.{byte_found, free_below, cond_same, byte_more, given, none_given, one_given}
-use Rattle.shape.proofs.ByteTables.{all_given}
+use Rattle.shape.proofs.MeshLaws.{around-there}
+use Rattle.shape.proofs.Tables.{holds_as, holds_each, put_free, first_below, first_found, some_there}
+use Rattle.shape.proofs.Tables.{byte_found, free_below, cond_same, byte_more, given, none_given, one_given}
+use Rattle.shape.proofs.Tables.{all_given}
 
 -- ---- places of sides
 
-whole : {n : ℕ} {f : ℕ → ℕ} {t : List ℕ} → Holds n f t → Holds (length t) f t
-whole {f = f} {t = t} h = subst (λ (n : ℕ). Holds n f t) (sym h.size) h
+whole : {n w : ℕ} {f : ℕ → ℕ → ℕ} {t : List (List ℕ)} → Holds 0 n w f t → Holds 0 (length t) w f t
+whole {w = w} {f = f} {t = t} h = subst (λ (n : ℕ). Holds 0 n w f t) (sym h.rows) h
 
-module _ {m : List ℤ} {f : ℕ → ℕ → ℕ} {t : List ℕ} (h : SideBytes m f t) where
-  pub bytes_to : {g : ℕ → ℕ → ℕ} {u : List ℕ} → Holds (length t) (at_place g) u → SideBytes m g u
-  bytes_to k = record { room = omega (arith, h.room, k.size); bytes = whole k }
+module _ {m : List ℤ} {f : ℕ → ℕ → ℕ} {t : List (List ℕ)} (h : SideBytes m f t) where
+  pub bytes_to : {g : ℕ → ℕ → ℕ} {u : List (List ℕ)} → Holds 0 (length t) most_nodes g u → SideBytes m g u
+  bytes_to k = record { room = omega (arith, h.room, k.rows); bytes = whole k }
 
   pub byte_of : {s : Sizes} → Sized m s → {a b : ℕ} → a < nodes m → b < nodes m → byte_at t a b ≡ f a b
-  byte_of k {a} {b} i j =
-      let most = k.facts.counts.nodes_most in
-      h.bytes.says (a * most_nodes + b) (omega (arith, h.room)) ∙ ap₂ f (omega arith) (omega arith)
+  byte_of k {a} {b} i j = h.bytes.says a b (omega (arith, h.room)) (omega (arith, k.facts.counts.nodes_most))
 
 -- ---- the sides of elements
 
@@ -53,39 +51,36 @@ sides_so_far m e i a b = given (side_is m e a b) (side_byte m e a b) e i
 few : {n : ℕ} → n ≤ most_elements → (k : ℕ) → k < n → is_none k ≡ false
 few l k i = ne_eqb k no_byte (λ d. omega arith)
 
-pub no_sides : (m : List ℤ) (n : ℕ) → nodes m * most_nodes ≤ n → SideTable m 0 (replicate n no_byte)
+pub no_sides : (m : List ℤ) (n : ℕ) → nodes m ≤ n → SideTable m 0 (replicate n (replicate most_nodes no_byte))
 unfolding byte_below first_where
 no_sides m n l = record {
-  room = omega (arith, length-replicate {A = ℕ} n no_byte);
-  bytes = whole (holds_as (holds_each n no_byte) (λ v. refl));
+  room = omega (arith, length-replicate n (replicate most_nodes no_byte));
+  bytes = whole (holds_as (holds_each no_byte) (λ a b. refl));
 }
 
 module _ (m : List ℤ) where
-  pub no_side_yet : (e : ℕ) {t : List ℕ} → SideTable m e t → SideBytes m (sides_so_far m e 0) t
-  no_side_yet e h =
-      bytes_to h (none_given (λ v. side_is m e (v / most_nodes) (v % most_nodes)) (at_place (side_byte m e)) e h.bytes)
+  pub no_side_yet : (e : ℕ) {t : List (List ℕ)} → SideTable m e t → SideBytes m (sides_so_far m e 0) t
+  no_side_yet e h = bytes_to h (none_given (side_is m e) (side_byte m e) e h.bytes)
 
   pub own_sides_are : (e : ℕ) → all_below (own_side_at m e) (corner_count m e) ≡ own_sides m e
   unfolding own_sides
   own_sides_are e = refl
 
 module _ (m : List ℤ) {s : Sizes} (k : Sized m s) {e : ℕ} (l : e < elements m) where
-  pub side_more : (i : ℕ) {t u : List ℕ} → SideBytes m (sides_so_far m e i) t
-      → u ≡ keep_first t (around m e i * most_nodes + around m e (i + 1)) e → SideBytes m (sides_so_far m e (i + 1)) u
+  pub side_more : (i : ℕ) {t u : List (List ℕ)} → SideBytes m (sides_so_far m e i) t
+      → u ≡ keep_first t (around m e i) (around m e (i + 1)) e → SideBytes m (sides_so_far m e (i + 1)) u
   side_more i h d =
       bytes_to h
-      (one_given (λ v. side_is m e (v / most_nodes) (v % most_nodes)) (at_place (side_byte m e)) e i h.bytes
-      (side_fits k h.room (around-there k l i) (around-there k l (i + 1)))
-      (same_place most_nodes (around m e i) (around m e (i + 1))
-      (omega (arith, around-there k l (i + 1), k.facts.counts.nodes_most))) d)
+      (one_given (side_is m e) (side_byte m e) e i h.bytes (omega (arith, h.room, around-there k l i))
+      (omega (arith, around-there k l (i + 1), k.facts.counts.nodes_most)) (λ a b. refl) d)
 
-  pub all_sides : {i : ℕ} {t : List ℕ} → SideBytes m (sides_so_far m e i) t → i ≤ corner_count m e
+  pub all_sides : {i : ℕ} {t : List (List ℕ)} → SideBytes m (sides_so_far m e i) t → i ≤ corner_count m e
       → corner_count m e ≤ i → SideTable m (e + 1) t
   unfolding has_side
   all_sides {i} h j n =
       let whole : i ≡ corner_count m e = omega arith in
-      bytes_to h (all_given (λ v. side_is m e (v / most_nodes) (v % most_nodes))
-      (λ v. has_side m (v / most_nodes) (v % most_nodes)) (λ k. k) h.bytes whole (λ v. refl)
+      bytes_to h
+      (all_given (side_is m e) (has_side m) (λ k. k) h.bytes whole (λ a b. refl)
       (few (omega (arith, k.facts.counts.elements_most))))
 
   has_own : {i : ℕ} → i < corner_count m e → has_side m (around m e i) (around m e (i + 1)) e ≡ true
@@ -94,13 +89,13 @@ module _ (m : List ℤ) {s : Sizes} (k : Sized m s) {e : ℕ} (l : e < elements 
       some_there _ (corner_count m e) j
       (ap₂ ◌&&◌ (eq-eqb (around m e i) (around m e i) refl) (eq-eqb (around m e (i + 1)) (around m e (i + 1)) refl))
 
-  pub own_side_is : {i : ℕ} → i < corner_count m e → {t : List ℕ} → SideTable m (elements m) t → {v : ℕ}
-      → v ≡ around m e i * most_nodes + around m e (i + 1) → eqb (get_or t v 0) e ≡ own_side_at m e i
+  pub own_side_is : {i : ℕ} → i < corner_count m e → {t : List (List ℕ)} → SideTable m (elements m) t → {a b : ℕ}
+      → a ≡ around m e i → b ≡ around m e (i + 1) → eqb (byte_at t a b) e ≡ own_side_at m e i
   unfolding own_side_at
-  own_side_is {i} j {t} h d =
+  own_side_is {i} j {t} h c d =
       let has = has_side m (around m e i) (around m e (i + 1)) in
       ap (λ (x : ℕ). eqb x e)
-      (ap (λ (v : ℕ). get_or t v 0) d
+      (ap₂ (byte_at t) c d
       ∙ byte_of h k (around-there k l i) (around-there k l (i + 1))
       ∙ byte_found no_byte has (λ k. k) (elements m) l (has_own j))
       ∙ (first_found has (elements m) l (has_own j)).1
@@ -117,8 +112,8 @@ module _ (m : List ℤ) where
       by true d = eqb-true (side_byte m (elements m) a b) no_byte d
       by false d = refl
 
-  pub no_edge_yet : {t : List ℕ} → SideTable m (elements m) t → EdgeTable m 0 t
-  no_edge_yet h = bytes_to h (holds_as h.bytes (λ v. no_edge_lem (v / most_nodes) (v % most_nodes)))
+  pub no_edge_yet : {t : List (List ℕ)} → SideTable m (elements m) t → EdgeTable m 0 t
+  no_edge_yet h = bytes_to h (holds_as h.bytes no_edge_lem)
 
 module _ (m : List ℤ) {s : Sizes} (k : Sized m s) where
   -- a to b is no element's side exactly where it has no byte
@@ -161,25 +156,17 @@ module _ (m : List ℤ) {s : Sizes} (k : Sized m s) where
           byte_more is_untaken (side_untaken a b d) (has_ends m a b) (λ k. most_elements + k) g
           (λ k i. le-ltb (most_elements + k) most_elements (omega arith))
 
-  pub take_more : {g : ℕ} → g < edges m → {t u : List ℕ} → EdgeTable m g t
-      → u ≡ put is_untaken t (from_node m g * most_nodes + to_node m g) (most_elements + g) → EdgeTable m (g + 1) u
+  pub take_more : {g : ℕ} → g < edges m → {t u : List (List ℕ)} → EdgeTable m g t
+      → u ≡ put is_untaken t (from_node m g) (to_node m g) (most_elements + g) → EdgeTable m (g + 1) u
   unfolding has_ends
   take_more {g} l {t} {u} h d =
       bytes_to h
-      (subst (λ (n : ℕ). Holds (length t) (at_place (edge_byte m n)) u) (sym (add-one g))
-      (subst (Holds (length t) (at_place (edge_byte m (suc g)))) (sym d)
-      (holds_as (put_one is_untaken h.bytes (side_fits k h.room (k.facts.edge g l).from_there (k.facts.edge g l).to_there) (most_elements + g)) step)))
-    where
-      now : ℕ → ℕ
-      now = at_place (edge_byte m g)
-
-      step : (v : ℕ) → cond (eqb (from_node m g * most_nodes + to_node m g) v)
-          (cond (is_untaken (now v)) (most_elements + g) (now v)) (now v) ≡ at_place (edge_byte m (suc g)) v
-      step v =
-          ap (λ (b : Bool). cond b (cond (is_untaken (now v)) (most_elements + g) (now v)) (now v))
-          (same_place most_nodes (from_node m g) (to_node m g)
-          (omega (arith, (k.facts.edge g l).to_there, k.facts.counts.nodes_most)) v)
-          ∙ edge_step g (v / most_nodes) (v % most_nodes)
+      (subst (λ (n : ℕ). Holds 0 (length t) most_nodes (edge_byte m n) u) (sym (add-one g))
+      (subst (Holds 0 (length t) most_nodes (edge_byte m (suc g))) (sym d)
+      (holds_as
+      (put_free is_untaken h.bytes (omega (arith, h.room, (k.facts.edge g l).from_there))
+      (omega (arith, (k.facts.edge g l).to_there, k.facts.counts.nodes_most)) (most_elements + g))
+      (edge_step g))))
 
   -- a side is untaken exactly where it is an element's and no edge has it
   pub edge_untaken : (a b : ℕ)
@@ -263,19 +250,18 @@ module _ (m : List ℤ) {s : Sizes} (k : Sized m s) where
             ∙ (first_found (has_ends m p q) (edges m) l ends).1
 
     -- an edge is an outer side, once, exactly where it has taken its side and the reverse has no byte
-    pub outer_edge_is : {t : List ℕ} → EdgeTable m (edges m) t → {a b byte back : ℕ} → a ≡ from_node m g
-        → b ≡ to_node m g → byte ≡ byte_at t a b → back ≡ byte_at t b a
-        → outer_edge m g ≡ eqb byte (most_elements + g) && eqb back no_byte
+    pub outer_edge_is : {t : List (List ℕ)} → EdgeTable m (edges m) t → {a b : ℕ} → a ≡ from_node m g
+        → b ≡ to_node m g → outer_edge m g ≡ eqb (byte_at t a b) (most_elements + g) && eqb (byte_at t b a) no_byte
     unfolding outer_edge outer_side has_ends
-    outer_edge_is {t} h d e f r =
+    outer_edge_is {t} h d e =
         let p = from_node m g in
         let q = to_node m g in
         let i = (k.facts.edge g l).from_there in
         let j = (k.facts.edge g l).to_there in
         swap (some_below (has_side m p q) (elements m)) _ _
         ∙ sym (ap₂ ◌&&◌ edge_taken (edge_none q p))
-        ∙ sym (ap₂ (λ (x y : ℕ). eqb x (most_elements + g) && eqb y no_byte) (f ∙ ap₂ (byte_at t) d e ∙ byte_of h k i j)
-        (r ∙ ap₂ (byte_at t) e d ∙ byte_of h k j i))
+        ∙ sym (ap₂ (λ (x y : ℕ). eqb x (most_elements + g) && eqb y no_byte) (ap₂ (byte_at t) d e ∙ byte_of h k i j)
+        (ap₂ (byte_at t) e d ∙ byte_of h k j i))
       where
         swap : (x y z : Bool) → (x && y) && z ≡ (x && z) && y
         swap x y z = and_assoc x y z ∙ ap (λ (b : Bool). x && b) (and_comm y z) ∙ sym (and_assoc x z y)

@@ -1,25 +1,26 @@
 // The corners of an element.
 ghost use Rattle.std.specs.Prelude.{◌≡◌, ◌<◌, ◌≤◌};
 ghost use Rattle.scope.specs.Mesh.{elements, corner_count, around};
-ghost use Rattle.mesh.specs.MeshContracts.{Sized, NodeAt};
+ghost use Rattle.mesh.specs.MeshContracts.{NodeAt};
 
-use mesh::sizes::{Sizes, corner_of};
+use mesh::Mesh;
 
 // How many corners element e has: three where its third and its fourth node are the same.
-pub fn corner_count(m: &[i64], s: Sizes, e: usize) -> usize
-    requires { Sized m.now s × (e < elements m.now) }
-    ensures is { result ≡ corner_count m.now e }
-    ensures some { (3 ≤ result) × (result ≤ 4) }
+pub fn corner_count(m: &Mesh, e: usize) -> usize
+    requires { e < elements m.now.numbers.now }
+    ensures is { result ≡ corner_count m.now.numbers.now e }
+    ensures some { 3 ≤ result }
+    ensures few { result ≤ 4 }
 {
-    let third = corner_of(m, s, e, 2);
-    let fourth = corner_of(m, s, e, 3);
+    let third = m.corner(e, 2);
+    let fourth = m.corner(e, 3);
     if third == fourth { 3 } else { 4 }
 }
 
 // Corner i of element e; after the last comes the first.
-pub fn corner_around(m: &[i64], s: Sizes, e: usize, i: usize) -> usize
-    requires { Sized m.now s × (e < elements m.now) }
-    ensures { NodeAt result m.now (around m.now e i) }
+pub fn corner_around(m: &Mesh, e: usize, i: usize) -> usize
+    requires { e < elements m.now.numbers.now }
+    ensures { NodeAt result m.now.numbers.now (around m.now.numbers.now e i) }
 {
-    corner_of(m, s, e, i % corner_count(m, s, e))
+    m.corner(e, i % corner_count(m, e))
 }

@@ -5,10 +5,9 @@
 mod corners;
 mod edges;
 mod joints;
-mod marks;
+pub mod marks;
 pub mod mesh_checks;
 mod nodes;
 pub mod pairs;
 mod sides;
-mod tables;
 mod turns;

@@ -1,49 +1,43 @@
-// The soils around each node, as marks: MOST_SOILS bytes for each node, and the byte at v * MOST_SOILS + soil is 1
-// where an element has the corner v and the soil, and else 0. For speed they are made in one pass over the elements; 7
-// asks them, and then the pairs.
-ghost use Rattle.std.specs.Prelude.{◌≡◌, ◌+◌, ◌*◌, ◌<◌, set};
-ghost use Rattle.scope.specs.Mesh.{most_nodes, most_soils, elements};
-ghost use Rattle.mesh.specs.MeshContracts.{Sized};
-ghost use Rattle.shape.specs.ShapeContracts.{MarkTable, is_marked};
+// The soils around each node, as marks: node v is marked with a soil where an element has the corner v and the soil.
+// For speed they are made in one pass over the elements; 7 asks them, and then the pairs.
+ghost use Rattle.std.specs.Prelude.{◌+◌, ◌<◌};
+ghost use Rattle.std.proofs.Props.{props};
+ghost use Rattle.scope.specs.Mesh.{elements};
+ghost use Rattle.shape.specs.ShapeContracts.{MarkTable};
 
-use mesh::sizes::{MOST_NODES, MOST_SOILS, Sizes, corner_of, element_soil};
+use mesh::Mesh;
+use mesh::limits::{MOST_NODES, MOST_SOILS};
 
-pub const MARKS: usize = MOST_NODES * MOST_SOILS;
-
-fn mark(t: &mut [u8; MARKS], v: usize, soil: usize)
-    requires { (v < most_nodes) × (soil < most_soils) }
-    ensures { t.new ≡ set t.old (v * most_soils + soil) 1 }
-{
-    t[v * MOST_SOILS + soil] = 1;
-}
+pub type Marks = [[bool; MOST_SOILS]; MOST_NODES];
 
 // Marks the corners of element e with its soil.
-fn mark_corners(m: &[i64], s: Sizes, e: usize, t: &mut [u8; MARKS])
-    requires { Sized m.now s × (e < elements m.now) × MarkTable m.now e t.old }
-    ensures { MarkTable m.now (e + 1) t.new }
+fn mark_corners(m: &Mesh, e: usize, marks: &mut Marks)
+    requires there { e < elements m.now.numbers.now }
+    requires lower { MarkTable m.now.numbers.now e marks.old }
+    ensures { MarkTable m.now.numbers.now (e + 1) marks.new }
 {
-    let soil = element_soil(m, s, e);
+    let soil = m.element_soil(e);
     for i in 0..4 {
-        let v = corner_of(m, s, e, i);
-        mark(t, v, soil);
+        let v = m.corner(e, i);
+        marks[v][soil] = true;
     }
 }
 
-pub fn mark_table(m: &[i64], s: Sizes) -> [u8; MARKS]
-    requires { Sized m.now s }
-    ensures { MarkTable m.now (elements m.now) result }
+// The marks of all elements.
+pub fn mark_table(m: &Mesh) -> Marks
+    ensures { MarkTable m.now.numbers.now (elements m.now.numbers.now) result }
 {
-    let mut t = [0u8; MARKS];
-    for e in 0..s.elements {
-        mark_corners(m, s, e, &mut t);
+    let mut marks = [[false; MOST_SOILS]; MOST_NODES];
+    for e in 0..m.sizes.elements {
+        mark_corners(m, e, &mut marks);
     }
-    t
+    marks
 }
 
-// Whether node v is marked with a soil.
-pub fn marked(t: &[u8; MARKS], v: usize, soil: usize) -> bool
-    requires { (v < most_nodes) × (soil < most_soils) }
-    ensures { result ≡ is_marked t.now v soil }
-{
-    t[v * MOST_SOILS + soil] == 1
+// A mesh with the marks of all its elements. They are lent, since a move would copy them.
+#[derive(Clone, Copy)]
+pub struct MarkedMesh<'m, 't> {
+    pub mesh: Mesh<'m>,
+    pub marks: &'t Marks,
+    pub ghost marked: { MarkTable mesh.numbers.now (elements mesh.numbers.now) marks.now } by { Prim.hlevel props },
 }

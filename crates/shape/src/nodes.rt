@@ -1,35 +1,29 @@
 // 7: each node is in an element, that is, it is marked with a soil.
-ghost use Rattle.std.specs.Prelude.{◌≡◌, ◌<◌, ◌≤◌};
-ghost use Rattle.scope.specs.Checks.{some_below};
-ghost use Rattle.scope.specs.Mesh.{most_nodes, most_soils, elements};
+ghost use Rattle.std.specs.Prelude.{◌≡◌, ◌<◌};
+ghost use Rattle.scope.specs.Answer.{outcome_of};
+ghost use Rattle.scope.specs.Mesh.{nodes};
 ghost use Rattle.scope.specs.Phases.{check_phase};
 ghost use Rattle.scope.specs.Refusals.{nodes_phase};
-ghost use Rattle.mesh.specs.MeshContracts.{Sized};
-ghost use Rattle.shape.specs.ShapeContracts.{MarkTable, is_marked};
+ghost use Rattle.scope.specs.Tests.{in_element};
 
-use crate::marks::{MARKS, marked};
-use mesh::sizes::Sizes;
-use scope::{Outcome, Place};
+use crate::marks::MarkedMesh;
+use scope::{Outcome, Place, Reason, demand};
 
-// Whether node v is marked with one of so many soils.
-fn some_soil(marks: &[u8; MARKS], soils: usize, v: usize) -> bool
-    requires { (v < most_nodes) × (soils ≤ most_soils) }
-    ensures { result ≡ some_below (is_marked marks.now v) soils }
+// Whether node v is marked with a soil.
+fn some_soil(marked: &MarkedMesh, v: usize) -> bool
+    requires { v < nodes marked.now.mesh.numbers.now }
+    ensures { result ≡ in_element marked.now.mesh.numbers.now v }
 {
-    (0..soils).any(|soil| marked(marks, v, soil))
+    let soils = marked.marks[v];
+    soils.contains(&true)
 }
 
-pub fn nodes_check(m: &[i64], s: Sizes, marks: &[u8; MARKS]) -> Outcome
-    requires { Sized m.now s × MarkTable m.now (elements m.now) marks.now }
-    ensures { result ≡ check_phase (nodes_phase m.now) }
+pub fn nodes_check(marked: &MarkedMesh) -> Outcome
+    ensures { outcome_of result ≡ check_phase (nodes_phase marked.now.mesh.numbers.now) }
 {
-    for v in 0..s.nodes {
-        if !some_soil(marks, s.soils, v) {
-            return Outcome::Refused {
-                number: 7,
-                place: Place::Node(v as u32 + 1),
-            };
-        }
+    for v in 0..marked.mesh.sizes.nodes {
+        let place = Place::Node(v as u32 + 1);
+        demand(some_soil(marked, v), Reason::NoElement.at(place))?;
     }
-    Outcome::Passed
+    Ok(())
 }

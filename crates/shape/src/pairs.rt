@@ -1,109 +1,60 @@
 // 42 (document 02, N2): the pairs of a node and a soil around it are at most MOST_PAIRS.
-// They are collected from the marks, nodes ascending and at a node soils ascending, two bytes for each: its node, then
-// its soil.
-ghost use Rattle.std.specs.Prelude.{◌≡◌, List, ◌+◌, ◌<◌, ◌≤◌, ℤ};
-ghost use Rattle.scope.specs.Mesh.{most_nodes, most_soils, most_pairs, elements};
+// They are collected from the marks, nodes ascending and at a node soils ascending.
+ghost use Rattle.std.specs.Prelude.{◌≡◌, ◌++◌, [], ◌∷◌, map, ◌+◌, ◌<◌, ◌≤◌, leb, ltb, length, OnOk, IfOk};
+ghost use Rattle.arrayvec.specs.ArrayVec.{array_vec_len};
+ghost use Rattle.scope.specs.Answer.{outcome_of};
+ghost use Rattle.scope.specs.Checks.{demand};
+ghost use Rattle.scope.specs.Mesh.{most_nodes, most_soils, most_pairs, nodes};
 ghost use Rattle.scope.specs.Phases.{check_phase};
 ghost use Rattle.scope.specs.Refusals.{pairs_phase};
-ghost use Rattle.mesh.specs.MeshContracts.{Sized};
-ghost use Rattle.shape.specs.ShapeContracts.{
-  MarkTable,
-  is_marked,
-  put_pair,
-  pair_where,
-  Added,
-  marked_pairs,
-  PairedAs,
-};
+ghost use Rattle.scope.specs.Rows.{node_pairs};
+ghost use Rattle.mesh.specs.PairContracts.{pair_of, PairsAre};
 
-use crate::marks::{MARKS, marked};
-use mesh::sizes::{MOST_PAIRS, Sizes};
-use scope::{Outcome, Place};
+use crate::marks::MarkedMesh;
+use mesh::pairs::{Pair, Pairs};
+use scope::{Outcome, Place, Reason, Refusal, demand};
 
-pub const PAIR_BYTES: usize = 2 * MOST_PAIRS;
-
-// What is said of a mesh, and where it passes, how many pairs it has, and these; a mesh that is refused has none.
-#[derive(Clone, Copy)]
-pub struct Paired {
-    pub outcome: Outcome,
-    pub count: usize,
-    pub pairs: [u8; PAIR_BYTES],
+// Adds node v with a soil, where there is room.
+fn add_pair(pairs: &mut Pairs, v: usize, soil: usize) -> Outcome
+    requires node_there { v < most_nodes }
+    requires soil_there { soil < most_soils }
+    ensures outcome { outcome_of result ≡ demand (ltb (array_vec_len pairs.old) most_pairs) 42 (Place.Node (v + 1)) }
+    ensures added { OnOk result (pairs.new.items ≡ pairs.old.items ++ record { node = v; soil = soil } ∷ []) }
+{
+    let pair = Pair {
+        node: v as u8,
+        soil: soil as u8,
+    };
+    let added = pairs.try_push(pair).is_ok();
+    demand(added, Reason::Pairs.at(Place::Node(v as u32 + 1)))
 }
 
-pub fn no_pairs(number: u32, place: Place) -> Paired
-    ensures { (m : List ℤ) → PairedAs (Outcome.Refused number place) m result }
+// Adds the pairs of node v.
+fn add_pairs(pairs: &mut Pairs, marked: &MarkedMesh, v: usize) -> Outcome
+    requires there { v < nodes marked.now.mesh.numbers.now }
+    requires fit { array_vec_len pairs.old ≤ most_pairs }
+    ensures outcome { outcome_of result
+        ≡ demand (leb (array_vec_len pairs.old + length (node_pairs marked.now.mesh.numbers.now v)) most_pairs) 42
+        (Place.Node (v + 1)) }
+    ensures added { OnOk result
+        (map pair_of pairs.new.items
+        ≡ map pair_of pairs.old.items ++ node_pairs marked.now.mesh.numbers.now v) }
 {
-    Paired {
-        outcome: Outcome::Refused { number, place },
-        count: 0,
-        pairs: [0; PAIR_BYTES],
-    }
-}
-
-#[tactic(auto, unfolding(crate::specs::ShapeContracts::put_pair))]
-fn put_pair(t: &mut [u8; PAIR_BYTES], k: usize, v: usize, soil: usize)
-    requires { (v < most_nodes) × (soil < most_soils) }
-    ensures { t.new ≡ put_pair t.old k v soil }
-{
-    if k < MOST_PAIRS {
-        t[2 * k] = v as u8;
-        t[2 * k + 1] = soil as u8;
-    }
-}
-
-// Node v with one soil, where it is marked with it, after so many pairs.
-fn soil_pair(
-    marks: &[u8; MARKS],
-    v: usize,
-    soil: usize,
-    count: usize,
-    t: &mut [u8; PAIR_BYTES],
-) -> usize
-    requires { (v < most_nodes) × (soil < most_soils) × (count < most_pairs + most_soils) }
-    ensures { Added (pair_where (is_marked marks.now v soil) v soil) count t.old result
-        t.new }
-{
-    if marked(marks, v, soil) {
-        put_pair(t, count, v, soil);
-        count + 1
-    } else {
-        count
-    }
-}
-
-// The pairs of node v after so many pairs; how many there are then.
-fn node_pairs(
-    marks: &[u8; MARKS],
-    soils: usize,
-    v: usize,
-    count: usize,
-    t: &mut [u8; PAIR_BYTES],
-) -> usize
-    requires { (v < most_nodes) × (soils ≤ most_soils) × (count ≤ most_pairs) }
-    ensures { Added (marked_pairs marks.now v soils) count t.old result t.new }
-{
-    let mut k = count;
-    for soil in 0..soils {
-        k = soil_pair(marks, v, soil, k, t);
-    }
-    k
-}
-
-pub fn pairs_check(m: &[i64], s: Sizes, marks: &[u8; MARKS]) -> Paired
-    requires { Sized m.now s × MarkTable m.now (elements m.now) marks.now }
-    ensures { PairedAs (check_phase (pairs_phase m.now)) m.now result }
-{
-    let mut pairs = [0u8; PAIR_BYTES];
-    let mut count: usize = 0;
-    for v in 0..s.nodes {
-        count = node_pairs(marks, s.soils, v, count, &mut pairs);
-        if MOST_PAIRS < count {
-            return no_pairs(42, Place::Node(v as u32 + 1));
+    for soil in 0..marked.mesh.sizes.soils {
+        if marked.marks[v][soil] {
+            add_pair(pairs, v, soil)?;
         }
     }
-    Paired {
-        outcome: Outcome::Passed,
-        count,
-        pairs,
+    Ok(())
+}
+
+pub fn pairs_check(marked: &MarkedMesh) -> Result<Pairs, Refusal>
+    ensures outcome { outcome_of result ≡ check_phase (pairs_phase marked.now.mesh.numbers.now) }
+    ensures pairs { IfOk result (λ p. PairsAre marked.now.mesh.numbers.now p.items) }
+{
+    let mut pairs = Pairs::new();
+    for v in 0..marked.mesh.sizes.nodes {
+        add_pairs(&mut pairs, marked, v)?;
     }
+    Ok(pairs)
 }

@@ -1,83 +1,95 @@
 // 6: no element has a directed side that a lower one has.
-// Sides are looked up in a table, MOST_NODES bytes for each node, that is filled first and then only read: the byte at
-// a * MOST_NODES + b is NONE where a to b is no element's side, and else the number, from 0, of the lowest element that
-// has it.
-ghost use Rattle.std.specs.Prelude.{◌≡◌, ◌+◌, ◌*◌, ◌<◌, ◌≤◌, length};
-ghost use Rattle.scope.specs.Mesh.{most_nodes, nodes, elements, corner_count, around};
+// Sides are looked up in a table that is filled first and then only read: the byte at [a][b] is NONE where a to b is no
+// element's side, and else the number, from 0, of the lowest element that has it.
+ghost use Rattle.std.specs.Prelude.{◌≡◌, ◌+◌, ◌<◌, length};
+ghost use Rattle.std.proofs.Props.{props};
+ghost use Rattle.scope.specs.Answer.{outcome_of};
+ghost use Rattle.scope.specs.Mesh.{most_nodes, elements, corner_count};
 ghost use Rattle.scope.specs.Phases.{check_phase};
 ghost use Rattle.scope.specs.Refusals.{own_sides_phase};
 ghost use Rattle.scope.specs.Tests.{own_side_at, own_sides};
-ghost use Rattle.mesh.specs.MeshContracts.{Sized};
-ghost use Rattle.shape.specs.ShapeContracts.{keep_first, byte_at, SideTable};
+ghost use Rattle.shape.specs.ShapeContracts.{keep_first, SideTable};
 
 use crate::corners::{corner_around, corner_count};
-use crate::tables::keep_first;
-use mesh::sizes::{MOST_NODES, Sizes};
-use scope::{Outcome, Place};
+use mesh::Mesh;
+use mesh::limits::MOST_NODES;
+use scope::{Outcome, Place, Reason, demand};
 
-pub fn side_byte(t: &[u8], a: usize, b: usize) -> u8
-    requires { a * most_nodes + b < length t.now }
-    ensures { result ≡ byte_at t.now a b }
-{
-    t[a * MOST_NODES + b]
-}
+// The row of a node: a byte for each node that a side may go to from it.
+pub type SideRow = [u8; MOST_NODES];
 
-// The place of side i of element e in a table.
-fn side_place(m: &[i64], s: Sizes, e: usize, i: usize) -> usize
-    requires { Sized m.now s × (e < elements m.now) × (i < corner_count m.now e) }
-    ensures place { result ≡ around m.now e i * most_nodes + around m.now e (i + 1) }
-    ensures fits { result < nodes m.now * most_nodes }
+// The byte of a side that has none yet.
+pub const NONE: u8 = 255;
+
+// Gives a byte to the side a to b, where it has none yet.
+#[tactic(auto, unfolding(crate::specs::ShapeContracts::put))]
+fn keep_first(sides: &mut [SideRow], a: usize, b: usize, byte: u8)
+    requires row { a < length sides.old }
+    requires column { b < most_nodes }
+    ensures { sides.new ≡ keep_first sides.old a b byte }
 {
-    corner_around(m, s, e, i) * MOST_NODES + corner_around(m, s, e, i + 1)
+    if sides[a][b] == NONE {
+        sides[a][b] = byte;
+    }
 }
 
 // Gives the number of element e to its sides.
-fn mark_sides(m: &[i64], s: Sizes, e: usize, t: &mut [u8])
-    requires { Sized m.now s × (e < elements m.now) × SideTable m.now e t.old }
-    ensures { SideTable m.now (e + 1) t.new }
+fn mark_sides(m: &Mesh, e: usize, sides: &mut [SideRow])
+    requires there { e < elements m.now.numbers.now }
+    requires lower { SideTable m.now.numbers.now e sides.old }
+    ensures { SideTable m.now.numbers.now (e + 1) sides.new }
 {
-    for i in 0..corner_count(m, s, e) {
-        keep_first(t, side_place(m, s, e, i), e as u8);
+    for i in 0..corner_count(m, e) {
+        let a = corner_around(m, e, i);
+        let b = corner_around(m, e, i + 1);
+        keep_first(sides, a, b, e as u8);
     }
 }
 
 // Fills a table of sides.
-pub fn side_table(m: &[i64], s: Sizes, t: &mut [u8])
-    requires { Sized m.now s × SideTable m.now 0 t.old }
-    ensures { SideTable m.now (elements m.now) t.new }
+pub fn side_table(m: &Mesh, sides: &mut [SideRow])
+    requires { SideTable m.now.numbers.now 0 sides.old }
+    ensures { SideTable m.now.numbers.now (elements m.now.numbers.now) sides.new }
 {
-    for e in 0..s.elements {
-        mark_sides(m, s, e, t);
+    for e in 0..m.sizes.elements {
+        mark_sides(m, e, sides);
     }
 }
 
-// Whether side i of element e has its own number, so that no lower element has it.
-fn own_side(m: &[i64], s: Sizes, e: usize, i: usize, t: &[u8]) -> bool
-    requires { Sized m.now s × (e < elements m.now) × (i < corner_count m.now e)
-        × SideTable m.now (elements m.now) t.now }
-    ensures { result ≡ own_side_at m.now e i }
-{
-    t[side_place(m, s, e, i)] == e as u8
+// A mesh with the filled table of its elements' sides.
+#[derive(Clone, Copy)]
+pub struct ElementSides<'a> {
+    pub mesh: Mesh<'a>,
+    pub rows: &'a [SideRow],
+    pub ghost filled: { SideTable mesh.numbers.now (elements mesh.numbers.now) rows.now } by { Prim.hlevel props },
 }
 
-fn own_sides(m: &[i64], s: Sizes, e: usize, t: &[u8]) -> bool
-    requires { Sized m.now s × (e < elements m.now) × SideTable m.now (elements m.now) t.now }
-    ensures { result ≡ own_sides m.now e }
-{
-    (0..corner_count(m, s, e)).all(|i| own_side(m, s, e, i, t))
-}
-
-pub fn sides_check(m: &[i64], s: Sizes, t: &[u8]) -> Outcome
-    requires { Sized m.now s × SideTable m.now (elements m.now) t.now }
-    ensures { result ≡ check_phase (own_sides_phase m.now) }
-{
-    for e in 0..s.elements {
-        if !own_sides(m, s, e, t) {
-            return Outcome::Refused {
-                number: 6,
-                place: Place::Element(e as u32 + 1),
-            };
-        }
+impl<'a> ElementSides<'a> {
+    // Whether side i of element e has its own number, so that no lower element has it.
+    fn own_side(&self, e: usize, i: usize) -> bool
+        requires there { e < elements self.now.mesh.numbers.now }
+        requires at_side { i < corner_count self.now.mesh.numbers.now e }
+        ensures { result ≡ own_side_at self.now.mesh.numbers.now e i }
+    {
+        let a = corner_around(&self.mesh, e, i);
+        let b = corner_around(&self.mesh, e, i + 1);
+        self.rows[a][b] == e as u8
     }
-    Outcome::Passed
+
+    fn own_sides(&self, e: usize) -> bool
+        requires { e < elements self.now.mesh.numbers.now }
+        ensures { result ≡ own_sides self.now.mesh.numbers.now e }
+    {
+        (0..corner_count(&self.mesh, e)).all(|i| self.own_side(e, i))
+    }
+}
+
+pub fn sides_check(sides: &ElementSides) -> Outcome
+    ensures { outcome_of result ≡ check_phase (own_sides_phase sides.now.mesh.numbers.now) }
+{
+    for e in 0..sides.mesh.sizes.elements {
+        let place = Place::Element(e as u32 + 1);
+        demand(sides.own_sides(e), Reason::OwnSide.at(place))?;
+    }
+    Ok(())
 }

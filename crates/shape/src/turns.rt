@@ -2,16 +2,16 @@
 ghost use Rattle.std.specs.Prelude.{◌≡◌, ◌<◌, pos, ◌-ℤ◌, ◌*ℤ◌};
 ghost use Rattle.std.specs.Int.Signed.{lt_z};
 ghost use Rattle.integer.specs.Bounds.{Within, Is};
+ghost use Rattle.scope.specs.Answer.{outcome_of};
 ghost use Rattle.scope.specs.Bounds.{most_coordinate, most_area};
 ghost use Rattle.scope.specs.Mesh.{nodes, elements, corner_count};
 ghost use Rattle.scope.specs.Phases.{check_phase};
 ghost use Rattle.scope.specs.Refusals.{turns_phase};
 ghost use Rattle.scope.specs.Tests.{turn, left_turn_at, left_turns};
-ghost use Rattle.mesh.specs.MeshContracts.{Sized};
 
 use crate::corners::{corner_around, corner_count};
-use mesh::sizes::{Sizes, rise_between, run_between};
-use scope::{Outcome, Place};
+use mesh::Mesh;
+use scope::{Outcome, Place, Reason, demand};
 
 // The cross product of two steps.
 fn cross(ux: i64, uy: i64, vx: i64, vy: i64) -> i64
@@ -25,45 +25,43 @@ fn cross(ux: i64, uy: i64, vx: i64, vy: i64) -> i64
 }
 
 // Whether the nodes a, b, c turn left at b.
-fn turns_left(m: &[i64], s: Sizes, a: usize, b: usize, c: usize) -> bool
-    requires { Sized m.now s × (a < nodes m.now) × (b < nodes m.now) × (c < nodes m.now) }
-    ensures { result ≡ lt_z (pos 0) (turn m.now a b c) }
+fn turns_left(m: &Mesh, a: usize, b: usize, c: usize) -> bool
+    requires a_there { a < nodes m.now.numbers.now }
+    requires b_there { b < nodes m.now.numbers.now }
+    requires c_there { c < nodes m.now.numbers.now }
+    ensures { result ≡ lt_z (pos 0) (turn m.now.numbers.now a b c) }
 {
-    let ux = run_between(m, s, b, a);
-    let uy = rise_between(m, s, b, a);
-    let vx = run_between(m, s, c, a);
-    let vy = rise_between(m, s, c, a);
+    let ux = m.run(b, a);
+    let uy = m.rise(b, a);
+    let vx = m.run(c, a);
+    let vy = m.rise(c, a);
     0 < cross(ux, uy, vx, vy)
 }
 
-fn left_turn_at(m: &[i64], s: Sizes, e: usize, i: usize) -> bool
-    requires { Sized m.now s × (e < elements m.now) × (i < corner_count m.now e) }
-    ensures { result ≡ left_turn_at m.now e i }
+fn left_turn_at(m: &Mesh, e: usize, i: usize) -> bool
+    requires there { e < elements m.now.numbers.now }
+    requires at_corner { i < corner_count m.now.numbers.now e }
+    ensures { result ≡ left_turn_at m.now.numbers.now e i }
 {
-    let a = corner_around(m, s, e, i + (corner_count(m, s, e) - 1));
-    let b = corner_around(m, s, e, i);
-    let c = corner_around(m, s, e, i + 1);
-    turns_left(m, s, a, b, c)
+    let a = corner_around(m, e, i + (corner_count(m, e) - 1));
+    let b = corner_around(m, e, i);
+    let c = corner_around(m, e, i + 1);
+    turns_left(m, a, b, c)
 }
 
-fn left_turns(m: &[i64], s: Sizes, e: usize) -> bool
-    requires { Sized m.now s × (e < elements m.now) }
-    ensures { result ≡ left_turns m.now e }
+fn left_turns(m: &Mesh, e: usize) -> bool
+    requires { e < elements m.now.numbers.now }
+    ensures { result ≡ left_turns m.now.numbers.now e }
 {
-    (0..corner_count(m, s, e)).all(|i| left_turn_at(m, s, e, i))
+    (0..corner_count(m, e)).all(|i| left_turn_at(m, e, i))
 }
 
-pub fn turns_check(m: &[i64], s: Sizes) -> Outcome
-    requires { Sized m.now s }
-    ensures { result ≡ check_phase (turns_phase m.now) }
+pub fn turns_check(m: &Mesh) -> Outcome
+    ensures { outcome_of result ≡ check_phase (turns_phase m.now.numbers.now) }
 {
-    for e in 0..s.elements {
-        if !left_turns(m, s, e) {
-            return Outcome::Refused {
-                number: 5,
-                place: Place::Element(e as u32 + 1),
-            };
-        }
+    for e in 0..m.sizes.elements {
+        let place = Place::Element(e as u32 + 1);
+        demand(left_turns(m, e), Reason::LeftTurn.at(place))?;
     }
-    Outcome::Passed
+    Ok(())
 }

@@ -5,7 +5,7 @@ use Rattle.shape.proofs.corners.corner_around.Goals as goal
 
 pub returns : goal.returns
 returns c = record {
-  same = c.corner_of.ensures.same ∙ around-corner _ _ _ c.corner_count.ensures.is;
-  there = c.corner_of.ensures.there;
-  few = c.corner_of.ensures.few;
+  same = c.corner.ensures.same ∙ around-corner _ _ _ c.corner_count.ensures.is;
+  there = c.corner.ensures.there;
+  few = c.corner.ensures.few;
 }

@@ -7,10 +7,10 @@ pub returns-then-third-fourth-clause-is : goal.returns-then-third-fourth-clause-
 returns-then-third-fourth-clause-is c =
     sym
     (three_corners _ _
-    (sym c.corner_of-third.ensures.same ∙ c.if-third-fourth.true ∙ c.corner_of-fourth.ensures.same))
+    (sym c.corner-third.ensures.same ∙ c.if-third-fourth.true ∙ c.corner-fourth.ensures.same))
 
 pub returns-else-third-fourth-clause-is : goal.returns-else-third-fourth-clause-is
 returns-else-third-fourth-clause-is c =
     sym
     (four_corners _ _
-    (λ e. c.if-third-fourth.false (c.corner_of-third.ensures.same ∙ e ∙ sym c.corner_of-fourth.ensures.same)))
+    (λ e. c.if-third-fourth.false (c.corner-third.ensures.same ∙ e ∙ sym c.corner-fourth.ensures.same)))

@@ -6,4 +6,4 @@ use Rattle.scope.specs.Tests.{outer_edge}
 use Rattle.shape.proofs.edges.edges_check.Given as goal
 
 abbrev pub invariant-loop-g : goal.invariant-loop-g
-invariant-loop-g l = all_below (outer_edge l.m) l.g ≡ true
+invariant-loop-g l = all_below (outer_edge l.sides.mesh.numbers.now) l.g ≡ true

@@ -3,4 +3,4 @@ use Rattle.shape.specs.ShapeContracts.{EdgeTable}
 use Rattle.shape.proofs.edges.take_sides.Given as goal
 
 abbrev pub invariant-loop-g : goal.invariant-loop-g
-invariant-loop-g l = EdgeTable l.m l.g l.t
+invariant-loop-g l = EdgeTable l.m.numbers.now l.g l.sides

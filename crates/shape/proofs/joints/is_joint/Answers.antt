@@ -5,16 +5,10 @@ use Rattle.shape.proofs.joints.is_joint.Goals as goal
 
 pub returns-then-same_point : goal.returns-then-same_point
 returns-then-same_point c =
-    let p = c.requires in
-    let is =
-    joint_is _ p.0 _ p.2 c.jump_node-from.ensures c.jump_node-to.ensures
-    c.jump_node-facing_from.ensures c.jump_node-facing_to.ensures in
+    let is = joint_is _ c.args.m.now.sized _ c.requires.used c.jump-jump.ensures in
     grind (arith, is)
 
 pub returns-else-same_point : goal.returns-else-same_point
 returns-else-same_point c =
-    let p = c.requires in
-    let is =
-    joint_is _ p.0 _ p.2 c.jump_node-from.ensures c.jump_node-to.ensures
-    c.jump_node-facing_from.ensures c.jump_node-facing_to.ensures in
+    let is = joint_is _ c.args.m.now.sized _ c.requires.used c.jump-jump.ensures in
     grind (arith, is)

@@ -8,4 +8,4 @@ use Rattle.shape.proofs.joints.joints_check.Given as goal
 
 abbrev pub invariant-loop-j : goal.invariant-loop-j
 invariant-loop-j l =
-    (all_below (is_joint l.m) l.j ≡ true) × JumpTable l.m l.j l.t
+    (all_below (is_joint l.m.numbers.now) l.j ≡ true) × JumpTable l.m.numbers.now l.j l.sides

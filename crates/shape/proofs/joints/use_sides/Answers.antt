@@ -4,7 +4,5 @@ use Rattle.shape.proofs.joints.use_sides.Goals as goal
 
 pub returns : goal.returns
 returns c =
-    let p = c.requires in
-    use_more _ p.0 _ p.2 c.jump_node-from.ensures c.jump_node-to.ensures
-    c.jump_node-facing_from.ensures c.jump_node-facing_to.ensures
-    c.take_side.ensures c.take_side-2.ensures
+    use_more _ c.args.m.now.sized _ c.requires.used c.jump-jump.ensures c.take_side.ensures
+    c.take_side-2.ensures

@@ -3,4 +3,4 @@ use Rattle.shape.proofs.MarkTables.{Marks, marks_so_far}
 use Rattle.shape.proofs.marks.mark_corners.Given as goal
 
 abbrev pub invariant-loop-i : goal.invariant-loop-i
-invariant-loop-i l = Marks (marks_so_far l.m l.e l.i) l.t
+invariant-loop-i l = Marks (marks_so_far l.m.numbers.now l.e l.i) l.marks

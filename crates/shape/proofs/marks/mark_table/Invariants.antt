@@ -3,4 +3,4 @@ use Rattle.shape.specs.ShapeContracts.{MarkTable}
 use Rattle.shape.proofs.marks.mark_table.Given as goal
 
 abbrev pub invariant-loop-e : goal.invariant-loop-e
-invariant-loop-e l = MarkTable l.m l.e l.t
+invariant-loop-e l = MarkTable l.m.numbers.now l.e l.marks

@@ -1,13 +1,16 @@
 -- `edges_and_joints` meets its contract: the edges first, and the jumps where they have passed.
-use mathlib.Core.Path.{sym, ◌∙◌}
-use Rattle.scope.specs.Phases.{check_phases}
-use Rattle.lines.proofs.Loops.{then_refuses, then_goes_on}
+use mathlib.Core.Path.{refl}
+use Rattle.scope.specs.Phases.{check_phase, check_phases}
+use Rattle.scope.specs.Refusals.{joints_phase}
+use Rattle.scope.proofs.Answered.{first_refuses, second_decides}
 use Rattle.shape.proofs.mesh_checks.edges_and_joints.Goals as goal
 
-pub returns-in-Refused : goal.returns-in-Refused
+pub returns-in_err-edges_check : goal.returns-in_err-edges_check
 unfolding check_phases
-returns-in-Refused c = then_refuses _ (sym c.edges_check.ensures ∙ c.in-Refused.is)
+returns-in_err-edges_check c =
+    first_refuses c.from_residual.result c.in_err-edges_check.field-0.0
+    (check_phase (joints_phase c.args.m.now.numbers.now)) c.from_residual.ensures.1 c.in_err-edges_check.ensures refl
 
-pub returns-in-Passed : goal.returns-in-Passed
+pub returns : goal.returns
 unfolding check_phases
-returns-in-Passed c = then_goes_on (sym c.edges_check.ensures ∙ c.in-Passed.is) c.joints_check.ensures
+returns c = second_decides c.in_ok-edges_check.ensures refl c.joints_check.ensures

@@ -1,21 +1,29 @@
 -- `mesh_shape` meets its contract: the turns first, then the sides, nodes, edges and jumps, and the pairs last.
-use mathlib.Core.Path.{sym, ◌∙◌}
-use Rattle.shape.proofs.MeshLaws.{turns_refuse, rest_refuses, pairs_last}
-use Rattle.shape.proofs.PairTables.{paired_as}
+use mathlib.Core.Path.{refl}
+use Rattle.scope.specs.Checks.{◌then◌}
+use Rattle.scope.specs.Phases.{check_phase, check_phases}
+use Rattle.scope.specs.Refusals.{pairs_phase}
+use Rattle.scope.proofs.Answered.{first_refuses, second_decides}
+use Rattle.shape.specs.ShapeContracts.{side_phases}
+use Rattle.shape.proofs.MeshLaws.{shape_checked}
 use Rattle.shape.proofs.mesh_checks.mesh_shape.Goals as goal
 
-pub returns-in-Refused : goal.returns-in-Refused
-returns-in-Refused c =
-    paired_as _ (c.no_pairs.ensures _) (turns_refuse _ (sym c.turns_check.ensures ∙ c.in-Refused.is))
+pub returns-in_err-turns_check-clause-outcome : goal.returns-in_err-turns_check-clause-outcome
+returns-in_err-turns_check-clause-outcome c =
+    let m = c.args.m.now.numbers.now in
+    first_refuses c.from_residual.result c.in_err-turns_check.field-0.0
+    (check_phases (side_phases m) then check_phase (pairs_phase m)) c.from_residual.ensures.1
+    c.in_err-turns_check.ensures (shape_checked m)
 
-pub returns-in-Refused-sides_to_joints : goal.returns-in-Refused-sides_to_joints
-returns-in-Refused-sides_to_joints c =
-    let turned = sym c.turns_check.ensures ∙ c.in_default.is in
-    paired_as _ (c.no_pairs-in-Refused-sides_to_joints.ensures _)
-    (rest_refuses _ turned (sym c.sides_to_joints.ensures ∙ c.in-Refused-sides_to_joints.is))
+pub returns-in_err-sides_to_joints-clause-outcome : goal.returns-in_err-sides_to_joints-clause-outcome
+returns-in_err-sides_to_joints-clause-outcome c =
+    let m = c.args.m.now.numbers.now in
+    second_decides c.in_ok-turns_check.ensures (shape_checked m)
+    (first_refuses c.from_residual-in_err-sides_to_joints.result c.in_err-sides_to_joints.field-0.0
+    (check_phase (pairs_phase m)) c.from_residual-in_err-sides_to_joints.ensures.1
+    c.in_err-sides_to_joints.ensures refl)
 
-pub returns : goal.returns
-returns c =
-    let turned = sym c.turns_check.ensures ∙ c.in_default.is in
-    paired_as _ c.pairs_check.ensures
-    (pairs_last _ turned (sym c.sides_to_joints.ensures ∙ c.in_default-sides_to_joints.is))
+pub returns-clause-outcome : goal.returns-clause-outcome
+returns-clause-outcome c =
+    second_decides c.in_ok-turns_check.ensures (shape_checked c.args.m.now.numbers.now)
+    (second_decides c.in_ok-sides_to_joints.ensures refl c.pairs_check.ensures.outcome)

@@ -6,4 +6,4 @@ use Rattle.scope.specs.Tests.{in_element}
 use Rattle.shape.proofs.nodes.nodes_check.Given as goal
 
 abbrev pub invariant-loop-v : goal.invariant-loop-v
-invariant-loop-v l = all_below (in_element l.m) l.v ≡ true
+invariant-loop-v l = all_below (in_element l.marked.mesh.numbers.now) l.v ≡ true

@@ -1,14 +1,18 @@
--- `some_soil` meets its contract: `any` over the soils is some soil below as many.
-use Rattle.std.proofs.Common.{rules, tests, refl, arith, ◌∙◌}
-use Rattle.std.proofs.lemmas.Iterator.{YieldsList-from_range}
-use Rattle.std.proofs.lemmas.Iterator.Search.{any_from_yields_List}
-use Rattle.scope.proofs.Ranges.{some_in_range}
-use Rattle.shape.specs.ShapeContracts.{is_marked}
+-- `some_soil` meets its contract: a mark that is `true` is set.
+use mathlib.Core.Path.{◌≡◌, refl, ◌∙◌}
+use mathlib.Core.Bool.{Bool, true, false, beq}
+use mathlib.Core.List.{List, [], ◌∷◌}
+use lib.ListN.{get_or}
+use Rattle.std.specs.List.{list_any}
+use Rattle.shape.proofs.MarkTables.{some_mark}
 use Rattle.shape.proofs.nodes.some_soil.Goals as goal
+
+any_true : (marks : List Bool) → list_any (λ b. beq b true) marks ≡ list_any (λ b. b) marks
+any_true [] = refl
+any_true (true ∷ marks) = refl
+any_true (false ∷ marks) = any_true marks
 
 pub returns : goal.returns
 returns c =
-    let a = c.args in
-    any_from_yields_List (is_marked a.marks.now a.v) _ _ c.any.result c.any.ensures.ran
-    (YieldsList-from_range 0 a.soils a.soils refl (omega arith)) (λ x b q k. search (rules, tests))
-    ∙ some_in_range (is_marked a.marks.now a.v) a.soils
+    let m = c.args.marked.now in
+    c.contains.ensures.value ∙ any_true (get_or m.marks.now c.args.v []) ∙ some_mark _ m.mesh.sized m.marked c.requires

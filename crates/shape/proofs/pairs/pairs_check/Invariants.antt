@@ -3,4 +3,4 @@ use Rattle.shape.proofs.PairTables.{Collected}
 use Rattle.shape.proofs.pairs.pairs_check.Given as goal
 
 abbrev pub invariant-loop-v : goal.invariant-loop-v
-invariant-loop-v l = Collected l.m l.v l.count l.pairs
+invariant-loop-v l = Collected l.marked.mesh.numbers.now l.v l.pairs.items

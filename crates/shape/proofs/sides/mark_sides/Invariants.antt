@@ -4,4 +4,4 @@ use Rattle.shape.proofs.SideTables.{sides_so_far}
 use Rattle.shape.proofs.sides.mark_sides.Given as goal
 
 abbrev pub invariant-loop-i : goal.invariant-loop-i
-invariant-loop-i l = SideBytes l.m (sides_so_far l.m l.e l.i) l.t
+invariant-loop-i l = SideBytes l.m.numbers.now (sides_so_far l.m.numbers.now l.e l.i) l.sides

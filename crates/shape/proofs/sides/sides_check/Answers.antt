@@ -1,33 +1,32 @@
 -- `sides_check` meets its contract. The invariant: the elements passed have sides of their own.
-use mathlib.Core.Path.{refl, sym, ◌∙◌, ap}
+use mathlib.Core.Path.{refl, ap}
 use Prim.Native.Nat.{suc}
-use native.Mathlib.Numerals.{add-one}
 use native.Mathlib.Omega.{arith}
 use Rattle.scope.specs.declared.Place.TheVariants.{Element}
 use Rattle.scope.specs.Checks.{all_below}
-use Rattle.scope.specs.Mesh.{elements}
 use Rattle.scope.specs.Phases.{check_phase}
+use native.Mathlib.Numerals.{add-one}
+use Rattle.scope.specs.Mesh.{elements}
 use Rattle.scope.specs.Tests.{own_sides}
-use Rattle.lines.proofs.Loops.{all_more, each_below, phase-at, phase_all}
+use Rattle.lines.proofs.Asked.{asked_more, asked_stops, asked_all}
 use Rattle.shape.proofs.sides.sides_check.Goals as goal
 
 pub loop-e-init : goal.loop-e-init
 unfolding all_below
 loop-e-init c = refl
 
-pub returns-then-not-own_sides : goal.returns-then-not-own_sides
+pub returns-in_err-demand : goal.returns-in_err-demand
 unfolding check_phase
-returns-then-not-own_sides c =
-    phase-at (own_sides _) 6 (λ e. Element (suc e)) (elements _) (each_below _ _ c.loop-e.invariant)
-    (omega (arith, c.requires.0.elements_are)) (sym c.own_sides.ensures ∙ c.if-not-own_sides.true)
-    (ap Element (add-one _))
+returns-in_err-demand c =
+    asked_stops (own_sides _) c.loop-e.invariant c.own_sides.ensures c.from_residual.result c.in_err-demand.field-0.0
+    c.from_residual.ensures.1 c.at.ensures c.in_err-demand.ensures (λ e. Element (suc e)) (ap Element (add-one _))
+    (elements _) (omega (arith, c.args.sides.now.mesh.sized.elements_are))
 
 pub loop-e-preserved : goal.loop-e-preserved
-loop-e-preserved c =
-    all_more (own_sides _) c.loop-e.invariant (sym c.own_sides.ensures ∙ c.if-not-own_sides.false)
+loop-e-preserved c = asked_more (own_sides _) c.loop-e.invariant c.own_sides.ensures _ _ c.in_ok-demand.ensures
 
 pub returns : goal.returns
 unfolding check_phase
 returns c =
-    phase_all (own_sides _) 6 (λ e. Element (suc e)) (elements _)
-    (λ k l. each_below _ _ c.loop-e.invariant k (omega (arith, c.requires.0.elements_are)))
+    asked_all (own_sides _) c.loop-e.invariant 6 (λ e. Element (suc e)) (elements _)
+    (omega (arith, c.args.sides.now.mesh.sized.elements_are))

@@ -6,4 +6,4 @@ use Rattle.scope.specs.Tests.{own_sides}
 use Rattle.shape.proofs.sides.sides_check.Given as goal
 
 abbrev pub invariant-loop-e : goal.invariant-loop-e
-invariant-loop-e l = all_below (own_sides l.m) l.e ≡ true
+invariant-loop-e l = all_below (own_sides l.sides.mesh.numbers.now) l.e ≡ true

@@ -10,7 +10,7 @@ use Rattle.shape.proofs.turns.left_turns.Goals as goal
 pub returns : goal.returns
 unfolding left_turns
 returns c =
-    let test = left_turn_at c.args.m.now c.args.e in
+    let test = left_turn_at c.args.m.now.numbers.now c.args.e in
     let n = c.corner_count.result in
     all_from_yields_List test _ _ c.all.result c.all.ensures.ran
     (YieldsList-from_range 0 n n refl (omega arith)) (λ x b q k. search (rules, tests))

@@ -6,4 +6,4 @@ use Rattle.scope.specs.Tests.{left_turns}
 use Rattle.shape.proofs.turns.turns_check.Given as goal
 
 abbrev pub invariant-loop-e : goal.invariant-loop-e
-invariant-loop-e l = all_below (left_turns l.m) l.e ≡ true
+invariant-loop-e l = all_below (left_turns l.m.numbers.now) l.e ≡ true

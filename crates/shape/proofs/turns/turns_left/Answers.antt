@@ -14,7 +14,7 @@ returns c =
     decides (search machine depth 30) (omega arith)
     ∙ ap (lt_z (pos 0))
     (cross_from
-    (Is-read c.run_between-ux.ensures (omega arith))
-    (Is-read c.rise_between-uy.ensures (omega arith))
-    (Is-read c.run_between-vx.ensures (omega arith))
-    (Is-read c.rise_between-vy.ensures (omega arith)))
+    (Is-read c.run-ux.ensures (omega arith))
+    (Is-read c.rise-uy.ensures (omega arith))
+    (Is-read c.run-vx.ensures (omega arith))
+    (Is-read c.rise-vy.ensures (omega arith)))
