@@ -1,30 +1,50 @@
 -- The equality rows as numbers: each number of a balance row, of a side row or of a jump row is that of the definition,
--- and within its bound.
+-- and each column is there.
 use mathlib.Core.Path.{◌≡◌, refl, sym, ◌∙◌, ap, ap₂}
-use mathlib.Core.Bool.{Bool, true}
-use mathlib.Core.List.{List, [], ◌∷◌}
-use Prim.Native.Nat.{ℕ, zero, suc, ◌+◌, ◌*◌, ◌-◌, ◌/◌, ◌%◌, ◌^◌, ◌≤◌, ◌<◌, zero-le}
-use native.Mathlib.Nat.{add-zero, le_refl, div-add-mod'}
+use mathlib.Core.List.{List, [], ◌∷◌, ◌++◌}
+use Prim.Native.Nat.{ℕ, zero, suc, ◌+◌, ◌*◌, ◌/◌, ◌%◌, ◌^◌, ◌≤◌, ◌<◌}
+use native.Mathlib.Nat.{add-zero}
 use native.Mathlib.Omega.{arith}
 use mir.Facts.{to_z-of_z}
 use mir.Syntax.{w64}
 use mir.Val.{to_z, of_z}
+use lib.Dec.{eqb, ltb}
+use mathlib.Core.Bool.{Bool, true, false, cond, ◌||◌}
+use Rattle.integer.specs.Tests.{eq_z}
 use lib.IntN.{ℤ, pos, ◌+ℤ◌, ◌-ℤ◌, ◌*ℤ◌, neg_ℤ}
-use lib.ListN.{length, get_or, replicate}
-use Rattle.integer.specs.Bounds.{Within, AllWithin, Is}
-use Rattle.integer.proofs.BoundLaws.{Within-neg_ℤ, Within-*ℤ, AllWithin-le}
-use Rattle.integer.proofs.Machine.{Is-read, Is-within, Is-minus, Is-Within, Within-SFits}
+use lib.ListN.{length, get_or}
+use Rattle.integer.specs.Bounds.{Within}
+use Rattle.integer.proofs.Machine.{Is-read, Is-within, Is-minus, Within-SFits}
 use Rattle.integer.proofs.Ring.{ring, terms}
-use Rattle.equality.specs.declared.equality_rows.EqualityRow.{EqualityRow}
-use Rattle.equality.specs.declared.equality_rows.Span.{Span}
-use Rattle.equality.specs.declared.equality_rows.Step.{Step}
-use Rattle.equality.specs.declared.equality_rows.Part.{Part}
-use Rattle.equality.specs.declared.equality_rows.Part.TheVariants.{Normal, Shear}
-use Rattle.equality.specs.declared.equality_rows.Expression.{Expression}
-use Rattle.equality.specs.declared.equality_rows.Traction.{Traction}
-use Rattle.equality.specs.EqualityContracts.{with_columns, row_of, RowFits, Filled, SpanIs, SpanFits, corner_columns, with_opposites, balance_coefficients, StepIs, ExpressionIs, ExpressionFits, part_of, TractionIs, traction_row, agreement_row}
-use Rattle.mesh.specs.MeshContracts.{jump_node}
-use Rattle.scope.specs.Bounds.{most_coordinate, most_square, most_coefficient, equality_right}
+use Rattle.equality.specs.declared.row.EqualityRow.{EqualityRow}
+use Rattle.equality.specs.declared.axes.Axis.{Axis}
+use Rattle.equality.specs.declared.axes.Axis.TheVariants.{X, Y}
+use Rattle.equality.specs.declared.geometry.Span.{Span}
+use Rattle.equality.specs.declared.geometry.Step.{Step}
+use Rattle.equality.specs.declared.parts.Part.{Part}
+use Rattle.equality.specs.declared.parts.Part.TheVariants.{Normal, Shear}
+use Rattle.equality.specs.declared.tractions.Traction.{Traction}
+use Rattle.equality.specs.EqualityContracts.{
+  row_of,
+  is_asked,
+  ColumnsBelow,
+  Filled,
+  SpanIs,
+  number,
+  along,
+  balance_entries,
+  StepIs,
+  part_of,
+  end_of,
+  code,
+  part_entries,
+  TractionIs,
+  traction_row,
+}
+use Rattle.mesh.specs.declared.entries.Soil.{Soil}
+use Rattle.mesh.specs.declared.entries.Edge.{Edge}
+use Rattle.mesh.specs.EntryContracts.{SoilOf, EdgeOf}
+use Rattle.scope.specs.Bounds.{most_entries}
 use Rattle.scope.specs.Mesh.{
   nodes,
   elements,
@@ -32,12 +52,12 @@ use Rattle.scope.specs.Mesh.{
   y,
   corner,
   element_soil,
-  soil_entry,
   live_x,
   live_y,
   dead_x,
   dead_y,
   edges,
+  edge_entry,
   jumps,
   from_node,
   to_node,
@@ -46,9 +66,13 @@ use Rattle.scope.specs.Mesh.{
   facing_from,
   facing_to,
 }
-use Rattle.scope.specs.NumberRanges.{MeshFacts, EdgeFacts}
+use Rattle.scope.specs.NumberRanges.{MeshFacts}
 use Rattle.scope.specs.Rows.{
+  Kind,
   Row,
+  asked,
+  unfixed,
+  strength,
   equality_rows,
   joined,
   count_from,
@@ -69,12 +93,13 @@ use Rattle.scope.specs.Rows.{
   shear_row,
   jump_step_x,
   jump_step_y,
+  minus,
   agree_row,
   jump_normal,
   jump_shear,
 }
 use Rattle.scope.specs.Tests.{row_at}
-use Rattle.scope.proofs.RowNumbers.{balance_at, side_at_lem, jump_at, rows_of_jump}
+use Rattle.scope.proofs.RowNumbers.{balance_at, side_at_lem, jump_at}
 use Rattle.scope.proofs.SumBounds.{area_is}
 
 -- ---- numbers as the machine reads them
@@ -86,84 +111,25 @@ pub opposite : {B : ℕ} {z : ℤ} → Within B z → B < 2 ^ 63
     → to_z w64 (of_z w64 (pos 0 -ℤ to_z w64 (of_z w64 z))) ≡ neg_ℤ z
 opposite h l = (Is-read (Is-minus (Is-read (Is-within h) l)) l).same
 
--- ---- the bounds of a row
+-- ---- columns
 
-within_nil : {B : ℕ} → AllWithin B []
-within_nil = record { each = λ i. record { within = zero-le } }
-
-within_cons : {B : ℕ} {a : ℤ} {l : List ℤ} → Within B a → AllWithin B l → AllWithin B (a ∷ l)
-within_cons {B} {a} {l} h k = record { each = by }
-  where
-    by : (i : ℕ) → Within B (get_or (a ∷ l) i (pos 0))
-    by zero = h
-    by (suc i) = k.each i
-
-zeros_within : {B : ℕ} (k : ℕ) → AllWithin B (replicate k (pos 0))
-zeros_within zero = within_nil
-zeros_within (suc k) = within_cons (record { within = zero-le }) (zeros_within k)
-
-record Below (n : ℕ) (l : List ℕ) : Type 0 where
-  each : (i : ℕ) → i < length l → get_or l i 0 < n
-
-below_nil : {n : ℕ} → Below n []
+below_nil : {n : ℕ} → ColumnsBelow n []
 below_nil = record { each = λ i h. absurd (omega arith) }
 
-below_cons : {n a : ℕ} {l : List ℕ} → a < n → Below n l → Below n (a ∷ l)
-below_cons {n} {a} {l} h k = record { each = by }
+below_cons : {n j : ℕ} {c : ℤ} {es : List (ℤ × ℕ)} → j < n → ColumnsBelow n es → ColumnsBelow n ((c, j) ∷ es)
+below_cons {n} {j} {c} {es} h k = record { each = by }
   where
-    by : (i : ℕ) → i < length (a ∷ l) → get_or (a ∷ l) i 0 < n
+    by : (i : ℕ) → i < length ((c, j) ∷ es) → (get_or ((c, j) ∷ es) i (pos 0, 0)).1 < n
     by zero g = h
     by (suc i) g = k.each i (omega arith)
 
-zeros_below : {n : ℕ} (k : ℕ) → 0 < n → Below n (replicate k 0)
-zeros_below zero h = below_nil
-zeros_below (suc k) h = below_cons h (zeros_below k h)
-
-row_fits : {r : EqualityRow} {n : ℕ} → length r.coefficients ≡ 8 → length r.columns ≡ 8 → r.count ≤ 8
-    → AllWithin most_coefficient r.coefficients → Below n r.columns → Within equality_right r.live
-    → Within equality_right r.right → RowFits r n
-row_fits long wide few cs js live right = record {
-  entries = record {
-    long = long;
-    wide = wide;
-    few = few;
-    coefficients_fit = cs;
-    columns_fit = λ i h. js.each i (omega arith);
-  };
-  live_fits = live;
-  right_fits = right;
-}
-
 -- ---- a balance row
 
-pub span_fits : {g : Span} {m : List ℤ} {e : ℕ} → SpanIs g m e → SpanFits g
-span_fits h = record {
-  rise = Is-Within h.rise (le_refl _);
-  rise_next = Is-Within h.rise_next (le_refl _);
-  run = Is-Within h.run (le_refl _);
-  run_next = Is-Within h.run_next (le_refl _);
-}
-
-opposites_within : {a b c d : ℤ} → Within most_coordinate a → Within most_coordinate b → Within most_coordinate c
-    → Within most_coordinate d → AllWithin most_coefficient (with_opposites a b c d)
-unfolding with_opposites
-opposites_within ha hb hc hd =
-    AllWithin-le {A = most_coordinate}
-    (within_cons ha (within_cons hb (within_cons hc (within_cons hd
-    (within_cons (Within-neg_ℤ ha) (within_cons (Within-neg_ℤ hb)
-    (within_cons (Within-neg_ℤ hc) (within_cons (Within-neg_ℤ hd) within_nil))))))))
-    (omega arith)
-
-eight_coefficients : (g : Span) (i : ℕ) → length (balance_coefficients g i) ≡ 8
-unfolding balance_coefficients with_opposites
-eight_coefficients g zero = refl
-eight_coefficients g (suc i) = refl
+pub number_below : (axis : Axis) → number axis < 2
+number_below X = omega arith
+number_below Y = omega arith
 
 module _ (m : List ℤ) (e : ℕ) where
-  eight_columns : (i : ℕ) → length (corner_columns m e i) ≡ 8
-  unfolding corner_columns
-  eight_columns i = refl
-
   rise_opposite : rise_across m e 2 ≡ neg_ℤ (rise_across m e 0)
   unfolding rise_across node
   rise_opposite = ring (y m (corner m e 1) ∷ y m (corner m e 3) ∷ []) (search terms depth 100) refl
@@ -180,32 +146,31 @@ module _ (m : List ℤ) (e : ℕ) where
   unfolding run_across node
   run_next_opposite = ring (x m (corner m e 0) ∷ x m (corner m e 2) ∷ []) (search terms depth 100) refl
 
-  module _ {g : Span} (shape : SpanIs g m e) where
-    -- row i of the element, from the numbers of its shape
-    balance_is : (i : ℕ) {live right : ℤ} → i < 2
-        → live ≡ twice_area m e *ℤ soil_entry m (element_soil m e) (6 + i)
-        → right ≡ neg_ℤ (twice_area m e *ℤ soil_entry m (element_soil m e) (4 + i))
-        → row_of
-        (record {
-          coefficients = balance_coefficients g i;
-          columns = corner_columns m e i;
-          count = 8;
-          live = live;
-          right = right;
-          asked = true;
-        })
-        ≡ row_at (balance_x m e ∷ balance_y m e ∷ []) i
-    unfolding row_of balance_coefficients with_opposites with_columns corner_columns balance_x balance_y joined
-        count_from
-        node sx sy t row_at live_x dead_x live_y dead_y
-    balance_is zero l el er =
+  area_same : {g : Span} → SpanIs g m e → g.rise *ℤ g.run_next -ℤ g.rise_next *ℤ g.run ≡ twice_area m e
+  area_same shape = rw (shape.rise, shape.rise_next, shape.run, shape.run_next) (area_is m e)
+
+  module _ {g : Span} (shape : SpanIs g m e) (r : Span) where
+    -- the row of the element along an axis, from the numbers of its shape and of its soil
+    balance_is : (axis : Axis)
+        → r.rise ≡ along axis g.rise g.run → r.rise_next ≡ along axis g.rise_next g.run_next
+        → r.run ≡ along axis g.run g.rise → r.run_next ≡ along axis g.run_next g.rise_next
+        → {soil : Soil} → SoilOf soil m (element_soil m e)
+        → {live right : ℤ} → live ≡ twice_area m e *ℤ along axis soil.live.x soil.live.y
+        → right ≡ neg_ℤ (twice_area m e *ℤ along axis soil.dead.x soil.dead.y)
+        → ◌≡◌ {A = Row}
+        (record { kind = asked; entries = balance_entries m e r axis; live = live; right = right })
+        (row_at (balance_x m e ∷ balance_y m e ∷ []) (number axis))
+    unfolding balance_entries balance_x balance_y joined count_from node sx sy t row_at live_x dead_x live_y dead_y
+    balance_is X a b c d soil el er =
         rw (
-          shape.rise.same,
-          shape.rise_next.same,
-          shape.run.same,
-          shape.run_next.same,
+          a ∙ shape.rise,
+          b ∙ shape.rise_next,
+          c ∙ shape.run,
+          d ∙ shape.run_next,
           el,
           er,
+          soil.live_x,
+          soil.dead_x,
           rise_opposite,
           rise_next_opposite,
           run_opposite,
@@ -215,174 +180,137 @@ module _ (m : List ℤ) (e : ℕ) where
           add-zero (3 * corner m e 2),
           add-zero (3 * corner m e 3),
         )
-    balance_is (suc zero) l el er =
+    balance_is Y a b c d soil el er =
         rw (
-          shape.rise.same,
-          shape.rise_next.same,
-          shape.run.same,
-          shape.run_next.same,
+          a ∙ shape.run,
+          b ∙ shape.run_next,
+          c ∙ shape.rise,
+          d ∙ shape.rise_next,
           el,
           er,
+          soil.live_y,
+          soil.dead_y,
           rise_opposite,
           rise_next_opposite,
           run_opposite,
           run_next_opposite,
         )
-    balance_is (suc (suc i)) l el er = absurd (omega arith)
 
-    coefficients_within : (i : ℕ) → AllWithin most_coefficient (balance_coefficients g i)
-    unfolding balance_coefficients
-    coefficients_within zero = let f = span_fits shape in opposites_within f.rise f.run f.rise_next f.run_next
-    coefficients_within (suc i) = let f = span_fits shape in opposites_within f.run f.rise f.run_next f.rise_next
+    pub balance_row_of : (axis : Axis)
+        → r.rise ≡ along axis g.rise g.run → r.rise_next ≡ along axis g.rise_next g.run_next
+        → r.run ≡ along axis g.run g.rise → r.run_next ≡ along axis g.run_next g.rise_next
+        → {soil : Soil} → SoilOf soil m (element_soil m e)
+        → e < elements m → {es : List (ℤ × ℕ)} {live right : ℤ} → es ≡ balance_entries m e r axis
+        → live ≡ (g.rise *ℤ g.run_next -ℤ g.rise_next *ℤ g.run) *ℤ along axis soil.live.x soil.live.y
+        → right ≡ neg_ℤ ((g.rise *ℤ g.run_next -ℤ g.rise_next *ℤ g.run) *ℤ along axis soil.dead.x soil.dead.y)
+        → ◌≡◌ {A = Row} (record { kind = asked; entries = es; live = live; right = right })
+        (row_at (equality_rows m) (e * 2 + number axis))
+    balance_row_of axis a b c d {soil} of_soil there ee el er =
+        let area = area_same shape in
+        rw ee (balance_is axis a b c d of_soil
+        (el ∙ ap (λ z. z *ℤ along axis soil.live.x soil.live.y) area)
+        (er ∙ ap (λ z. neg_ℤ (z *ℤ along axis soil.dead.x soil.dead.y)) area)
+        ∙ sym (balance_at m e (number axis) there (number_below axis)))
 
-    area_same : {area : ℤ} → area ≡ g.rise *ℤ g.run_next -ℤ g.rise_next *ℤ g.run → area ≡ twice_area m e
-    area_same h = h ∙ rw (shape.rise.same, shape.rise_next.same, shape.run.same, shape.run_next.same) (area_is m e)
-
-  module _ (facts : MeshFacts m) (there : e < elements m) (i : ℕ) (l : i < 2) where
-    columns_below : Below (3 * nodes m) (corner_columns m e i)
-    unfolding corner_columns
-    columns_below =
-        let c = (facts.element e there).corner_there in
-        let c₀ = c 0 (omega arith) in
-        let c₁ = c 1 (omega arith) in
-        let c₂ = c 2 (omega arith) in
-        let c₃ = c 3 (omega arith) in
-        below_cons (omega arith) (below_cons (omega arith) (below_cons (omega arith) (below_cons (omega arith)
-        (below_cons (omega arith) (below_cons (omega arith) (below_cons (omega arith)
-        (below_cons (omega arith) below_nil)))))))
-
-    pub balance_filled : {g : Span} {cs : List ℤ} {js : List ℕ} {area live right : ℤ} → SpanIs g m e
-        → area ≡ g.rise *ℤ g.run_next -ℤ g.rise_next *ℤ g.run → cs ≡ balance_coefficients g i
-        → js ≡ corner_columns m e i
-        → Is live (area *ℤ soil_entry m (element_soil m e) (6 + i)) equality_right
-        → Is right (neg_ℤ (area *ℤ soil_entry m (element_soil m e) (4 + i))) equality_right
-        → Filled
-        (record { coefficients = cs; columns = js; count = 8; live = live; right = right; asked = true })
-        (row_at (equality_rows m) (e * 2 + i))
-        (3 * nodes m)
-    balance_filled {g} shape ea ec ej hl hr =
-        let area = area_same shape ea in
-        rw (ec, ej)
-        (record {
-          is = balance_is shape i l (hl.same ∙ rw area) (hr.same ∙ rw area) ∙ sym (balance_at m e i there l);
-          fits =
-              row_fits (eight_coefficients g i) (eight_columns i) (le_refl 8)
-              (coefficients_within shape i) columns_below
-              (Is-Within hl (le_refl _)) (Is-Within hr (le_refl _));
-        })
+  pub balance_below : MeshFacts m → e < elements m → (g : Span) (axis : Axis)
+      → ColumnsBelow (3 * nodes m) (balance_entries m e g axis)
+  unfolding balance_entries
+  balance_below facts there g axis =
+      let l = number_below axis in
+      let c = (facts.element e there).corner_there in
+      let c₀ = c 0 (omega arith) in
+      let c₁ = c 1 (omega arith) in
+      let c₂ = c 2 (omega arith) in
+      let c₃ = c 3 (omega arith) in
+      below_cons (omega arith) (below_cons (omega arith) (below_cons (omega arith) (below_cons (omega arith)
+      (below_cons (omega arith) (below_cons (omega arith) (below_cons (omega arith)
+      (below_cons (omega arith) below_nil)))))))
 
 -- ---- an expression
 
-pub expression_fits : (part : Part) {r : Expression} (u w : ℤ) → ExpressionIs r part u w → ExpressionFits r
-expression_fits Normal u w h = record {
-  a = Is-Within h.a (le_refl _);
-  b = Is-Within h.b (le_refl _);
-  c = Is-Within h.c (le_refl _);
-  second = omega (arith, h.second);
-  third = omega (arith, h.third);
-}
-expression_fits Shear u w h = record {
-  a = Is-Within h.a (le_refl _);
-  b = Is-Within h.b (le_refl _);
-  c = Is-Within h.c (le_refl _);
-  second = omega (arith, h.second);
-  third = omega (arith, h.third);
-}
+part_below : (part : Part) (u w : ℤ) {v n : ℕ} → v < n → ColumnsBelow (3 * n) (part_entries part u w v)
+unfolding sx sy t
+part_below Normal u w l = below_cons (omega arith) (below_cons (omega arith) (below_cons (omega arith) below_nil))
+part_below Shear u w l = below_cons (omega arith) (below_cons (omega arith) (below_cons (omega arith) below_nil))
+
+part_few : (part : Part) (u w : ℤ) (v : ℕ) → length (part_entries part u w v) ≤ most_entries
+part_few Normal u w v = omega arith
+part_few Shear u w v = omega arith
+
+agree_few : (part : Part) (u w : ℤ) (v f : ℕ)
+    → length (part_entries part u w v ++ minus (part_entries part u w f)) ≤ most_entries
+agree_few Normal u w v f = omega arith
+agree_few Shear u w v f = omega arith
+
+agree_below : (part : Part) (u w : ℤ) {v f n : ℕ} → v < n → f < n
+    → ColumnsBelow (3 * n) (part_entries part u w v ++ minus (part_entries part u w f))
+unfolding sx sy t
+agree_below Normal u w l k =
+    below_cons (omega arith) (below_cons (omega arith) (below_cons (omega arith)
+    (below_cons (omega arith) (below_cons (omega arith) (below_cons (omega arith) below_nil)))))
+agree_below Shear u w l k =
+    below_cons (omega arith) (below_cons (omega arith) (below_cons (omega arith)
+    (below_cons (omega arith) (below_cons (omega arith) (below_cons (omega arith) below_nil)))))
+
+-- rows that differ in their loads
+pub row_same : {k : Kind} {es : List (ℤ × ℕ)} {a b c d : ℤ} → a ≡ b → c ≡ d
+    → ◌≡◌ {A = Row}
+    (record { kind = k; entries = es; live = a; right = c })
+    (record { kind = k; entries = es; live = b; right = d })
+row_same e f = rw (e, f)
+
+-- a row is filled where its row is given, whose columns are there
+pub filled : {r : EqualityRow} {a b : Row} {n : ℕ} → row_of r ≡ a → a ≡ b → length a.entries ≤ most_entries
+    → ColumnsBelow n a.entries → Filled r b n
+unfolding row_of
+filled {r} {a} {b} {n} e f few h =
+    let same = ap (λ a. a.entries) e in
+    record { is = e ∙ f; few = rw same few; there = rw same h }
 
 -- ---- a side row
 
-pub as_traction : {k₀ k₁ k₂ c₀ c₁ c₂ v w live right : ℤ} (j₀ j₁ j₂ : ℕ) {fixed : Bool}
-    → k₀ ≡ c₀ → k₁ ≡ c₁ → k₂ ≡ c₂ → v ≡ live → w ≡ right
-    → ◌≡◌ {A = EqualityRow}
-    (record {
-      coefficients = k₀ ∷ k₁ ∷ k₂ ∷ replicate 5 (pos 0);
-      columns = j₀ ∷ j₁ ∷ j₂ ∷ replicate 5 0;
-      count = 3;
-      live = v;
-      right = w;
-      asked = fixed;
-    })
-    (record {
-      coefficients = c₀ ∷ c₁ ∷ c₂ ∷ replicate 5 (pos 0);
-      columns = j₀ ∷ j₁ ∷ j₂ ∷ replicate 5 0;
-      count = 3;
-      live = live;
-      right = right;
-      asked = fixed;
-    })
-as_traction j₀ j₁ j₂ e₀ e₁ e₂ f g = rw (e₀, e₁, e₂, f, g)
-
--- node v is the end of edge g that row i of its four is at
-pub record EndIs (m : List ℤ) (g i v : ℕ) : Type 0 where
-  pub from : i < 2 → v ≡ from_node m g
-  pub to : 2 ≤ i → v ≡ to_node m g
-  pub there : v < nodes m
-
-module _ {m : List ℤ} {g i v : ℕ} (edge : EdgeFacts m g) where
-  pub at_from : v ≡ from_node m g → i < 2 → EndIs m g i v
-  at_from e l = record { from = λ h. e; to = λ h. absurd (omega arith); there = omega (arith, edge.from_there) }
-
-  pub at_to : v ≡ to_node m g → 2 ≤ i → EndIs m g i v
-  at_to e l = record { from = λ h. absurd (omega arith); to = λ h. e; there = omega (arith, edge.to_there) }
+pub end_there : (i : ℕ) {from to n : ℕ} → from < n → to < n → end_of i from to < n
+end_there i {from} {to} {n} h k = by (ltb i 2)
+  where
+    by : (b : Bool) → cond b from to < n
+    by true = h
+    by false = k
 
 -- the row of edge g's part at node v
 abbrev pub side_of : Part → List ℤ → ℕ → ℕ → Row
 side_of Normal = normal_row
 side_of Shear = shear_row
 
-module _ (m : List ℤ) (g v : ℕ) {step : Step} (e : Expression) {square : ℤ} {t : Traction}
-    (hs : StepIs step (step_x m g) (step_y m g))
-    (hq : Is square (step.u *ℤ step.u +ℤ step.w *ℤ step.w) most_square) where
-  side_is : (part : Part) → ExpressionIs e part step.u step.w → TractionIs t part m g
-      → row_of (traction_row e (3 * v) square t) ≡ side_of part m g v
-  unfolding row_of traction_row with_columns normal_row shear_row step_square fixed_if sx sy t
-  side_is Normal he ht =
+module _ (m : List ℤ) (g v : ℕ) {step : Step} {edge : Edge} (hs : StepIs step (step_x m g) (step_y m g))
+    (of_edge : EdgeOf edge m g) {square : ℤ} (hq : square ≡ step.u *ℤ step.u +ℤ step.w *ℤ step.w) {t : Traction} where
+  side_is : (part : Part) → TractionIs t part edge
+      → traction_row (part_entries part step.u step.w v) square t ≡ side_of part m g v
+  unfolding traction_row normal_row shear_row step_square fixed_if
+  side_is Normal ht =
       rw (
-        hq.same,
-        he.a.same,
-        he.b.same,
-        he.c.same,
-        he.second,
-        he.third,
-        ht.fixed,
-        ht.dead.same,
-        ht.live.same,
-        hs.u.same,
-        hs.w.same,
+        hq,
+        ht.fixed ∙ ap (λ z. eq_z z (pos 1) || eq_z z (pos 3)) of_edge.fixed,
+        ht.dead ∙ of_edge.dead_normal,
+        ht.live ∙ of_edge.live_normal,
+        hs.u,
+        hs.w,
       )
-  side_is Shear he ht =
+  side_is Shear ht =
       rw (
-        hq.same,
-        he.a.same,
-        he.b.same,
-        he.c.same,
-        he.second,
-        he.third,
-        ht.fixed,
-        ht.dead.same,
-        ht.live.same,
-        hs.u.same,
-        hs.w.same,
+        hq,
+        ht.fixed ∙ ap (λ z. eq_z z (pos 2) || eq_z z (pos 3)) of_edge.fixed,
+        ht.dead ∙ of_edge.dead_shear,
+        ht.live ∙ of_edge.live_shear,
+        hs.u,
+        hs.w,
       )
 
-  pub side_filled : (part : Part) {r : EqualityRow} → v < nodes m → ExpressionIs e part step.u step.w
-      → TractionIs t part m g
-      → r ≡ traction_row e (3 * v) square t → Filled r (side_of part m g v) (3 * nodes m)
+  pub side_filled : (part : Part) {es : List (ℤ × ℕ)} → v < nodes m → es ≡ part_entries part step.u step.w v
+      → TractionIs t part edge → {r : EqualityRow} {row : Row} → row_of r ≡ traction_row es square t
+      → side_of part m g v ≡ row → Filled r row (3 * nodes m)
   unfolding traction_row
-  side_filled part l he ht er =
-      let f = expression_fits part step.u step.w he in
-      let square_fits = Is-Within hq (le_refl _) in
-      rw er
-      (record {
-        is = side_is part he ht;
-        fits =
-            row_fits refl refl (omega arith)
-            (within_cons f.a (within_cons f.b (within_cons f.c (zeros_within 5))))
-            (below_cons (omega arith) (below_cons (omega (arith, f.second))
-            (below_cons (omega (arith, f.third)) (zeros_below 5 (omega arith)))))
-            (Within-neg_ℤ (Within-*ℤ square_fits (Is-Within ht.live (le_refl _))))
-            (Within-*ℤ square_fits (Is-Within ht.dead (le_refl _)));
-      })
+  side_filled part l he ht er e =
+      filled (rw (← he) er) (side_is part ht ∙ e) (part_few part _ _ _) (part_below part _ _ l)
 
 -- ---- a jump row
 
@@ -391,78 +319,89 @@ abbrev pub jump_of : Part → List ℤ → ℕ → ℕ → ℕ → Row
 jump_of Normal = jump_normal
 jump_of Shear = jump_shear
 
-module _ (m : List ℤ) (j v f : ℕ) {step : Step} (e : Expression)
-    (hs : StepIs step (jump_step_x m j) (jump_step_y m j)) where
-  jump_is : (part : Part) → ExpressionIs e part step.u step.w
-      → row_of (agreement_row e (3 * v) (3 * f)) ≡ jump_of part m j v f
-  unfolding row_of agreement_row with_columns jump_normal jump_shear agree_row sx sy t
-  jump_is Normal he = rw (he.a.same, he.b.same, he.c.same, he.second, he.third, hs.u.same, hs.w.same)
-  jump_is Shear he = rw (he.a.same, he.b.same, he.c.same, he.second, he.third, hs.u.same, hs.w.same)
+jump_is : (m : List ℤ) (j v f : ℕ) {step : Step} → StepIs step (jump_step_x m j) (jump_step_y m j) → (part : Part)
+    → agree_row (part_entries part step.u step.w v) (part_entries part step.u step.w f) ≡ jump_of part m j v f
+unfolding jump_normal jump_shear
+jump_is m j v f hs Normal = rw (hs.u, hs.w)
+jump_is m j v f hs Shear = rw (hs.u, hs.w)
 
-  pub jump_filled : (part : Part) {r : EqualityRow} → v < nodes m → f < nodes m → ExpressionIs e part step.u step.w
-      → r ≡ agreement_row e (3 * v) (3 * f) → Filled r (jump_of part m j v f) (3 * nodes m)
-  unfolding agreement_row
-  jump_filled part lv lf he er =
-      let k = expression_fits part step.u step.w he in
-      rw er
-      (record {
-        is = jump_is part he;
-        fits =
-            row_fits refl refl (omega arith)
-            (within_cons k.a (within_cons k.b (within_cons k.c
-            (within_cons (Within-neg_ℤ k.a) (within_cons (Within-neg_ℤ k.b)
-            (within_cons (Within-neg_ℤ k.c) (zeros_within 2)))))))
-            (below_cons (omega arith) (below_cons (omega (arith, k.second)) (below_cons (omega (arith, k.third))
-            (below_cons (omega arith) (below_cons (omega (arith, k.second)) (below_cons (omega (arith, k.third))
-            (zeros_below 2 (omega arith))))))))
-            (record { within = zero-le })
-            (record { within = zero-le });
-      })
+pub jump_filled : (m : List ℤ) (j v f : ℕ) {step : Step} {es fs : List (ℤ × ℕ)}
+    → StepIs step (jump_step_x m j) (jump_step_y m j) → (part : Part) → v < nodes m → f < nodes m
+    → es ≡ part_entries part step.u step.w v → fs ≡ part_entries part step.u step.w f → {r : EqualityRow} {row : Row}
+    → row_of r ≡ agree_row es fs → jump_of part m j v f ≡ row → Filled r row (3 * nodes m)
+unfolding agree_row
+jump_filled m j v f hs part lv lf he hf er e =
+    filled (rw (← he, ← hf) er) (jump_is m j v f hs part ∙ e) (agree_few part _ _ _ _) (agree_below part _ _ lv lf)
 
 -- ---- rows by their place
 
-pub filled_as : {r : EqualityRow} {a b : Row} {n : ℕ} → Filled r a n → a ≡ b → Filled r b n
-filled_as h e = record { is = h.is ∙ e; fits = h.fits }
+module _ (m : List ℤ) where
+  pub side_place : (g i : ℕ) → g < edges m → i < 4
+      → side_of (part_of i) m g (end_of i (from_node m g) (to_node m g))
+      ≡ row_at (equality_rows m) (elements m * 2 + (g * 4 + i))
+  unfolding row_at
+  side_place g zero l h = sym (side_at_lem m g 0 l h)
+  side_place g (suc zero) l h = sym (side_at_lem m g 1 l h)
+  side_place g (suc (suc zero)) l h = sym (side_at_lem m g 2 l h)
+  side_place g (suc (suc (suc zero))) l h = sym (side_at_lem m g 3 l h)
+  side_place g (suc (suc (suc (suc i)))) l h = absurd (omega arith)
+
+  pub jump_place : (j i : ℕ) → j < jumps m → i < 4
+      → jump_of (part_of i) m j (end_of i (jump_from m j) (jump_to m j)) (end_of i (facing_from m j) (facing_to m j))
+      ≡ row_at (equality_rows m) (elements m * 2 + edges m * 4 + (j * 4 + i))
+  unfolding row_at
+  jump_place j zero l h = sym (jump_at m j 0 l h)
+  jump_place j (suc zero) l h = sym (jump_at m j 1 l h)
+  jump_place j (suc (suc zero)) l h = sym (jump_at m j 2 l h)
+  jump_place j (suc (suc (suc zero))) l h = sym (jump_at m j 3 l h)
+  jump_place j (suc (suc (suc (suc i)))) l h = absurd (omega arith)
+
+-- ---- which rows ask something
+
+asked_if : (b : Bool) → elim (cond b asked unfixed) [ asked ↦ true | unfixed ↦ false | strength ↦ true ] ≡ b
+asked_if true = refl
+asked_if false = refl
 
 module _ (m : List ℤ) where
-  pub balance_row_is : (e k i : ℕ) → e < elements m → i < 2 → k ≡ e * 2 + i
-      → row_at (balance_x m e ∷ balance_y m e ∷ []) i ≡ row_at (equality_rows m) k
-  balance_row_is e k i l h s = sym (rw s (balance_at m e i l h))
+  balance_asks : (e i : ℕ) → i < 2 → true ≡ is_asked (row_at (balance_x m e ∷ balance_y m e ∷ []) i)
+  unfolding is_asked row_at balance_x balance_y
+  balance_asks e zero h = refl
+  balance_asks e (suc zero) h = refl
+  balance_asks e (suc (suc i)) h = absurd (omega arith)
 
-  pub side_row_is : (g i j : ℕ) → g < edges m → j < 4 → i ≡ j
-      → row_at
-      (normal_row m g (from_node m g)
-      ∷ shear_row m g (from_node m g)
-      ∷ normal_row m g (to_node m g)
-      ∷ shear_row m g (to_node m g)
-      ∷ [])
-      j
-      ≡ row_at (equality_rows m) (elements m * 2 + (g * 4 + i))
-  side_row_is g i j l h e = sym (rw e (side_at_lem m g j l h))
+  -- what an edge fixes
+  side_asks : (part : Part) (g v : ℕ)
+      → (eq_z (edge_entry m g 2) (pos (code part)) || eq_z (edge_entry m g 2) (pos 3)) ≡ is_asked (side_of part m g v)
+  unfolding is_asked normal_row shear_row fixed_if
+  side_asks Normal g v = sym (asked_if _)
+  side_asks Shear g v = sym (asked_if _)
 
-  pub jump_row_is : (j i k : ℕ) → j < jumps m → k < 4 → i ≡ k
-      → row_at (rows_of_jump m j) k ≡ row_at (equality_rows m) (elements m * 2 + edges m * 4 + (j * 4 + i))
-  jump_row_is j i k l h e = sym (rw e (jump_at m j k l h))
+  jump_asks : (part : Part) (j v f : ℕ) → true ≡ is_asked (jump_of part m j v f)
+  unfolding is_asked jump_normal jump_shear agree_row
+  jump_asks Normal j v f = refl
+  jump_asks Shear j v f = refl
 
-  pub side_place : (g i : ℕ) {v : ℕ} → g < edges m → i < 4 → EndIs m g i v
-      → side_of (part_of i) m g v ≡ row_at (equality_rows m) (elements m * 2 + (g * 4 + i))
-  unfolding row_at
-  side_place g zero l h at = ap (normal_row m g) (at.from (omega arith)) ∙ side_row_is g 0 0 l h refl
-  side_place g (suc zero) l h at = ap (shear_row m g) (at.from (omega arith)) ∙ side_row_is g 1 1 l h refl
-  side_place g (suc (suc zero)) l h at = ap (normal_row m g) (at.to (omega arith)) ∙ side_row_is g 2 2 l h refl
-  side_place g (suc (suc (suc zero))) l h at = ap (shear_row m g) (at.to (omega arith)) ∙ side_row_is g 3 3 l h refl
-  side_place g (suc (suc (suc (suc i)))) l h at = absurd (omega arith)
+  -- row k, which is row i of those of its kind
+  pub balance_asked : (k : ℕ) → k < elements m * 2 → true ≡ is_asked (row_at (equality_rows m) k)
+  balance_asked k h =
+      let place : k / 2 * 2 + k % 2 ≡ k = omega arith in
+      balance_asks (k / 2) (k % 2) (omega arith)
+      ∙ ap is_asked
+      (sym (balance_at m (k / 2) (k % 2) (omega arith) (omega arith)) ∙ ap (row_at (equality_rows m)) place)
 
-  pub jump_place : (j i : ℕ) {v f : ℕ} → j < jumps m → i < 4 → v ≡ jump_node m j (i / 2) → f ≡ jump_node m j (i / 2 + 2)
-      → jump_of (part_of i) m j v f ≡ row_at (equality_rows m) (elements m * 2 + edges m * 4 + (j * 4 + i))
-  unfolding jump_from jump_to facing_from facing_to row_at
-  jump_place j zero l h a b = ap₂ (jump_normal m j) a b ∙ jump_row_is j 0 0 l h refl
-  jump_place j (suc zero) l h a b = ap₂ (jump_shear m j) a b ∙ jump_row_is j 1 1 l h refl
-  jump_place j (suc (suc zero)) l h a b = ap₂ (jump_normal m j) a b ∙ jump_row_is j 2 2 l h refl
-  jump_place j (suc (suc (suc zero))) l h a b = ap₂ (jump_shear m j) a b ∙ jump_row_is j 3 3 l h refl
-  jump_place j (suc (suc (suc (suc i)))) l h a b = absurd (omega arith)
+  pub side_asked : (k i : ℕ) → elements m * 2 + i ≡ k → i < edges m * 4 → {part : Part} → part ≡ part_of i
+      → {fixed : ℤ} → fixed ≡ edge_entry m (i / 4) 2
+      → (eq_z fixed (pos (code part)) || eq_z fixed (pos 3)) ≡ is_asked (row_at (equality_rows m) k)
+  side_asked k i e h part fixed =
+      let place : elements m * 2 + (i / 4 * 4 + i % 4) ≡ k = omega arith in
+      let turn : i % 2 ≡ i % 4 % 2 = omega arith in
+      ap₂ (λ p z. eq_z z (pos (code p)) || eq_z z (pos 3)) (part ∙ ap (λ n. cond (eqb n 0) Normal Shear) turn) fixed
+      ∙ side_asks (part_of (i % 4)) (i / 4) _
+      ∙ ap is_asked (side_place m (i / 4) (i % 4) (omega arith) (omega arith) ∙ ap (row_at (equality_rows m)) place)
 
-  -- row k after the rows of elements and edges
-  pub after_edges : {a b : ℕ} → a ≡ elements m → b ≡ edges m → (k : ℕ) → a * 2 + b * 4 ≤ k
-      → elements m * 2 + edges m * 4 + ((k - (a * 2 + b * 4)) / 4 * 4 + (k - (a * 2 + b * 4)) % 4) ≡ k
-  after_edges {a} {b} d e k l = omega (arith, div-add-mod' (k - (a * 2 + b * 4)) 4)
+  pub jump_asked : (k i : ℕ) → elements m * 2 + edges m * 4 + i ≡ k → i < jumps m * 4
+      → true ≡ is_asked (row_at (equality_rows m) k)
+  jump_asked k i e h =
+      let place : elements m * 2 + edges m * 4 + (i / 4 * 4 + i % 4) ≡ k = omega arith in
+      jump_asks (part_of (i % 4)) (i / 4) _ _
+      ∙ ap is_asked (jump_place m (i / 4) (i % 4) (omega arith) (omega arith) ∙ ap (row_at (equality_rows m)) place)

@@ -1,86 +1,84 @@
 -- What the equality rows hand around: a row as numbers, and the records that their functions require and ensure.
 use Rattle.std.specs.Prelude.{
   ◌≡◌,
+  Bool,
   true,
+  false,
   cond,
   ◌||◌,
   List,
   [],
   ◌∷◌,
+  map,
   ℕ,
-  zero,
-  suc,
   ◌+◌,
   ◌*◌,
   ◌%◌,
-  ◌≤◌,
   ◌<◌,
+  ◌≤◌,
   ℤ,
   pos,
-  ◌-ℤ◌,
   ◌*ℤ◌,
   neg_ℤ,
   eqb,
+  ltb,
   length,
   get_or,
-  take,
-  replicate,
 }
-use Rattle.integer.specs.Bounds.{Within, AllWithin, Is}
-use Rattle.equality.specs.declared.equality_rows.EqualityRow.{EqualityRow}
-use Rattle.equality.specs.declared.equality_rows.Corners.{Corners}
-use Rattle.equality.specs.declared.equality_rows.Span.{Span}
-use Rattle.equality.specs.declared.equality_rows.Step.{Step}
-use Rattle.equality.specs.declared.equality_rows.Part.{Part}
-use Rattle.equality.specs.declared.equality_rows.Part.TheVariants.{Normal, Shear}
-use Rattle.equality.specs.declared.equality_rows.Expression.{Expression}
-use Rattle.equality.specs.declared.equality_rows.Traction.{Traction}
+use Rattle.integer.specs.Bounds.{Is}
 use Rattle.integer.specs.Tests.{eq_z}
-use Rattle.scope.specs.Mesh.{corner, edge_entry}
-use Rattle.scope.specs.Bounds.{most_coordinate, most_traction, most_entries, most_coefficient, equality_right}
+use Rattle.equality.specs.declared.row.Term.{Term}
+use Rattle.equality.specs.declared.row.Terms.{Terms}
+use Rattle.equality.specs.declared.row.Terms.TheVariants as kinds
+use Rattle.equality.specs.declared.row.EqualityRow.{EqualityRow}
+use Rattle.equality.specs.declared.axes.Axis.{Axis}
+use Rattle.equality.specs.declared.axes.Axis.TheVariants.{X, Y}
+use Rattle.equality.specs.declared.geometry.Corners.{Corners}
+use Rattle.equality.specs.declared.geometry.Span.{Span}
+use Rattle.equality.specs.declared.geometry.Step.{Step}
+use Rattle.equality.specs.declared.parts.Part.{Part}
+use Rattle.equality.specs.declared.parts.Part.TheVariants.{Normal, Shear}
+use Rattle.equality.specs.declared.tractions.Traction.{Traction}
+use Rattle.equality.specs.declared.equality_rows.Expression.{Expression}
+use Rattle.scope.specs.Bounds.{most_entries}
 use Rattle.scope.specs.Columns.{at}
-use Rattle.scope.specs.Rows.{asked, unfixed, Row, rise_across, run_across}
+use Rattle.scope.specs.Mesh.{corner}
+use Rattle.scope.specs.Rows.{asked, unfixed, strength, Row, rise_across, run_across, normal_entries, shear_entries}
+use Rattle.mesh.specs.declared.entries.Edge.{Edge}
 use Rattle.mesh.specs.MeshContracts.{NodeAt}
 
 -- ---- rows as numbers
 
--- coefficients with their columns, as far as both lists go
-unfoldable pub with_columns : List ℤ → List ℕ → List (ℤ × ℕ)
-with_columns [] js = []
-with_columns (c ∷ cs) [] = []
-with_columns (c ∷ cs) (j ∷ js) = (c, j) ∷ with_columns cs js
+-- a term, as the definitions speak of it
+abbrev pub entry_of : Term → ℤ × ℕ
+entry_of t = (t.coefficient, t.column)
 
--- the first coefficients of a row, with their columns
-abbrev pub entries_of : List ℤ → List ℕ → ℕ → List (ℤ × ℕ)
-entries_of coefficients columns count = with_columns (take count coefficients) (take count columns)
+-- the terms of a row, whatever its kind, and as the definitions speak of them
+abbrev pub terms_of : Terms → List Term
+terms_of (kinds.Balance ts) = ts
+terms_of (kinds.Traction ts) = ts
+terms_of (kinds.Agreement ts) = ts
+
+abbrev pub entries_of : EqualityRow → List (ℤ × ℕ)
+entries_of r = map entry_of (terms_of r.terms)
 
 -- the row that the numbers say
 unfoldable pub row_of : EqualityRow → Row
-row_of r = record {
-  kind = cond r.asked asked unfixed;
-  entries = entries_of r.coefficients r.columns r.count;
-  live = r.live;
-  right = r.right;
-}
+row_of r = record { kind = cond r.asked asked unfixed; entries = entries_of r; live = r.live; right = r.right }
 
--- the entries of a row of a mesh with n columns, by their size
-pub record EntriesFit (coefficients : List ℤ) (columns : List ℕ) (count n : ℕ) : Type 0 where
-  pub long : length coefficients ≡ most_entries
-  pub wide : length columns ≡ most_entries
-  pub few : count ≤ most_entries
-  pub coefficients_fit : AllWithin most_coefficient coefficients
-  pub columns_fit : (i : ℕ) → i < count → get_or columns i 0 < n
+-- a row asks something
+unfoldable pub is_asked : Row → Bool
+is_asked r = elim r.kind [ asked ↦ true | unfixed ↦ false | strength ↦ true ]
 
--- an equality row of a mesh with so many columns, by its size
-pub record RowFits (r : EqualityRow) (columns : ℕ) : Type 0 where
-  pub entries : EntriesFit r.coefficients r.columns r.count columns
-  pub live_fits : Within equality_right r.live
-  pub right_fits : Within equality_right r.right
+-- each column is below n
+pub record ColumnsBelow (n : ℕ) (es : List (ℤ × ℕ)) : Type 0 where
+  pub each : (i : ℕ) → i < length es → (get_or es i (pos 0, 0)).1 < n
 
--- the numbers are those of a row
+-- the numbers are those of a row, of a mesh with so many columns
 pub record Filled (r : EqualityRow) (row : Row) (columns : ℕ) : Type 0 where
   pub is : row_of r ≡ row
-  pub fits : RowFits r columns
+  pub few : length (entries_of r) ≤ most_entries
+  pub there : ColumnsBelow columns (entries_of r)
 
 -- ---- sums of columns
 
@@ -98,109 +96,85 @@ pub record CornersAre (r : Corners) (m : List ℤ) (e : ℕ) : Type 0 where
   pub d : NodeAt r.d m (corner m e 3)
 
 pub record SpanIs (r : Span) (m : List ℤ) (e : ℕ) : Type 0 where
-  pub rise : Is r.rise (rise_across m e 0) most_coordinate
-  pub rise_next : Is r.rise_next (rise_across m e 1) most_coordinate
-  pub run : Is r.run (run_across m e 0) most_coordinate
-  pub run_next : Is r.run_next (run_across m e 1) most_coordinate
+  pub rise : r.rise ≡ rise_across m e 0
+  pub rise_next : r.rise_next ≡ rise_across m e 1
+  pub run : r.run ≡ run_across m e 0
+  pub run_next : r.run_next ≡ run_across m e 1
 
--- at each corner the column `first` of its node, and its t
-unfoldable pub corner_columns : List ℤ → ℕ → ℕ → List ℕ
-corner_columns m e first =
-    (3 * corner m e 0 + first)
-    ∷ (3 * corner m e 0 + 2)
-    ∷ (3 * corner m e 1 + first)
-    ∷ (3 * corner m e 1 + 2)
-    ∷ (3 * corner m e 2 + first)
-    ∷ (3 * corner m e 2 + 2)
-    ∷ (3 * corner m e 3 + first)
-    ∷ (3 * corner m e 3 + 2)
+-- x and y in turn
+abbrev pub axis_of : ℕ → Axis
+axis_of i = cond (eqb (i % 2) 0) X Y
+
+-- the number of an axis: of its balance among an element's two, and of its stress among a node's three
+abbrev pub number : Axis → ℕ
+number X = 0
+number Y = 1
+
+-- of two numbers, one along x and one along y, that along the axis
+abbrev pub along : Axis → ℤ → ℤ → ℤ
+along X x y = x
+along Y x y = y
+
+-- at each corner of element e the stress along the axis and its t: at corners 0 and 1 what the span says, and at
+-- corners 2 and 3 the opposite
+unfoldable pub balance_entries : List ℤ → ℕ → Span → Axis → List (ℤ × ℕ)
+balance_entries m e g axis =
+    (g.rise, 3 * corner m e 0 + number axis)
+    ∷ (g.run, 3 * corner m e 0 + 2)
+    ∷ (g.rise_next, 3 * corner m e 1 + number axis)
+    ∷ (g.run_next, 3 * corner m e 1 + 2)
+    ∷ (neg_ℤ g.rise, 3 * corner m e 2 + number axis)
+    ∷ (neg_ℤ g.run, 3 * corner m e 2 + 2)
+    ∷ (neg_ℤ g.rise_next, 3 * corner m e 3 + number axis)
+    ∷ (neg_ℤ g.run_next, 3 * corner m e 3 + 2)
     ∷ []
-
--- rise and run of an element across corners 0 and 1, within bounds
-pub record SpanFits (g : Span) : Type 0 where
-  pub rise : Within most_coordinate g.rise
-  pub rise_next : Within most_coordinate g.rise_next
-  pub run : Within most_coordinate g.run
-  pub run_next : Within most_coordinate g.run_next
-
--- the coefficients at corners 0 and 1, and at corners 2 and 3 the opposite
-unfoldable pub with_opposites : ℤ → ℤ → ℤ → ℤ → List ℤ
-with_opposites a b a' b' = a ∷ b ∷ a' ∷ b' ∷ neg_ℤ a ∷ neg_ℤ b ∷ neg_ℤ a' ∷ neg_ℤ b' ∷ []
-
--- of the balance in x, and in y
-unfoldable pub balance_coefficients : Span → ℕ → List ℤ
-balance_coefficients g zero = with_opposites g.rise g.run g.rise_next g.run_next
-balance_coefficients g (suc i) = with_opposites g.run g.rise g.run_next g.rise_next
 
 -- a step is (u, w)
 pub record StepIs (r : Step) (run rise : ℤ) : Type 0 where
-  pub u : Is r.u run most_coordinate
-  pub w : Is r.w rise most_coordinate
-
-pub record StepFits (r : Step) : Type 0 where
-  pub u : Within most_coordinate r.u
-  pub w : Within most_coordinate r.w
-
--- three coefficients, and where the stresses of the second and the third stand
-pub record Terms (r : Expression) (k₀ k₁ k₂ : ℤ) (j₁ j₂ : ℕ) : Type 0 where
-  pub a : Is r.a k₀ most_coefficient
-  pub b : Is r.b k₁ most_coefficient
-  pub c : Is r.c k₂ most_coefficient
-  pub second : r.second ≡ j₁
-  pub third : r.third ≡ j₂
-
--- the normal or the shear expression of a side with the step (u, w)
-abbrev pub ExpressionIs : Expression → Part → ℤ → ℤ → Type 0
-ExpressionIs r Normal u w = Terms r (w *ℤ w) (neg_ℤ (pos 2 *ℤ u *ℤ w)) (u *ℤ u) 2 1
-ExpressionIs r Shear u w = Terms r (u *ℤ w) (neg_ℤ (u *ℤ w)) (w *ℤ w -ℤ u *ℤ u) 1 2
-
-pub record ExpressionFits (r : Expression) : Type 0 where
-  pub a : Within most_coefficient r.a
-  pub b : Within most_coefficient r.b
-  pub c : Within most_coefficient r.c
-  pub second : r.second < 3
-  pub third : r.third < 3
+  pub u : r.u ≡ run
+  pub w : r.w ≡ rise
 
 -- normal and shear in turn
 abbrev pub part_of : ℕ → Part
 part_of i = cond (eqb (i % 2) 0) Normal Shear
+
+-- the first two rows of four are at the one end, and the others at the other
+abbrev pub end_of : ℕ → ℕ → ℕ → ℕ
+end_of i from to = cond (ltb i 2) from to
 
 -- the code of a part in an edge's line, and its dead and its live load there
 abbrev pub code : Part → ℕ
 code Normal = 1
 code Shear = 2
 
--- what edge g says of a part of its traction
-pub record TractionIs (r : Traction) (part : Part) (m : List ℤ) (g : ℕ) : Type 0 where
-  pub fixed : r.fixed ≡ (eq_z (edge_entry m g 2) (pos (code part)) || eq_z (edge_entry m g 2) (pos 3))
-  pub dead : Is r.dead (edge_entry m g (2 + code part)) most_traction
-  pub live : Is r.live (edge_entry m g (4 + code part)) most_traction
+abbrev pub dead_of : Part → Edge → ℤ
+dead_of Normal edge = edge.dead_normal
+dead_of Shear edge = edge.dead_shear
 
--- a row of three entries: an expression at the node whose sx has this column
-unfoldable pub traction_row : Expression → ℕ → ℤ → Traction → EqualityRow
-traction_row e column square t = record {
-  coefficients = e.a ∷ e.b ∷ e.c ∷ replicate 5 (pos 0);
-  columns = column ∷ (column + e.second) ∷ (column + e.third) ∷ replicate 5 0;
-  count = 3;
+abbrev pub live_of : Part → Edge → ℤ
+live_of Normal edge = edge.live_normal
+live_of Shear edge = edge.live_shear
+
+-- the normal or the shear expression at node v of a side with the step (u, w)
+abbrev pub part_entries : Part → ℤ → ℤ → ℕ → List (ℤ × ℕ)
+part_entries Normal = normal_entries
+part_entries Shear = shear_entries
+
+-- the three terms of an expression
+abbrev pub entries_at : Expression → List (ℤ × ℕ)
+entries_at e = entry_of e.a ∷ entry_of e.b ∷ entry_of e.c ∷ []
+
+-- what an edge says of a part of its traction
+pub record TractionIs (r : Traction) (part : Part) (edge : Edge) : Type 0 where
+  pub fixed : r.fixed ≡ (eq_z edge.fixed (pos (code part)) || eq_z edge.fixed (pos 3))
+  pub dead : r.dead ≡ dead_of part edge
+  pub live : r.live ≡ live_of part edge
+
+-- the row of an expression with these entries, on a side with this square of its step
+unfoldable pub traction_row : List (ℤ × ℕ) → ℤ → Traction → Row
+traction_row es square t = record {
+  kind = cond t.fixed asked unfixed;
+  entries = es;
   live = neg_ℤ (square *ℤ t.live);
   right = square *ℤ t.dead;
-  asked = t.fixed;
-}
-
--- a row of six entries: an expression at the node whose sx has this column, minus the same at the one that faces it
-unfoldable pub agreement_row : Expression → ℕ → ℕ → EqualityRow
-agreement_row e column facing = record {
-  coefficients = e.a ∷ e.b ∷ e.c ∷ neg_ℤ e.a ∷ neg_ℤ e.b ∷ neg_ℤ e.c ∷ replicate 2 (pos 0);
-  columns =
-      column
-      ∷ (column + e.second)
-      ∷ (column + e.third)
-      ∷ facing
-      ∷ (facing + e.second)
-      ∷ (facing + e.third)
-      ∷ replicate 2 0;
-  count = 6;
-  live = pos 0;
-  right = pos 0;
-  asked = true;
 }

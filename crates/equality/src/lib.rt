@@ -2,5 +2,10 @@
 
 #![tactic(auto)]
 
+mod axes;
 pub mod equality_rows;
+mod geometry;
+pub mod parts;
+pub mod row;
 pub mod row_sums;
+mod tractions;

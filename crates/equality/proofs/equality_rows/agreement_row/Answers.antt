@@ -1,18 +1,16 @@
 -- `agreement_row` meets its contract.
-use native.Mathlib.Omega.{arith}
-use Rattle.equality.specs.EqualityContracts.{agreement_row}
-use Rattle.equality.proofs.EqualityLaws.{read, opposite}
+use Rattle.scope.specs.Rows.{agree_row}
+use Rattle.equality.specs.EqualityContracts.{row_of}
 use Rattle.equality.proofs.equality_rows.agreement_row.Goals as goal
 
 pub returns : goal.returns
-unfolding agreement_row
+unfolding row_of agree_row
 returns c =
-    let e = c.requires.expression_fits in
     rw (
-      opposite e.a (omega arith),
-      opposite e.b (omega arith),
-      opposite e.c (omega arith),
-      read e.a (omega arith),
-      read e.b (omega arith),
-      read e.c (omega arith),
+      c.opposite.ensures.column,
+      c.opposite-2.ensures.column,
+      c.opposite-3.ensures.column,
+      c.opposite.ensures.coefficient,
+      c.opposite-2.ensures.coefficient,
+      c.opposite-3.ensures.coefficient,
     )

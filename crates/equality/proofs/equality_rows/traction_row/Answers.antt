@@ -1,17 +1,21 @@
 -- `traction_row` meets its contract.
 use native.Mathlib.Omega.{arith}
-use Rattle.integer.proofs.Machine.{machine, exact}
-use Rattle.equality.specs.EqualityContracts.{traction_row}
-use Rattle.equality.proofs.EqualityLaws.{read, as_traction}
+use Rattle.integer.proofs.Machine.{machine, bounded, exact}
+use Rattle.equality.specs.EqualityContracts.{row_of, traction_row}
+use Rattle.equality.proofs.EqualityLaws.{row_same}
 use Rattle.equality.proofs.equality_rows.traction_row.Goals as goal
 
+pub invariant_of-result : goal.invariant_of-result
+invariant_of-result c =
+    record {
+      live_fits = bounded (search machine depth 30) (omega arith);
+      right_fits = bounded (search machine depth 30) (omega arith);
+    }
+
 pub returns : goal.returns
-unfolding traction_row
+unfolding row_of traction_row
 returns c =
-    let h = c.requires in
-    let e = h.expression_fits in
-    let square = h.square_fits in
-    let dead = h.dead_fits in
-    let live = h.live_fits in
-    as_traction _ _ _ (read e.a (omega arith)) (read e.b (omega arith)) (read e.c (omega arith))
-    (exact (search machine depth 30) (omega arith)) (exact (search machine depth 30) (omega arith))
+    let square = c.requires in
+    let dead = c.args.t.dead_fits in
+    let live = c.args.t.live_fits in
+    row_same (exact (search machine depth 30) (omega arith)) (exact (search machine depth 30) (omega arith))

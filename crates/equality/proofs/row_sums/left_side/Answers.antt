@@ -1,75 +1,64 @@
--- `left_side` meets its contract: what each turn adds is the next entry's.
-use mathlib.Core.Path.{◌≡◌, ap, refl}
+-- `left_side` meets its contract: what each turn adds is the next term's.
+use mathlib.Core.Path.{ap, refl, sym}
 use native.Mathlib.Omega.{arith}
+use Prim.Native.Nat.{◌<◌}
 use lib.IntN.{◌+ℤ◌, ◌*ℤ◌}
 use lib.ListN.{length}
 use Rattle.std.proofs.Common.{rules}
-use Rattle.std.proofs.lemmas.List.{length_push}
 use Rattle.integer.proofs.Machine.{machine, fits, is}
 use Rattle.scope.specs.Columns.{at}
 use Rattle.scope.specs.Sums.{weighted_sum}
-use Rattle.equality.specs.EqualityContracts.{with_columns, entries_of}
-use Rattle.equality.proofs.EntryLaws.{EntryRead, entry_read, all_read, weighed_more}
-use Rattle.equality.proofs.row_sums.left_side.Goals.{In-Some, In-None}
+use Rattle.equality.proofs.EntryLaws.{one_entry_more, all_passed, column_there}
+use Rattle.equality.proofs.row_sums.left_side.Goals.{After-term-item}
 use Rattle.equality.proofs.row_sums.left_side.Goals as goal
 
-turn : (c : In-Some)
-    → EntryRead c.args.coefficients.now c.args.columns.now c.args.count (length c.args.x.now) (length c.loop-c.yielded)
-    c.in-Some.c.now c.in-Some.j.now
-turn c =
-    let loop = c.loop-c in
-    entry_read c.requires.fact_1 loop.yielded _ _ c.next.new.self (cc) (cc) loop.yielded_by c.next.ensures.steps
-    c.in-Some.is
+there : (c : After-term-item) → c.term-item.result.column < length c.args.x.now
+there c =
+    column_there c.args.terms.now c.requires.columns_there c.loop-term.term-index c.term-item.result
+    c.term-item.is c.loop-term-test.true
 
-all : (c : In-None) → length c.loop-c.yielded ≡ c.args.count
-all c =
-    let loop = c.loop-c in
-    all_read c.requires.fact_1 loop.yielded _ _ c.next.new.self (cc) (cc) loop.yielded_by c.next.ensures.steps
-    c.in-None.is
+pub loop-term-init : goal.loop-term-init
+unfolding weighted_sum
+loop-term-init c = is (search machine depth 30) (omega arith) refl
 
-pub loop-c-init : goal.loop-c-init
-unfolding weighted_sum with_columns
-loop-c-init c = is (search machine depth 30) (omega arith) refl
-
-pub offset_bounds-x-j : goal.offset_bounds-x-j
-offset_bounds-x-j c =
-    let column = (turn (goal.at.offset_bounds-x-j c).In-Some).column_fits in
+pub offset_bounds-x-term : goal.offset_bounds-x-term
+offset_bounds-x-term c =
+    let column = there (goal.at.offset_bounds-x-term c).After-term-item in
     search rules
 
-pub bounds-x-j : goal.bounds-x-j
-bounds-x-j c = (turn (goal.at.bounds-x-j c).In-Some).column_fits
+pub bounds-x-term : goal.bounds-x-term
+bounds-x-term c = there (goal.at.bounds-x-term c).After-term-item
 
 pub overflow_mul-sum : goal.overflow_mul-sum
 overflow_mul-sum c =
-    let coefficient = (turn (goal.at.overflow_mul-sum c).In-Some).coefficient_fits in
-    let field = c.requires.fact_3 in
+    let coefficient = c.term-item.result.coefficient_fits in
+    let field = c.requires.field_fits in
     fits (search machine depth 30) (omega arith)
 
 pub overflow_add-sum : goal.overflow_add-sum
 overflow_add-sum c =
-    let read = turn (goal.at.overflow_add-sum c).In-Some in
-    let coefficient = read.coefficient_fits in
-    let field = c.requires.fact_3 in
+    let coefficient = c.term-item.result.coefficient_fits in
+    let field = c.requires.field_fits in
     fits (search machine depth 30) (omega arith)
 
-pub loop-c-preserved : goal.loop-c-preserved
+pub loop-term-preserved : goal.loop-term-preserved
 unfolding at
-loop-c-preserved c =
-    let read = turn (goal.at.loop-c-preserved c).In-Some in
-    let coefficient = read.coefficient_fits in
-    let field = c.requires.fact_3 in
-    let more = length_push c.loop-c.yielded (c.in-Some.c, c.in-Some.j) in
-    is (search machine depth 30) (omega arith)
-    (weighed_more (at c.args.x.now) c.requires.fact_1 c.loop-c.yielded (c.in-Some.c, c.in-Some.j) read)
+loop-term-preserved c =
+    let term = c.term-item.result in
+    let coefficient = term.coefficient_fits in
+    let field = c.requires.field_fits in
+    let more =
+    one_entry_more (at c.args.x.now) c.args.terms.now c.loop-term.term-index term c.loop-term-test.true in
+    is (search machine depth 30) (omega arith) (rw (sym c.term-item.is) at (sym more))
+
+pub overflow_mul-result : goal.overflow_mul-result
+overflow_mul-result c = fits (search machine depth 30) (omega arith)
 
 pub overflow_add-result : goal.overflow_add-result
-overflow_add-result c =
-    let every = all (goal.at.overflow_add-result c).In-None in
-    fits (search machine depth 30) (omega arith)
+overflow_add-result c = fits (search machine depth 30) (omega arith)
 
 pub returns : goal.returns
 returns c =
-    let a = c.args in
-    let every = all (goal.at.returns c).In-None in
+    let every = all_passed c.args.terms.now c.loop-term.term-index c.loop-term-test.false in
     is (search machine depth 30) (omega arith)
-    (ap (λ n. weighted_sum (at a.x.now) (entries_of a.coefficients.now a.columns.now n) +ℤ a.live *ℤ a.l) every)
+    (ap (λ es. weighted_sum (at c.args.x.now) es +ℤ c.args.live *ℤ c.args.l) every)

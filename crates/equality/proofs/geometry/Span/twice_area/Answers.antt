@@ -2,10 +2,12 @@
 use mathlib.Core.Path.{refl}
 use native.Mathlib.Omega.{arith}
 use Rattle.integer.proofs.Machine.{machine, fits, is}
-use Rattle.equality.proofs.equality_rows.twice_area.Goals as goal
+use Rattle.equality.proofs.geometry.Span.twice_area.Goals as goal
 
 pub overflow_sub-result : goal.overflow_sub-result
-overflow_sub-result c = fits (search machine depth 30) (omega arith)
+overflow_sub-result c =
+    fits (search machine depth 30) (omega arith)
 
 pub returns : goal.returns
-returns c = is (search machine depth 30) (omega arith) refl
+returns c =
+    is (search machine depth 30) (omega arith) refl

@@ -4,7 +4,7 @@ use lib.ListN.{set}
 use Rattle.scope.specs.Columns.{at}
 use native.Mathlib.Omega.{arith}
 use Rattle.integer.proofs.Machine.{machine, exact}
-use Rattle.equality.proofs.row_sums.add_at.Goals as goal
+use Rattle.equality.proofs.row.add_at.Goals as goal
 
 pub returns : goal.returns
 unfolding at
