@@ -27,6 +27,7 @@ module _ (m : List ℤ) where
   row_count l = N.row_count m l.listed
 
 module _ (m : List ℤ) (listed : Listed (sides m)) where
-  pub strength_at : (a k : ℕ) → a < pair_count m → k < sides m → row_at (strength_rows m) (a * sides m + k) ≡ row_of_pair m a (side_at (polygon_of (sides m)) k)
+  pub strength_at : (a k : ℕ) → a < pair_count m → k < sides m
+      → row_at (strength_rows m) (a * sides m + k) ≡ row_of_pair m a (side_at (polygon_of (sides m)) k)
   unfolding row_of_pair
   strength_at = N.strength_at m listed.listed

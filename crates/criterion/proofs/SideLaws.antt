@@ -1,18 +1,17 @@
--- The sides of a polygon and their numbers: by induction on the list of corners, and a store for each number of a side.
+-- The sides of a polygon and their numbers: by induction on the list of corners, and one side appended at a time.
 use mathlib.Core.Path.{◌≡◌, refl, sym, ◌∙◌, ap, subst}
 use mathlib.Core.List.Memᴰ
-use mathlib.Core.List.{List, [], ◌∷◌, ◌++◌}
-use Prim.Native.Nat.{ℕ, zero, suc, ◌+◌, ◌*◌, ◌≤◌, ◌<◌, zero-le}
+use mathlib.Core.List.{List, [], ◌∷◌, ◌++◌, map}
+use Prim.Native.Nat.{ℕ, zero, suc, ◌+◌, ◌%◌, ◌≤◌, ◌<◌, zero-le}
 use mathlib.Core.Logic.{◌⊎◌, inl, inr, ⊎_elim}
 use native.Mathlib.Decide.{dec_lt}
-use native.Mathlib.Nat.{le_trans}
+use native.Mathlib.Nat.{le_trans, mod-eq_of_lt, mod_self}
 use native.Mathlib.Omega.{arith}
 use native.Mathlib.Numerals.{add-one}
-use borrow.Author.Tests.{lt-ltb, le-ltb}
 use lib.IntN.{ℤ, pos, nat_abs}
-use lib.ListN.{length, get_or, set, replicate, length-set, length-replicate, get_or-append}
-use lib.Seq.{get_or-set_same, get_or-set_other, get_or-append_seam}
-use Rattle.std.proofs.lemmas.List.{get_or_past}
+use lib.ListN.{length, get_or, length-map, length-append, get_or-append}
+use lib.Seq.{get_or-append_seam}
+use Rattle.std.proofs.lemmas.List.{get_or_past, get_or-map, ext_get_or}
 use Rattle.integer.specs.Bounds.{Within}
 use Rattle.integer.proofs.BoundLaws.{Within-le}
 use Rattle.scope.specs.Members.{◌∈◌}
@@ -30,11 +29,11 @@ use Rattle.scope.specs.Polygon.{
   thirty_six,
   polygon_of,
 }
-use Rattle.scope.specs.Mesh.{most_sides}
-use Rattle.scope.specs.Bounds.{most_radius}
+use Rattle.scope.specs.Bounds.{most_radius, most_step, most_cross}
 use Rattle.scope.specs.PolygonRule.{PolygonFits, ListedPolygon}
 use Rattle.scope.specs.Rows.{cross}
 use Rattle.scope.specs.RowNumbers.{side_at}
+use Rattle.criterion.specs.declared.steps.Step.{Step}
 use Rattle.criterion.specs.StrengthContracts.{
   Listed,
   next,
@@ -42,14 +41,20 @@ use Rattle.criterion.specs.StrengthContracts.{
   corner_x,
   corner_y,
   pairs_of,
-  Steps,
   table_run,
   table_rise,
   table_cross,
+  StepIs,
+  no_step,
+  step_at,
   StepsUpTo,
+  StepsFrom,
   run_of,
   rise_of,
   cross_of,
+  step_numbers,
+  side_numbers,
+  SidesAre,
 }
 use Rattle.scope.proofs.PolygonRule.{legs_within}
 use Rattle.scope.proofs.RowCounts.{side_of_each}
@@ -57,68 +62,33 @@ use Rattle.scope.proofs.Checks.{below_suc}
 
 -- ---- the corner after a corner
 
-pub next_inner : (n k : ℕ) → k + 1 < n → k + 1 ≡ next n k
+next_inner : (n k : ℕ) → k + 1 < n → k + 1 ≡ next n k
 unfolding next
-next_inner n k h = simp (lt-ltb _ _ h)
+next_inner n k h = sym (mod-eq_of_lt h)
 
-pub next_last : (n k : ℕ) → n ≤ k + 1 → 0 ≡ next n k
+next_last : (n k : ℕ) → k + 1 ≡ n → 0 ≡ next n k
 unfolding next
-next_last n k h = simp (le-ltb _ _ h)
+next_last n k e = sym (ap (λ i. i % n) e ∙ mod_self n)
 
--- ---- the numbers of one side more
+-- ---- one side more
 
-module _ (r : List ℤ) (k : ℕ) (a b d : ℤ) where
-  -- the three numbers of side k, stored
-  abbrev stored : List ℤ
-  stored = set (set (set r (3 * k) a) (3 * k + 1) b) (3 * k + 2) d
+pub no_steps : (t : List (ℤ × ℤ)) → StepsUpTo 0 [] t
+no_steps t = record { size = refl; each = λ i h. absurd (omega arith) }
 
-  before : (j : ℕ) → j < 3 * k → get_or stored j (pos 0) ≡ get_or r j (pos 0)
-  before j h =
-      get_or-set_other (set (set r (3 * k) a) (3 * k + 1) b) (3 * k + 2) j d (pos 0) (λ e. omega arith)
-      ∙ get_or-set_other (set r (3 * k) a) (3 * k + 1) j b (pos 0) (λ e. omega arith)
-      ∙ get_or-set_other r (3 * k) j a (pos 0) (λ e. omega arith)
-
-  module _ (size : length r ≡ 3 * most_sides) (l : k < most_sides) where
-    first : get_or stored (3 * k) (pos 0) ≡ a
-    first =
-        get_or-set_other (set (set r (3 * k) a) (3 * k + 1) b) (3 * k + 2) (3 * k) d (pos 0) (λ e. omega arith)
-        ∙ get_or-set_other (set r (3 * k) a) (3 * k + 1) (3 * k) b (pos 0) (λ e. omega arith)
-        ∙ get_or-set_same r (3 * k) a (pos 0) (omega arith)
-
-    second : get_or stored (3 * k + 1) (pos 0) ≡ b
-    second =
-        get_or-set_other (set (set r (3 * k) a) (3 * k + 1) b) (3 * k + 2) (3 * k + 1) d (pos 0) (λ e. omega arith)
-        ∙ get_or-set_same (set r (3 * k) a) (3 * k + 1) b (pos 0) (simp length-set (omega arith))
-
-    third : get_or stored (3 * k + 2) (pos 0) ≡ d
-    third = get_or-set_same (set (set r (3 * k) a) (3 * k + 1) b) (3 * k + 2) d (pos 0) (simp length-set (omega arith))
-
-pub no_steps : (t : List (ℤ × ℤ)) → StepsUpTo 0 (replicate (3 * most_sides) (pos 0)) t
-no_steps t = record {
-  size = length-replicate (3 * most_sides) (pos 0);
-  run = λ i h. absurd (omega arith);
-  rise = λ i h. absurd (omega arith);
-  cross = λ i h. absurd (omega arith);
-}
-
-pub one_step_more : (t : List (ℤ × ℤ)) (k : ℕ) (r : List ℤ) {a b d : ℤ} → k < most_sides → StepsUpTo k r t
-    → a ≡ table_run t k → b ≡ table_rise t k → d ≡ table_cross t k → StepsUpTo (k + 1) (stored r k a b d) t
-one_step_more t k r {a} {b} {d} l h ea eb ed = record {
-  size = simp length-set h.size;
-  run = λ i j. pick (table_run t) (λ i. 3 * i) (λ i g. omega arith) h.run
-      (first r k a b d h.size l ∙ ea) i (below_suc (subst (λ x. i < x) (add-one k) j));
-  rise = λ i j. pick (table_rise t) (λ i. 3 * i + 1) (λ i g. omega arith) h.rise
-      (second r k a b d h.size l ∙ eb) i (below_suc (subst (λ x. i < x) (add-one k) j));
-  cross = λ i j. pick (table_cross t) (λ i. 3 * i + 2) (λ i g. omega arith) h.cross
-      (third r k a b d h.size l ∙ ed) i (below_suc (subst (λ x. i < x) (add-one k) j));
+pub one_step_more : (t : List (ℤ × ℤ)) (k : ℕ) (r : List Step) {step : Step} → StepsUpTo k r t → StepIs step t k
+    → StepsUpTo (k + 1) (r ++ (step ∷ [])) t
+one_step_more t k r {step} h e = record {
+  size = omega (arith, length-append r (step ∷ []), h.size);
+  each = λ i j. by i (below_suc (subst (λ x. i < x) (add-one k) j));
 }
   where
-    pick : (f : ℕ → ℤ) (place : ℕ → ℕ) → ((i : ℕ) → i < k → place i < 3 * k)
-        → ((i : ℕ) → i < k → get_or r (place i) (pos 0) ≡ f i)
-        → get_or (stored r k a b d) (place k) (pos 0) ≡ f k → (i : ℕ) → (i < k) ⊎ (i ≡ k)
-        → get_or (stored r k a b d) (place i) (pos 0) ≡ f i
-    pick f place low old new i (inl g) = before r k a b d (place i) (low i g) ∙ old i g
-    pick f place low old new i (inr e) = rw e new
+    by : (i : ℕ) → (i < k) ⊎ (i ≡ k) → StepIs (step_at (r ++ (step ∷ [])) i) t i
+    by i (inl g) =
+        subst (λ s. StepIs s t i) (sym (get_or-append r (step ∷ []) no_step i (omega (arith, h.size)))) (h.each i g)
+    by i (inr same) =
+        subst (λ n. StepIs (step_at (r ++ (step ∷ [])) n) t n) (h.size ∙ sym same)
+        (subst (λ s. StepIs s t (length r)) (sym (get_or-append_seam r step [] no_step))
+        (subst (StepIs step t) (sym h.size) e))
 
 -- ---- the sides of a polygon by its corners
 
@@ -238,23 +208,35 @@ module _ {g : Polygon} {n radius step product : ℕ} (f : PolygonFits g n radius
   cross-within k l = record { within = f.rule.largest_cross.bounds (side_at g k) (side_in k l) }
 
   -- a polygon's numbers, from the table of its corners
-  drawn : (r : List ℤ) → StepsUpTo n r (pairs_of g.corners) → Steps g n r
-  drawn r u = record {
-    size = u.size;
-    most = f.few_sides;
-    run = λ k l. record {
-      same = u.run k l ∙ run_is g n f.rule.count k l;
-      inside = Within-le (run-within k l) f.step_fits;
-    };
-    rise = λ k l. record {
-      same = u.rise k l ∙ rise_is g n f.rule.count k l;
-      inside = Within-le (rise_within k l) f.step_fits;
-    };
-    cross = λ k l. record {
-      same = u.cross k l ∙ cross_is g n f.rule.count k l;
-      inside = Within-le (cross-within k l) f.product_fits;
-    };
-  }
+  numbered : (r : List Step) → StepsUpTo n r (pairs_of g.corners) → (k : ℕ) → k < n
+      → step_numbers (step_at r k) ≡ side_numbers (side_at g k)
+  numbered r u k l =
+      let s = u.each k l in
+      λ i. (
+        (s.run ∙ run_is g n f.rule.count k l) i,
+        (s.rise ∙ rise_is g n f.rule.count k l) i,
+        (s.cross ∙ cross_is g n f.rule.count k l) i,
+      )
+
+  drawn : (r : List Step) → StepsUpTo n r (pairs_of g.corners) → SidesAre g r
+  unfolding side_at
+  drawn r u =
+      let sides : List Side = polygon_sides g.corners in
+      let there : length r ≡ n = u.size in
+      let count : length sides ≡ n = omega (arith, side_of_each g.corners, f.rule.count) in
+      record {
+        same =
+            ext_get_or none (map step_numbers r) (map side_numbers sides)
+            (omega (arith, length-map r step_numbers, length-map sides side_numbers))
+            (λ k h.
+            let l : k < n = omega (arith, length-map r step_numbers) in
+            get_or-map step_numbers r k no_step none (omega arith)
+            ∙ numbered r u k l
+            ∙ sym (get_or-map side_numbers sides k _ none (omega arith)));
+      }
+    where
+      none : ℤ × ℤ × ℤ
+      none = (pos 0, pos 0, pos 0)
 
   corner-within : (v : Point) → v ∈ g.corners → Within most_radius v.px × Within most_radius v.py
   corner-within v i =
@@ -273,20 +255,62 @@ module _ {g : Polygon} {n radius step product : ℕ} (f : PolygonFits g n radius
       by (no l) =
           rw (get_or_past g.corners k origin (omega arith)) (record { within = zero-le }, record { within = zero-le })
 
-  -- the table of its corners: none further out than the radius
+  -- the table of its corners: none further out than the radius, and no side longer than the longest
   table_drawn : Corners (pairs_of g.corners)
   table_drawn = record {
     few = rw (length-pairs_of g.corners, f.rule.count) f.few_sides;
     x = λ k. rw (x_of_corner g.corners k) (at_corner k).0;
     y = λ k. rw (y_of_corner g.corners k) (at_corner k).1;
+    run = λ k h.
+        let l = below k h in
+        subst (Within most_step) (sym (run_is g n f.rule.count k l)) (Within-le (run-within k l) f.step_fits);
+    rise = λ k h.
+        let l = below k h in
+        subst (Within most_step) (sym (rise_is g n f.rule.count k l)) (Within-le (rise_within k l) f.step_fits);
+    cross = λ k h.
+        let l = below k h in
+        subst (Within most_cross) (sym (cross_is g n f.rule.count k l)) (Within-le (cross-within k l) f.product_fits);
   }
+    where
+      below : (k : ℕ) → k < length (pairs_of g.corners) → k < n
+      below k h = omega (arith, length-pairs_of g.corners, f.rule.count)
 
-pub table_of : {n : ℕ} → ListedPolygon n → Corners (pairs_of (polygon_of n).corners)
-table_of p = table_drawn p.fits
+  radius-within : Within most_radius g.radius
+  radius-within = rw f.radius_is (record { within = f.radius_fits })
 
-pub steps_of : (sides : ℕ) {n : ℕ} → ListedPolygon n → sides ≡ n → (r : List ℤ)
-    → StepsUpTo n r (pairs_of (polygon_of n).corners) → Steps (polygon_of sides) sides r
-steps_of sides p e r u = subst (λ k. Steps (polygon_of k) k r) (sym e) (drawn p.fits r u)
+module _ {n : ℕ} (p : ListedPolygon n) where
+  pub table_of : {t : List (ℤ × ℤ)} → t ≡ pairs_of (polygon_of n).corners → Corners t
+  table_of e = subst Corners (sym e) (table_drawn p.fits)
+
+  pub radius_of : {r : ℤ} → r ≡ (polygon_of n).radius → Within most_radius r
+  radius_of e = subst (Within most_radius) (sym e) (radius-within p.fits)
+
+  module _ {t : List (ℤ × ℤ)} (r : List Step) (e : t ≡ pairs_of (polygon_of n).corners) (u : StepsFrom r t) where
+    pub steps_counted : length r ≡ n
+    steps_counted = u.size ∙ ap length e ∙ length-pairs_of (polygon_of n).corners ∙ p.fits.rule.count
+
+    pub sides_of : SidesAre (polygon_of n) r
+    sides_of =
+        drawn p.fits r
+        (subst (λ k. StepsUpTo k r (pairs_of (polygon_of n).corners))
+        (length-pairs_of (polygon_of n).corners ∙ p.fits.rule.count)
+        (subst (StepsFrom r) e u))
+
+-- ---- the sides one by one
+
+module _ {g : Polygon} {t : List Step} (h : SidesAre g t) where
+  pub side_count : length t ≡ length g.corners
+  side_count =
+      let sides : List Side = polygon_sides g.corners in
+      sym (length-map t step_numbers) ∙ ap length h.same ∙ length-map sides side_numbers ∙ side_of_each g.corners
+
+  pub side_step : (k : ℕ) → k < length t → step_numbers (step_at t k) ≡ side_numbers (side_at g k)
+  unfolding side_at
+  side_step k l =
+      let sides : List Side = polygon_sides g.corners in
+      sym (get_or-map step_numbers t k no_step (pos 0, pos 0, pos 0) l)
+      ∙ ap (λ z. get_or z k (pos 0, pos 0, pos 0)) h.same
+      ∙ get_or-map side_numbers sides k _ (pos 0, pos 0, pos 0) (omega (arith, side_count, side_of_each g.corners))
 
 -- every definition that a table computes with
 unfoldable pub shown : Unit {0}

@@ -4,7 +4,7 @@ use mathlib.Core.Path.{◌≡◌, refl, sym, ◌∙◌, ap, subst}
 use mathlib.Core.Bool.{Bool, true, ◌&&◌}
 use mathlib.Core.List.{List, [], ◌∷◌}
 use Prim.Native.Nat.{ℕ, suc, ◌+◌, ◌*◌, ◌-◌, ◌/◌, ◌%◌, ◌≤◌, ◌<◌}
-use native.Mathlib.Nat.{le_refl, suc-mul, mul-le-mul, mul-le-mul_right, div-lt_iff_lt-mul, div-add-mod', mod-lt}
+use native.Mathlib.Nat.{suc-mul, mul-le-mul_right, div-lt_iff_lt-mul, div-add-mod', mod-lt}
 use native.Mathlib.Numerals.{add-one}
 use native.Mathlib.Decide.{dec_lt}
 use native.Mathlib.Omega.{arith}
@@ -15,38 +15,48 @@ use lib.IntN.{ℤ, pos, ◌+ℤ◌, ◌-ℤ◌, ◌*ℤ◌, neg_ℤ}
 use Rattle.integer.proofs.Linear.{linear, facts, ◌&◌}
 use Rattle.integer.proofs.Ring.{ring, terms}
 use Rattle.integer.proofs.TestLaws.{same_test, yes_le_z, yes_lt_z}
+use Rattle.std.specs.List.{list_all}
+use Rattle.std.proofs.lemmas.List.{get_or-map}
 use Rattle.scope.proofs.NumberRanges.{some_sides_lem}
+use Rattle.scope.proofs.PolygonRule.{listed_polygon}
 use Rattle.scope.proofs.Pairs.{pair_there}
 use Rattle.scope.proofs.RowCounts.{strength_count}
 use Rattle.scope.proofs.SumBounds.{from_0}
 use Rattle.criterion.proofs.RowLaws.{row_of_pair, strength_at}
+use Rattle.criterion.proofs.SideLaws.{side_count, side_step}
 use Rattle.integer.specs.Bounds.{Within, Is}
-use Rattle.integer.proofs.Machine.{Is-as, Is-Within}
-use Rattle.scope.specs.Mesh.{nodes, soils, sides, p, q, h, cohesion, most_pairs, most_sides}
+use Rattle.scope.specs.Mesh.{nodes, soils, sides, p, q, h, cohesion}
 use Rattle.mesh.specs.declared.sizes.Sizes.{Sizes}
 use Rattle.scope.specs.Bounds.{most_friction, most_cohesion}
 use Rattle.scope.specs.Columns.{at, n, l}
 use Rattle.scope.specs.declared.Place.TheVariants as P
-use Rattle.scope.specs.declared.Outcome.TheVariants.{Passed, Refused}
+use Rattle.scope.specs.Cases.Outcome.{Passed, Refused}
 use Rattle.scope.specs.Checks.{all_below}
-use Rattle.scope.specs.Claim.{stress}
-use Rattle.scope.specs.Polygon.{Side, Polygon, polygon_of}
+use Rattle.scope.specs.Polygon.{Side, polygon_of}
+use Rattle.scope.specs.Rows as R
 use Rattle.scope.specs.Rows.{pair_count, pair_at, sx, sy, t, strength_row, strength_rows}
 use Rattle.scope.specs.Sums.{weighted_sum, left_side, right_side, row_holds, is_open}
 use Rattle.scope.specs.NumberRanges.{Counts, SoilFacts}
 use Rattle.scope.specs.Tests.{row_at}
-use Rattle.mesh.specs.MeshContracts.{Sized, PairTable}
+use Rattle.mesh.specs.declared.pairs.Pair.{Pair}
+use Rattle.mesh.specs.MeshContracts.{Sized}
+use Rattle.mesh.specs.PairContracts.{pair_of, PairsAre}
+use Rattle.mesh.proofs.PairLaws.{pairs_counted}
 use Rattle.scope.specs.RowNumbers.{side_at}
+use Rattle.criterion.specs.declared.steps.Step.{Step}
+use Rattle.criterion.specs.declared.polygons.Polygon.{Polygon}
+use Rattle.criterion.specs.declared.strength_numbers.SoilNumbers.{SoilNumbers}
+use Rattle.criterion.specs.declared.strength_numbers.PairNumbers.{PairNumbers}
 use Rattle.criterion.specs.StrengthContracts.{
   Listed,
-  SoilNumbers,
-  SoilFits,
-  PairNumbers,
-  PairFits,
+  SoilIs,
+  PairIs,
   PairState,
-  Steps,
-  MeshSteps,
-  StepsFit,
+  no_step,
+  step_at,
+  step_numbers,
+  side_numbers,
+  SidesAre,
   run_of,
   rise_of,
   cross_of,
@@ -56,19 +66,33 @@ use Rattle.criterion.specs.StrengthContracts.{
 use Rattle.scope.specs.Phases.{check_phase}
 use Rattle.scope.specs.Refusals.{strengths_phase}
 use Rattle.lines.specs.SearchContracts.{first_failing}
-use Rattle.lines.proofs.Loops.{each_below, all_of_each, all_cong, holds_before, fails_there, phase-at, phase_all}
+use Rattle.lines.proofs.Loops.{each_below, all_of_each, all_cong, all_elements}
+use Rattle.lines.proofs.Loops.{holds_before, fails_there, phase-at, phase_all}
 
 pub being : {v z : ℤ} {B : ℕ} → v ≡ z → Within B z → Is v z B
 being e h = record { same = e; inside = h }
 
--- ---- the pairs by their table
+-- ---- the pairs
 
-module _ {m : List ℤ} {t : List ℕ} (h : PairTable m t) (a : ℕ) {r : ℕ} (l : a < pair_count m) where
-  pub node_read : r ≡ get_or t (2 * a) 0 → (r ≡ (pair_at m a).at) × (r < nodes m)
-  node_read e = let s = e ∙ h.node a l in (s, subst (λ v. v < nodes m) (sym s) (pair_there m a l).0)
+module _ (m : List ℤ) (t : List Pair) (h : PairsAre m t) (a : ℕ) (l : a < pair_count m) where
+  pub pair_within : a < length t
+  pair_within = omega (arith, pairs_counted m t h)
 
-  pub soil_read : r ≡ get_or t (2 * a + 1) 0 → (r ≡ (pair_at m a).soil) × (r < soils m)
-  soil_read e = let s = e ∙ h.soil a l in (s, subst (λ k. k < soils m) (sym s) (pair_there m a l).1)
+  pub pair_read : (d : Pair) → pair_of (get_or t a d) ≡ pair_at m a
+  unfolding pair_at
+  pair_read d =
+      sym (get_or-map pair_of t a d (record { at = 0; soil = 0 }) pair_within)
+      ∙ ap (λ ps. get_or ps a (record { at = 0; soil = 0 })) h
+
+  pub node_read : {r : ℕ} (d : Pair) → r ≡ (get_or t a d).node → (r ≡ (pair_at m a).at) × (r < nodes m)
+  node_read d e =
+      let s = e ∙ ap (λ (p : R.Pair). p.at) (pair_read d) in
+      (s, subst (λ v. v < nodes m) (sym s) (pair_there m a l).0)
+
+  pub soil_read : {r : ℕ} (d : Pair) → r ≡ (get_or t a d).soil → (r ≡ (pair_at m a).soil) × (r < soils m)
+  soil_read d e =
+      let s = e ∙ ap (λ (p : R.Pair). p.soil) (pair_read d) in
+      (s, subst (λ k. k < soils m) (sym s) (pair_there m a l).1)
 
 -- ---- the numbers of a soil
 
@@ -85,36 +109,31 @@ module _ {m : List ℤ} {s : ℕ} (f : SoilFacts m s) where
   pub cohesion-within : Within most_cohesion (cohesion m s)
   cohesion-within = from_0 f.cohesion_range
 
-pub soil_fits : {k m : List ℤ} {s : ℕ} {r : ℤ} → SoilNumbers k m s r → SoilFits k
-soil_fits h = record {
-  size = h.size;
-  lever = Is-Within h.lever (le_refl _);
-  friction = Is-Within h.friction (le_refl _);
-  right = Is-Within h.right (le_refl _);
-}
-
 -- ---- the numbers of a pair at a field
 
-module _ (m c : List ℤ) (a : ℕ) {d k x : List ℤ} {v soil : ℕ} {r n' : ℤ} where
-  pub pair_stated : PairNumbers d k x v n' → SoilNumbers k m soil r → v ≡ (pair_at m a).at → soil ≡ (pair_at m a).soil
-      → r ≡ (polygon_of (sides m)).radius → n' ≡ n c → stress m c ≡ at x → PairState d m c a
+module _ (m : List ℤ) (a : ℕ) {d : PairNumbers} {k : SoilNumbers} {x : List ℤ} {v soil : ℕ} {r n' n : ℤ} where
+  pub pair_stated : PairIs d k x v n' → SoilIs k m soil r → v ≡ (pair_at m a).at → soil ≡ (pair_at m a).soil
+      → r ≡ (polygon_of (sides m)).radius → n' ≡ n → PairState d m (at x) n a
   unfolding sx sy t
-  pair_stated h g ev es er en ex = record {
-    size = h.size;
-    lever = Is-as h.lever (le_refl _) (g.lever.same ∙ rw (er, es));
-    spread = Is-as h.spread (le_refl _) (rw (ex, ev));
-    twist = Is-as h.twist (le_refl _) (rw (ex, ev));
-    reserve = Is-as h.reserve (le_refl _) (rw (ex, en, g.right.same, g.friction.same, es, ev));
+  pair_stated h g ev es er en = record {
+    lever = h.lever ∙ g.lever ∙ rw (er, es);
+    spread = h.spread ∙ rw ev;
+    twist = h.twist ∙ rw ev;
+    reserve = h.reserve ∙ rw (en, g.right, g.friction, es, ev);
   }
 
-pub pair_fits : {d m c : List ℤ} {a : ℕ} → PairState d m c a → PairFits d
-pair_fits h = record {
-  size = h.size;
-  lever = Is-Within h.lever (le_refl _);
-  spread = Is-Within h.spread (le_refl _);
-  twist = Is-Within h.twist (le_refl _);
-  reserve = Is-Within h.reserve (le_refl _);
-}
+-- ---- the polygon of a mesh
+
+module _ (m : List ℤ) (p : Polygon) (e : length p.steps.items ≡ sides m) where
+  pub its_radius : p.radius ≡ (polygon_of (sides m)).radius
+  its_radius = p.circle ∙ ap (λ k. (polygon_of k).radius) e
+
+  pub its_sides : {t : List Step} → t ≡ p.steps.items → SidesAre (polygon_of (sides m)) t
+  its_sides d = subst (SidesAre (polygon_of (sides m))) (sym d)
+      (subst (λ k. SidesAre (polygon_of k) p.steps.items) e p.drawn)
+
+pub sides_counted : {m : List ℤ} {t : List Step} → Counts m → SidesAre (polygon_of (sides m)) t → length t ≡ sides m
+sides_counted {m} counts h = side_count h ∙ (listed_polygon (sides m) counts.sides_listed).fits.rule.count
 
 pub sides_listed_lem : {m : List ℤ} {s : Sizes} → Sized m s → Listed s.sides
 sides_listed_lem h = record { listed = rw h.sides_are h.facts.counts.sides_listed }
@@ -155,92 +174,86 @@ unfolding right_side left_side weighted_sum strength_row cross_of rise_of run_of
 slack_is r p q h C v s f l n = regrouped r p q h C (f (sx v)) (f (sy v)) (f (t v)) (run_of s) (rise_of s)
     (cross_of s) l n
 
-module _ (m c : List ℤ) (a k : ℕ) {d tab : List ℤ} (state : PairState d m c a) (steps : MeshSteps m tab)
-    (j : k < sides m) (l : ℤ) where
-  row_slack : side_slack d tab k ≡ right_side (n c)
-      (row_of_pair m a (side_at (polygon_of (sides m)) k)) -ℤ left_side (stress m c) l
+module _ (m : List ℤ) (s : ℕ → ℤ) (n : ℤ) (a k : ℕ) {d : PairNumbers} (step : Step) (state : PairState d m s n a)
+    (same : step_numbers step ≡ side_numbers (side_at (polygon_of (sides m)) k)) (l : ℤ) where
+  row_slack : side_slack d step ≡ right_side n
+      (row_of_pair m a (side_at (polygon_of (sides m)) k)) -ℤ left_side s l
       (row_of_pair m a (side_at (polygon_of (sides m)) k))
-  unfolding side_slack at row_of_pair
+  unfolding side_slack row_of_pair
   row_slack =
       rw (
-        state.lever.same,
-        state.spread.same,
-        state.twist.same,
-        state.reserve.same,
-        (steps.run k j).same,
-        (steps.rise k j).same,
-        (steps.cross k j).same,
+        state.lever,
+        state.spread,
+        state.twist,
+        state.reserve,
+        ap (λ t. t.0) same,
+        ap (λ t. t.1) same,
+        ap (λ t. t.2) same,
       )
       (slack_is (polygon_of (sides m)).radius (p m (pair_at m a).soil) (q m (pair_at m a).soil)
       (h m (pair_at m a).soil) (cohesion m (pair_at m a).soil) (pair_at m a).at
-      (side_at (polygon_of (sides m)) k) (stress m c) l (n c))
+      (side_at (polygon_of (sides m)) k) s l n)
 
-  pub strength_test_lem : row_holds (stress m c) l (n c) (row_of_pair m a (side_at (polygon_of (sides m)) k))
-      ≡ le_z (pos 0) (side_slack d tab k)
+  pub strength_test_lem : row_holds s l n (row_of_pair m a (side_at (polygon_of (sides m)) k))
+      ≡ le_z (pos 0) (side_slack d step)
   unfolding row_holds row_of_pair strength_row
-  strength_test_lem = le_z_slack (left_side (stress m c) l (row_of_pair m a (side_at (polygon_of (sides m)) k)))
-      (right_side (n c) (row_of_pair m a (side_at (polygon_of (sides m)) k))) row_slack
+  strength_test_lem = le_z_slack (left_side s l (row_of_pair m a (side_at (polygon_of (sides m)) k)))
+      (right_side n (row_of_pair m a (side_at (polygon_of (sides m)) k))) row_slack
 
-  pub open_test_lem : (w : ℤ) → is_open (stress m c) l (n c)
-      (w, row_of_pair m a (side_at (polygon_of (sides m)) k)) ≡ (lt_z (pos 0) w && lt_z (pos 0) (side_slack d tab k))
+  pub open_test_lem : (w : ℤ) → is_open s l n
+      (w, row_of_pair m a (side_at (polygon_of (sides m)) k)) ≡ (lt_z (pos 0) w && lt_z (pos 0) (side_slack d step))
   unfolding is_open row_of_pair strength_row
   open_test_lem w = ap (λ b. lt_z (pos 0) w && b)
-      (lt_z_slack (left_side (stress m c) l (row_of_pair m a (side_at (polygon_of (sides m)) k)))
-      (right_side (n c) (row_of_pair m a (side_at (polygon_of (sides m)) k))) row_slack)
+      (lt_z_slack (left_side s l (row_of_pair m a (side_at (polygon_of (sides m)) k)))
+      (right_side n (row_of_pair m a (side_at (polygon_of (sides m)) k))) row_slack)
 
 -- ---- the pairs one by one
 
-pub steps_fit : {g : Polygon} {n : ℕ} {tab : List ℤ} → Steps g n tab → StepsFit tab n
-unfolding at
-steps_fit h = record {
-  most = h.most;
-  each = λ k l. record {
-    size = h.size;
-    below = omega (arith, h.most);
-    run = Is-Within (h.run k l) (le_refl _);
-    rise = Is-Within (h.rise k l) (le_refl _);
-    cross = Is-Within (h.cross k l) (le_refl _);
-  };
-}
+-- strength row i holds at the stresses
+abbrev strength_test : List ℤ → (ℕ → ℤ) → ℤ → ℤ → ℕ → Bool
+strength_test m s l n i = row_holds s l n (row_at (strength_rows m) i)
 
--- strength row i holds at the claim's field
-abbrev strength_test : List ℤ → List ℤ → ℕ → Bool
-strength_test m c i = row_holds (stress m c) (l c) (n c) (row_at (strength_rows m) i)
+-- and the row of a side by its slack
+abbrev step_test : PairNumbers → Step → Bool
+step_test d step = le_z (pos 0) (side_slack d step)
 
--- and the row of side k by its slack
-abbrev side_test : List ℤ → List ℤ → ℕ → Bool
-side_test d tab k = le_z (pos 0) (side_slack d tab k)
+abbrev side_test : PairNumbers → List Step → ℕ → Bool
+side_test d t k = step_test d (step_at t k)
 
-module _ (m c : List ℤ) (counts : Counts m) where
-  module _ {tab : List ℤ} (steps : MeshSteps m tab) {a : ℕ} {d : List ℤ} (h : a < pair_count m)
-      (state : PairState d m c a) where
-    row_test_lem : (k : ℕ) → k < sides m → strength_test m c (a * sides m + k) ≡ side_test d tab k
-    row_test_lem k j = ap (row_holds (stress m c) (l c) (n c))
-        (strength_at m (record { listed = counts.sides_listed }) a k h j)
-        ∙ strength_test_lem m c a k state steps j (l c)
+module _ (m : List ℤ) (s : ℕ → ℤ) (l n : ℤ) (counts : Counts m) where
+  module _ {t : List Step} (steps : SidesAre (polygon_of (sides m)) t) {a : ℕ} {d : PairNumbers} (h : a < pair_count m)
+      (state : PairState d m s n a) where
+    row_test_lem : (k : ℕ) → k < sides m → strength_test m s l n (a * sides m + k) ≡ side_test d t k
+    row_test_lem k j =
+        let there : k < length t = omega (arith, sides_counted counts steps) in
+        ap (row_holds s l n) (strength_at m (record { listed = counts.sides_listed }) a k h j)
+        ∙ strength_test_lem m s n a k (step_at t k) state (side_step steps k there) l
 
-    pub pair_holds_is : {s : ℕ} {r : Bool} → s ≡ sides m → r ≡ all_below (side_test d tab) s → r ≡ pair_holds m c a
+    all_tests : all_below (side_test d t) (sides m) ≡ pair_holds m s l n a
     unfolding pair_holds
-    pair_holds_is e g =
+    all_tests = sym (all_cong (λ k. strength_test m s l n (a * sides m + k)) (side_test d t) (sides m) row_test_lem)
+
+    pub pair_holds_is : {r : Bool} → r ≡ list_all (step_test d) t → r ≡ pair_holds m s l n a
+    pair_holds_is g =
         g
-        ∙ ap (all_below (side_test d tab)) e
-        ∙ sym (all_cong (λ k. strength_test m c (a * sides m + k)) (side_test d tab) (sides m) row_test_lem)
+        ∙ all_elements (step_test d) t no_step
+        ∙ ap (all_below (side_test d t)) (sides_counted counts steps)
+        ∙ all_tests
 
   -- the rows of the pairs that hold
-  pair_rows_lem : {a : ℕ} → ((u : ℕ) → u < a → pair_holds m c u ≡ true) → (j : ℕ) → j < a * sides m
-      → strength_test m c j ≡ true
+  pair_rows_lem : {a : ℕ} → ((u : ℕ) → u < a → pair_holds m s l n u ≡ true) → (j : ℕ) → j < a * sides m
+      → strength_test m s l n j ≡ true
   unfolding pair_holds
-  pair_rows_lem {a} holds j l =
-      let s : ℕ = sides m in
-      let u : ℕ = j / s in
-      subst (λ i. strength_test m c i ≡ true) (div-add-mod' j s)
-      (each_below (λ k. strength_test m c (u * s + k)) s
-      (holds u ((div-lt_iff_lt-mul (some_sides_lem counts)).1 l)) (j % s) (mod-lt j (some_sides_lem counts)))
+  pair_rows_lem {a} holds j b =
+      let u : ℕ = j / sides m in
+      subst (λ i. strength_test m s l n i ≡ true) (div-add-mod' j (sides m))
+      (each_below (λ k. strength_test m s l n (u * sides m + k)) (sides m)
+      (holds u ((div-lt_iff_lt-mul (some_sides_lem counts)).1 b)) (j % sides m) (mod-lt j (some_sides_lem counts)))
 
   -- a is the lowest pair on which a row fails, and k the lowest of its sides
-  module _ {tab : List ℤ} (steps : MeshSteps m tab) {a k : ℕ} {d : List ℤ}
-      (e : a ≡ first_failing (pair_holds m c) (pair_count m)) (h : a < pair_count m) (state : PairState d m c a)
-      (f : k ≡ first_failing (side_test d tab) (sides m)) where
+  module _ {t : List Step} (steps : SidesAre (polygon_of (sides m)) t) {a k : ℕ} {d : PairNumbers}
+      (e : a ≡ first_failing (pair_holds m s l n) (pair_count m)) (h : a < pair_count m) (state : PairState d m s n a)
+      (f : k ≡ first_failing (side_test d t) (sides m)) where
     side_there : k < sides m
     side_there = by (dec_lt k (sides m))
       where
@@ -249,30 +262,30 @@ module _ (m c : List ℤ) (counts : Counts m) where
         by (no j) =
             absurd
             (subst T
-            (sym (all_of_each (side_test d tab) (sides m)
-            (λ i l. holds_before (side_test d tab) (sides m) f i (omega arith)))
-            ∙ pair_holds_is steps h state refl refl
-            ∙ fails_there (pair_holds m c) (pair_count m) e h)
+            (sym (all_of_each (side_test d t) (sides m)
+            (λ i b. holds_before (side_test d t) (sides m) f i (omega arith)))
+            ∙ all_tests steps h state
+            ∙ fails_there (pair_holds m s l n) (pair_count m) e h)
             tt)
 
-    before : (j : ℕ) → j < a * sides m + k → strength_test m c j ≡ true
-    before j l = by (dec_lt j (a * sides m))
+    before : (j : ℕ) → j < a * sides m + k → strength_test m s l n j ≡ true
+    before j b = by (dec_lt j (a * sides m))
       where
-        by : Dec (j < a * sides m) → strength_test m c j ≡ true
-        by (yes i) = pair_rows_lem (holds_before (pair_holds m c) (pair_count m) e) j i
+        by : Dec (j < a * sides m) → strength_test m s l n j ≡ true
+        by (yes i) = pair_rows_lem (holds_before (pair_holds m s l n) (pair_count m) e) j i
         by (no i) =
             let rest : ℕ = j - a * sides m in
             let same : a * sides m + rest ≡ j = omega arith in
             let low : rest < k = omega arith in
-            subst (λ i. strength_test m c i ≡ true) same
+            subst (λ i. strength_test m s l n i ≡ true) same
             (row_test_lem steps h state rest (omega (arith, side_there))
-            ∙ holds_before (side_test d tab) (sides m) f rest low)
+            ∙ holds_before (side_test d t) (sides m) f rest low)
 
     refused : Refused 22 (P.Row (suc (a * sides m + k)))
-        ≡ check_phase (strengths_phase (strength_rows m) (stress m c) (l c) (n c))
+        ≡ check_phase (strengths_phase (strength_rows m) s l n)
     unfolding check_phase
     refused =
-        phase-at (strength_test m c) 22 (λ i. P.Row (suc i)) (length (strength_rows m)) before
+        phase-at (strength_test m s l n) 22 (λ i. P.Row (suc i)) (length (strength_rows m)) before
         (omega (
           arith,
           strength_count m counts.sides_listed,
@@ -280,35 +293,25 @@ module _ (m c : List ℤ) (counts : Counts m) where
           suc-mul a (sides m),
           side_there,
         ))
-        (row_test_lem steps h state k side_there ∙ fails_there (side_test d tab) (sides m) f side_there)
+        (row_test_lem steps h state k side_there ∙ fails_there (side_test d t) (sides m) f side_there)
         refl
 
   -- the same by the counts of pairs and of sides that the code has
-  pub strengths_refused : {tab d : List ℤ} {a k count side_count : ℕ} → MeshSteps m tab → count ≡ pair_count m
-      → side_count ≡ sides m
-      → a ≡ first_failing (pair_holds m c) count → a < count → PairState d m c a
-      → k ≡ first_failing (side_test d tab) side_count
+  pub strengths_refused : {t : List Step} {d : PairNumbers} {a k count side_count : ℕ}
+      → SidesAre (polygon_of (sides m)) t → count ≡ pair_count m → side_count ≡ sides m
+      → a ≡ first_failing (pair_holds m s l n) count → a < count → PairState d m s n a
+      → k ≡ first_failing (side_test d t) side_count
       → Refused 22 (P.Row (a * side_count + k + 1))
-      ≡ check_phase (strengths_phase (strength_rows m) (stress m c) (l c) (n c))
-  strengths_refused {tab} {d} {a} {k} steps en es e h state f =
+      ≡ check_phase (strengths_phase (strength_rows m) s l n)
+  strengths_refused {t} {d} {a} {k} steps en es e h state f =
       ap (λ i. Refused 22 (P.Row i)) (add-one _ ∙ ap (λ i. suc (a * i + k)) es)
-      ∙ refused steps (e ∙ ap (first_failing (pair_holds m c)) en) (omega arith) state
-      (f ∙ ap (first_failing (side_test d tab)) es)
+      ∙ refused steps (e ∙ ap (first_failing (pair_holds m s l n)) en) (omega arith) state
+      (f ∙ ap (first_failing (side_test d t)) es)
 
-  pub strengths_passed : {a count : ℕ} → count ≡ pair_count m → a ≡ first_failing (pair_holds m c) count
-      → count ≤ a → Passed ≡ check_phase (strengths_phase (strength_rows m) (stress m c) (l c) (n c))
+  pub strengths_passed : {a count : ℕ} → count ≡ pair_count m → a ≡ first_failing (pair_holds m s l n) count
+      → count ≤ a → Passed ≡ check_phase (strengths_phase (strength_rows m) s l n)
   unfolding check_phase
   strengths_passed {count = count} en e h =
-      phase_all (strength_test m c) 22 (λ i. P.Row (suc i)) (length (strength_rows m))
-      (λ j l. pair_rows_lem {a = pair_count m} (λ u k. holds_before (pair_holds m c) count e u (omega arith)) j
+      phase_all (strength_test m s l n) 22 (λ i. P.Row (suc i)) (length (strength_rows m))
+      (λ j b. pair_rows_lem {a = pair_count m} (λ u k. holds_before (pair_holds m s l n) count e u (omega arith)) j
       (omega (arith, strength_count m counts.sides_listed)))
-
--- the number of sides as the code has it
-pub steps_as : {s n : ℕ} {tab : List ℤ} → s ≡ n → Steps (polygon_of s) s tab → Steps (polygon_of n) n tab
-steps_as {tab = tab} e h = subst (λ k. Steps (polygon_of k) k tab) e h
-
-pub first_row : {a n s : ℕ} → a < n → n ≤ most_pairs → s ≤ most_sides → a * s < most_pairs * most_sides
-first_row {a} {n} {s} h k l = omega (
-  arith,
-  mul-le-mul {n₁ = a} {m₁ = s} {n₂ = most_pairs - 1} {m₂ = most_sides} (omega arith) l,
-)

@@ -1,6 +1,11 @@
-// The strength criterion as whole numbers: the sides of the polygons, and the strength rows of a node and a soil.
+// The strength criterion as whole numbers: the sides of the polygons, a claim whose lines have passed and its field,
+// and the strength rows of a node and a soil.
 
 #![tactic(auto)]
 
+pub mod claims;
+pub mod fields;
 pub mod polygons;
+pub mod steps;
+pub mod strength_numbers;
 pub mod strength_rows;

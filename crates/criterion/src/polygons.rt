@@ -1,11 +1,21 @@
 // The three polygons: their corners as constant tables, and what a strength row reads of each side.
 ghost use Rattle.std.specs.Prelude.{◌≡◌, ◌<◌, length};
-ghost use Rattle.integer.specs.Bounds.{Is};
-ghost use Rattle.scope.specs.Polygon.{polygon_of};
+ghost use Rattle.std.proofs.Props.{props};
+ghost use Rattle.integer.specs.Bounds.{Within};
 ghost use Rattle.scope.specs.Bounds.{most_radius};
-ghost use Rattle.criterion.specs.StrengthContracts.{Listed, next, Corners, StepIs, StepsFrom, Steps};
+ghost use Rattle.scope.specs.Polygon.{polygon_of};
+ghost use Rattle.criterion.specs.StrengthContracts.{
+  Listed,
+  Corners,
+  pairs_of,
+  StepIs,
+  StepsFrom,
+  SidesAre,
+};
 
-use mesh::sizes::MOST_SIDES;
+use crate::steps::Step;
+use arrayvec::ArrayVec;
+use mesh::limits::MOST_SIDES;
 
 // "counterclockwise from (r, 0)".
 const TWELVE: [(i64, i64); 12] = [
@@ -85,34 +95,14 @@ const THIRTY_SIX: [(i64, i64); 36] = [
     (63, -16),
 ];
 
-// Three numbers for each side of the largest polygon.
-const STEP_NUMBERS: usize = 3 * MOST_SIDES;
-
-// A side by what its strength row reads: the step (c - a, d - b), and ad - bc.
-#[derive(Clone, Copy)]
-struct Step {
-    run: i64,
-    rise: i64,
-    cross: i64,
-}
-
-// The corner after corner k: after the last comes the first.
-fn after(k: usize, sides: usize) -> usize
-    requires { k < sides }
-    ensures next { result ≡ next sides k }
-    ensures there { result < sides }
-{
-    if k + 1 < sides { k + 1 } else { 0 }
-}
-
-// "Side k runs from corner (a, b) to the next, (c, d)".
+// "Side k runs from corner (a, b) to the next, (c, d)": after the last corner comes the first.
 fn step_of(corners: &[(i64, i64)], k: usize) -> Step
     requires corners { Corners corners.now }
     requires there { k < length corners.now }
     ensures { StepIs result corners.now k }
 {
     let (a, b) = corners[k];
-    let (c, d) = corners[after(k, corners.len())];
+    let (c, d) = corners[(k + 1) % corners.len()];
     Step {
         run: c - a,
         rise: d - b,
@@ -120,41 +110,61 @@ fn step_of(corners: &[(i64, i64)], k: usize) -> Step
     }
 }
 
-// All sides of the polygon with these corners: run, rise and cross product of side k from place 3k on.
-fn steps_from(corners: &[(i64, i64)]) -> [i64; STEP_NUMBERS]
+// The sides of a polygon.
+pub type Steps = ArrayVec<Step, MOST_SIDES>;
+
+// All sides of the polygon with these corners.
+fn steps_from(corners: &[(i64, i64)]) -> Steps
     requires { Corners corners.now }
-    ensures { StepsFrom result corners.now }
+    ensures { StepsFrom result.items corners.now }
 {
-    let mut steps = [0; STEP_NUMBERS];
+    let mut steps = Steps::new();
     for k in 0..corners.len() {
-        let step = step_of(corners, k);
-        steps[3 * k] = step.run;
-        steps[3 * k + 1] = step.rise;
-        steps[3 * k + 2] = step.cross;
+        steps.push(step_of(corners, k));
     }
     steps
 }
 
-// The sides of the polygon of a mesh with this many sides.
-pub fn steps_of(sides: usize) -> [i64; STEP_NUMBERS]
+// The radius of the circle around the polygon of a mesh with this many sides, and its corners.
+fn circle_of(sides: usize) -> (i64, &'static [(i64, i64)])
     requires { Listed sides }
-    ensures { Steps (polygon_of sides) sides result }
+    ensures radius { result.0 ≡ (polygon_of sides).radius }
+    ensures corners { result.1.now ≡ pairs_of (polygon_of sides).corners }
 {
     match sides {
-        12 => steps_from(&TWELVE),
-        20 => steps_from(&TWENTY),
-        _ => steps_from(&THIRTY_SIX),
+        12 => (5, &TWELVE),
+        20 => (25, &TWENTY),
+        _ => (65, &THIRTY_SIX),
     }
 }
 
-// The radius of the circle around that polygon.
-pub fn radius_of(sides: usize) -> i64
-    requires { Listed sides }
-    ensures { Is result (polygon_of sides).radius most_radius }
-{
-    match sides {
-        12 => 5,
-        20 => 25,
-        _ => 65,
+// A polygon inside a circle: its sides counterclockwise, and the radius.
+#[derive(Drop)]
+pub struct Polygon {
+    pub steps: Steps,
+    pub radius: i64,
+    pub ghost radius_fits: { Within most_radius radius },
+    pub ghost circle: { radius ≡ (polygon_of (length steps.items)).radius },
+    pub ghost drawn: { SidesAre (polygon_of (length steps.items)) steps.items } by { Prim.hlevel props },
+}
+
+impl Polygon {
+    // The polygon of a mesh with this many sides.
+    pub fn of(sides: usize) -> Polygon
+        requires { Listed sides }
+        ensures { length result.steps.items ≡ sides }
+    {
+        let (radius, corners) = circle_of(sides);
+        Polygon {
+            steps: steps_from(corners),
+            radius,
+        }
+    }
+
+    // Its sides.
+    pub fn sides(&self) -> &[Step]
+        ensures { result.now ≡ self.now.steps.items }
+    {
+        &self.steps
     }
 }

@@ -1,16 +1,9 @@
 -- `steps_from` meets its contract: one side more in each turn.
-use native.Mathlib.Omega.{arith}
-use Rattle.integer.proofs.Machine.{machine, exact}
 use Rattle.criterion.proofs.SideLaws.{no_steps, one_step_more}
 use Rattle.criterion.proofs.polygons.steps_from.Goals as goal
 
 pub loop-k-init : goal.loop-k-init
-loop-k-init c = no_steps _
+loop-k-init c = rw c.new-steps.ensures (no_steps _)
 
 pub loop-k-preserved : goal.loop-k-preserved
-loop-k-preserved c =
-    let h = c.step_of-step.ensures in
-    one_step_more _ _ _ (omega (arith, c.requires.few)) c.loop-k.invariant
-    (exact (search machine depth 30) (omega arith))
-    (exact (search machine depth 30) (omega arith))
-    (exact (search machine depth 30) (omega arith))
+loop-k-preserved c = rw c.push.ensures.items (one_step_more _ _ _ c.loop-k.invariant c.step_of.ensures)

@@ -3,4 +3,4 @@ use Rattle.criterion.specs.StrengthContracts.{StepsUpTo}
 use Rattle.criterion.proofs.polygons.steps_from.Given as goal
 
 abbrev pub invariant-loop-k : goal.invariant-loop-k
-invariant-loop-k l = StepsUpTo l.k l.steps l.corners
+invariant-loop-k l = StepsUpTo l.k l.steps.items l.corners
