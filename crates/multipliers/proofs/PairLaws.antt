@@ -9,17 +9,26 @@ use native.Mathlib.Omega.{arith}
 use lib.IntN.{ℤ, pos, ◌+ℤ◌, ◌-ℤ◌, ◌*ℤ◌, neg_ℤ, +ℤ_idr}
 use lib.ListN.{length, get_or, set, length-set, replicate, length-replicate, take, drop, length-drop}
 use lib.Seq.{get_or-drop}
+use denote.Ref.{Bor}
+use Rattle.std.proofs.Common.{Iter, Option, Some, None}
+use Rattle.std.specs.declared.iter.Zip.{Zip}
+use Rattle.std.specs.Iterator.{Yields}
+use Rattle.std.specs.Iterator.Adapters.{zip_first, zip_second}
+use Rattle.std.specs.Slice.Iter.{iter_rest}
+use Rattle.std.proofs.iter.Yields.{fronts}
+use Rattle.std.proofs.lemmas.Iterator.{zips}
 use Rattle.std.proofs.lemmas.List.{length-take, length-take-le, get_or-take}
+use Rattle.std.proofs.lemmas.Slice.Zip.{zip_turn, zip_end}
 use Rattle.integer.proofs.Ring.{ring, terms}
-use Rattle.integer.specs.Bounds.{Within, AllWithin, Is}
+use Rattle.integer.specs.Bounds.{Within, AllWithin}
 use Rattle.integer.proofs.BoundLaws.{Within-le, Within-+ℤ, Within-*ℤ, AllWithin-le, all_within_lem}
 use mir.Syntax.{w64}
 use mir.Val.{to_z, of_z}
-use Rattle.integer.proofs.Machine.{Is-as, Is-Within, Is-within, Is-read}
+use Rattle.integer.proofs.Machine.{machine, exact, Is-as, Is-Within, Is-within, Is-read}
 use Rattle.scope.specs.Mesh.{most_nodes, most_pairs, most_sides, most_equality_rows, sides, p, q, h, cohesion}
 use Rattle.scope.specs.Mesh.{equality_count}
-use Rattle.scope.specs.Bounds.{strength_multiplier, pairs_with, most_strength_rows, equality_columns, equality_sums}
-use Rattle.scope.specs.Bounds.{strength_sum, pair_column, most_column}
+use Rattle.scope.specs.Bounds.{most_multiplier, strength_multiplier, pairs_with, most_strength_rows, equality_columns}
+use Rattle.scope.specs.Bounds.{equality_sums, strength_sum, pair_column, most_column}
 use Rattle.scope.specs.PolygonRule.{ListedPolygon}
 use Rattle.scope.proofs.PolygonRule.{listed_polygon}
 use Rattle.scope.specs.Columns.{at}
@@ -28,41 +37,70 @@ use Rattle.scope.specs.Polygon.{Side, polygon_of}
 use Rattle.scope.specs.Rows.{Row, pair_count, pair_at, sx, sy, t, strength_row, rows_of}
 use Rattle.scope.specs.Sums.{weighted_sum, unit, coefficient}
 use Rattle.scope.specs.Tests.{row_at}
-use Rattle.mesh.specs.declared.sizes.Sizes.{Sizes}
-use Rattle.multipliers.specs.declared.multiplier_sums.Sums.{Sums}
-use Rattle.multipliers.specs.declared.multiplier_sums.SideSums.{SideSums}
-use Rattle.multipliers.specs.declared.multiplier_sums.PairSums.{PairSums}
+use Rattle.mesh.specs.declared.pairs.PairedMesh.{PairedMesh}
+use Rattle.multipliers.specs.declared.sums.Sums.{Sums}
+use Rattle.multipliers.specs.declared.sums.SideSums.{SideSums}
+use Rattle.multipliers.specs.declared.sums.PairSums.{PairSums}
 use Rattle.scope.specs.PrintedColumns.{sum_below}
 use Rattle.scope.specs.RowNumbers.{side_at}
-use Rattle.criterion.specs.StrengthContracts.{Listed, MeshSteps, StepsFit, SoilNumbers, run_of, rise_of, cross_of}
+use Rattle.criterion.specs.declared.steps.Step.{Step}
+use Rattle.criterion.specs.declared.strength_numbers.SoilNumbers.{SoilNumbers}
+use Rattle.criterion.specs.StrengthContracts.{Listed, SidesAre, SoilIs, no_step, step_at, step_numbers, side_numbers}
+use Rattle.criterion.specs.StrengthContracts.{run_of, rise_of, cross_of}
 use Rattle.equality.specs.EqualityContracts.{SumsAre}
 use Rattle.multipliers.specs.MultiplierContracts.{row_sum, part_sum}
-use Rattle.multipliers.specs.MultiplierContracts.{Multipliers, RowsGiven, SideWeighted, NoSums, SummedTo, Summed}
+use Rattle.multipliers.specs.MultiplierContracts.{Multipliers, SideWeighted, NoSums, SummedTo, Summed}
 use Rattle.multipliers.specs.MultiplierContracts.{PairsSummed, SideMultipliers, SideSumsFit, SideAdded, side_sum}
-use Rattle.multipliers.specs.MultiplierContracts.{SideSumsAre, PairSumsAre, PairSumsFit, pair_first, PairPart}
+use Rattle.multipliers.specs.MultiplierContracts.{SideSumsAre, PairSumsAre, pair_first, PairPart}
 use Rattle.multipliers.specs.MultiplierContracts.{three_added, WholeSumsFit}
 use Rattle.equality.proofs.EntryLaws.{unit-within, sums_within, sums_add, sums_of, sums_as}
 use Rattle.multipliers.proofs.SumLaws.{sum_below-next, sum_below_cong, sum_below_add}
-use Rattle.criterion.proofs.SideLaws.{run-within, rise_within, cross-within}
-use Rattle.criterion.proofs.StrengthLaws.{steps_fit}
+use Rattle.criterion.proofs.SideLaws.{run-within, rise_within, cross-within, side_step}
+use Rattle.criterion.proofs.StrengthLaws.{sides_counted}
 use Rattle.criterion.proofs.RowLaws.{row_of_pair, strength_at, strength_among}
-use Rattle.multipliers.proofs.MultiplierLaws.{grown_by, nothing_added, grown_is}
+use Rattle.multipliers.proofs.MultiplierLaws.{grown_by, grown_is}
+
+-- c as the code reads it
+abbrev read : ℤ → ℤ
+read c = to_z w64 (of_z w64 c)
 
 -- ---- the sides of a pair, one by one
 
-pub zero_side : (t : List ℤ) (k : ℕ) {w : ℤ} (a : SideSums) → w ≡ pos 0 → SideAdded t k w a a
-zero_side t k {w} a e = record {
-  run = nothing_added a.run w _ e;
-  rise = nothing_added a.rise w _ e;
-  cross = nothing_added a.cross w _ e;
-}
+-- what a turn of a loop over the sides t with their multipliers y reads: side i
+pub record SideRead (t : List Step) (y : List ℤ) (i : ℕ) (s : Step) (w : ℤ) : Type 0 where
+  pub below : i < length y
+  pub side : s ≡ step_at t i
+  pub weight : w ≡ at y i
 
-pub side_added : (t : List ℤ) (k : ℕ) {w : ℤ} {a b : SideSums} → SideWeighted t k w
-    → b.run ≡ a.run +ℤ w *ℤ at t (3 * k) → b.rise ≡ a.rise +ℤ w *ℤ at t (3 * k + 1)
-    → b.cross ≡ a.cross +ℤ w *ℤ at t (3 * k + 2) → SideAdded t k w a b
-side_added t k h e g d = record { run = grown_by e h.run; rise = grown_by g h.rise; cross = grown_by d h.cross }
+module _ {t : List Step} {y : List ℤ} {i : ℕ} {s : Step} {w : ℤ} (r : SideRead t y i s w)
+    (h : SideMultipliers t y) where
+  pub side_itself : Within most_multiplier w
+  side_itself = subst (Within most_multiplier) (sym r.weight) (h.bounds i r.below).itself
 
-module _ (t y : List ℤ) where
+  -- with the multiplier as the code has it
+  pub side_weighted : {v : ℤ} → v ≡ w → SideWeighted s v
+  side_weighted {v} e =
+      subst (λ s. SideWeighted s v) (sym r.side)
+      (subst (SideWeighted (step_at t i)) (sym (e ∙ r.weight)) (h.bounds i r.below))
+
+module _ {t : List Step} {y : List ℤ} (as_many : length t ≡ length y) (xs : List (Bor Step × Bor ℤ))
+    (start now next : Zip (Iter Step) (Iter ℤ)) {r : Option (Bor Step × Bor ℤ)}
+    (first : iter_rest (zip_first start) ≡ t) (second : iter_rest (zip_second start) ≡ y)
+    (so_far : Yields (zips fronts fronts) start xs now) (step : zips fronts fronts now r next) where
+  pub side_read : {p : Bor Step × Bor ℤ} → r ≡ Some p → SideRead t y (length xs) p.0.now p.1.now
+  unfolding at
+  side_read {p} e =
+      let turn = zip_turn t y xs start now next r first second so_far p e step in
+      record { below = turn.1; side = turn.2 no_step; weight = turn.3 (pos 0) }
+
+  pub all_read : r ≡ None → length xs ≡ length y
+  all_read e = omega (arith, as_many, zip_end t y xs start now next r first second so_far e step)
+
+pub side_added : {s : Step} {w : ℤ} {a b : SideSums} → SideWeighted s w → b.run ≡ a.run +ℤ w *ℤ s.run
+    → b.rise ≡ a.rise +ℤ w *ℤ s.rise → b.cross ≡ a.cross +ℤ w *ℤ s.cross → SideAdded s w a b
+side_added h e g d = record { run = grown_by e h.run; rise = grown_by g h.rise; cross = grown_by d h.cross }
+
+module _ (t : List Step) (y : List ℤ) where
   pub no_sides : {a : SideSums} → a.run ≡ pos 0 → a.rise ≡ pos 0 → a.cross ≡ pos 0 → SideSumsAre a t y 0
   unfolding side_sum sum_below
   no_sides e f g = record {
@@ -71,24 +109,25 @@ module _ (t y : List ℤ) where
     cross = record { same = g; inside = record { within = zero-le } };
   }
 
-  pub one_side : (k : ℕ) {a b : SideSums} {w : ℤ} → SideSumsAre a t y k → w ≡ at y k → SideAdded t k w a b
-      → SideSumsAre b t y (k + 1)
+  -- sums over a pair's sides leave room
+  pub sides_room : (k : ℕ) {a : SideSums} → SideSumsAre a t y k → k ≤ most_sides → SideSumsFit a
+  sides_room k h l = record {
+    run = Is-Within h.run (omega arith);
+    rise = Is-Within h.rise (omega arith);
+    cross = Is-Within h.cross (omega arith);
+  }
+
+  pub one_side : (k : ℕ) {a b : SideSums} {s : Step} {w : ℤ} → SideSumsAre a t y k → s ≡ step_at t k → w ≡ at y k
+      → SideAdded s w a b → SideSumsAre b t y (k + 1)
   unfolding side_sum
-  one_side k {a} {b} h e g =
-      let g : SideAdded t k (at y k) a b = subst (λ w. SideAdded t k w a b) e g in
+  one_side k {a} {b} {s} {w} h d e g =
+      let g : SideAdded (step_at t k) (at y k) a b =
+      subst (λ s. SideAdded s (at y k) a b) d (subst (λ w. SideAdded s w a b) e g) in
       record {
         run = Is-as (grown_is g.run h.run) (omega arith) (sym (sum_below-next _ k));
         rise = Is-as (grown_is g.rise h.rise) (omega arith) (sym (sum_below-next _ k));
         cross = Is-as (grown_is g.cross h.cross) (omega arith) (sym (sum_below-next _ k));
       }
-
-  -- at most as many sides as a polygon has
-  pub sides_fit : {k : ℕ} {a : SideSums} → SideSumsAre a t y k → k ≤ most_sides → SideSumsFit a
-  sides_fit h l = record {
-    run = Is-Within h.run (omega arith);
-    rise = Is-Within h.rise (omega arith);
-    cross = Is-Within h.cross (omega arith);
-  }
 
 -- ---- all sides of a pair, as its rows have them
 
@@ -160,16 +199,18 @@ module _ (r p q h C : ℤ) (v : ℕ) (side : ℕ → Side) (w : ℕ → ℤ) whe
   live_sum_lem zero = refl
   live_sum_lem (suc n) = ap (λ z. z +ℤ w n *ℤ pos 0) (live_sum_lem n) ∙ ring (w n ∷ []) (search terms depth 100) refl
 
-pub pair_summed : {r : PairSums} {a : SideSums} {k : List ℤ}
-    → Is r.sx (at k 1 *ℤ a.cross +ℤ at k 0 *ℤ a.rise) pair_column
-    → Is r.sy (at k 1 *ℤ a.cross -ℤ at k 0 *ℤ a.rise) pair_column
-    → Is r.t (neg_ℤ (pos 2 *ℤ at k 0 *ℤ a.run)) pair_column
-    → Is r.right (at k 2 *ℤ a.cross) (most_sides * strength_sum) → PairSumsAre r a k
-pair_summed e f g h = record { sx_is = e; sy_is = f; t_is = g; right_is = h }
-
--- the number of sides as the code has it
-pub steps_few : {s n : ℕ} {tab : List ℤ} → s ≡ n → StepsFit tab n → StepsFit tab s
-steps_few {tab = tab} e h = subst (StepsFit tab) (sym e) h
+-- from the sums over the sides and the numbers of the soil, as the code computes them
+pub pair_summed : (k : SoilNumbers) {a : SideSums} → SideSumsFit a → {r : PairSums}
+    → r.sx ≡ read (read (read k.friction *ℤ read a.cross) +ℤ read (read k.lever *ℤ read a.rise))
+    → r.sy ≡ read (read (read k.friction *ℤ read a.cross) -ℤ read (read k.lever *ℤ read a.rise))
+    → r.t ≡ read (pos 0 -ℤ read (read (pos 2 *ℤ read k.lever) *ℤ read a.run))
+    → r.right ≡ read (read k.right *ℤ read a.cross) → PairSumsAre r a k
+pair_summed k h x y t w = record {
+  sx_is = x ∙ exact (search machine depth 30) (omega arith);
+  sy_is = y ∙ exact (search machine depth 30) (omega arith);
+  t_is = t ∙ exact (search machine depth 30) (omega arith);
+  right_is = w ∙ exact (search machine depth 30) (omega arith);
+}
 
 -- a number of a side with its multiplier
 weighted : {M A B : ℕ} {w z v : ℤ} → Within M w → Within A z → M * A ≤ B → v ≡ z → Within B (w *ℤ v)
@@ -197,34 +238,36 @@ module _ {m y w : List ℤ} {a : ℕ} (l : a < pair_count m) (h : Multipliers m 
       rw e (get_or-take (sides m) (drop (pair_first m a) y) i (pos 0) k ∙ get_or-drop (pair_first m a) y i (pos 0))
 
   -- with the sides of the mesh's polygon
-  pub pair_weighted : {t : List ℤ} → Counts m → MeshSteps m t → SideMultipliers t w
-  unfolding at pair_first
-  pair_weighted {t} counts steps = record {
-    bounds = λ k j.
-        let i : k < sides m = omega (arith, pair_length) in
-        let w = multiplier k i in
-        record {
-          itself = Within-le w (omega arith);
-          run = weighted w (run-within g.fits k i) g.fits.step_weighted (steps.run k i).same;
-          rise = weighted w (rise_within g.fits k i) g.fits.step_weighted (steps.rise k i).same;
-          cross = weighted w (cross-within g.fits k i) g.fits.product_weighted (steps.cross k i).same;
-        };
-  }
-    where
-      g : ListedPolygon (sides m)
-      g = listed_polygon (sides m) counts.sides_listed
+  module _ {t : List Step} (counts : Counts m) (steps : SidesAre (polygon_of (sides m)) t) where
+    pub pair_as_many : length t ≡ length w
+    pair_as_many = sides_counted counts steps ∙ sym pair_length
 
-      multiplier : (k : ℕ) → k < sides m → Within (strength_multiplier (sides m)) (at w k)
-      multiplier k j =
-          subst (Within (strength_multiplier (sides m)))
-          (sym (pair_weight k j ∙ ap (at y) (add_assoc (equality_count m) (a * sides m) k)))
-          (h.strength_bounds (a * sides m + k) (omega (arith, mul-le-mul_right (sides m) l, suc-mul a (sides m))))
+    pub pair_few : length w ≤ most_sides
+    pair_few = omega (arith, pair_length, (listed_polygon (sides m) counts.sides_listed).fits.few_sides)
 
-  pub pair_steps : {t : List ℤ} → MeshSteps m t → StepsFit t (length w)
-  pair_steps {t} steps = rw pair_length (steps_fit steps)
+    pub pair_weighted : SideMultipliers t w
+    unfolding at pair_first
+    pair_weighted = record {
+      bounds = λ k j.
+          let i : k < sides m = omega (arith, pair_length) in
+          let same = side_step steps k (omega (arith, pair_as_many)) in
+          let w = multiplier k i in
+          record {
+            itself = Within-le w (omega arith);
+            run = weighted w (run-within g.fits k i) g.fits.step_weighted (ap (λ s. s.0) same);
+            rise = weighted w (rise_within g.fits k i) g.fits.step_weighted (ap (λ s. s.1) same);
+            cross = weighted w (cross-within g.fits k i) g.fits.product_weighted (ap (λ s. s.2) same);
+          };
+    }
+      where
+        g : ListedPolygon (sides m)
+        g = listed_polygon (sides m) counts.sides_listed
 
-pub side_weighted : {t : List ℤ} {k : ℕ} {w z : ℤ} → w ≡ z → SideWeighted t k z → SideWeighted t k w
-side_weighted {t} {k} e h = subst (SideWeighted t k) (sym e) h
+        multiplier : (k : ℕ) → k < sides m → Within (strength_multiplier (sides m)) (at w k)
+        multiplier k j =
+            subst (Within (strength_multiplier (sides m)))
+            (sym (pair_weight k j ∙ ap (at y) (add_assoc (equality_count m) (a * sides m) k)))
+            (h.strength_bounds (a * sides m + k) (omega (arith, mul-le-mul_right (sides m) l, suc-mul a (sides m))))
 
 -- ---- the sums of pair a
 
@@ -258,12 +301,14 @@ module _ (m y : List ℤ) (a : ℕ) (there : a < pair_count m) (listed : Listed 
   unfolding side_sum
   over_sides F w en ew e = rw en (sum_below_cong _ _ (sides m) (λ i l. ap₂ ◌*ℤ◌ (ew i l) (e i l)))
 
-  pub pair_part_of : {r : PairSums} {b : SideSums} {k tab : List ℤ} (w : List ℤ) {n soil : ℕ} {radius : ℤ} → n ≡ sides m
-      → ((i : ℕ) → i < sides m → at w i ≡ weight i) → SideSumsAre b tab w n → MeshSteps m tab
-      → SoilNumbers k m soil radius → soil ≡ (pair_at m a).soil → radius ≡ (polygon_of (sides m)).radius
+  pub pair_part_of : {r : PairSums} {b : SideSums} {k : SoilNumbers} {t : List Step} (w : List ℤ) {n soil : ℕ}
+      {radius : ℤ}
+      → n ≡ sides m → ((i : ℕ) → i < sides m → at w i ≡ weight i) → SideSumsAre b t w n → length t ≡ sides m
+      → SidesAre (polygon_of (sides m)) t
+      → SoilIs k m soil radius → soil ≡ (pair_at m a).soil → radius ≡ (polygon_of (sides m)).radius
       → PairSumsAre r b k → PairPart r m y a
-  unfolding row_of_pair at
-  pair_part_of {r} {b} {k} {tab} w {soil = soil} {radius = radius} en ew s steps g es er d = record {
+  unfolding row_of_pair
+  pair_part_of {r} {b} {k} {t} w {soil = soil} {radius = radius} en ew s many steps g es er d = record {
     columns = λ j.
         rows_of_pair (coefficient j)
         ∙ columns_sum (polygon_of (sides m)).radius (p m (pair_at m a).soil) (q m (pair_at m a).soil)
@@ -278,52 +323,49 @@ module _ (m y : List ℤ) (a : ℕ) (there : a < pair_count m) (listed : Listed 
         rows_of_pair (λ r. r.live)
         ∙ live_sum_lem (polygon_of (sides m)).radius (p m (pair_at m a).soil) (q m (pair_at m a).soil)
         (h m (pair_at m a).soil) (cohesion m (pair_at m a).soil) (pair_at m a).at side weight (sides m);
-    fits = record {
-      sx_fits = Is-Within d.sx_is (le_refl _);
-      sy_fits = Is-Within d.sy_is (le_refl _);
-      t_fits = Is-Within d.t_is (le_refl _);
-      right_fits = Is-Within d.right_is (le_refl _);
-    };
-    limit_fits = subst (Within (sides m * strength_sum)) (sym d.right_is.same)
-        (Within-le (Within-*ℤ (Is-Within g.right (le_refl _)) (Is-Within s.cross (le_refl _))) (omega (arith, en)));
+    limit_fits = subst (Within (sides m * strength_sum)) (sym d.right_is)
+        (Within-le (Within-*ℤ k.right_fits (Is-Within s.cross (le_refl _))) (omega (arith, en)));
   }
     where
+      same : (i : ℕ) → i < sides m → step_numbers (step_at t i) ≡ side_numbers (side i)
+      same i l = side_step steps i (omega (arith, many))
+
       run_is : b.run ≡ sum_below (λ i. weight i *ℤ run_of (side i)) (sides m)
-      run_is = s.run.same ∙ over_sides run_of w en ew (λ i l. (steps.run i l).same)
+      run_is = s.run.same ∙ over_sides run_of w en ew (λ i l. ap (λ s. s.0) (same i l))
 
       rise_is : b.rise ≡ sum_below (λ i. weight i *ℤ rise_of (side i)) (sides m)
-      rise_is = s.rise.same ∙ over_sides rise_of w en ew (λ i l. (steps.rise i l).same)
+      rise_is = s.rise.same ∙ over_sides rise_of w en ew (λ i l. ap (λ s. s.1) (same i l))
 
       cross_is : b.cross ≡ sum_below (λ i. weight i *ℤ cross_of (side i)) (sides m)
-      cross_is = s.cross.same ∙ over_sides cross_of w en ew (λ i l. (steps.cross i l).same)
+      cross_is = s.cross.same ∙ over_sides cross_of w en ew (λ i l. ap (λ s. s.2) (same i l))
 
-      lever_is : at k 0 ≡ (polygon_of (sides m)).radius *ℤ h m (pair_at m a).soil
-      lever_is = g.lever.same ∙ ap₂ (λ r s. r *ℤ h m s) er es
+      lever_is : k.lever ≡ (polygon_of (sides m)).radius *ℤ h m (pair_at m a).soil
+      lever_is = g.lever ∙ ap₂ (λ r s. r *ℤ h m s) er es
 
-      friction_is : at k 1 ≡ p m (pair_at m a).soil
-      friction_is = g.friction.same ∙ ap (p m) es
+      friction_is : k.friction ≡ p m (pair_at m a).soil
+      friction_is = g.friction ∙ ap (p m) es
 
       sx_is_lem : r.sx
           ≡ p m (pair_at m a).soil *ℤ sum_below (λ i. weight i *ℤ cross_of (side i)) (sides m)
           +ℤ (polygon_of (sides m)).radius *ℤ h m (pair_at m a).soil
           *ℤ sum_below (λ i. weight i *ℤ rise_of (side i)) (sides m)
-      sx_is_lem = d.sx_is.same ∙ ap₂ ◌+ℤ◌ (ap₂ ◌*ℤ◌ friction_is cross_is) (ap₂ ◌*ℤ◌ lever_is rise_is)
+      sx_is_lem = d.sx_is ∙ ap₂ ◌+ℤ◌ (ap₂ ◌*ℤ◌ friction_is cross_is) (ap₂ ◌*ℤ◌ lever_is rise_is)
 
       sy_is_lem : r.sy
           ≡ p m (pair_at m a).soil *ℤ sum_below (λ i. weight i *ℤ cross_of (side i)) (sides m)
           -ℤ (polygon_of (sides m)).radius *ℤ h m (pair_at m a).soil
           *ℤ sum_below (λ i. weight i *ℤ rise_of (side i)) (sides m)
-      sy_is_lem = d.sy_is.same ∙ ap₂ ◌-ℤ◌ (ap₂ ◌*ℤ◌ friction_is cross_is) (ap₂ ◌*ℤ◌ lever_is rise_is)
+      sy_is_lem = d.sy_is ∙ ap₂ ◌-ℤ◌ (ap₂ ◌*ℤ◌ friction_is cross_is) (ap₂ ◌*ℤ◌ lever_is rise_is)
 
       t_is_lem : r.t
           ≡ neg_ℤ (pos 2 *ℤ ((polygon_of (sides m)).radius *ℤ h m (pair_at m a).soil)
           *ℤ sum_below (λ i. weight i *ℤ run_of (side i)) (sides m))
-      t_is_lem = d.t_is.same ∙ ap₂ (λ a b. neg_ℤ (pos 2 *ℤ a *ℤ b)) lever_is run_is
+      t_is_lem = d.t_is ∙ ap₂ (λ a b. neg_ℤ (pos 2 *ℤ a *ℤ b)) lever_is run_is
 
       right_is : r.right
           ≡ pos 2 *ℤ q m (pair_at m a).soil *ℤ cohesion m (pair_at m a).soil
           *ℤ sum_below (λ i. weight i *ℤ cross_of (side i)) (sides m)
-      right_is = d.right_is.same ∙ ap₂ ◌*ℤ◌ (g.right.same ∙ ap (λ s. pos 2 *ℤ q m s *ℤ cohesion m s) es) cross_is
+      right_is = d.right_is ∙ ap₂ ◌*ℤ◌ (g.right ∙ ap (λ s. pos 2 *ℤ q m s *ℤ cohesion m s) es) cross_is
 
 -- ---- three columns, one after the other
 
@@ -331,10 +373,6 @@ module _ (m y : List ℤ) (a : ℕ) (there : a < pair_count m) (listed : Listed 
 pub record ColumnAdded (B : ℕ) (before after : List ℤ) (f : ℕ → ℤ) : Type 0 where
   pub size : length after ≡ length before
   pub sums : SumsAre B after f
-
--- c as the code reads it
-abbrev read : ℤ → ℤ
-read c = to_z w64 (of_z w64 c)
 
 column_added : {B C : ℕ} (before : List ℤ) {after : List ℤ} {f : ℕ → ℤ} (i : ℕ) {d : ℤ} → SumsAre B before f
     → i < length before → Within C d → C < 2 ^ 63 → after ≡ set before i (at before i +ℤ read d)
@@ -346,31 +384,31 @@ column_added {B} {C} before {f = f} i {d = d} h l k few e =
       sums = subst (λ z. SumsAre (B + C) z (λ j. f j +ℤ d *ℤ unit j i)) (sym s) (sums_add before i d l k h);
     }
 
-module _ (before : List ℤ) (i : ℕ) {r : PairSums} (l : i + 2 < length before) (h : AllWithin most_column before)
-    (fit : PairSumsFit r) {one : List ℤ} (e : one ≡ set before i (at before i +ℤ read r.sx)) where
+module _ (before : List ℤ) (i : ℕ) (r : PairSums) (l : i + 2 < length before) (h : AllWithin most_column before)
+    {one : List ℤ} (e : one ≡ set before i (at before i +ℤ read r.sx)) where
   pub sx_added : ColumnAdded (most_column + pair_column) before one (λ j. at before j +ℤ r.sx *ℤ unit j i)
-  sx_added = column_added before i (sums_of h) (omega arith) fit.sx_fits (omega arith) e
+  sx_added = column_added before i (sums_of h) (omega arith) r.sx_fits (omega arith) e
 
   module _ {two : List ℤ} (d : two ≡ set one (i + 1) (at one (i + 1) +ℤ read r.sy)) where
     pub sy_added : ColumnAdded (most_column + pair_column + pair_column) one two
         (λ j. at before j +ℤ r.sx *ℤ unit j i +ℤ r.sy *ℤ unit j (i + 1))
-    sy_added = column_added one (i + 1) sx_added.sums (omega (arith, sx_added.size)) fit.sy_fits (omega arith) d
+    sy_added = column_added one (i + 1) sx_added.sums (omega (arith, sx_added.size)) r.sy_fits (omega arith) d
 
     pub t_added : {after : List ℤ} → after ≡ set two (i + 2) (at two (i + 2) +ℤ read r.t)
         → SumsAre (most_column + 3 * pair_column) after (three_added before i r)
     t_added s =
-        sums_as (column_added two (i + 2) sy_added.sums (omega (arith, sx_added.size, sy_added.size)) fit.t_fits
+        sums_as (column_added two (i + 2) sy_added.sums (omega (arith, sx_added.size, sy_added.size)) r.t_fits
         (omega arith) s).sums
         (omega arith) (λ j. refl)
 
 -- ---- one pair more
 
-pub three_within : (before : List ℤ) (column j : ℕ) {r : PairSums} {B : ℕ} → PairSumsFit r → Within B (at before j)
+pub three_within : (before : List ℤ) (column j : ℕ) (r : PairSums) {B : ℕ} → Within B (at before j)
     → Within (B + 3 * pair_column) (three_added before column r j)
-three_within before column j f h =
+three_within before column j r h =
     Within-le
-    (Within-+ℤ (Within-+ℤ (Within-+ℤ h (Within-*ℤ f.sx_fits (unit-within j column)))
-    (Within-*ℤ f.sy_fits (unit-within j (column + 1)))) (Within-*ℤ f.t_fits (unit-within j (column + 2))))
+    (Within-+ℤ (Within-+ℤ (Within-+ℤ h (Within-*ℤ r.sx_fits (unit-within j column)))
+    (Within-*ℤ r.sy_fits (unit-within j (column + 1)))) (Within-*ℤ r.t_fits (unit-within j (column + 2))))
     (omega arith)
 
 pub next_first : (m : List ℤ) (a : ℕ) → pair_first m a + sides m ≡ pair_first m (a + 1)
@@ -398,7 +436,7 @@ module _ (m y : List ℤ) (a : ℕ) where
         same = columns_are_lem j;
         inside = subst (Within (equality_columns + (a + 1) * (3 * pair_column)))
             (sym (s.each j).same ∙ columns_are_lem j)
-            (Within-le (three_within before column j g.fits (Is-Within (h.columns_are.each j) (le_refl _)))
+            (Within-le (three_within before column j r (Is-Within (h.columns_are.each j) (le_refl _)))
             (omega arith));
       };
     };
@@ -487,10 +525,6 @@ module _ (m y : List ℤ) (counts : Counts m) (few : pair_count m ≤ most_pairs
             record { same = h.live_is.same; inside = Within-le h.live_is.inside (omega (arith, zero-mul (sides m))) };
       })
 
-  pub all_pairs_summed : (a : ℕ) {columns : List ℤ} {sums : Sums} → a ≡ pair_count m → PairsSummed m y a columns sums
-      → PairsSummed m y (pair_count m) columns sums
-  all_pairs_summed a {columns} {sums} e h = subst (λ k. PairsSummed m y k columns sums) e h
-
   pub whole_room : {columns : List ℤ} {sums : Sums} → PairsSummed m y (pair_count m) columns sums
       → WholeSumsFit columns sums
   whole_room h = pair_room (pair_count m) (le_refl (pair_count m)) h
@@ -506,10 +540,17 @@ first_room {columns} n h = record {
   live_fits = h.live_fits;
 }
 
+pub all_pairs_summed : (m y : List ℤ) {a n : ℕ} {columns : List ℤ} {sums : Sums} → a ≡ n
+    → PairsSummed m y a columns sums
+    → PairsSummed m y n columns sums
+all_pairs_summed m y {columns = columns} {sums = sums} e h = subst (λ a. PairsSummed m y a columns sums) e h
+
 -- before pair a the sums leave room
-pub room_before : {m y steps : List ℤ} {s : Sizes} {t : List ℕ} {columns : List ℤ} {sums : Sums} (a : ℕ)
-    → RowsGiven m s t steps y → a < pair_count m → PairsSummed m y a columns sums → WholeSumsFit columns sums
-room_before {m} {y} a given l h = pair_room m y given.sized.facts.counts given.few a (omega arith) h
+pub room_before : (mesh : PairedMesh) {y columns : List ℤ} {sums : Sums} (a : ℕ) → a < pair_count mesh.mesh.numbers.now
+    → PairsSummed mesh.mesh.numbers.now y a columns sums → WholeSumsFit columns sums
+room_before mesh {y} a l h =
+    let m = mesh.mesh.numbers.now in
+    pair_room m y mesh.mesh.sized.facts.counts mesh.few a (omega arith) h
 
 pub no_sums : {z : ℤ} → z ≡ pos 0 → NoSums (replicate (3 * most_nodes) z)
 unfolding at

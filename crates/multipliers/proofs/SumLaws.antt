@@ -23,7 +23,8 @@ sum_below-next f n = ap (sum_below f) (add-one n)
 sum_below_front : (f : ℕ → ℤ) (n : ℕ) → sum_below f (suc n) ≡ f 0 +ℤ sum_below (λ k. f (suc k)) n
 unfolding sum_below
 sum_below_front f zero = +ℤ_idl (f 0) ∙ sym (+ℤ_idr (f 0))
-sum_below_front f (suc n) = ap (λ z. z +ℤ f (suc n)) (sum_below_front f n) ∙ +ℤ_assoc (f 0) (sum_below (λ k. f (suc k)) n) (f (suc n))
+sum_below_front f (suc n) =
+    ap (λ z. z +ℤ f (suc n)) (sum_below_front f n) ∙ +ℤ_assoc (f 0) (sum_below (λ k. f (suc k)) n) (f (suc n))
 
 pub sum_below_cong : (f g : ℕ → ℤ) (n : ℕ) → ((k : ℕ) → k < n → f k ≡ g k) → sum_below f n ≡ sum_below g n
 unfolding sum_below
@@ -44,30 +45,35 @@ sum_below_add f a (suc b) =
 pub weighed_sum : (F : Row → ℤ) (w : ℕ → ℤ) (rs : List Row) → weighted_sum F (weighed w rs) ≡ row_sum F w rs (length rs)
 unfolding weighted_sum weighed row_sum row_at sum_below
 weighed_sum F w [] = refl
-weighed_sum F w (r ∷ rs) = ap (λ z. w 0 *ℤ F r +ℤ z) (weighed_sum F (λ k. w (suc k)) rs) ∙ sym (sum_below_front (λ k. w k *ℤ F (row_at (r ∷ rs) k)) (length rs))
+weighed_sum F w (r ∷ rs) =
+    ap (λ z. w 0 *ℤ F r +ℤ z) (weighed_sum F (λ k. w (suc k)) rs)
+    ∙ sym (sum_below_front (λ k. w k *ℤ F (row_at (r ∷ rs) k)) (length rs))
 
-count_below_front : (f : ℕ → Bool) (n : ℕ) → count_below f (suc n) ≡ cond (f 0) 1 0 + count_below (λ k. f (suc k)) n
+pub count_below_front : (f : ℕ → Bool) (n : ℕ) → count_below f (suc n) ≡ cond (f 0) 1 0 + count_below (λ k. f (suc k)) n
 unfolding count_below
 count_below_front f zero = add_comm 0 (cond (f 0) 1 0)
-count_below_front f (suc n) = ap (λ z. z + cond (f (suc n)) 1 0) (count_below_front f n) ∙ add_assoc (cond (f 0) 1 0) (count_below (λ k. f (suc k)) n) (cond (f (suc n)) 1 0)
+count_below_front f (suc n) =
+    ap (λ z. z + cond (f (suc n)) 1 0) (count_below_front f n)
+    ∙ add_assoc (cond (f 0) 1 0) (count_below (λ k. f (suc k)) n) (cond (f (suc n)) 1 0)
 
-pub weighed-count : (f : ℤ × Row → Bool) (w : ℕ → ℤ) (rs : List Row) → how_many f (weighed w rs) ≡ count_below (λ k. f (w k, row_at rs k)) (length rs)
+pub weighed-count : (f : ℤ × Row → Bool) (w : ℕ → ℤ) (rs : List Row)
+    → how_many f (weighed w rs) ≡ count_below (λ k. f (w k, row_at rs k)) (length rs)
 unfolding how_many weighed row_at count_below
 weighed-count f w [] = refl
-weighed-count f w (r ∷ rs) = ap (λ z. cond (f (w 0, r)) 1 0 + z) (weighed-count f (λ k. w (suc k)) rs) ∙ sym (count_below_front (λ k. f (w k, row_at (r ∷ rs) k)) (length rs))
+weighed-count f w (r ∷ rs) =
+    ap (λ z. cond (f (w 0, r)) 1 0 + z) (weighed-count f (λ k. w (suc k)) rs)
+    ∙ sym (count_below_front (λ k. f (w k, row_at (r ∷ rs) k)) (length rs))
 
 -- ---- counts below a number
-
-pub count_below-next : (f : ℕ → Bool) (n : ℕ) → count_below f (n + 1) ≡ count_below f n + cond (f n) 1 0
-unfolding count_below
-count_below-next f n = ap (count_below f) (add-one n)
 
 pub count_below_cong : (f g : ℕ → Bool) (n : ℕ) → ((k : ℕ) → k < n → f k ≡ g k) → count_below f n ≡ count_below g n
 unfolding count_below
 count_below_cong f g zero h = refl
-count_below_cong f g (suc n) h = ap₂ (λ a b. a + cond b 1 0) (count_below_cong f g n (λ k l. h k (omega arith))) (h n (omega arith))
+count_below_cong f g (suc n) h =
+    ap₂ (λ a b. a + cond b 1 0) (count_below_cong f g n (λ k l. h k (omega arith))) (h n (omega arith))
 
-pub count_below_add : (f : ℕ → Bool) (a b : ℕ) → count_below f (a + b) ≡ count_below f a + count_below (λ k. f (a + k)) b
+pub count_below_add : (f : ℕ → Bool) (a b : ℕ)
+    → count_below f (a + b) ≡ count_below f a + count_below (λ k. f (a + k)) b
 unfolding count_below
 count_below_add f a zero = ap (count_below f) (add-zero a) ∙ sym (add-zero (count_below f a))
 count_below_add f a (suc b) =
@@ -78,7 +84,8 @@ count_below_add f a (suc b) =
 pub count_below_none : (f : ℕ → Bool) (n : ℕ) → ((k : ℕ) → k < n → f k ≡ false) → count_below f n ≡ 0
 unfolding count_below
 count_below_none f zero h = refl
-count_below_none f (suc n) h = ap₂ (λ a b. a + cond b 1 0) (count_below_none f n (λ k l. h k (omega arith))) (h n (omega arith))
+count_below_none f (suc n) h =
+    ap₂ (λ a b. a + cond b 1 0) (count_below_none f n (λ k l. h k (omega arith))) (h n (omega arith))
 
 pub one_most : (b : Bool) → cond b 1 0 ≤ 1
 one_most true = omega arith

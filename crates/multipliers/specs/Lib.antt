@@ -1,4 +1,5 @@
--- Contracts between functions, nothing that a reader must believe: sums over multipliers, the limit, the open rows.
+-- Contracts between functions, nothing that a reader must believe: a claim's rows with their multipliers, sums over
+-- them, the open rows.
 pub mod MultiplierContracts
-pub mod LimitContracts
+pub mod RowContracts
 pub mod OpenContracts

@@ -3,7 +3,7 @@
 use Rattle.std.specs.Prelude.{◌≡◌, Bool, cond, List, ℕ, zero, suc, ◌+◌, ◌*◌, ◌≤◌, ◌<◌, ℤ, pos, ◌+ℤ◌, ◌-ℤ◌, ◌*ℤ◌, neg_ℤ}
 use Rattle.std.specs.Prelude.{length}
 use Rattle.integer.specs.Bounds.{Within, AllWithin, Is}
-use Rattle.scope.specs.Mesh.{most_nodes, most_sides, most_pairs, sides, equality_count}
+use Rattle.scope.specs.Mesh.{most_nodes, most_sides, sides, equality_count}
 use Rattle.scope.specs.Bounds.{most_multiplier, strength_multiplier, weighted_step, weighted_cross, equality_column}
 use Rattle.scope.specs.Bounds.{equality_sum, equality_columns, equality_sums, strength_sum, pair_column, most_column}
 use Rattle.scope.specs.Bounds.{most_sum}
@@ -11,13 +11,13 @@ use Rattle.scope.specs.Columns.{at}
 use Rattle.scope.specs.Rows.{Row, pair_count, pair_at, sx, sy, t, rows_of}
 use Rattle.scope.specs.Sums.{unit, coefficient}
 use Rattle.scope.specs.Tests.{row_at}
-use Rattle.multipliers.specs.declared.multiplier_sums.Sums.{Sums}
-use Rattle.multipliers.specs.declared.multiplier_sums.SideSums.{SideSums}
-use Rattle.multipliers.specs.declared.multiplier_sums.PairSums.{PairSums}
-use Rattle.mesh.specs.declared.sizes.Sizes.{Sizes}
-use Rattle.mesh.specs.MeshContracts.{Sized, PairTable}
+use Rattle.multipliers.specs.declared.sums.Sums.{Sums}
+use Rattle.multipliers.specs.declared.sums.SideSums.{SideSums}
+use Rattle.multipliers.specs.declared.sums.PairSums.{PairSums}
 use Rattle.scope.specs.PrintedColumns.{sum_below}
-use Rattle.criterion.specs.StrengthContracts.{MeshSteps}
+use Rattle.criterion.specs.declared.steps.Step.{Step}
+use Rattle.criterion.specs.declared.strength_numbers.SoilNumbers.{SoilNumbers}
+use Rattle.criterion.specs.StrengthContracts.{step_at}
 use Rattle.equality.specs.EqualityContracts.{SumsAre}
 
 -- ---- sums
@@ -48,15 +48,6 @@ pub record Multipliers (m y : List ℤ) : Type 0 where
   pub bounds : AllWithin most_multiplier y
   pub strength_bounds : (k : ℕ) → k < pair_count m * sides m
       → Within (strength_multiplier (sides m)) (at y (equality_count m + k))
-
--- what the sums over all rows require: a mesh, its node-and-soil pairs, the sides of its polygon, and the multipliers
-pub record RowsGiven (m : List ℤ) (s : Sizes) (t : List ℕ) (steps y : List ℤ) : Type 0 where
-  pub sized : Sized m s
-  pub pairs_are : s.pairs ≡ pair_count m
-  pub few : pair_count m ≤ most_pairs
-  pub pair_table : PairTable m t
-  pub sides_given : MeshSteps m steps
-  pub multipliers : Multipliers m y
 
 -- ---- equality rows
 
@@ -91,52 +82,46 @@ Summed m y k columns sums = SummedTo m y k (k * equality_column) (k * equality_s
 
 -- ---- the sides of a pair
 
--- side k of the table t with its multiplier w: their products are bounded, not each by itself, for a polygon with
--- larger steps has smaller multipliers
-pub record SideWeighted (t : List ℤ) (k : ℕ) (w : ℤ) : Type 0 where
+-- a side with its multiplier w: their products are bounded, not each by itself, for a polygon with larger steps has
+-- smaller multipliers
+pub record SideWeighted (s : Step) (w : ℤ) : Type 0 where
   pub itself : Within most_multiplier w
-  pub run : Within weighted_step (w *ℤ at t (3 * k))
-  pub rise : Within weighted_step (w *ℤ at t (3 * k + 1))
-  pub cross : Within weighted_cross (w *ℤ at t (3 * k + 2))
+  pub run : Within weighted_step (w *ℤ s.run)
+  pub rise : Within weighted_step (w *ℤ s.rise)
+  pub cross : Within weighted_cross (w *ℤ s.cross)
 
--- the multipliers y of a pair's sides, and the sides of the table t
-pub record SideMultipliers (t y : List ℤ) : Type 0 where
-  pub bounds : (k : ℕ) → k < length y → SideWeighted t k (at y k)
+-- the multipliers y of a pair's sides t
+pub record SideMultipliers (t : List Step) (y : List ℤ) : Type 0 where
+  pub bounds : (k : ℕ) → k < length y → SideWeighted (step_at t k) (at y k)
 
 pub record SideSumsFit (a : SideSums) : Type 0 where
   pub run : Within (most_sides * weighted_step) a.run
   pub rise : Within (most_sides * weighted_step) a.rise
   pub cross : Within (most_sides * weighted_cross) a.cross
 
--- side k of the table t, times its multiplier w, is added
-pub record SideAdded (t : List ℤ) (k : ℕ) (w : ℤ) (a b : SideSums) : Type 0 where
-  pub run : Grown a.run b.run (w *ℤ at t (3 * k)) weighted_step
-  pub rise : Grown a.rise b.rise (w *ℤ at t (3 * k + 1)) weighted_step
-  pub cross : Grown a.cross b.cross (w *ℤ at t (3 * k + 2)) weighted_cross
+-- a side, times its multiplier w, is added
+pub record SideAdded (s : Step) (w : ℤ) (a b : SideSums) : Type 0 where
+  pub run : Grown a.run b.run (w *ℤ s.run) weighted_step
+  pub rise : Grown a.rise b.rise (w *ℤ s.rise) weighted_step
+  pub cross : Grown a.cross b.cross (w *ℤ s.cross) weighted_cross
 
 -- f over n sides, each times its multiplier
 unfoldable pub side_sum : (ℕ → ℤ) → List ℤ → ℕ → ℤ
 side_sum f y n = sum_below (λ i. at y i *ℤ f i) n
 
-pub record SideSumsAre (a : SideSums) (t y : List ℤ) (n : ℕ) : Type 0 where
-  pub run : Is a.run (side_sum (λ i. at t (3 * i)) y n) (n * weighted_step)
-  pub rise : Is a.rise (side_sum (λ i. at t (3 * i + 1)) y n) (n * weighted_step)
-  pub cross : Is a.cross (side_sum (λ i. at t (3 * i + 2)) y n) (n * weighted_cross)
+pub record SideSumsAre (a : SideSums) (t : List Step) (y : List ℤ) (n : ℕ) : Type 0 where
+  pub run : Is a.run (side_sum (λ i. (step_at t i).run) y n) (n * weighted_step)
+  pub rise : Is a.rise (side_sum (λ i. (step_at t i).rise) y n) (n * weighted_step)
+  pub cross : Is a.cross (side_sum (λ i. (step_at t i).cross) y n) (n * weighted_cross)
 
 -- ---- the strength rows of a pair
 
--- what they add up to, from the sums over the sides and the numbers k of the soil: r·h, p and 2qC
-pub record PairSumsAre (r : PairSums) (a : SideSums) (k : List ℤ) : Type 0 where
-  pub sx_is : Is r.sx (at k 1 *ℤ a.cross +ℤ at k 0 *ℤ a.rise) pair_column
-  pub sy_is : Is r.sy (at k 1 *ℤ a.cross -ℤ at k 0 *ℤ a.rise) pair_column
-  pub t_is : Is r.t (neg_ℤ (pos 2 *ℤ at k 0 *ℤ a.run)) pair_column
-  pub right_is : Is r.right (at k 2 *ℤ a.cross) (most_sides * strength_sum)
-
-pub record PairSumsFit (r : PairSums) : Type 0 where
-  pub sx_fits : Within pair_column r.sx
-  pub sy_fits : Within pair_column r.sy
-  pub t_fits : Within pair_column r.t
-  pub right_fits : Within (most_sides * strength_sum) r.right
+-- what they add up to, from the sums a over the sides and the numbers k of the soil
+pub record PairSumsAre (r : PairSums) (a : SideSums) (k : SoilNumbers) : Type 0 where
+  pub sx_is : r.sx ≡ k.friction *ℤ a.cross +ℤ k.lever *ℤ a.rise
+  pub sy_is : r.sy ≡ k.friction *ℤ a.cross -ℤ k.lever *ℤ a.rise
+  pub t_is : r.t ≡ neg_ℤ (pos 2 *ℤ k.lever *ℤ a.run)
+  pub right_is : r.right ≡ k.right *ℤ a.cross
 
 -- the number of a pair's first row, from 0
 unfoldable pub pair_first : List ℤ → ℕ → ℕ
@@ -158,7 +143,6 @@ pub record PairPart (r : PairSums) (m y : List ℤ) (a : ℕ) : Type 0 where
       +ℤ r.t *ℤ unit j (t (pair_at m a).at)
   pub limit : part_sum (λ r. r.right) (at y) (rows_of m) (pair_first m a) (sides m) ≡ r.right
   pub live : part_sum (λ r. r.live) (at y) (rows_of m) (pair_first m a) (sides m) ≡ pos 0
-  pub fits : PairSumsFit r
   pub limit_fits : Within (sides m * strength_sum) r.right
 
 -- a sum for each of three columns from `column` on is added

@@ -5,3 +5,5 @@
 pub mod multiplier_checks;
 pub mod multiplier_sums;
 pub mod open_rows;
+pub mod sums;
+pub mod weighted_rows;

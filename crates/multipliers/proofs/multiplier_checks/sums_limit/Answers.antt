@@ -1,24 +1,43 @@
--- 32, then 33.
-use mathlib.Core.Path.{sym, ◌∙◌}
+-- `sums_limit` meets its contract: 32, then 33.
+use mathlib.Core.Path.{refl, ap, ◌∙◌}
+use mathlib.Core.Bool.{Bool}
 use native.Mathlib.Omega.{arith}
-use lib.Ieee.Bits.{is_true, is_false}
-use Rattle.integer.proofs.Machine.{machine, told, Is-read, Is-within}
-use Rattle.integer.proofs.TestLaws.{yes_lt_z, no_lt_z}
-use Rattle.multipliers.proofs.LimitLaws.{column_refused, live_refused, limit-there}
+use Rattle.integer.proofs.Machine.{machine, decides, Is-read, Is-within}
+use Rattle.scope.specs.Checks.{demand}
+use Rattle.scope.specs.Phases.{check_phase, check_phases}
+use Rattle.scope.specs.Refusals.{live_phase}
+use Rattle.scope.specs.declared.Place.TheVariants.{Column}
+use Rattle.scope.proofs.Answered.{first_refuses, second_decides, passed_on}
+use Rattle.multipliers.proofs.LimitLaws.{live_check, same_load}
 use Rattle.multipliers.proofs.multiplier_checks.sums_limit.Goals as goal
 
-pub returns-in-Refused : goal.returns-in-Refused
-returns-in-Refused c = column_refused _ _ _ (sym c.columns_check.ensures ∙ c.in-Refused.is)
+pub returns-in_err-columns_check-clause-outcome : goal.returns-in_err-columns_check-clause-outcome
+unfolding check_phases
+returns-in_err-columns_check-clause-outcome c =
+    first_refuses c.from_residual.result c.in_err-columns_check.field-0.0 (check_phase (live_phase c.args.sums.m))
+    c.from_residual.ensures.1 c.in_err-columns_check.ensures refl
 
-pub returns-then-sums-le0 : goal.returns-then-sums-le0
-returns-then-sums-le0 c =
+pub returns-in_err-demand-clause-outcome : goal.returns-in_err-demand-clause-outcome
+unfolding check_phases
+returns-in_err-demand-clause-outcome c =
     let live = c.requires.sums_fit.live_fits in
-    live_refused _ _ _ (sym c.columns_check.ensures ∙ c.in_default.is)
-    (is_false _ (no_lt_z (told c.if-sums-le0.true (search machine depth 30) (omega arith))))
+    second_decides c.in_ok-columns_check.ensures refl
+    (passed_on c.from_residual-in_err-demand.result c.in_err-demand.field-0.0 c.from_residual-in_err-demand.ensures.1
+    ∙ (rw c.at.ensures at c.in_err-demand.ensures)
+    ∙ ap (λ (b : Bool). demand b 33 (Column 0)) (decides (search machine depth 30) (omega arith))
+    ∙ live_check c.args.sums.m)
 
-pub returns : goal.returns
-returns c =
+pub returns-clause-outcome : goal.returns-clause-outcome
+unfolding check_phases
+returns-clause-outcome c =
+    let live = c.requires.sums_fit.live_fits in
+    second_decides c.in_ok-columns_check.ensures refl
+    ((rw c.at.ensures at c.in_ok-demand.ensures)
+    ∙ ap (λ (b : Bool). demand b 33 (Column 0)) (decides (search machine depth 30) (omega arith))
+    ∙ live_check c.args.sums.m)
+
+pub returns-clause-load : goal.returns-clause-load
+returns-clause-load c =
     let fit = c.requires.sums_fit in
-    limit-there _ _ _ (sym c.columns_check.ensures ∙ c.in_default.is)
-    (is_true _ (yes_lt_z (told c.if-sums-le0.false (search machine depth 30) (omega arith))))
-    (Is-read (Is-within fit.limit_fits) (omega arith)).same (Is-read (Is-within fit.live_fits) (omega arith)).same
+    same_load (Is-read (Is-within fit.limit_fits) (omega arith)).same
+    (Is-read (Is-within fit.live_fits) (omega arith)).same

@@ -1,6 +1,7 @@
 -- The sides passed are summed.
+use Rattle.std.proofs.Common.{length}
 use Rattle.multipliers.specs.MultiplierContracts.{SideSumsAre}
 use Rattle.multipliers.proofs.multiplier_sums.side_sums.Given as goal
 
-abbrev pub invariant-loop-k : goal.invariant-loop-k
-invariant-loop-k l = SideSumsAre l.sums l.steps l.y l.k
+abbrev pub invariant-loop-side : goal.invariant-loop-side
+invariant-loop-side l = SideSumsAre l.sums l.sides l.y (length l.yielded)

@@ -1,44 +1,55 @@
--- One pair more.
+-- `open_count` meets its contract: one pair more.
 use mathlib.Core.Path.{sym}
+use Prim.Native.Nat.{◌<◌}
 use native.Mathlib.Omega.{arith}
-use Rattle.multipliers.proofs.PairLaws.{pair_weighted, pair_steps}
-use Rattle.multipliers.proofs.OpenLaws.{no_pair_open, one_more_pair, count_small, sides-counted, all_pairs_open}
+use Rattle.scope.specs.Rows.{pair_count}
+use Rattle.mesh.proofs.PairLaws.{pairs_counted}
+use Rattle.criterion.proofs.StrengthLaws.{its_sides}
+use Rattle.multipliers.proofs.PairLaws.{pair_as_many, pair_few}
+use Rattle.multipliers.proofs.OpenLaws.{
+  no_pair_open,
+  few_sides_open,
+  one_more_pair,
+  count_small,
+  all_pairs_open,
+  state_as,
+}
 use Rattle.multipliers.proofs.open_rows.open_count.Goals as goal
 
 pub loop-a-init : goal.loop-a-init
-loop-a-init c = sym (no_pair_open _ _ _)
+loop-a-init c = sym (no_pair_open _ _ _ _ _)
 
-pub pair_open-count-requires-clause-steps_fit : goal.pair_open-count-requires-clause-steps_fit
-pair_open-count-requires-clause-steps_fit c =
-    pair_steps (omega (arith, c.requires.judged.0.pairs_are)) c.requires.multipliers c.pair_multipliers.ensures
-    c.requires.sides_given
+pub pair_numbers-pair-requires : goal.pair_numbers-pair-requires
+pair_numbers-pair-requires c = rw c.requires (omega (arith, pairs_counted _ _ c.args.rows.now.mesh.paired))
 
-pub pair_open-count-requires-clause-multipliers : goal.pair_open-count-requires-clause-multipliers
-pair_open-count-requires-clause-multipliers c =
-    let judged = c.requires.judged.0 in
-    pair_weighted (omega (arith, judged.pairs_are)) c.requires.multipliers c.pair_multipliers.ensures
-    judged.sized.facts.counts c.requires.sides_given
+pub of_pair-requires : goal.of_pair-requires
+of_pair-requires c = omega (arith, pairs_counted _ _ c.args.rows.now.mesh.paired)
 
 pub overflow_add-count : goal.overflow_add-count
 overflow_add-count c =
-    let judged = c.requires.judged.0 in
-    let steps =
-    pair_steps (omega (arith, judged.pairs_are)) c.requires.multipliers c.pair_multipliers.ensures
-    c.requires.sides_given in
-    let small =
-    count_small _ _ _ judged.sized.facts.counts judged.few c.loop-a.a (omega (arith, judged.pairs_are))
-    c.loop-a.invariant in
-    omega (arith, small, sides-counted _ _ c.pair_open-count.ensures steps.most)
+    let rows = c.args.rows.now in
+    let counts = rows.mesh.mesh.sized.facts.counts in
+    let there : c.loop-a.a < pair_count rows.mesh.mesh.numbers.now =
+    omega (arith, pairs_counted _ _ rows.mesh.paired) in
+    let sides = its_sides _ rows.polygon.now rows.its_polygon c.sides.ensures in
+    let as_many = pair_as_many there rows.of_each_row c.of_pair.ensures counts sides in
+    let few = pair_few there rows.of_each_row c.of_pair.ensures counts sides in
+    let small = count_small _ _ _ _ _ counts rows.mesh.few c.loop-a.a (omega (arith, there)) c.loop-a.invariant in
+    record { fits = omega (arith, small, few_sides_open _ _ _ as_many few c.pair_open-count.ensures) }
 
 pub loop-a-preserved : goal.loop-a-preserved
 loop-a-preserved c =
-    let judged = c.requires.judged.0 in
-    one_more_pair _ _ _ c.loop-a.a (omega (arith, judged.pairs_are))
-    (record { listed = judged.sized.facts.counts.sides_listed }) c.requires.multipliers c.pair_multipliers.ensures
-    c.pair_state-d.ensures c.requires.sides_given c.loop-a.invariant c.pair_open-count.ensures
+    let rows = c.args.rows.now in
+    let counts = rows.mesh.mesh.sized.facts.counts in
+    let there : c.loop-a.a < pair_count rows.mesh.mesh.numbers.now =
+    omega (arith, pairs_counted _ _ rows.mesh.paired) in
+    let sides = its_sides _ rows.polygon.now rows.its_polygon c.sides.ensures in
+    let state = state_as c.requires c.pair_numbers-pair.ensures in
+    one_more_pair _ _ _ _ _ c.loop-a.a _ _ there counts rows.of_each_row c.of_pair.ensures state sides
+    c.pair_open-count.ensures c.loop-a.invariant
 
 pub returns : goal.returns
 returns c =
-    let judged = c.requires.judged.0 in
-    all_pairs_open _ _ _ (record { listed = judged.sized.facts.counts.sides_listed }) c.loop-a.a
-    (omega (arith, judged.pairs_are)) c.loop-a.invariant
+    let mesh = c.args.rows.now.mesh in
+    all_pairs_open _ _ _ _ _ (record { listed = mesh.mesh.sized.facts.counts.sides_listed }) c.loop-a.a
+    (omega (arith, pairs_counted _ _ mesh.paired)) c.loop-a.invariant
