@@ -1,5 +1,7 @@
--- The laws that the proofs of this crate's functions share: a field's rows, a claim's parts, the stages of the verdict.
+-- The laws that the proofs of this crate's functions share: what a `?` hands on, a field's rows, a claim's parts, the
+-- stages of the verdict.
+pub mod Handed
 pub mod FieldLaws
 pub mod PartLaws
-pub mod VerdictLaws
 pub mod TableLaws
+pub mod VerdictLaws

@@ -1,39 +1,43 @@
--- The verdict as its stages give it: mesh, claim lines, parts; one law for each way out.
-use mathlib.Core.Path.{◌≡◌, refl, sym, ◌∙◌, ap, subst}
-use mathlib.Core.List.{List, []}
-use Prim.Native.Nat.{ℕ, ◌*◌, ◌≤◌}
+-- The verdict as its stages give it: mesh, claim lines, parts.
+use mathlib.Core.Path.{◌≡◌, refl, sym, ◌∙◌, ap}
+use mathlib.Core.Bool.{false}
+use mathlib.Core.List.{List}
+use Prim.Native.Nat.{◌≤◌}
 use native.Mathlib.Omega.{arith}
 use lib.IntN.{ℤ}
-use lib.ListN.{length, replicate}
-use Rattle.scope.specs.declared.Place.{Place}
-use Rattle.scope.specs.declared.Outcome.{Outcome}
-use Rattle.scope.specs.declared.Outcome.TheVariants.{Passed, Refused as Fails}
-use Rattle.scope.specs.declared.Verdict.{Verdict}
-use Rattle.scope.specs.declared.Verdict.TheVariants.{Accepted, Refused}
-use Rattle.scope.specs.Mesh.{most_pairs, mesh_layout}
+use lib.ListN.{length}
+use Rattle.scope.specs.Cases.Outcome.{Outcome, Passed}
+use Rattle.scope.specs.Cases.Verdict.{Verdict, Accepted}
+use Rattle.scope.specs.Checks.{◌then◌}
 use Rattle.scope.specs.Claim.{claim_layout}
-use Rattle.scope.specs.Rows.{strength_pairs, pair_count, pair_at}
-use Rattle.scope.specs.NumberRanges.{MeshFacts}
-use Rattle.scope.specs.Statements.{MeshSound}
+use Rattle.scope.specs.Mesh.{most_pairs, mesh_layout, layout_with}
+use Rattle.scope.specs.NumberRanges.{MeshFacts, ClaimFacts}
 use Rattle.scope.specs.Phases.{check_phases}
-use Rattle.scope.specs.Refusals.{shape_phases, part_phases}
-use Rattle.scope.specs.Verdict.{lines_check, mesh_check, open_count, lower_load, upper_load, answer, claim_verdict, verdict}
-use Rattle.scope.proofs.NumberRanges.{mesh_facts}
+use Rattle.scope.specs.Refusals.{shape_phases, field_part, multiplier_part, part_phases}
+use Rattle.scope.specs.Statements.{MeshSound}
+use Rattle.scope.specs.Verdict.{lines_check, mesh_check, open_count, lower_load, upper_load, answer, claim_verdict}
+use Rattle.scope.specs.Verdict.{verdict}
 use Rattle.scope.proofs.ClaimNumberRanges.{claim_facts}
+use Rattle.scope.proofs.NumberRanges.{mesh_facts}
 use Rattle.scope.proofs.Pairs.{few_pairs_lem}
-use Rattle.scope.proofs.Refusals.{lines_passed, mesh_checked, mesh_passed, claim_checked}
-use Rattle.verdict.specs.declared.MeshAnswer.{MeshAnswer}
-use Rattle.mesh.specs.declared.sizes.Sizes.{Sizes}
-use Rattle.mesh.specs.MeshContracts.{Sized, paired, Counted}
-use Rattle.mesh.proofs.Places.{as_sizes}
-use Rattle.shape.specs.declared.pairs.Paired.{Paired}
-use Rattle.shape.specs.ShapeContracts.{PairBytes, pairs_if, PairedAs}
-use Rattle.verdict.specs.JudgeContracts.{no_sizes, sizes_if, MeshAnswered, SoundMesh, AnsweredAs}
-use Rattle.criterion.specs.StrengthContracts.{Judged}
-use Rattle.lines.proofs.Loops.{then_goes_on}
-use Rattle.shape.proofs.PairTables.{none_put}
+use Rattle.scope.proofs.Refusals.{lines_passed, mesh_checked, mesh_passed, claim_checked, parts_checked}
+use Rattle.mesh.specs.declared.pairs.Pair.{Pair}
+use Rattle.mesh.specs.PairContracts.{PairsAre}
+use Rattle.mesh.proofs.PairLaws.{pairs_counted}
+use Rattle.verdict.specs.JudgeContracts.{SoundMesh}
+use Rattle.verdict.proofs.Handed.{answer_then}
+use Rattle.verdict.proofs.TableLaws.{plain_lines}
 
--- what a mesh that passes is
+-- ---- a mesh
+
+module _ (m : List ℤ) where
+  pub mesh_in_two : lines_check (layout_with false) m then check_phases (shape_phases m) ≡ mesh_check m
+  mesh_in_two = ap (λ (o : Outcome). o then check_phases (shape_phases m)) (plain_lines m) ∙ sym (mesh_checked m)
+
+  pub facts_of_lines : Passed ≡ lines_check (layout_with false) m → MeshFacts m
+  facts_of_lines e = mesh_facts m ((lines_passed mesh_layout m).says (sym (plain_lines m) ∙ sym e))
+
+-- a mesh that passes is sound, and its numbers have what sound lines give
 pub record MeshKnown (m : List ℤ) : Type 0 where
   pub facts : MeshFacts m
   pub sound : MeshSound m
@@ -41,84 +45,43 @@ pub record MeshKnown (m : List ℤ) : Type 0 where
 pub mesh_known : {m : List ℤ} → mesh_check m ≡ Passed → MeshKnown m
 mesh_known {m} e = let sound = (mesh_passed m).says e in record { facts = mesh_facts m sound.lines; sound = sound }
 
--- ---- what judging a mesh answers
+-- its pairs are few: what a mesh with its pairs holds
+pub few_counted : (m : List ℤ) (t : List Pair) → mesh_check m ≡ Passed → PairsAre m t → length t ≤ most_pairs
+few_counted m t e p = omega (arith, pairs_counted m t p, few_pairs_lem m (mesh_known e).sound)
 
-module _ {o : Outcome} {m : List ℤ} {r : MeshAnswer} where
-  pub refused_mesh_lem : {k : ℕ} {p : Place} → o ≡ Fails k p → (r.outcome ≡ Fails k p) × (r.sizes ≡ no_sizes) × (r.pairs ≡ replicate (2 * most_pairs) 0) → AnsweredAs o m r
-  unfolding sizes_if pairs_if
-  refused_mesh_lem e a = record {
-    outcome = a.0 ∙ sym e;
-    sizes = a.1 ∙ sym (ap (λ (o : Outcome). sizes_if o m) e);
-    pairs = subst (λ (o : Outcome). PairBytes (pairs_if o m) r.pairs) (sym e) (subst (PairBytes []) (sym a.2) none_put);
-  }
+-- what is lent to a claim: what judging answers where it passes
+pub sound_mesh :
+    {o : Outcome} {m : List ℤ} {t : List Pair} →
+    (o ≡ Passed → mesh_check m ≡ Passed) →
+    Passed ≡ o →
+    PairsAre m t →
+    SoundMesh m t
+sound_mesh so e p = record { passes = so (sym e); paired = p }
 
-  -- what is lent to a claim
-  pub sound_mesh : (o ≡ Passed → mesh_check m ≡ Passed) → AnsweredAs o m r → r.outcome ≡ Passed → SoundMesh m r.sizes r.pairs
-  unfolding sizes_if pairs_if pair_count pair_at
-  sound_mesh so a e =
-      let outcome : o ≡ Passed = sym a.outcome ∙ e in
-      let passes : mesh_check m ≡ Passed = so outcome in
-      let known = mesh_known passes in
-      let few : pair_count m ≤ most_pairs = few_pairs_lem m known.sound in
-      let are : r.sizes ≡ sizes_if Passed m = a.sizes ∙ ap (λ (o : Outcome). sizes_if o m) outcome in
-      let bytes : PairBytes (strength_pairs m) r.pairs = subst (λ (o : Outcome). PairBytes (pairs_if o m) r.pairs) outcome a.pairs in
-      record {
-        passes = passes;
-        sized = subst (Sized m) (sym are) (record { facts = known.facts; nodes_are = refl; elements_are = refl; soils_are = refl; edges_are = refl; sides_are = refl; jumps_are = refl; pairs_few = few });
-        pairs_are = ap (λ (s : Sizes). s.pairs) are;
-        table = record { size = bytes.size; node = λ k l. bytes.node k l (omega arith); soil = λ k l. bytes.soil k l (omega arith) };
-      }
-
-pub passed_mesh : {m : List ℤ} {s z : Sizes} {p : Paired} → Sized m s → lines_check mesh_layout m ≡ Passed → PairedAs (check_phases (shape_phases m)) m p → p.outcome ≡ Passed → z ≡ paired s p.count → MeshAnswered m (record { outcome = Passed; sizes = z; pairs = p.pairs })
-unfolding sizes_if pairs_if pair_count
-passed_mesh {m} {s} {z} {p} k e h f g =
-    let shape : check_phases (shape_phases m) ≡ Passed = sym h.outcome ∙ f in
-    let passes : Passed ≡ mesh_check m = then_goes_on e (sym shape) ∙ sym (mesh_checked m) in
-    let count : p.count ≡ pair_count m = h.count ∙ ap (λ (o : Outcome). length (pairs_if o m)) shape in
-    let sizes : paired s p.count ≡ sizes_if Passed m =
-    (λ i. record { nodes = k.nodes_are i; elements = k.elements_are i; soils = k.soils_are i; edges = k.edges_are i; sides = k.sides_are i; jumps = k.jumps_are i; pairs = count i }) in
-    record {
-      outcome = passes;
-      sizes = g ∙ sizes ∙ ap (λ (o : Outcome). sizes_if o m) passes;
-      pairs = subst (λ (o : Outcome). PairBytes (pairs_if o m) p.pairs) (shape ∙ passes) h.pairs;
-    }
-
--- the pairs of a mesh whose shape passes are few: what counting them requires
-pub few_counted : {m : List ℤ} {p : Paired} → lines_check mesh_layout m ≡ Passed → PairedAs (check_phases (shape_phases m)) m p → p.outcome ≡ Passed → p.count ≤ most_pairs
-unfolding pairs_if pair_count
-few_counted {m} {p} e h f =
-    let shape : check_phases (shape_phases m) ≡ Passed = sym h.outcome ∙ f in
-    let passes : Passed ≡ mesh_check m = then_goes_on e (sym shape) ∙ sym (mesh_checked m) in
-    let count : p.count ≡ pair_count m = h.count ∙ ap (λ (o : Outcome). length (pairs_if o m)) shape in
-    omega (arith, few_pairs_lem m (mesh_known (sym passes)).sound)
-
--- ---- the verdict by its stages
-
-pub counted : {m : List ℤ} {s : Sizes} {t : List ℕ} → SoundMesh m s t → Counted m s
-counted h = record { sizes = as_sizes h.sized; pairs_are = h.pairs_are }
-
-pub judged : {m c : List ℤ} {s : Sizes} {t : List ℕ} → SoundMesh m s t → lines_check (claim_layout m) c ≡ Passed → Judged m c s t
-judged {m} {c} h f = record {
-  sized = h.sized;
-  pairs_are = h.pairs_are;
-  few = few_pairs_lem m (mesh_known h.passes).sound;
-  claim = claim_facts m c ((lines_passed (claim_layout m) c).says f) h.sized.facts;
-  pair_table = h.table;
-}
+-- ---- a mesh and a claim
 
 module _ (m c : List ℤ) where
-  pub mesh_refused : {k : ℕ} {p : Place} → mesh_check m ≡ Fails k p → Refused k p ≡ verdict m c
-  unfolding verdict answer
-  mesh_refused e = sym (rw e)
+  -- its numbers are in their places and within their limits: what a judged claim holds
+  pub judged : MeshFacts m → Passed ≡ lines_check (claim_layout m) c → ClaimFacts m c
+  judged f e = claim_facts m c ((lines_passed (claim_layout m) c).says (sym e)) f
 
-  pub mesh_goes_on : {r : Verdict} → mesh_check m ≡ Passed → r ≡ claim_verdict m c → r ≡ verdict m c
-  unfolding verdict answer
-  mesh_goes_on e f = f ∙ sym (rw e)
+  -- the verdict where all checks pass
+  abbrev pub all_accepted : Verdict
+  all_accepted = Accepted (open_count m c) (lower_load c) (upper_load m c)
 
-  pub claim_refused : {k : ℕ} {p : Place} → lines_check (claim_layout m) c ≡ Fails k p → Refused k p ≡ claim_verdict m c
-  unfolding claim_verdict answer
-  claim_refused e = sym (rw (claim_checked m c, e))
+  pub mesh_first : answer (mesh_check m) (claim_verdict m c) ≡ verdict m c
+  unfolding verdict
+  mesh_first = refl
 
-  pub claim_goes_on : {r : Verdict} → lines_check (claim_layout m) c ≡ Passed → r ≡ answer (check_phases (part_phases m c)) (Accepted (open_count m c) (lower_load c) (upper_load m c)) → r ≡ claim_verdict m c
+  pub claim_lines_first : answer (lines_check (claim_layout m) c) (answer (check_phases (part_phases m c)) all_accepted)
+      ≡ claim_verdict m c
   unfolding claim_verdict
-  claim_goes_on e f = f ∙ sym (rw (claim_checked m c, e))
+  claim_lines_first =
+      answer_then (lines_check (claim_layout m) c) (check_phases (part_phases m c)) all_accepted
+      ∙ ap (λ (o : Outcome). answer o all_accepted) (sym (claim_checked m c))
+
+  pub field_first : answer (check_phases (field_part m c)) (answer (check_phases (multiplier_part m c)) all_accepted)
+      ≡ answer (check_phases (part_phases m c)) all_accepted
+  field_first =
+      answer_then (check_phases (field_part m c)) (check_phases (multiplier_part m c)) all_accepted
+      ∙ ap (λ (o : Outcome). answer o all_accepted) (sym (parts_checked m c))

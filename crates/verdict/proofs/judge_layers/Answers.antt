@@ -1,31 +1,113 @@
--- `judge_layers` meets its contract: the layers are judged only where the lines of the table have passed.
-use mathlib.Core.Path.{sym, ◌∙◌, ap, subst}
+-- `judge_layers` meets its contract: the table's lines, the layers, and where they pass the shape of the filled mesh.
+use mathlib.Core.Path.{◌≡◌, refl, sym, ◌∙◌, ap, subst}
 use mathlib.Core.List.{List}
 use lib.IntN.{ℤ}
-use Rattle.scope.specs.Filled.{with_soils}
+use Rattle.std.specs.Prelude.{Result, Ok, Err, IfOk, OnOk}
+use Rattle.scope.specs.Cases.Outcome.{Passed}
+use Rattle.scope.specs.Filled.{with_soils, filled}
+use Rattle.scope.specs.Layers.{layer_phases}
+use Rattle.scope.specs.NumberRanges.{MeshFacts}
+use Rattle.scope.specs.Phases.{check_phases}
+use Rattle.scope.specs.Refusals.{shape_phases}
+use Rattle.scope.specs.Table.{table_line_phases}
+use Rattle.scope.specs.Checks.{◌then◌}
+use Rattle.scope.proofs.Answered.{first_refuses, second_decides}
+use Rattle.scope.proofs.TableVerdict.{read_filled}
+use Rattle.mesh.specs.declared.sizes.Sizes.{Sizes}
 use Rattle.mesh.specs.MeshContracts.{SizesAre}
-use Rattle.mesh.proofs.Places.{few_sizes}
-use Rattle.verdict.proofs.TableLaws.{header_there, refused_answer, table_refuses}
+use Rattle.mesh.specs.PairContracts.{PairsAre}
+use Rattle.layers.specs.LayerContracts.{Fillable}
+use Rattle.verdict.specs.JudgeContracts.{LinesPassed}
+use Rattle.verdict.proofs.TableLaws.{header_there, stages_left, TableKnown, table_known, named_facts_lem, layers_same}
+use Rattle.verdict.proofs.TableLaws.{fillable, filled_facts}
 use Rattle.verdict.proofs.judge_layers.Goals as goal
 
-pub header_sizes-s-requires : goal.header_sizes-s-requires
-header_sizes-s-requires c = header_there c.requires.0
+-- what is said of any answer is said of one that passes
+always : {A E P : Type 0} (r : Result A E) → P → OnOk r P
+always (Ok x) p = p
+always (Err e) p = tt
 
-pub table_lines-requires : goal.table_lines-requires
-table_lines-requires c = few_sizes c.header_sizes-s.ensures
+-- the table's lines have passed
+known : {t m : List ℤ} {s : Sizes} → LinesPassed t m → SizesAre m s → Passed ≡ check_phases (table_line_phases t m)
+    → TableKnown t m s
+known p k e = record { passed = p; sizes = k; table = sym e }
 
-pub returns-in-Refused : goal.returns-in-Refused
-returns-in-Refused c =
-    let own = c.table_lines.ensures _ (sym c.header_sizes-s.ensures.soils_are) in
-    refused_answer (table_refuses c.requires.0 (sym own ∙ c.in-Refused.is)) c.refused_mesh.ensures
+pub of_header-s-requires : goal.of_header-s-requires
+of_header-s-requires c = header_there c.requires.lines_passed
 
-pub name_soils-requires : goal.name_soils-requires
-name_soils-requires c =
-    subst (λ (m : List ℤ). SizesAre m c.header_sizes-s.result) (sym c.requires.1) c.header_sizes-s.ensures
+pub returns-in_err-table_lines-clause-outcome : goal.returns-in_err-table_lines-clause-outcome
+returns-in_err-table_lines-clause-outcome c =
+    let t = c.args.t.now in
+    let m = c.args.m.now in
+    first_refuses c.from_residual.result c.in_err-table_lines.field-0.0
+    (check_phases (layer_phases t m) then check_phases (shape_phases (filled t m)))
+    c.from_residual.ensures.1 (c.in_err-table_lines.ensures m (sym c.of_header-s.ensures.soils_are))
+    (stages_left c.requires.lines_passed)
 
-pub judge_filled-requires : goal.judge_filled-requires
-judge_filled-requires c =
-    let own = c.table_lines.ensures _ (sym c.header_sizes-s.ensures.soils_are) in (
-      record { passed = c.requires.0; sizes = c.header_sizes-s.ensures; table = sym own ∙ c.in_default.is },
-      c.name_soils.ensures ∙ ap with_soils c.requires.1,
-    )
+pub new-layers-requires : goal.new-layers-requires
+new-layers-requires c =
+    let sizes = c.of_header-s.ensures in
+    table_known (known c.requires.lines_passed sizes (c.in_ok-table_lines.ensures c.args.m.now (sym sizes.soils_are)))
+
+pub new-requires : goal.new-requires
+new-requires c =
+    subst MeshFacts (sym (c.name_soils.ensures ∙ ap with_soils c.requires.copied))
+    (named_facts_lem c.requires.lines_passed)
+
+pub returns-in_err-layers_check-clause-outcome : goal.returns-in_err-layers_check-clause-outcome
+returns-in_err-layers_check-clause-outcome c =
+    let t = c.args.t.now in
+    let m = c.args.m.now in
+    let passed = c.requires.lines_passed in
+    let named = c.new.ensures ∙ c.name_soils.ensures ∙ ap with_soils c.requires.copied in
+    second_decides (c.in_ok-table_lines.ensures m (sym c.of_header-s.ensures.soils_are)) (stages_left passed)
+    (first_refuses c.from_residual-in_err-layers_check.result c.in_err-layers_check.field-0.0
+    (check_phases (shape_phases (filled t m))) c.from_residual-in_err-layers_check.ensures.1
+    (c.in_err-layers_check.ensures ∙ layers_same passed c.new-layers.ensures named) refl)
+
+pub fill-requires-clause-fillable : goal.fill-requires-clause-fillable
+fill-requires-clause-fillable c =
+    let m = c.args.m.now in
+    let sizes = c.of_header-s.ensures in
+    let passed = c.requires.lines_passed in
+    let named = c.new.ensures ∙ c.name_soils.ensures ∙ ap with_soils c.requires.copied in
+    let layers = c.in_ok-layers_check.ensures ∙ layers_same passed c.new-layers.ensures named in
+    subst (λ (t : List ℤ). Fillable t m c.of_header-s.result) (sym c.new-layers.ensures)
+    (fillable (known passed sizes (c.in_ok-table_lines.ensures m (sym sizes.soils_are))) (sym layers))
+
+pub new-requires-2 : goal.new-requires-2
+new-requires-2 c =
+    let m = c.args.m.now in
+    let sizes = c.of_header-s.ensures in
+    let passed = c.requires.lines_passed in
+    let named = c.new.ensures ∙ c.name_soils.ensures ∙ ap with_soils c.requires.copied in
+    let layers = c.in_ok-layers_check.ensures ∙ layers_same passed c.new-layers.ensures named in
+    subst MeshFacts (sym (c.fill.ensures ∙ ap (λ (t : List ℤ). filled t m) c.new-layers.ensures))
+    (filled_facts (known passed sizes (c.in_ok-table_lines.ensures m (sym sizes.soils_are))) (sym layers))
+
+pub returns-clause-outcome : goal.returns-clause-outcome
+returns-clause-outcome c =
+    let m = c.args.m.now in
+    let passed = c.requires.lines_passed in
+    let named = c.new.ensures ∙ c.name_soils.ensures ∙ ap with_soils c.requires.copied in
+    let layers = c.in_ok-layers_check.ensures ∙ layers_same passed c.new-layers.ensures named in
+    let read = c.new-2.ensures ∙ c.fill.ensures ∙ ap (λ (t : List ℤ). filled t m) c.new-layers.ensures in
+    second_decides (c.in_ok-table_lines.ensures m (sym c.of_header-s.ensures.soils_are)) (stages_left passed)
+    (second_decides layers refl (c.mesh_shape.ensures.outcome
+    ∙ ap (λ (m : List ℤ). check_phases (shape_phases m)) read))
+
+pub returns-clause-pairs : goal.returns-clause-pairs
+returns-clause-pairs c =
+    let t = c.args.t.now in
+    let m = c.args.m.now in
+    let read = c.new-2.ensures ∙ c.fill.ensures ∙ ap (λ (t : List ℤ). filled t m) c.new-layers.ensures in
+    subst (λ (m : List ℤ). IfOk c.mesh_shape.result (λ p. PairsAre m p.items))
+    (read ∙ sym (read_filled t m c.requires.lines_passed.tabled)) c.mesh_shape.ensures.pairs
+
+pub returns-clause-read : goal.returns-clause-read
+returns-clause-read c =
+    let t = c.args.t.now in
+    let m = c.args.m.now in
+    always c.mesh_shape.result
+    (c.fill.ensures ∙ ap (λ (t : List ℤ). filled t m) c.new-layers.ensures
+    ∙ sym (read_filled t m c.requires.lines_passed.tabled))

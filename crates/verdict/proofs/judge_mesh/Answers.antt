@@ -1,22 +1,23 @@
 -- `judge_mesh` meets its contract: the shape is checked only on a mesh whose lines have passed.
-use mathlib.Core.Path.{sym, ◌∙◌}
-use Rattle.scope.specs.Mesh.{mesh_layout}
-use Rattle.scope.proofs.NumberRanges.{mesh_facts}
-use Rattle.scope.proofs.Refusals.{lines_passed, mesh_checked}
-use Rattle.lines.proofs.Loops.{then_refuses}
-use Rattle.verdict.proofs.VerdictLaws.{refused_mesh_lem}
-use Rattle.verdict.proofs.TableLaws.{plain_lines}
+use mathlib.Core.Path.{◌∙◌, ap}
+use mathlib.Core.List.{List}
+use lib.IntN.{ℤ}
+use Rattle.scope.specs.Phases.{check_phases}
+use Rattle.scope.specs.Refusals.{shape_phases}
+use Rattle.scope.proofs.Answered.{first_refuses, second_decides}
+use Rattle.verdict.proofs.VerdictLaws.{mesh_in_two, facts_of_lines}
 use Rattle.verdict.proofs.judge_mesh.Goals as goal
 
-pub returns-in-Refused : goal.returns-in-Refused
-returns-in-Refused c =
-    let refused = then_refuses _ (sym (plain_lines c.args.m.now) ∙ sym c.mesh_lines.ensures ∙ c.in-Refused.is) in
-    refused_mesh_lem (mesh_checked _ ∙ sym refused) c.refused_mesh.ensures
-
-pub sizes_of-requires : goal.sizes_of-requires
-sizes_of-requires c =
+pub returns-in_err-mesh_lines-clause-outcome : goal.returns-in_err-mesh_lines-clause-outcome
+returns-in_err-mesh_lines-clause-outcome c =
     let m = c.args.m.now in
-    mesh_facts m ((lines_passed mesh_layout m).says (sym (plain_lines m) ∙ sym c.mesh_lines.ensures ∙ c.in_default.is))
+    first_refuses c.from_residual.result c.in_err-mesh_lines.field-0.0 (check_phases (shape_phases m))
+    c.from_residual.ensures.1 c.in_err-mesh_lines.ensures (mesh_in_two m)
 
-pub judge_shape-requires : goal.judge_shape-requires
-judge_shape-requires c = (c.sizes_of.ensures, sym (plain_lines _) ∙ sym c.mesh_lines.ensures ∙ c.in_default.is)
+pub new-requires : goal.new-requires
+new-requires c = facts_of_lines c.args.m.now c.in_ok-mesh_lines.ensures
+
+pub returns-clause-outcome : goal.returns-clause-outcome
+returns-clause-outcome c =
+    second_decides c.in_ok-mesh_lines.ensures (mesh_in_two c.args.m.now)
+    (c.mesh_shape.ensures.outcome ∙ ap (λ (m : List ℤ). check_phases (shape_phases m)) c.new.ensures)

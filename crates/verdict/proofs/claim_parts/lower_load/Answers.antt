@@ -1,20 +1,18 @@
--- `lower_load` meets its contract: the two numbers of the header, where there is a field.
-use mathlib.Core.Path.{sym, ◌∙◌}
+-- `lower_load` meets its contract: the field's load, where there is a field.
+use mathlib.Core.Path.{◌∙◌, ap}
 use native.Mathlib.Omega.{arith}
-use Rattle.integer.proofs.Machine.{Is-read}
-use Rattle.scope.specs.Columns.{at}
-use Rattle.criterion.proofs.StrengthLaws.{being}
+use Rattle.integer.proofs.Machine.{Is-read, Is-within}
+use Rattle.scope.specs.Answer.{load_of}
 use Rattle.verdict.proofs.PartLaws.{load_there, no_load}
 use Rattle.verdict.proofs.claim_parts.lower_load.Goals as goal
 
-pub returns-then-has_part : goal.returns-then-has_part
-unfolding at
-returns-then-has_part c =
-    let all = c.requires.in_range in
-    load_there _
-    (sym c.has_part.ensures ∙ c.if-has_part.true)
-    (Is-read (being c.number_at.ensures (all.each 3)) (omega arith)).same
-    (Is-read (being c.number_at-then-has_part.ensures (all.each 2)) (omega arith)).same
+pub returns : goal.returns
+returns c =
+    let field = c.in_ok-field.field in
+    let found = c.in_ok-field.ensures.found in
+    let load = Is-read (Is-within field.l_fits) (omega arith) in
+    let scale = Is-read (Is-within field.n_fits) (omega arith) in
+    load_there _ found.there (load.same ∙ found.its_load) (scale.same ∙ found.its_scale)
 
-pub returns-else-has_part : goal.returns-else-has_part
-returns-else-has_part c = no_load _ (sym c.has_part.ensures ∙ c.if-has_part.false)
+pub returns-in_err-field : goal.returns-in_err-field
+returns-in_err-field c = ap load_of c.from_residual.ensures ∙ no_load _ c.in_err-field.ensures.none

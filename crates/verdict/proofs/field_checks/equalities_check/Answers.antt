@@ -1,49 +1,52 @@
--- `equalities_check` meets its contract. The loop's invariant: the rows passed hold.
-use mathlib.Core.Path.{◌≡◌, refl, sym, ◌∙◌, ap}
+-- `equalities_check` meets its contract: the first row that fails, or none.
+use mathlib.Core.Path.{refl, ap}
+use Prim.Native.Nat.{suc}
+use native.Mathlib.Numerals.{add-one}
+use native.Mathlib.Nat.{le_refl}
 use native.Mathlib.Omega.{arith}
-use Rattle.lines.proofs.LineLaws.{read}
-use Rattle.scope.specs.Rows.{first_where, equality_rows}
-use Rattle.mesh.proofs.Places.{few_things}
-use Rattle.lines.specs.SearchContracts.{first_failing}
-use Rattle.lines.proofs.Loops.{search_more, search_stops}
-use Rattle.verdict.proofs.FieldLaws.{row_test, field_read, equality_fails, equalities_hold}
+use lib.ListN.{length}
+use Rattle.integer.proofs.Machine.{Is-read, Is-within, Is-Within}
+use Rattle.scope.specs.declared.Place.TheVariants.{Row}
+use Rattle.scope.specs.Checks.{all_below}
+use Rattle.scope.specs.Phases.{check_phase}
+use Rattle.scope.specs.Rows.{equality_rows}
+use Rattle.scope.proofs.RowCounts.{equality_count_lem}
+use Rattle.lines.proofs.Asked.{asked_more, asked_stops, asked_all}
+use Rattle.verdict.proofs.FieldLaws.{row_test, row_asked}
 use Rattle.verdict.proofs.field_checks.equalities_check.Goals as goal
 
-pub equality_count-rows-requires : goal.equality_count-rows-requires
-equality_count-rows-requires c = few_things c.requires.counts_are
-
 pub loop-k-init : goal.loop-k-init
-unfolding first_where
+unfolding all_below
 loop-k-init c = refl
 
-pub equality_holds-requires : goal.equality_holds-requires
-equality_holds-requires c =
-    let r = c.requires in
-    let all = c.equality_count-rows.ensures.0 _ r.counts_are in
-    record { fact_1 = (r.counts_are, omega (arith, all, c.loop-k-test.true)); fact_2 = field_read r.in_range }
+pub equality_holds-holds-requires-clause-field_fits : goal.equality_holds-holds-requires-clause-field_fits
+equality_holds-holds-requires-clause-field_fits c =
+    let field = c.args.field.now in record {
+      long = field.there;
+      stresses = field.stresses_fit;
+      load = Is-Within (Is-read (Is-within field.l_fits) (omega arith)) (le_refl _);
+      scale = Is-Within (Is-read (Is-within field.n_fits) (omega arith)) (le_refl _);
+    }
 
-pub returns-then-not-equality_holds : goal.returns-then-not-equality_holds
-returns-then-not-equality_holds c =
-    let a = c.args in
-    let rows = c.equality_count-rows in
-    let fails = sym c.equality_holds.ensures ∙ c.if-not-equality_holds.true in
-    let test = row_test (equality_rows a.m.now) a.x.now (read a.l) (read a.n) in
-    let stops = search_stops test c.loop-k.invariant rows.result c.loop-k-test.true fails in
-    equality_fails c.requires.in_range stops (rows.ensures.0 _ c.requires.counts_are) c.loop-k-test.true
+pub returns-in_err-demand : goal.returns-in_err-demand
+unfolding check_phase
+returns-in_err-demand c =
+    let field = c.args.field.now in
+    let m = field.mesh.mesh.numbers.now in
+    asked_stops (row_test _ _ _ _) c.loop-k.invariant (row_asked field c.loop-k.k c.equality_holds-holds.ensures)
+    c.from_residual.result
+    c.in_err-demand.field-0.0 c.from_residual.ensures.1 c.at.ensures c.in_err-demand.ensures (λ i. Row (suc i))
+    (ap Row (add-one c.loop-k.k)) (length (equality_rows m))
+    (omega (arith, c.loop-k-test.true, c.equality_count-k-end.ensures.rows, equality_count_lem m))
 
 pub loop-k-preserved : goal.loop-k-preserved
 loop-k-preserved c =
-    let a = c.args in
-    let holds = sym c.equality_holds.ensures ∙ c.if-not-equality_holds.false in
-    search_more (row_test (equality_rows a.m.now) a.x.now (read a.l) (read a.n)) c.loop-k.invariant holds
+    asked_more (row_test _ _ _ _) c.loop-k.invariant
+    (row_asked c.args.field.now c.loop-k.k c.equality_holds-holds.ensures) _ _ c.in_ok-demand.ensures
 
 pub returns : goal.returns
+unfolding check_phase
 returns c =
-    let a = c.args in
-    let rows = c.equality_count-rows in
-    let e : c.loop-k.k ≡ rows.result = omega (arith, c.loop-k.auto.k-end, c.loop-k-test.false) in
-    let test = row_test (equality_rows a.m.now) a.x.now (read a.l) (read a.n) in
-    equalities_hold c.requires.in_range
-    (sym (ap (first_failing test) (sym e) ∙ c.loop-k.invariant))
-    (rows.ensures.0 _ c.requires.counts_are)
-    c.loop-k-test.false
+    let m = c.args.field.now.mesh.mesh.numbers.now in
+    asked_all (row_test _ _ _ _) c.loop-k.invariant 21 (λ i. Row (suc i)) (length (equality_rows m))
+    (omega (arith, c.loop-k-test.false, c.equality_count-k-end.ensures.rows, equality_count_lem m))

@@ -1,33 +1,20 @@
--- `first_side` meets its contract. The loop's invariant: the sides passed hold.
-use mathlib.Core.Path.{◌≡◌, refl, sym, ◌∙◌, ap}
-use native.Mathlib.Omega.{arith}
-use Rattle.scope.specs.Rows.{first_where}
-use Rattle.lines.specs.SearchContracts.{first_failing}
-use Rattle.lines.proofs.Loops.{search_more, search_stops}
-use Rattle.verdict.proofs.field_checks.first_side.Invariants.{test}
+-- `first_side` meets its contract: the first side whose test fails, or that each holds.
+use mathlib.Core.Path.{◌≡◌}
+use mathlib.Core.Bool.{true, false}
+use Rattle.std.proofs.Common.{rules, tests}
+use Rattle.std.proofs.lemmas.Iterator.{YieldsList-from_slice, IsFirst-from_position}
+use lib.IntN.{pos}
+use lib.Signed.{le_z}
+use Rattle.criterion.specs.declared.steps.Step.{Step}
+use Rattle.criterion.specs.StrengthContracts.{no_step, side_slack}
+use Rattle.verdict.proofs.FieldLaws.{first_found}
 use Rattle.verdict.proofs.field_checks.first_side.Goals as goal
-
-pub loop-k-init : goal.loop-k-init
-unfolding first_where
-loop-k-init c = refl
-
-pub side_holds-requires : goal.side_holds-requires
-side_holds-requires c =
-    let pre = c.requires in
-    record { fact_1 = pre.steps_in_range.each _ c.loop-k-test.true; fact_2 = pre.pair_in_range }
-
-pub returns-then-not-side_holds : goal.returns-then-not-side_holds
-returns-then-not-side_holds c =
-    let fails = sym c.side_holds.ensures ∙ c.if-not-side_holds.true in record {
-      lowest = search_stops (test _ _) c.loop-k.invariant c.args.sides c.loop-k-test.true fails;
-      at_most = omega (arith, c.loop-k-test.true);
-    }
-
-pub loop-k-preserved : goal.loop-k-preserved
-loop-k-preserved c =
-    search_more (test _ _) c.loop-k.invariant (sym c.side_holds.ensures ∙ c.if-not-side_holds.false)
 
 pub returns : goal.returns
 returns c =
-    let e : c.loop-k.k ≡ c.args.sides = omega (arith, c.loop-k.auto.k-end, c.loop-k-test.false) in
-    record { lowest = sym (ap (first_failing (test _ _)) (sym e) ∙ c.loop-k.invariant ∙ e); at_most = omega arith }
+    let holds = λ (s : Step). le_z (pos 0) (side_slack c.args.pair.now s) in
+    let s = c.args.sides.now in
+    let found = first_found holds s no_step c.position.result
+    (IsFirst-from_position _ _ _ (λ x. holds x ≡ false) (λ x. holds x ≡ true) c.position.ensures.ran
+    (YieldsList-from_slice s cc) (λ x q k. search (rules, tests)) (λ x q k. search (rules, tests))) in
+    record { found = found.0; none = found.1 }

@@ -1,14 +1,19 @@
--- `strengths_check` meets its contract. The loop's invariant: the strength rows of the pairs passed hold.
-use mathlib.Core.Path.{◌≡◌, refl, sym, ◌∙◌, ap}
-use Prim.Native.Nat.{ℕ}
+-- `strengths_check` meets its contract: the first pair that has a row which fails, and of its sides the first, or none.
+use mathlib.Core.Path.{◌≡◌, refl, sym, ◌∙◌, ap, subst}
+use Prim.Native.Nat.{ℕ, ◌<◌}
 use native.Mathlib.Omega.{arith}
+use lib.Dec.{T}
+use lib.ListN.{length}
 use Rattle.scope.specs.declared.Place.TheVariants.{Row}
-use Rattle.scope.specs.declared.Outcome.TheVariants.{Refused}
-use Rattle.scope.specs.Rows.{first_where}
+use Rattle.scope.specs.Cases.Outcome.{Refused}
+use Rattle.scope.specs.Rows.{first_where, pair_count}
+use Rattle.scope.proofs.Answered.{refused_at}
 use Rattle.lines.specs.SearchContracts.{first_failing}
-use Rattle.lines.proofs.Loops.{search_more, search_stops}
+use Rattle.lines.proofs.Loops.{found_within, search_more, search_stops}
+use Rattle.mesh.proofs.PairLaws.{pairs_counted}
 use Rattle.criterion.specs.StrengthContracts.{pair_holds}
-use Rattle.criterion.proofs.StrengthLaws.{steps_as, steps_fit, pair_fits, strengths_refused, strengths_passed}
+use Rattle.criterion.proofs.StrengthLaws.{its_sides, sides_counted, pair_holds_is}
+use Rattle.criterion.proofs.StrengthLaws.{strengths_refused, strengths_passed}
 use Rattle.verdict.proofs.field_checks.strengths_check.Goals as goal
 
 pub loop-a-init : goal.loop-a-init
@@ -17,54 +22,74 @@ loop-a-init c = refl
 
 pub pair_holds-requires : goal.pair_holds-requires
 pair_holds-requires c =
-    let pre = c.requires in
-    (pre.lines_passed, pre.has_field, pre.steps_are, omega (arith, pre.lines_passed.pairs_are, c.loop-a-test.true))
+    let mesh = c.args.field.now.mesh in
+    omega (arith, pairs_counted mesh.mesh.numbers.now mesh.pairs.now mesh.paired, c.loop-a-test.true)
 
-pub pair_state-d-requires : goal.pair_state-d-requires
-pair_state-d-requires c =
-    let pre = c.requires in record {
-      fact_1 = (pre.lines_passed, pre.has_field);
-      fact_2 = omega (arith, pre.lines_passed.pairs_are, c.loop-a-test.true);
-    }
+pub pair_numbers-requires : goal.pair_numbers-requires
+pair_numbers-requires c =
+    let mesh = c.args.field.now.mesh in
+    omega (arith, pairs_counted mesh.mesh.numbers.now mesh.pairs.now mesh.paired, c.loop-a-test.true)
 
-pub first_side-k-requires : goal.first_side-k-requires
-first_side-k-requires c =
-    let pre = c.requires in
-    let steps = steps_as (sym pre.lines_passed.sized.sides_are) pre.steps_are in
-    record { steps_in_range = steps_fit steps; pair_in_range = pair_fits c.pair_state-d.ensures }
-
-pub strength_number-requires : goal.strength_number-requires
-strength_number-requires c =
-    let judged = c.requires.lines_passed in
-    let steps = steps_as (sym judged.sized.sides_are) c.requires.steps_are in (
-      omega (arith, c.loop-a-test.true, judged.pairs_are, judged.few),
-      steps.most,
-      omega (arith, steps.most, c.first_side-k.ensures.at_most),
+pub strength_number-row-requires-clause-pair_there : goal.strength_number-row-requires-clause-pair_there
+strength_number-row-requires-clause-pair_there c =
+    let mesh = c.args.field.now.mesh in
+    omega (
+      arith,
+      pairs_counted mesh.mesh.numbers.now mesh.pairs.now mesh.paired,
+      mesh.few,
+      c.loop-a-test.true,
     )
 
-pub returns-then-not-pair_holds : goal.returns-then-not-pair_holds
-returns-then-not-pair_holds c =
-    let judged = c.requires.lines_passed in
-    let sized = judged.sized in
-    let fails = sym c.pair_holds.ensures ∙ c.if-not-pair_holds.true in
-    let stops = search_stops (pair_holds _ _) c.loop-a.invariant c.args.s.pairs c.loop-a-test.true fails in
-    ap (λ (i : ℕ). Refused 22 (Row i)) c.strength_number.ensures
-    ∙ strengths_refused _ _ sized.facts.counts
-    c.requires.steps_are
-    judged.pairs_are
-    sized.sides_are
-    stops
-    c.loop-a-test.true
-    c.pair_state-d.ensures
-    c.first_side-k.ensures.lowest
+pub strength_number-row-requires-clause-side_there : goal.strength_number-row-requires-clause-side_there
+strength_number-row-requires-clause-side_there c =
+    let field = c.args.field.now in
+    let mesh = field.mesh.mesh in
+    let within = found_within _ _ c.in-Some.ensures.found in
+    omega (
+      arith,
+      within,
+      ap length c.sides-sides.ensures,
+      field.its_polygon,
+      mesh.sized.sides_are,
+      mesh.sizes.few_sides,
+    )
 
+pub returns-in-Some : goal.returns-in-Some
+returns-in-Some c =
+    let field = c.args.field.now in
+    let mesh = field.mesh in
+    let m = mesh.mesh.numbers.now in
+    let counts = mesh.mesh.sized.facts.counts in
+    let steps = its_sides m field.polygon.now field.its_polygon c.sides-sides.ensures in
+    let stops = search_stops (pair_holds m _ _ _) c.loop-a.invariant (length mesh.pairs.now)
+    c.loop-a-test.true (sym c.pair_holds.ensures ∙ c.if-pair_holds.false) in
+    refused_at c.at.ensures
+    ∙ ap (λ (i : ℕ). Refused 22 (Row i)) c.strength_number-row.ensures
+    ∙ strengths_refused m _ field.l field.n counts steps (pairs_counted m mesh.pairs.now mesh.paired)
+    (sides_counted counts steps) stops c.loop-a-test.true c.pair_numbers.ensures c.in-Some.ensures.found
+
+pub loop-a-preserved-then-pair_holds : goal.loop-a-preserved-then-pair_holds
+loop-a-preserved-then-pair_holds c =
+    search_more (pair_holds _ _ _ _) c.loop-a.invariant (sym c.pair_holds.ensures ∙ c.if-pair_holds.true)
+
+-- a pair that has a row which fails has a first one
 pub loop-a-preserved : goal.loop-a-preserved
 loop-a-preserved c =
-    search_more (pair_holds _ _) c.loop-a.invariant (sym c.pair_holds.ensures ∙ c.if-not-pair_holds.false)
+    let field = c.args.field.now in
+    let mesh = field.mesh in
+    let m = mesh.mesh.numbers.now in
+    let steps = its_sides m field.polygon.now field.its_polygon c.sides-sides.ensures in
+    let there : c.loop-a.a < pair_count m = omega (arith, pairs_counted m mesh.pairs.now mesh.paired, c.loop-a-test.true) in
+    let all = pair_holds_is m _ field.l field.n mesh.mesh.sized.facts.counts steps there c.pair_numbers.ensures
+    (sym c.in_default.ensures.none) in
+    absurd (subst T (all ∙ sym c.pair_holds.ensures ∙ c.if-pair_holds.false) tt)
 
 pub returns : goal.returns
 returns c =
-    let judged = c.requires.lines_passed in
-    let e : c.loop-a.a ≡ c.args.s.pairs = omega (arith, c.loop-a.auto.a-end, c.loop-a-test.false) in
-    let all = sym (ap (first_failing (pair_holds _ _)) (sym e) ∙ c.loop-a.invariant) in
-    strengths_passed _ _ judged.sized.facts.counts judged.pairs_are all c.loop-a-test.false
+    let field = c.args.field.now in
+    let mesh = field.mesh in
+    let m = mesh.mesh.numbers.now in
+    let e : c.loop-a.a ≡ length mesh.pairs.now = omega (arith, c.loop-a.auto.a-end, c.loop-a-test.false) in
+    strengths_passed m _ field.l field.n mesh.mesh.sized.facts.counts
+    (pairs_counted m mesh.pairs.now mesh.paired)
+    (sym (ap (first_failing (pair_holds _ _ _ _)) (sym e) ∙ c.loop-a.invariant)) c.loop-a-test.false
