@@ -1,5 +1,4 @@
--- The answer by the case of the verdict; then the promises, and each applied to document 01's sheet.
-pub mod AnswerLaws
+-- The promises of the answer, and each applied to document 01's sheet.
 pub mod NumbersListed
 pub mod Promises
 pub mod PromisesApplied

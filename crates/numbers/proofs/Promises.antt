@@ -1,4 +1,5 @@
--- The promises of the call on numbers hold of every answer: the theorems about the definitions, read off what is returned.
+-- The promises of the call on numbers hold of every answer: the theorems about the definitions, read off what is
+-- returned.
 use mathlib.Core.Path.{◌≡◌, refl, sym, ◌∙◌, ap, subst, subst₂}
 use mathlib.Core.Logic.{◌↔◌, ◌⊎◌, inl, inr, ◌≢◌}
 use mathlib.Core.List.Memᴰ
@@ -13,12 +14,14 @@ use Rattle.integer.proofs.FractionLaws.{≤ᶠ_trans, ≈ᶠ→≤ᶠ, ≈ᶠ_sy
 use Rattle.integer.specs.Tests.{eq_z}
 use Rattle.integer.proofs.TestLaws.{eq_z_yes, eq_z_no}
 use Rattle.scope.specs.declared.Place.{Place}
-use Rattle.scope.specs.declared.Load.{Load}
-use Rattle.scope.specs.declared.Load.TheVariants.{Absent, Exact}
-use Rattle.scope.specs.declared.OpenRows.TheVariants.{Absent as NoCount}
-use Rattle.scope.specs.declared.Verdict.{Verdict}
-use Rattle.scope.specs.declared.Verdict.TheVariants.{Accepted, Refused}
-use Rattle.scope.specs.Answer.{place_number, place_for, number_of, place_of}
+use Rattle.scope.specs.Cases.Load.{Load}
+use Rattle.scope.specs.Cases.Load.{Absent, Exact}
+use Rattle.scope.specs.Cases.OpenRows.{Absent as NoCount}
+use Rattle.scope.specs.Cases.Verdict.{Verdict}
+use Rattle.scope.specs.Cases.Verdict.{Accepted, Refused}
+use Rattle.std.specs.Prelude.{Result}
+use Rattle.scope.specs.declared.Refusal as Answered
+use Rattle.scope.specs.Answer.{outcome_of, place_number, place_for, number_of, place_of}
 use Rattle.scope.specs.Columns.{at, has_field, has_multipliers, n, l}
 use Rattle.scope.specs.Mesh.{nodes}
 use Rattle.scope.specs.Rows.{rows_of}
@@ -33,7 +36,8 @@ use Rattle.scope.specs.Bracket.{Bracket}
 use Rattle.scope.specs.Parts.{carried, allowed, SameRows, PartsBracket}
 use Rattle.scope.proofs.PlaceKinds.{place_kind, place_number_lem, mesh_exactly}
 use Rattle.scope.proofs.RefusedRows.{equality_fails, strength_fails, pairs_fail}
-use Rattle.scope.proofs.Exactly.{accepted_exactly, refused_exactly, verdict_cases, returns_zero, claim_by_parts, field_before_multipliers, refused_after_field}
+use Rattle.scope.proofs.Exactly.{accepted_exactly, refused_exactly, verdict_cases, returns_zero, claim_by_parts}
+use Rattle.scope.proofs.Exactly.{field_before_multipliers, refused_after_field}
 use Rattle.scope.proofs.Printed.{field-printed}
 use Rattle.scope.proofs.AcceptedField.{accepted_criterion, criterion_around, tractions_agree}
 use Rattle.scope.proofs.Jumps.{sound_jumps, tip_asks_nothing, no_jumps}
@@ -46,11 +50,14 @@ use Rattle.scope.proofs.SameRows.{same_met}
 use Rattle.scope.proofs.AcceptedMultipliers.{sums_printed, multipliers_as_printed}
 use Rattle.scope.proofs.Meaning.{area, outward_normal}
 use Rattle.scope.proofs.Triangles.{only_repeat, read_as_triangle, passed_before}
-use Rattle.verdict.specs.declared.MeshAnswer.{MeshAnswer}
 use Rattle.numbers.proofs.NumbersListed.{refusal_listed}
 use Rattle.numbers.specs.declared.numbers_answer.NumbersAnswer.{NumbersAnswer}
 use Rattle.numbers.specs.NumbersAnswer.{there, numerator, denominator, counted, answer_of}
-use Rattle.numbers.specs.Promises.{Answers, Returned, ReturnsZero, RefusesExactly, NumbersListed, RowsRefused, TellsField, FieldExactly, MultipliersExactly, FieldReported, MultipliersReported, CriterionForEachPair, PairsAsked, JumpsAsked, TractionsOnJoints, CallsBracket, TwoAnswers, AnswerAndMultipliers, OpenRowsReported, FractionsBracket, FractionsAndAnswer, FieldInFractions, MeshAnsweredExactly, TrianglesAsked}
+use Rattle.numbers.specs.Promises.{Answers, Returned, ReturnsZero, RefusesExactly, NumbersListed, RowsRefused}
+use Rattle.numbers.specs.Promises.{TellsField, FieldExactly, MultipliersExactly, FieldReported, MultipliersReported}
+use Rattle.numbers.specs.Promises.{CriterionForEachPair, PairsAsked, JumpsAsked, TractionsOnJoints, CallsBracket}
+use Rattle.numbers.specs.Promises.{TwoAnswers, AnswerAndMultipliers, OpenRowsReported, FractionsBracket}
+use Rattle.numbers.specs.Promises.{FractionsAndAnswer, FieldInFractions, MeshAnsweredExactly, TrianglesAsked}
 
 -- every answer returns the verdict's number and place
 pub returned : {m c : List ℤ} {r : NumbersAnswer} → Answers m c r → Returned m c r.number r.place
@@ -64,7 +71,8 @@ returned {m} {c} e = let b = by (verdict m c) e in record { number_is = b.0; pla
 
 -- a verdict with its reason
 abbrev VerdictCases : List ℤ → List ℤ → Type 0
-VerdictCases m c = ((k : ℕ) × (p : Place) × (verdict m c ≡ Refused k p)) ⊎ (verdict m c ≡ Accepted (open_count m c) (lower_load c) (upper_load m c))
+VerdictCases m c = ((k : ℕ) × (p : Place) × (verdict m c ≡ Refused k p))
+    ⊎ (verdict m c ≡ Accepted (open_count m c) (lower_load c) (upper_load m c))
 
 pub refused_not_zero : (m c : List ℤ) {k : ℕ} {p : Place} → verdict m c ≡ Refused k p → k ≢ 0
 refused_not_zero m c e z =
@@ -89,14 +97,20 @@ module _ (m c : List ℤ) (number place : ℕ) (h : Returned m c number place) w
   }
 
   pub refuses_exactly : RefusesExactly m c number place
-  refuses_exactly = record { exactly = λ k j nonzero. (λ e. to (verdict_cases m c) nonzero e.0 e.1, λ r. from ((refused_exactly m c k (place_for k j)).1 r)) }
+  refuses_exactly = record {
+    exactly = λ k j nonzero. (
+      λ e. to (verdict_cases m c) nonzero e.0 e.1,
+      λ r. from ((refused_exactly m c k (place_for k j)).1 r),
+    );
+  }
     where
       to : {k j : ℕ} → VerdictCases m c → k ≢ 0 → number ≡ k → place ≡ j → Refusal m c k (place_for k j)
       to {k} {j} (inl (i, p, e)) nonzero a b =
           let r : Refusal m c i p = (refused_exactly m c i p).0 e in
           let same : i ≡ k = sym (is_refused e).0 ∙ a in
           let there : place_number p ≡ j = sym (is_refused e).1 ∙ b in
-          subst₂ (λ i q. Refusal m c i q) same (place_kind r ∙ ap (λ x. place_for x (place_number p)) same ∙ ap (place_for k) there) r
+          subst₂ (λ i q. Refusal m c i q) same
+          (place_kind r ∙ ap (λ x. place_for x (place_number p)) same ∙ ap (place_for k) there) r
       to (inr e) nonzero a b = absurd (nonzero (sym a ∙ (is_zero e).0))
 
       from : {k j : ℕ} → verdict m c ≡ Refused k (place_for k j) → (number ≡ k) × (place ≡ j)
@@ -109,7 +123,11 @@ module _ (m c : List ℤ) (number place : ℕ) (h : Returned m c number place) w
       by (inl (k, p, e)) =
           let (there, (line_one, column_zero)) = refusal_listed ((refused_exactly m c k p).0 e) in
           let (same, at) = is_refused e in
-          record { listed = rw same there; line_one = λ z. at ∙ line_one (sym same ∙ z); column_zero = λ z. at ∙ column_zero (sym same ∙ z) }
+          record {
+            listed = rw same there;
+            line_one = λ z. at ∙ line_one (sym same ∙ z);
+            column_zero = λ z. at ∙ column_zero (sym same ∙ z);
+          }
       by (inr e) =
           let (same, at) = is_zero e in
           record { listed = rw same (Memᴰ.head refl); line_one = λ z. absurd (omega arith); column_zero = λ z. at }
@@ -136,7 +154,8 @@ module _ (m c : List ℤ) (number place : ℕ) (h : Returned m c number place) w
   field_told (f, inr b) = by (verdict_cases m c)
     where
       by : VerdictCases m c → FieldAccepted m c
-      by (inl (k, p, e)) = field_before_multipliers ((refused_exactly m c k p).0 e) (omega (arith, (is_refused e).0, b.0), omega (arith, (is_refused e).0, b.1)) f
+      by (inl (k, p, e)) = field_before_multipliers ((refused_exactly m c k p).0 e)
+          (omega (arith, (is_refused e).0, b.0), omega (arith, (is_refused e).0, b.1)) f
       by (inr e) = absurd (omega (arith, (is_zero e).0, b.0))
 
   pub field_exactly : FieldExactly m c number
@@ -162,7 +181,10 @@ module _ (m c : List ℤ) (number place : ℕ) (h : Returned m c number place) w
 
   -- an accepted field meets the criterion for each pair
   pub criterion_for_each_pair : TellsField c number → CriterionForEachPair m c
-  criterion_for_each_pair t = record { pairs = accepted_criterion m c (field_told t); around = criterion_around m c (field_told t) }
+  criterion_for_each_pair t = record {
+    pairs = accepted_criterion m c (field_told t);
+    around = criterion_around m c (field_told t);
+  }
 
   pub tractions_on_joints : TractionsOnJoints m c number
   tractions_on_joints t = tractions_agree m c (field_told t)
@@ -182,7 +204,8 @@ jumps_asked m = record { sound = sound_jumps m; tip = tip_asks_nothing m; none =
 
 data PartReported (There : Type 0) (number part : ℕ) (top bottom a b : ℤ) : Type 0 where
   with_numbers : There → number ≡ 0 → part ≡ 1 → top ≡ a → bottom ≡ b → PartReported There number part top bottom a b
-  with_none : ¬ (There × (number ≡ 0)) → part ≡ 0 → top ≡ pos 0 → bottom ≡ pos 0 → PartReported There number part top bottom a b
+  with_none : ¬ (There × (number ≡ 0)) → part ≡ 0 → top ≡ pos 0 → bottom ≡ pos 0
+      → PartReported There number part top bottom a b
 
 module _ {There : Type 0} {number part : ℕ} {top bottom a b : ℤ} where
   reported_exactly : PartReported There number part top bottom a b → (part ≡ 1) ↔ (There × (number ≡ 0))
@@ -193,7 +216,8 @@ module _ {There : Type 0} {number part : ℕ} {top bottom a b : ℤ} where
   reported-numbers (with_numbers t z e f g) d = (f, g)
   reported-numbers (with_none x e f g) d = absurd (omega arith)
 
-  reported_none : PartReported There number part top bottom a b → part ≢ 1 → (part ≡ 0) × (top ≡ pos 0) × (bottom ≡ pos 0)
+  reported_none : PartReported There number part top bottom a b → part ≢ 1
+      → (part ≡ 0) × (top ≡ pos 0) × (bottom ≡ pos 0)
   reported_none (with_numbers t z e f g) d = absurd (d e)
   reported_none (with_none x e f g) d = (e, f, g)
 
@@ -208,7 +232,9 @@ lower_load_lem c =
     (λ t. inl (eq_z_yes (subst T (sym t) tt), rw t))
     (λ t. inr (eq_z_no (rw t tt), rw t))
 
-upper_load_lem : (m c : List ℤ) → LoadOf (HasMultipliers c) (upper_load m c) (limit_sum (multiplier m c) (rows_of m)) (live_sum (multiplier m c) (rows_of m))
+upper_load_lem : (m c : List ℤ)
+    → LoadOf (HasMultipliers c) (upper_load m c) (limit_sum (multiplier m c) (rows_of m))
+    (live_sum (multiplier m c) (rows_of m))
 unfolding upper_load has_multipliers
 upper_load_lem m c =
     cases (eq_z (at c 1) (pos 1))
@@ -216,7 +242,8 @@ upper_load_lem m c =
     (λ t. inr (eq_z_no (rw t tt), rw t))
 
 -- an accepted claim's part
-part_of : {There : Type 0} {number part : ℕ} {x : Load} {top bottom a b : ℤ} → number ≡ 0 → LoadOf There x a b → part ≡ there x → top ≡ numerator x → bottom ≡ denominator x → PartReported There number part top bottom a b
+part_of : {There : Type 0} {number part : ℕ} {x : Load} {top bottom a b : ℤ} → number ≡ 0 → LoadOf There x a b
+    → part ≡ there x → top ≡ numerator x → bottom ≡ denominator x → PartReported There number part top bottom a b
 part_of z (inl (t, d)) e f g = with_numbers t z (e ∙ ap there d) (f ∙ ap numerator d) (g ∙ ap denominator d)
 part_of z (inr (t, d)) e f g = with_none (λ s. t s.0) (e ∙ ap there d) (f ∙ ap numerator d) (g ∙ ap denominator d)
 
@@ -225,7 +252,8 @@ not_both : (m c : List ℤ) → (¬ HasField c) ⊎ (¬ HasMultipliers c) → op
 unfolding open_count has_field has_multipliers
 not_both m c x =
     cases (eq_z (at c 0) (pos 1))
-    (λ t. cases (eq_z (at c 1) (pos 1)) (λ u. both x (eq_z_yes (subst T (sym t) tt)) (eq_z_yes (subst T (sym u) tt))) (λ u. rw (t, u)))
+    (λ t. cases (eq_z (at c 1) (pos 1)) (λ u. both x (eq_z_yes (subst T (sym t) tt)) (eq_z_yes (subst T (sym u) tt)))
+    (λ u. rw (t, u)))
     (λ t. rw t)
   where
     both : {X : Type 0} → (¬ HasField c) ⊎ (¬ HasMultipliers c) → HasField c → HasMultipliers c → X
@@ -242,35 +270,47 @@ module _ (m c : List ℤ) (r : NumbersAnswer) (h : Answers m c r) where
       by : VerdictCases m c → PartReported (HasField c) r.number r.field r.l r.n (l c) (n c)
       by (inl (k, p, e)) =
           let a = is_answer e in
-          with_none (λ t. refused_not_zero m c e (sym (ap (λ (x : NumbersAnswer). x.number) a) ∙ t.1)) (ap (λ (x : NumbersAnswer). x.field) a) (ap (λ (x : NumbersAnswer). x.l) a) (ap (λ (x : NumbersAnswer). x.n) a)
+          with_none (λ t. refused_not_zero m c e (sym (ap (λ (x : NumbersAnswer). x.number) a) ∙ t.1))
+          (ap (λ (x : NumbersAnswer). x.field) a) (ap (λ (x : NumbersAnswer). x.l) a)
+          (ap (λ (x : NumbersAnswer). x.n) a)
       by (inr e) =
           let a = is_answer e in
-          part_of (ap (λ (x : NumbersAnswer). x.number) a) (lower_load_lem c) (ap (λ (x : NumbersAnswer). x.field) a) (ap (λ (x : NumbersAnswer). x.l) a) (ap (λ (x : NumbersAnswer). x.n) a)
+          part_of (ap (λ (x : NumbersAnswer). x.number) a) (lower_load_lem c) (ap (λ (x : NumbersAnswer). x.field) a)
+          (ap (λ (x : NumbersAnswer). x.l) a) (ap (λ (x : NumbersAnswer). x.n) a)
 
-  multiplier_part_lem : PartReported (HasMultipliers c) r.number r.multipliers r.w r.m (limit_sum (multiplier m c) (rows_of m)) (live_sum (multiplier m c) (rows_of m))
+  multiplier_part_lem : PartReported (HasMultipliers c) r.number r.multipliers r.w r.m
+      (limit_sum (multiplier m c) (rows_of m)) (live_sum (multiplier m c) (rows_of m))
   multiplier_part_lem = by (verdict_cases m c)
     where
-      by : VerdictCases m c → PartReported (HasMultipliers c) r.number r.multipliers r.w r.m (limit_sum (multiplier m c) (rows_of m)) (live_sum (multiplier m c) (rows_of m))
+      by : VerdictCases m c → PartReported (HasMultipliers c) r.number r.multipliers r.w r.m
+          (limit_sum (multiplier m c) (rows_of m)) (live_sum (multiplier m c) (rows_of m))
       by (inl (k, p, e)) =
           let a = is_answer e in
-          with_none (λ t. refused_not_zero m c e (sym (ap (λ (x : NumbersAnswer). x.number) a) ∙ t.1)) (ap (λ (x : NumbersAnswer). x.multipliers) a) (ap (λ (x : NumbersAnswer). x.w) a) (ap (λ (x : NumbersAnswer). x.m) a)
+          with_none (λ t. refused_not_zero m c e (sym (ap (λ (x : NumbersAnswer). x.number) a) ∙ t.1))
+          (ap (λ (x : NumbersAnswer). x.multipliers) a) (ap (λ (x : NumbersAnswer). x.w) a)
+          (ap (λ (x : NumbersAnswer). x.m) a)
       by (inr e) =
           let a = is_answer e in
-          part_of (ap (λ (x : NumbersAnswer). x.number) a) (upper_load_lem m c) (ap (λ (x : NumbersAnswer). x.multipliers) a) (ap (λ (x : NumbersAnswer). x.w) a) (ap (λ (x : NumbersAnswer). x.m) a)
+          part_of (ap (λ (x : NumbersAnswer). x.number) a) (upper_load_lem m c)
+          (ap (λ (x : NumbersAnswer). x.multipliers) a) (ap (λ (x : NumbersAnswer). x.w) a)
+          (ap (λ (x : NumbersAnswer). x.m) a)
 
   -- the parts that are reported are accepted
   field_of : r.field ≡ 1 → FieldAccepted m c
-  field_of e = let t = (reported_exactly field_part_lem).0 e in (field_exactly m c r.number r.place (returned h)).told.1 (t.0, inl t.1)
+  field_of e = let t = (reported_exactly field_part_lem).0 e in (field_exactly m c r.number r.place (returned h)).told.1
+      (t.0, inl t.1)
 
   multipliers_of : r.multipliers ≡ 1 → MultipliersAccepted m c
-  multipliers_of e = ((multipliers_exactly m c r.number r.place (returned h)).told.0 ((reported_exactly multiplier_part_lem).0 e)).0
+  multipliers_of e = ((multipliers_exactly m c r.number r.place (returned h)).told.0
+      ((reported_exactly multiplier_part_lem).0 e)).0
 
   pub field-reported : FieldReported m c r
   field-reported = record {
     exactly = reported_exactly field_part_lem;
     load = reported-numbers field_part_lem;
     n_above_0 = λ e. rw (reported-numbers field_part_lem e).1 (field-n m c (field_of e));
-    carried = λ e. let i = reported-numbers field_part_lem e in rw (i.0, i.1) ((field-printed m (stress m c) (l c) (n c)).0 (field_of e).meets);
+    carried = λ e. let i = reported-numbers field_part_lem e in rw (i.0, i.1)
+        ((field-printed m (stress m c) (l c) (n c)).0 (field_of e).meets);
     none = reported_none field_part_lem;
   }
 
@@ -278,14 +318,16 @@ module _ (m c : List ℤ) (r : NumbersAnswer) (h : Answers m c r) where
   multipliers_reported = record {
     exactly = reported_exactly multiplier_part_lem;
     limit = reported-numbers multiplier_part_lem;
-    printed = λ e. let sums = sums_printed m c (multipliers_of e).mesh in let i = reported-numbers multiplier_part_lem e in (i.0 ∙ sums.limit, i.1 ∙ sums.live);
+    printed = λ e. let sums = sums_printed m c (multipliers_of e).mesh in
+        let i = reported-numbers multiplier_part_lem e in (i.0 ∙ sums.limit, i.1 ∙ sums.live);
     m_above_0 = λ e. rw (reported-numbers multiplier_part_lem e).1 (multipliers_of e).meet.live;
     none = reported_none multiplier_part_lem;
   }
 
   -- ---- open rows
 
-  open_count_lem : r.field ≡ 1 → r.multipliers ≡ 1 → r.open_rows ≡ open_rows (stress m c) (l c) (n c) (multiplier m c) (rows_of m)
+  open_count_lem : r.field ≡ 1 → r.multipliers ≡ 1
+      → r.open_rows ≡ open_rows (stress m c) (l c) (n c) (multiplier m c) (rows_of m)
   open_count_lem e f =
       let z = ((reported_exactly field_part_lem).0 e).1 in
       let a = (accepted_exactly m c).1 ((returns_zero_exactly m c r.number r.place (returned h)).exactly.0 z) in
@@ -303,14 +345,16 @@ module _ (m c : List ℤ) (r : NumbersAnswer) (h : Answers m c r) where
       by (inl (k, p, e)) = ap (λ (x : NumbersAnswer). x.open_rows) (is_answer e)
       by (inr e) =
           let a = is_answer e in
-          ap (λ (x : NumbersAnswer). x.open_rows) a ∙ ap counted (not_both m c (lacks (ap (λ (x : NumbersAnswer). x.number) a) x))
+          ap (λ (x : NumbersAnswer). x.open_rows) a
+          ∙ ap counted (not_both m c (lacks (ap (λ (x : NumbersAnswer). x.number) a) x))
 
   -- ==== Demand 3
 
   pub open_rows_reported : OpenRowsReported m c r
   unfolding carried allowed
   open_rows_reported = record {
-    count = λ e f. let i = reported-numbers field_part_lem e in rw (i.0, i.1, open_count_lem e f) (open_rows_count m c (field_of e) (multipliers_of f)).number;
+    count = λ e f. let i = reported-numbers field_part_lem e in rw (i.0, i.1, open_count_lem e f)
+        (open_rows_count m c (field_of e) (multipliers_of f)).number;
     closed = λ e f.
         let i = reported-numbers field_part_lem e in
         let j = reported-numbers multiplier_part_lem f in
@@ -323,7 +367,8 @@ module _ (m c : List ℤ) (r : NumbersAnswer) (h : Answers m c r) where
       let i = reported-numbers field_part_lem e in
       record {
         above_0 = field-reported.n_above_0 e;
-        meets = (mesh_fractions m (field_of e).mesh).laws.whole_numbers r.n (field-reported.n_above_0 e) (stress m c) r.l (rw (i.0, i.1) (field_of e).meets);
+        meets = (mesh_fractions m (field_of e).mesh).laws.whole_numbers r.n (field-reported.n_above_0 e) (stress m c)
+            r.l (rw (i.0, i.1) (field_of e).meets);
       }
 
 -- the field of one call and the multipliers of another, or of the same, on meshes with the same rows
@@ -340,21 +385,26 @@ calls_bracket {m} {c} {d} {k} {r} {s} h g same e f =
       equal = rw (i.0, i.1, j.0, j.1) b.equal;
     }
 
-pub call_bracket : {m c : List ℤ} {r : NumbersAnswer} → Answers m c r → r.field ≡ 1 → r.multipliers ≡ 1 → CallsBracket m c m c r r
+pub call_bracket : {m c : List ℤ} {r : NumbersAnswer} → Answers m c r → r.field ≡ 1 → r.multipliers ≡ 1
+    → CallsBracket m c m c r r
 call_bracket h e f = calls_bracket h h refl e f
 
 -- parts of claims that may be refused for their other part
 pub accepted_parts : {m c d k : List ℤ} {r : NumbersAnswer} → AnswerAndMultipliers m c d k r
-accepted_parts {m} {c} {d} {k} {r} h same t w = parts_bracket m c d k same ((field_exactly m c r.number r.place (returned h)).told.1 t) w
+accepted_parts {m} {c} {d} {k} {r} h same t w = parts_bracket m c d k same
+    ((field_exactly m c r.number r.place (returned h)).told.1 t) w
 
 -- ---- fractions
 
 -- a field of whole numbers that meets the rows of m, against multipliers for the same rows
-whole_bracket : (m d k : List ℤ) → SameRows m d → MultipliersAccepted d k → (t : ℕ → ℤ) (j e : ℤ) → FieldMeets t j e (rows_of m) → Bracket t j e (multiplier d k) (rows_of d)
+whole_bracket : (m d k : List ℤ) → SameRows m d → MultipliersAccepted d k → (t : ℕ → ℤ) (j e : ℤ)
+    → FieldMeets t j e (rows_of m) → Bracket t j e (multiplier d k) (rows_of d)
 whole_bracket m d k same w t j e met =
-    bracket t j e (multiplier d k) (rows_of d) (3 * nodes d) (mesh_columns d (nodes-named d w.mesh)) (same_met m d same t j e met) (multipliers_meet_lem d k w)
+    bracket t j e (multiplier d k) (rows_of d) (3 * nodes d) (mesh_columns d (nodes-named d w.mesh))
+    (same_met m d same t j e met) (multipliers_meet_lem d k w)
 
-pub fractions_allowed : (m d k : List ℤ) → MeshSound m → SameRows m d → MultipliersAccepted d k → FractionsBracket m d k (allowed d k)
+pub fractions_allowed : (m d k : List ℤ) → MeshSound m → SameRows m d → MultipliersAccepted d k
+    → FractionsBracket m d k (allowed d k)
 unfolding allowed
 fractions_allowed m d k sound same w =
     let proper : Positive (allowed d k) = record { positive = w.meet.live } in
@@ -362,9 +412,13 @@ fractions_allowed m d k sound same w =
       laws = (mesh_fractions m sound).laws;
       at_most = λ f met.
           ≤ᶠ_trans f.load.proper (record { positive = met.written.above_0 }) proper (≈ᶠ→≤ᶠ (≈ᶠ_sym met.written.load))
-          (record { cross-≤ = (whole_bracket m d k same w met.numerators met.numerator met.denominator met.meets).at_most });
+          (record {
+            cross-≤ = (whole_bracket m d k same w met.numerators met.numerator met.denominator
+                met.meets).at_most;
+          });
       equal = λ f met b t a written.
-          let whole : Bracket t a b (multiplier d k) (rows_of d) = whole_bracket m d k same w t a b (((mesh_fractions m sound).laws.same_for_each f).0 met b t a written) in
+          let whole : Bracket t a b (multiplier d k) (rows_of d) = whole_bracket m d k same w t a b
+          (((mesh_fractions m sound).laws.same_for_each f).0 met b t a written) in
           let over_b : Positive (a over b) = record { positive = written.above_0 } in (
             λ x. whole.equal.0 (≈ᶠ_trans over_b f.load.proper proper written.load x).cross-≡,
             λ x. ≈ᶠ_trans f.load.proper over_b proper (≈ᶠ_sym written.load) (record { cross-≡ = whole.equal.1 x }),
@@ -380,8 +434,8 @@ fractions_bracket {d} {k} {s} g e m sound same =
 -- ---- a mesh alone
 
 -- what `judge_mesh` answers, by document 01's number and place for each case of its outcome
-pub mesh_answered_exactly : {m : List ℤ} {r : MeshAnswer} → MeshAnsweredExactly m r
-mesh_answered_exactly {m} {r} h = mesh_exactly m r.outcome h.outcome
+pub mesh_answered_exactly : {A : Type 0} (m : List ℤ) (r : Result A Answered.Refusal) → MeshAnsweredExactly m r
+mesh_answered_exactly m r h = mesh_exactly m (outcome_of r) h
 
 -- ---- triangles
 

@@ -1,4 +1,6 @@
--- Each promise of the call on numbers applied to document 01's sheet or a neighbour, that of N1 to two triangles, those of N2 to fill over clay and those of N6 to two blocks on a joint too: antt computes the answer, and the promise says the rest.
+-- Each promise of the call on numbers applied to document 01's sheet or a neighbour, that of N1 to two triangles, those
+-- of N2 to fill over clay and those of N6 to two blocks on a joint too: antt computes the answer, and the promise says
+-- the rest.
 use mathlib.Core.Path.{◌≡◌, refl, sym, ◌∙◌, ap, subst₂}
 use mathlib.Core.Logic.{inl, inr}
 use mathlib.Core.List.{List, [], ◌∷◌, ◌++◌}
@@ -10,12 +12,14 @@ use lib.Signed.{lt_z_yes}
 use lib.ListN.{length}
 use Rattle.integer.proofs.Ring.{ring, terms}
 use Rattle.integer.specs.Fraction.{◌over◌, ◌≈ᶠ◌, ◌≤ᶠ◌}
+use Rattle.std.specs.Prelude.{Result}
 use Rattle.scope.specs.declared.Place.TheVariants.{Line, Column}
+use Rattle.scope.specs.declared.Refusal as Answered
 use Rattle.scope.specs.Members.{◌∈◌}
 use Rattle.scope.specs.Rows.{balance_rows, side_rows, equality_rows, strength_pairs, strength_rows, rows_of}
 use Rattle.scope.specs.Sums.{live_sum, limit_sum}
 use Rattle.scope.specs.Claim.{stress, multiplier}
-use Rattle.scope.specs.Answer.{place_for, mesh_number_of, mesh_place_of}
+use Rattle.scope.specs.Answer.{outcome_of, place_for, mesh_number_of, mesh_place_of}
 use Rattle.scope.proofs.Computed.{computed}
 use Rattle.scope.specs.Refusals.{MeshRefusal, Refusal}
 use Rattle.scope.specs.Accepted.{FieldAccepted, MultipliersAccepted, ClaimAccepted}
@@ -27,7 +31,9 @@ use Rattle.scope.specs.Bracket.{Open, NoneOpen}
 use Rattle.scope.specs.Fractions.{Fraction, FractionField, field_over}
 use Rattle.scope.specs.AcceptedFractions.{MeetsMesh}
 use Rattle.scope.specs.Parts.{SameRows, NumberOf, PartsBracket}
-use Rattle.scope.specs.Worked.{zeros, worked_mesh, worked_stresses, worked_multipliers, worked_claim, multipliers_alone, sheet, sheet19, sheet29, free_shear, two_triangles, field_alone, fill_over_clay, over_clay, blocks, block_edges, joint, two_blocks, on_joint}
+use Rattle.scope.specs.Worked.{zeros, worked_mesh, worked_stresses, worked_multipliers, worked_claim, multipliers_alone}
+use Rattle.scope.specs.Worked.{sheet, sheet19, sheet29, free_shear, two_triangles, field_alone, fill_over_clay}
+use Rattle.scope.specs.Worked.{over_clay, blocks, block_edges, joint, two_blocks, on_joint}
 use Rattle.scope.proofs.Printed.{field-printed}
 use Rattle.scope.proofs.Applied.{free_field, free_rows}
 use Rattle.scope.specs.Tests.{row_at}
@@ -36,17 +42,29 @@ use Rattle.scope.specs.Statements.{MeshSound}
 use Rattle.scope.specs.Triangles.{Triangle}
 use Rattle.scope.specs.Pairs.{SoilAround, rows_before}
 use Rattle.scope.specs.Jumps.{SameTraction}
-use Rattle.verdict.specs.declared.MeshAnswer.{MeshAnswer}
-use Rattle.verdict.specs.JudgeContracts.{MeshAnswered}
 use Rattle.numbers.specs.declared.numbers_answer.NumbersAnswer.{NumbersAnswer}
-use Rattle.numbers.specs.Promises.{Answers, returned_numbers, TellsField, FieldInFractions}
-use Rattle.numbers.proofs.Promises.{mesh_answered_exactly, returned, returns_zero_exactly, refuses_exactly, numbers_listed, field_exactly, multipliers_exactly, criterion_for_each_pair, pairs_asked, jumps_asked, tractions_on_joints, rows_refused, field-reported, multipliers_reported, open_rows_reported, field_in_fractions, calls_bracket, call_bracket, accepted_parts, fractions_bracket, triangles_asked}
+use Rattle.numbers.specs.Promises.{Answers, returned_numbers, TellsField, FieldInFractions, MeshAnswered}
+use Rattle.numbers.proofs.Promises.{mesh_answered_exactly, returned, returns_zero_exactly, refuses_exactly}
+use Rattle.numbers.proofs.Promises.{numbers_listed, field_exactly, multipliers_exactly, criterion_for_each_pair}
+use Rattle.numbers.proofs.Promises.{pairs_asked, jumps_asked, tractions_on_joints, rows_refused, field-reported}
+use Rattle.numbers.proofs.Promises.{multipliers_reported, open_rows_reported, field_in_fractions, calls_bracket}
+use Rattle.numbers.proofs.Promises.{call_bracket, accepted_parts, fractions_bracket, triangles_asked}
 
 -- ---- what is answered
 
 -- the sheet: 20 carried, 600/30 allowed, no row open
 abbrev pub sheet_answer : NumbersAnswer
-sheet_answer = record { number = 0; place = 0; field = 1; multipliers = 1; l = pos 20; n = pos 1; w = pos 600; m = pos 30; open_rows = 0 }
+sheet_answer = record {
+  number = 0;
+  place = 0;
+  field = 1;
+  multipliers = 1;
+  l = pos 20;
+  n = pos 1;
+  w = pos 600;
+  m = pos 30;
+  open_rows = 0;
+}
 
 pub sheet-answered : Answers worked_mesh sheet sheet_answer
 unfolding computed zeros worked_mesh worked_stresses worked_multipliers worked_claim sheet
@@ -54,7 +72,17 @@ sheet-answered = refl
 
 -- l 19, sy -19: two open rows
 abbrev pub answer19 : NumbersAnswer
-answer19 = record { number = 0; place = 0; field = 1; multipliers = 1; l = pos 19; n = pos 1; w = pos 600; m = pos 30; open_rows = 2 }
+answer19 = record {
+  number = 0;
+  place = 0;
+  field = 1;
+  multipliers = 1;
+  l = pos 19;
+  n = pos 1;
+  w = pos 600;
+  m = pos 30;
+  open_rows = 2;
+}
 
 pub nineteen_answered : Answers worked_mesh sheet19 answer19
 unfolding computed zeros worked_mesh worked_stresses worked_multipliers worked_claim sheet19
@@ -62,7 +90,17 @@ nineteen_answered = refl
 
 -- that with the -30 as -29: 32, column 7
 abbrev pub answer29 : NumbersAnswer
-answer29 = record { number = 32; place = 7; field = 0; multipliers = 0; l = pos 0; n = pos 0; w = pos 0; m = pos 0; open_rows = 0 }
+answer29 = record {
+  number = 32;
+  place = 7;
+  field = 0;
+  multipliers = 0;
+  l = pos 0;
+  n = pos 0;
+  w = pos 0;
+  m = pos 0;
+  open_rows = 0;
+}
 
 pub refused_answered : Answers worked_mesh sheet29 answer29
 unfolding computed zeros worked_mesh worked_stresses worked_multipliers worked_claim sheet29
@@ -81,7 +119,17 @@ second_soil =
     ++ (pos 4 ∷ pos 1 ∷ pos 3 ∷ zeros 4)
 
 abbrev pub alone_answer : NumbersAnswer
-alone_answer = record { number = 0; place = 0; field = 0; multipliers = 1; l = pos 0; n = pos 0; w = pos 600; m = pos 30; open_rows = 0 }
+alone_answer = record {
+  number = 0;
+  place = 0;
+  field = 0;
+  multipliers = 1;
+  l = pos 0;
+  n = pos 0;
+  w = pos 600;
+  m = pos 30;
+  open_rows = 0;
+}
 
 pub alone_answered : Answers second_soil multipliers_alone alone_answer
 unfolding computed zeros worked_stresses worked_multipliers multipliers_alone second_soil
@@ -98,7 +146,8 @@ sheet_accepted = (returns_zero_exactly worked_mesh sheet 0 0 (returned sheet-ans
 
 pub refused_column-7 : Refusal worked_mesh sheet29 32 (Column 7)
 unfolding place_for
-refused_column-7 = ((refuses_exactly worked_mesh sheet29 32 7 (returned refused_answered)).exactly 32 7 (λ e. omega arith)).0 (refl, refl)
+refused_column-7 = ((refuses_exactly worked_mesh sheet29 32 7 (returned refused_answered)).exactly 32 7
+    (λ e. omega arith)).0 (refl, refl)
 
 pub listed_32 : 32 ∈ returned_numbers
 listed_32 = (numbers_listed worked_mesh sheet29 32 7 (returned refused_answered)).listed
@@ -113,18 +162,21 @@ field_of_refused = (field_exactly worked_mesh sheet29 32 7 (returned refused_ans
 
 pub alone_accepted : MultipliersAccepted second_soil multipliers_alone
 unfolding computed zeros worked_stresses worked_multipliers multipliers_alone
-alone_accepted = ((multipliers_exactly second_soil multipliers_alone 0 0 (returned alone_answered)).told.0 (refl, refl)).0
+alone_accepted = ((multipliers_exactly second_soil multipliers_alone 0 0 (returned alone_answered)).told.0
+    (refl, refl)).0
 
 pub sheet-carried : MeetsPrinted worked_mesh (stress worked_mesh sheet) (pos 20) (pos 1)
 sheet-carried = (field-reported worked_mesh sheet sheet_answer sheet-answered).carried refl
 
 -- m = 30, W = 600
-pub sheet-limit : (pos 600 ≡ limit_sum (multiplier worked_mesh sheet) (rows_of worked_mesh)) × (pos 30 ≡ live_sum (multiplier worked_mesh sheet) (rows_of worked_mesh))
+pub sheet-limit : (pos 600 ≡ limit_sum (multiplier worked_mesh sheet) (rows_of worked_mesh))
+    × (pos 30 ≡ live_sum (multiplier worked_mesh sheet) (rows_of worked_mesh))
 sheet-limit = (multipliers_reported worked_mesh sheet sheet_answer sheet-answered).limit refl
 
 pub criterion_at-node-3 : MeetsCriterion worked_mesh sheet29 (record { at = 2; soil = 0 })
 unfolding computed zeros worked_mesh
-criterion_at-node-3 = (criterion_for_each_pair worked_mesh sheet29 32 7 (returned refused_answered) tells_field).around 2 0 (omega arith) (2, omega arith, refl)
+criterion_at-node-3 = (criterion_for_each_pair worked_mesh sheet29 32 7 (returned refused_answered) tells_field).around
+    2 0 (omega arith) (2, omega arith, refl)
 
 -- ---- demand 3
 
@@ -132,11 +184,13 @@ criterion_at-node-3 = (criterion_for_each_pair worked_mesh sheet29 32 7 (returne
 pub sheet_closed : pos 20 over pos 1 ≈ᶠ pos 600 over pos 30
 sheet_closed = ((open_rows_reported worked_mesh sheet sheet_answer sheet-answered).closed refl refl).0 refl
 
-pub sheet_none_open : NoneOpen (stress worked_mesh sheet) (pos 20) (pos 1) (multiplier worked_mesh sheet) (rows_of worked_mesh)
+pub sheet_none_open : NoneOpen (stress worked_mesh sheet) (pos 20) (pos 1) (multiplier worked_mesh sheet)
+    (rows_of worked_mesh)
 sheet_none_open = (call_bracket sheet-answered refl refl).equal.0 sheet_closed
 
 -- the two open rows of l 19
-pub nineteen_open : NumberOf (λ k. Open (stress worked_mesh sheet19) (pos 19) (pos 1) (multiplier worked_mesh sheet19 k) (row_at (rows_of worked_mesh) k)) (length (rows_of worked_mesh)) 2
+pub nineteen_open : NumberOf (λ k. Open (stress worked_mesh sheet19) (pos 19) (pos 1) (multiplier worked_mesh sheet19 k)
+    (row_at (rows_of worked_mesh) k)) (length (rows_of worked_mesh)) 2
 nineteen_open = (open_rows_reported worked_mesh sheet19 answer19 nineteen_answered).count refl refl
 
 -- two claims on two meshes with the same rows
@@ -149,10 +203,16 @@ refused_alone = accepted_parts refused_answered same_rows tells_field alone_acce
 
 -- the field of l 19 in fractions, over another denominator in each column: 1 to 12
 unfoldable pub fraction : ℤ → ℕ → Fraction
-fraction a d = record { value = a over pos (suc d); proper = record { positive = record { lt = lt→ltb 0 (suc d) (omega arith) } } }
+fraction a d = record {
+  value = a over pos (suc d);
+  proper = record { positive = record { lt = lt→ltb 0 (suc d) (omega arith) } };
+}
 
 unfoldable pub fractions : FractionField
-fractions = record { stress = λ j. fraction (stress worked_mesh sheet19 j *ℤ pos (suc j)) j; load = fraction (pos 38) 1 }
+fractions = record {
+  stress = λ j. fraction (stress worked_mesh sheet19 j *ℤ pos (suc j)) j;
+  load = fraction (pos 38) 1;
+}
 
 pub fractions_meet : MeetsMesh worked_mesh fractions
 unfolding fraction fractions
@@ -162,21 +222,27 @@ fractions_meet = record {
   numerator = pos 19;
   written = record {
     above_0 = lt_z_yes tt;
-    stresses = λ j b. record { cross-≡ = ring (stress worked_mesh sheet19 j ∷ pos (suc j) ∷ []) (search terms depth 100) refl };
+    stresses = λ j b. record {
+      cross-≡ = ring (stress worked_mesh sheet19 j ∷ pos (suc j) ∷ []) (search terms depth 100)
+          refl;
+    };
     load = record { cross-≡ = refl };
   };
-  meets = (field-printed worked_mesh (stress worked_mesh sheet19) (pos 19) (pos 1)).1 ((field-reported worked_mesh sheet19 answer19 nineteen_answered).carried refl);
+  meets = (field-printed worked_mesh (stress worked_mesh sheet19) (pos 19) (pos 1)).1
+      ((field-reported worked_mesh sheet19 answer19 nineteen_answered).carried refl);
 }
 
 pub fractions_at_most : pos 38 over pos 2 ≤ᶠ pos 600 over pos 30
 unfolding fraction fractions
-fractions_at_most = (fractions_bracket alone_answered refl worked_mesh sheet_accepted.mesh same_rows).at_most fractions fractions_meet
+fractions_at_most = (fractions_bracket alone_answered refl worked_mesh sheet_accepted.mesh same_rows).at_most fractions
+    fractions_meet
 
 -- the field of the sheet itself is one
 pub sheet_in_fractions : FieldInFractions worked_mesh sheet sheet_answer
 sheet_in_fractions = field_in_fractions worked_mesh sheet sheet_answer sheet-answered refl
 
--- two meshes that differ in a number of an unfixed part: the field of l 19 on the one, the sheet's multipliers on the other
+-- two meshes that differ in a number of an unfixed part: the field of l 19 on the one, the sheet's multipliers on the
+-- other
 pub free_nineteen : Answers (free_shear (pos 0)) sheet19 answer19
 unfolding computed zeros free_shear worked_stresses worked_multipliers worked_claim sheet19
 free_nineteen = refl
@@ -192,31 +258,45 @@ free_calls = (calls_bracket free_nineteen free_sheet free_rows refl refl).at_mos
 pub free_fractions : pos 19 over pos 1 ≤ᶠ pos 600 over pos 30
 free_fractions =
     let field = field_in_fractions (free_shear (pos 0)) sheet19 answer19 free_nineteen refl in
-    (fractions_bracket free_sheet refl (free_shear (pos 0)) free_field.mesh free_rows).at_most (field_over (pos 1) field.above_0 (stress (free_shear (pos 0)) sheet19) (pos 19)) field.meets
+    (fractions_bracket free_sheet refl (free_shear (pos 0)) free_field.mesh free_rows).at_most
+    (field_over (pos 1) field.above_0 (stress (free_shear (pos 0)) sheet19) (pos 19)) field.meets
 
 -- ---- a mesh alone
 
 -- the sheet's mesh has the number 0
-pub sheet_mesh_passes : {r : MeshAnswer} → MeshAnswered worked_mesh r → mesh_number_of r.outcome ≡ 0
-sheet_mesh_passes h = (mesh_answered_exactly h).passes.1 sheet_accepted.mesh
+pub sheet_mesh_passes : {A : Type 0} (r : Result A Answered.Refusal) → MeshAnswered worked_mesh r
+    → mesh_number_of (outcome_of r) ≡ 0
+sheet_mesh_passes r h = (mesh_answered_exactly worked_mesh r h).passes.1 sheet_accepted.mesh
 
 -- a header that asks for 101 nodes: 2, line 1
 unfoldable pub many_nodes : List ℤ
 many_nodes = pos 101 ∷ pos 1 ∷ pos 1 ∷ pos 0 ∷ pos 12 ∷ pos 0 ∷ []
 
-many_nodes_number : {r : MeshAnswer} → MeshAnswered many_nodes r
-    → (mesh_number_of r.outcome ≡ 2) × (mesh_place_of r.outcome ≡ 1)
+many_nodes_number : {A : Type 0} (r : Result A Answered.Refusal) → MeshAnswered many_nodes r
+    → (mesh_number_of (outcome_of r) ≡ 2) × (mesh_place_of (outcome_of r) ≡ 1)
 unfolding computed many_nodes
-many_nodes_number h = rw h.outcome (refl, refl)
+many_nodes_number r h = (ap mesh_number_of h, ap mesh_place_of h)
 
-pub many_nodes_refused : {r : MeshAnswer} → MeshAnswered many_nodes r → MeshRefusal many_nodes 2 (Line 1)
+pub many_nodes_refused : {A : Type 0} (r : Result A Answered.Refusal) → MeshAnswered many_nodes r
+    → MeshRefusal many_nodes 2 (Line 1)
 unfolding place_for
-many_nodes_refused h = ((mesh_answered_exactly h).refuses 2 1 (λ e. omega arith)).0 (many_nodes_number h)
+many_nodes_refused r h = ((mesh_answered_exactly many_nodes r h).refuses 2 1 (λ e. omega arith)).0
+    (many_nodes_number r h)
 
 -- ---- triangles: the sheet's square as two of them, and as it stands
 
 pub triangle_answer : NumbersAnswer
-triangle_answer = record { number = 0; place = 0; field = 1; multipliers = 0; l = pos 20; n = pos 1; w = pos 0; m = pos 0; open_rows = 0 }
+triangle_answer = record {
+  number = 0;
+  place = 0;
+  field = 1;
+  multipliers = 0;
+  l = pos 20;
+  n = pos 1;
+  w = pos 0;
+  m = pos 0;
+  open_rows = 0;
+}
 
 pub triangles_answered : Answers two_triangles field_alone triangle_answer
 unfolding computed zeros two_triangles worked_stresses field_alone triangle_answer
@@ -224,7 +304,8 @@ triangles_answered = refl
 
 triangles_sound : MeshSound two_triangles
 unfolding triangle_answer
-triangles_sound = ((returns_zero_exactly two_triangles field_alone 0 0 (returned triangles_answered)).exactly.0 refl).mesh
+triangles_sound = ((returns_zero_exactly two_triangles field_alone 0 0 (returned triangles_answered)).exactly.0
+    refl).mesh
 
 second_element : (1 < elements two_triangles) × (corner two_triangles 1 2 ≡ corner two_triangles 1 3)
 unfolding computed zeros two_triangles
@@ -251,46 +332,76 @@ sheet_no_repeat i j l h same =
 
 -- l 20, beyond the clay's strength at node 3: 22 at side 1 of the fourth pair
 pub beyond_clay : NumbersAnswer
-beyond_clay = record { number = 22; place = 37; field = 0; multipliers = 0; l = pos 0; n = pos 0; w = pos 0; m = pos 0; open_rows = 0 }
+beyond_clay = record {
+  number = 22;
+  place = 37;
+  field = 0;
+  multipliers = 0;
+  l = pos 0;
+  n = pos 0;
+  w = pos 0;
+  m = pos 0;
+  open_rows = 0;
+}
 
 pub beyond_clay_answered : Answers fill_over_clay (over_clay 20) beyond_clay
 unfolding computed zeros fill_over_clay over_clay beyond_clay
 beyond_clay_answered = refl
 
 -- the row that is not met is that of node 3 with the clay, pair 4, and a row that document 01 did not have
-pub clay_row_fails : ¬ StrengthAt fill_over_clay (stress fill_over_clay (over_clay 20)) (pos 20) (pos 1) (polygon_of (sides fill_over_clay)).radius (record { at = 2; soil = 1 }) (side_numbered (polygon_of (sides fill_over_clay)) 1)
+pub clay_row_fails : ¬ StrengthAt fill_over_clay (stress fill_over_clay (over_clay 20)) (pos 20) (pos 1)
+    (polygon_of (sides fill_over_clay)).radius (record { at = 2; soil = 1 })
+    (side_numbered (polygon_of (sides fill_over_clay)) 1)
 unfolding computed zeros fill_over_clay over_clay beyond_clay
-clay_row_fails = ((rows_refused fill_over_clay (over_clay 20) 22 37 (returned beyond_clay_answered)).strength refl).strength 3 0 (omega arith) (omega arith) refl
+clay_row_fails = ((rows_refused fill_over_clay (over_clay 20) 22 37 (returned beyond_clay_answered)).strength
+    refl).strength 3 0 (omega arith) (omega arith) refl
 
 -- l 10: accepted, and node 3 meets the criterion with the strength of the fill and with that of the clay
 pub within_clay : NumbersAnswer
-within_clay = record { number = 0; place = 0; field = 1; multipliers = 0; l = pos 10; n = pos 1; w = pos 0; m = pos 0; open_rows = 0 }
+within_clay = record {
+  number = 0;
+  place = 0;
+  field = 1;
+  multipliers = 0;
+  l = pos 10;
+  n = pos 1;
+  w = pos 0;
+  m = pos 0;
+  open_rows = 0;
+}
 
 pub within_clay_answered : Answers fill_over_clay (over_clay 10) within_clay
 unfolding computed zeros fill_over_clay over_clay within_clay
 within_clay_answered = refl
 
-pub criterion_for_both_soils : MeetsCriterion fill_over_clay (over_clay 10) (record { at = 2; soil = 0 }) × MeetsCriterion fill_over_clay (over_clay 10) (record { at = 2; soil = 1 })
+pub criterion_for_both_soils : MeetsCriterion fill_over_clay (over_clay 10) (record { at = 2; soil = 0 })
+    × MeetsCriterion fill_over_clay (over_clay 10) (record { at = 2; soil = 1 })
 unfolding computed zeros fill_over_clay over_clay within_clay
 criterion_for_both_soils =
-    let criterion = criterion_for_each_pair fill_over_clay (over_clay 10) 0 0 (returned within_clay_answered) (refl, inl refl) in
-    (criterion.around 2 0 (omega arith) (1, omega arith, refl), criterion.around 2 1 (omega arith) (2, omega arith, refl))
+    let criterion = criterion_for_each_pair fill_over_clay (over_clay 10) 0 0 (returned within_clay_answered)
+    (refl, inl refl) in (
+      criterion.around 2 0 (omega arith) (1, omega arith, refl),
+      criterion.around 2 1 (omega arith) (2, omega arith, refl),
+    )
 
 clay_sound : MeshSound fill_over_clay
 unfolding within_clay
-clay_sound = ((returns_zero_exactly fill_over_clay (over_clay 10) 0 0 (returned within_clay_answered)).exactly.0 refl).mesh
+clay_sound = ((returns_zero_exactly fill_over_clay (over_clay 10) 0 0 (returned within_clay_answered)).exactly.0
+    refl).mesh
 
 -- node 3 with the clay is a pair by the clay's element, the second
 pub clay_pair : record { at = 2; soil = 1 } ∈ strength_pairs fill_over_clay
 unfolding computed zeros fill_over_clay within_clay
 clay_pair =
-    (((pairs_asked fill_over_clay (over_clay 10) 0 0 (returned within_clay_answered)).sound clay_sound).exactly (record { at = 2; soil = 1 })).1
+    (((pairs_asked fill_over_clay (over_clay 10) 0 0 (returned within_clay_answered)).sound clay_sound).exactly
+    (record { at = 2; soil = 1 })).1
     (record { element = 1; there = omega arith; has-corner = (2, omega arith, refl); same = refl })
 
 -- document 01's sheet has one soil: its rows stay
 only_soil : {v s : ℕ} → SoilAround worked_mesh v s → s ≡ element_soil worked_mesh 0
 unfolding computed zeros worked_mesh
-only_soil r = let there = r.there in let first : r.element ≡ 0 = omega arith in sym r.same ∙ ap (element_soil worked_mesh) first
+only_soil r = let there = r.there in let first : r.element ≡ 0 = omega arith in sym r.same
+    ∙ ap (element_soil worked_mesh) first
 
 pub sheet_rows_stay : strength_rows worked_mesh ≡ rows_before worked_mesh
 sheet_rows_stay =
@@ -304,7 +415,17 @@ abbrev joint_claim : List ℤ
 joint_claim = on_joint (neg_ℤ (pos 20)) (neg_ℤ (pos 30))
 
 pub joint_answer : NumbersAnswer
-joint_answer = record { number = 0; place = 0; field = 1; multipliers = 1; l = pos 40; n = pos 1; w = pos 1200; m = pos 30; open_rows = 0 }
+joint_answer = record {
+  number = 0;
+  place = 0;
+  field = 1;
+  multipliers = 1;
+  l = pos 40;
+  n = pos 1;
+  w = pos 1200;
+  m = pos 30;
+  open_rows = 0;
+}
 
 pub joint-answered : Answers two_blocks joint_claim joint_answer
 unfolding computed zeros blocks block_edges joint two_blocks on_joint joint_answer
@@ -321,7 +442,17 @@ joint_tractions = tractions_on_joints two_blocks joint_claim 0 0 (returned joint
 
 -- -20 on the left and -19 on the right: 21 at the jump's first row, and the two normal stresses differ
 pub uneven_answer : NumbersAnswer
-uneven_answer = record { number = 21; place = 13; field = 0; multipliers = 0; l = pos 0; n = pos 0; w = pos 0; m = pos 0; open_rows = 0 }
+uneven_answer = record {
+  number = 21;
+  place = 13;
+  field = 0;
+  multipliers = 0;
+  l = pos 0;
+  n = pos 0;
+  w = pos 0;
+  m = pos 0;
+  open_rows = 0;
+}
 
 abbrev uneven_claim : List ℤ
 uneven_claim = on_joint (neg_ℤ (pos 19)) (neg_ℤ (pos 30))
@@ -330,9 +461,11 @@ pub uneven_answered : Answers two_blocks uneven_claim uneven_answer
 unfolding computed zeros blocks block_edges joint two_blocks on_joint uneven_answer
 uneven_answered = refl
 
-pub uneven_normal : ¬ NormalAgreesAt two_blocks (stress two_blocks uneven_claim) (pos 40) (pos 1) 0 (jump_from two_blocks 0) (facing_from two_blocks 0)
+pub uneven_normal : ¬ NormalAgreesAt two_blocks (stress two_blocks uneven_claim) (pos 40) (pos 1) 0
+    (jump_from two_blocks 0) (facing_from two_blocks 0)
 unfolding computed zeros blocks block_edges joint two_blocks on_joint uneven_answer
-uneven_normal = ((rows_refused two_blocks uneven_claim 21 13 (returned uneven_answered)).equality refl).jump_normal_from 0 (omega arith) refl
+uneven_normal = ((rows_refused two_blocks uneven_claim 21 13 (returned uneven_answered)).equality refl).jump_normal_from
+    0 (omega arith) refl
 
 -- document 01's sheet has no jump: its equality rows stay
 no_jump : jumps worked_mesh ≡ 0

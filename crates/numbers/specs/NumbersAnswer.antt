@@ -1,12 +1,12 @@
 -- What a solver that hands over numbers is answered (document 01, 'Verdict and report'): document 01's number and
 -- values for each case of the verdict.
 use Rattle.std.specs.Prelude.{ℕ, ℤ, pos}
-use Rattle.scope.specs.declared.Load.{Load}
-use Rattle.scope.specs.declared.Load.TheVariants.{Absent, Exact}
-use Rattle.scope.specs.declared.OpenRows.{OpenRows}
-use Rattle.scope.specs.declared.OpenRows.TheVariants.{Absent as NoCount, Count}
-use Rattle.scope.specs.declared.Verdict.{Verdict}
-use Rattle.scope.specs.declared.Verdict.TheVariants.{Accepted, Refused}
+use Rattle.scope.specs.Cases.Load.{Load}
+use Rattle.scope.specs.Cases.Load.{Absent, Exact}
+use Rattle.scope.specs.Cases.OpenRows.{OpenRows}
+use Rattle.scope.specs.Cases.OpenRows.{Absent as NoCount, Count}
+use Rattle.scope.specs.Cases.Verdict.{Verdict}
+use Rattle.scope.specs.Cases.Verdict.{Accepted, Refused}
 use Rattle.scope.specs.Answer.{place_number}
 use Rattle.numbers.specs.declared.numbers_answer.NumbersAnswer.{NumbersAnswer}
 

@@ -3,7 +3,7 @@
 -- claim.
 -- Each is proved of every answer (`proofs/Promises.antt`) and applied to document 01's sheet
 -- (`proofs/PromisesApplied.antt`). Those about the number and the place alone serve the check of two files too.
-use Rattle.std.specs.Prelude.{◌≡◌, ◌↔◌, ◌⊎◌, ◌≢◌, List, ◌∷◌, ℕ, ◌*◌, ◌≤◌, ◌<◌, ℤ, pos, ◌<ℤ◌, length}
+use Rattle.std.specs.Prelude.{◌≡◌, ◌↔◌, ◌⊎◌, ◌≢◌, List, ◌∷◌, ℕ, ◌*◌, ◌≤◌, ◌<◌, ℤ, pos, ◌<ℤ◌, length, Result}
 use Rattle.integer.specs.Fraction.{Frac, ◌over◌, ◌≈ᶠ◌, ◌≤ᶠ◌}
 use Rattle.scope.specs.Members.{◌∈◌}
 use Rattle.scope.specs.Columns.{n, l}
@@ -11,8 +11,9 @@ use Rattle.scope.specs.Mesh.{nodes, elements, corner}
 use Rattle.scope.specs.Rows.{rows_of, twice_area}
 use Rattle.scope.specs.Sums.{live_sum, limit_sum}
 use Rattle.scope.specs.Claim.{claim_layout, stress, multiplier}
-use Rattle.scope.specs.Verdict.{verdict}
-use Rattle.scope.specs.Answer.{place_for, number_of, place_of}
+use Rattle.scope.specs.declared.Refusal as Answered
+use Rattle.scope.specs.Verdict.{mesh_check, verdict}
+use Rattle.scope.specs.Answer.{outcome_of, place_for, number_of, place_of}
 use Rattle.scope.specs.AnsweredMesh.{MeshExactly}
 use Rattle.scope.specs.Statements.{LinesSound, MeshSound, HasField, HasMultipliers}
 use Rattle.scope.specs.Refusals.{Refusal}
@@ -31,8 +32,6 @@ use Rattle.scope.specs.Tests.{row_at}
 use Rattle.scope.specs.Meaning.{Area, OutwardNormal}
 use Rattle.scope.specs.Triangles.{ReadAsTriangle, PassedBefore}
 use Rattle.scope.specs.Pairs.{Pairs, SoundPairs}
-use Rattle.verdict.specs.declared.MeshAnswer.{MeshAnswer}
-use Rattle.verdict.specs.JudgeContracts.{MeshAnswered}
 use Rattle.numbers.specs.declared.numbers_answer.NumbersAnswer.{NumbersAnswer}
 use Rattle.numbers.specs.NumbersAnswer.{answer_of}
 
@@ -47,9 +46,9 @@ pub record Returned (m c : List ℤ) (number place : ℕ) : Type 0 where
 
 -- ==== Demand 2: what is accepted, and what is refused
 
--- "Accepted returns 0, place 0": 0 exactly when the mesh passes 1 to 8, 44 and 42, the claim passes 11 to 13, a field that
--- is there meets every row, and multipliers that are there are zero on every unfixed row, make all 3·nodes columns 0
--- and have m above 0
+-- "Accepted returns 0, place 0": 0 exactly when the mesh passes 1 to 8, 44 and 42, the claim passes 11 to 13, a field
+-- that is there meets every row, and multipliers that are there are zero on every unfixed row, make all 3·nodes columns
+-- 0 and have m above 0
 pub record ReturnsZero (m c : List ℤ) (number place : ℕ) : Type 0 where
   pub exactly : (number ≡ 0) ↔ ClaimAccepted m c
   pub place_zero : number ≡ 0 → place ≡ 0
@@ -124,9 +123,9 @@ pub record PairsAsked (m : List ℤ) (number place : ℕ) : Type 0 where
   pub sound : MeshSound m → SoundPairs m
   pub refused : number ≡ 42 → PairsFail m place
 
--- "Source 001, 2.3, lets stress jump across a side while normal and shear agree" (document 02, N6): both sides of a joint
--- are outer sides, used by no edge and by no other jump, and face each other; an end that isn't doubled asks nothing;
--- without jumps the rows are document 01's. A jump that is none of these gets 44 (`RefusesExactly`).
+-- "Source 001, 2.3, lets stress jump across a side while normal and shear agree" (document 02, N6): both sides of a
+-- joint are outer sides, used by no edge and by no other jump, and face each other; an end that isn't doubled asks
+-- nothing; without jumps the rows are document 01's. A jump that is none of these gets 44 (`RefusesExactly`).
 pub record JumpsAsked (m : List ℤ) : Type 0 where
   pub sound : MeshSound m → SoundJumps m
   pub tip : TipAsksNothing m
@@ -205,6 +204,10 @@ pub record FieldInFractions (m c : List ℤ) (r : NumbersAnswer) : Type 0 where
 
 -- ==== A mesh alone
 
--- the answer of `judge_mesh`, by document 01's number and place for each case of its outcome
-abbrev pub MeshAnsweredExactly : (m : List ℤ) (r : MeshAnswer) → Type 0
-MeshAnsweredExactly m r = MeshAnswered m r → MeshExactly m r.outcome
+-- the contract of `judge_mesh`, whatever it answers of a mesh that passes
+abbrev pub MeshAnswered : {A : Type 0} → List ℤ → Result A Answered.Refusal → Type 0
+MeshAnswered m r = outcome_of r ≡ mesh_check m
+
+-- its answer, by document 01's number and place for each case of its outcome
+abbrev pub MeshAnsweredExactly : {A : Type 0} → List ℤ → Result A Answered.Refusal → Type 0
+MeshAnsweredExactly m r = MeshAnswered m r → MeshExactly m (outcome_of r)

@@ -9,12 +9,12 @@ ghost use Rattle.std.specs.Prelude.{◌≡◌};
 ghost use Rattle.scope.specs.TableVerdict.{tabled_verdict};
 ghost use Rattle.numbers.specs.NumbersAnswer.{answer_of};
 
-use crate::numbers_answer::{NumbersAnswer, answer_of};
+use crate::numbers_answer::NumbersAnswer;
 use verdict::check_numbers;
 
 // The answer to the numbers of a mesh, of a table, where an empty list is none, and of a claim.
 pub fn check(m: &[i64], t: &[i64], c: &[i64]) -> NumbersAnswer
     ensures { result ≡ answer_of (tabled_verdict t.now m.now c.now) }
 {
-    answer_of(check_numbers(m, t, c))
+    NumbersAnswer::from(check_numbers(m, t, c))
 }

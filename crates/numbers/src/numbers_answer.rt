@@ -1,13 +1,15 @@
 // A verdict as C reads it.
 ghost use Rattle.std.specs.Prelude.{◌≡◌};
-ghost use Rattle.numbers.specs.NumbersAnswer.{there, numerator, denominator, counted, answer_of};
+ghost use Rattle.scope.specs.Answer.{verdict_of};
+ghost use Rattle.scope.specs.Cases.Verdict.{Refused};
+ghost use Rattle.numbers.specs.NumbersAnswer.{answer_of};
 
-use scope::{Load, OpenRows, Verdict, place_number};
+use scope::{Refusal, Verdict};
 
 // What a solver that hands over numbers is answered, as C reads it: the verdict's number and place; for an accepted
 // claim which parts are there, the loads l/n and W/m as they stand, and the open rows. What is not there is 0.
 #[repr(C)]
-#[derive(Clone, Copy)]
+#[derive(Clone, Copy, Default)]
 pub struct NumbersAnswer {
     pub number: u32,
     pub place: u32,
@@ -20,73 +22,41 @@ pub struct NumbersAnswer {
     pub open_rows: u64,
 }
 
-// 1 for a load that is there, else 0.
-fn there(load: Load) -> u32
-    ensures { result ≡ there load }
-{
-    match load {
-        Load::Absent => 0,
-        Load::Exact { num: _, den: _ } => 1,
+impl From<Refusal> for NumbersAnswer {
+    ghost from_gives = { λ e r. r ≡ answer_of (Refused e.number e.place) };
+
+    // The refusal's number and place, and 0 for all else.
+    fn from(refusal: Refusal) -> NumbersAnswer {
+        NumbersAnswer {
+            number: refusal.number,
+            place: refusal.place.number(),
+            ..NumbersAnswer::default()
+        }
     }
 }
 
-fn numerator(load: Load) -> i64
-    ensures { result ≡ numerator load }
-{
-    match load {
-        Load::Absent => 0,
-        Load::Exact { num, den: _ } => num,
-    }
-}
+impl From<Verdict> for NumbersAnswer {
+    ghost from_gives = { λ v r. r ≡ answer_of (verdict_of v) };
 
-fn denominator(load: Load) -> i64
-    ensures { result ≡ denominator load }
-{
-    match load {
-        Load::Absent => 0,
-        Load::Exact { num: _, den } => den,
-    }
-}
-
-fn counted(open_rows: OpenRows) -> u64
-    ensures { result ≡ counted open_rows }
-{
-    match open_rows {
-        OpenRows::Absent => 0,
-        OpenRows::Count(k) => k,
-    }
-}
-
-// The verdict's number and values, and 0 for what is not there.
-pub fn answer_of(v: Verdict) -> NumbersAnswer
-    ensures { result ≡ answer_of v }
-{
-    match v {
-        Verdict::Accepted {
-            open_rows,
-            lower,
-            upper,
-        } => NumbersAnswer {
-            number: 0,
-            place: 0,
-            field: there(lower),
-            multipliers: there(upper),
-            l: numerator(lower),
-            n: denominator(lower),
-            w: numerator(upper),
-            m: denominator(upper),
-            open_rows: counted(open_rows),
-        },
-        Verdict::Refused { number, place } => NumbersAnswer {
-            number,
-            place: place_number(place),
-            field: 0,
-            multipliers: 0,
-            l: 0,
-            n: 0,
-            w: 0,
-            m: 0,
-            open_rows: 0,
-        },
+    // The verdict's number and values, and 0 for what is not there.
+    fn from(v: Verdict) -> NumbersAnswer {
+        match v {
+            Ok(accepted) => {
+                let lower = accepted.lower.unwrap_or_default();
+                let upper = accepted.upper.unwrap_or_default();
+                NumbersAnswer {
+                    number: 0,
+                    place: 0,
+                    field: u32::from(accepted.lower.is_some()),
+                    multipliers: u32::from(accepted.upper.is_some()),
+                    l: lower.num,
+                    n: lower.den,
+                    w: upper.num,
+                    m: upper.den,
+                    open_rows: accepted.open_rows.unwrap_or_default(),
+                }
+            }
+            Err(refusal) => NumbersAnswer::from(refusal),
+        }
     }
 }
