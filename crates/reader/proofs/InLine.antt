@@ -4,16 +4,18 @@ use mathlib.Core.Path.{◌≡◌, refl, sym, ap, ap₂, ◌∙◌}
 use mathlib.Core.Bool.{Bool, true, false, cond}
 use mathlib.Core.List.{List, [], ◌∷◌, ◌++◌, append-nil}
 use mathlib.Core.Option.{Option, none, some, map}
-use Prim.Native.Nat.{ℕ, suc, ◌+◌, ◌*◌, ◌-◌, ◌≤◌, ◌<◌}
-use native.Mathlib.Nat.{sub-zero}
+use Prim.Native.Nat.{ℕ, zero, suc, ◌+◌, ◌*◌, ◌-◌, ◌/◌, ◌≤◌, ◌<◌}
+use native.Mathlib.Nat.{add-zero, sub-zero}
 use native.Mathlib.Numerals.{add-one}
 use native.Mathlib.Omega.{arith}
 use lib.Dec.{eqb}
 use lib.IntN.{ℤ}
 use lib.ListN.{length, take, drop, get_or, set, length-drop}
-use lib.Seq.{take-take, take_all, drop-cons, take-suc-set, append_snoc}
+use lib.Seq.{drop-drop, take-take, take_all, drop-cons, take-suc-set, get_or-drop, append_snoc}
 use borrow.Author.Tests.{le-leb, lt-leb}
-use Rattle.std.specs.Prelude.{Some, None}
+use Rattle.std.specs.Prelude.{Some, None, is_some}
+use Rattle.std.specs.Bool.{then_some}
+use Rattle.std.specs.Simd.{first_chunks}
 use Rattle.reader.specs.Spelling.{read_column}
 use Rattle.reader.specs.File.{file_width, line_bytes, read_columns, read_line}
 use Rattle.reader.specs.OnePass.{reading_of}
@@ -53,11 +55,32 @@ module _ (bs : List ℕ) where
   unfolding columns_of read_columns line_bytes
   last_byte h = rw (drop-cons bs 0 0 h)
 
--- ---- j columns of a line are read, and `rest` is left of its bytes
+-- as the code answers it
+pub is_then_some : (t : Bool) → is_some (then_some t (tt {0})) ≡ t
+is_then_some true = refl
+is_then_some false = refl
 
-pub record InLine (bs : List ℕ) (columns : ℕ) (line : List ℤ) (rest : List ℕ) (j : ℕ) : Type 0 where
-  pub left : length rest + j * file_width ≡ length bs
-  pub same : columns_of bs columns ≡ map (λ zs. take j line ++ zs) (columns_of rest (columns - j))
+-- ---- the columns of a line, cut into texts
+
+chunk_at : (k i : ℕ) (bs : List ℕ) (d : List ℕ) → i < k
+    → get_or (first_chunks file_width k bs) i d ≡ take file_width (drop (i * file_width) bs)
+chunk_at zero i bs d l = absurd (omega arith)
+chunk_at (suc k) zero bs d l = refl
+chunk_at (suc k) (suc i) bs d l =
+    let n : file_width + i * file_width ≡ suc i * file_width = omega arith in
+    chunk_at k i (drop file_width bs) d (omega arith)
+    ∙ ap (take file_width) (drop-drop (i * file_width) file_width bs ∙ ap (λ m. drop m bs) n)
+
+pub text_at : (bs : List ℕ) {texts : List (List ℕ)} (i : ℕ) (d : List ℕ)
+    → texts ≡ first_chunks file_width (length bs / file_width) bs → i * file_width + file_width ≤ length bs
+    → get_or texts i d ≡ take file_width (drop (i * file_width) bs)
+text_at bs i d e l = rw e (chunk_at (length bs / file_width) i bs d (omega arith))
+
+-- ---- j columns of a line are read
+
+pub record InLine (bs : List ℕ) (columns : ℕ) (line : List ℤ) (j : ℕ) : Type 0 where
+  pub same : columns_of bs columns
+      ≡ map (λ zs. take j line ++ zs) (columns_of (drop (j * file_width) bs) (columns - j))
 
 map_same : (o : Option (List ℤ)) → o ≡ map (λ zs. zs) o
 map_same none = refl
@@ -83,37 +106,45 @@ reading_some none z e = cc
 reading_some (some y) z e = cc
 
 module _ {bs : List ℕ} {columns : ℕ} where
-  pub line_first : {line : List ℤ} → InLine bs columns line bs 0
-  line_first = record { left = omega arith; same = rw (sub-zero columns) (map_same (columns_of bs columns)) }
+  pub line_first : {line : List ℤ} → InLine bs columns line 0
+  line_first = record { same = rw (sub-zero columns) (map_same (columns_of bs columns)) }
 
-  module _ {line : List ℤ} {rest : List ℕ} {j : ℕ} (h : InLine bs columns line rest j) where
-    -- what is left begins with a column
-    next : j < columns → columns_of rest (columns - j)
-        ≡ then_columns (read_column (take file_width rest)) (columns_of (drop file_width rest) (columns - (j + 1)))
-    next l = let e : columns - j ≡ suc (columns - (j + 1)) = omega arith in rw e (next-column rest (columns - (j + 1)))
+  module _ {line : List ℤ} {j : ℕ} (h : InLine bs columns line j) where
+    -- the text of the next column
+    abbrev text : List ℕ
+    text = take file_width (drop (j * file_width) bs)
 
-    pub line_next : {z : ℤ} → j < columns → j < length line → file_width ≤ length rest
-        → Some z ≡ reading_of (read_column (take file_width rest))
-        → InLine bs columns (set line j z) (drop file_width rest) (j + 1)
+    -- what is left of the line after it
+    abbrev others : Option (List ℤ)
+    others = columns_of (drop ((j + 1) * file_width) bs) (columns - (j + 1))
+
+    next : j < columns → columns_of (drop (j * file_width) bs) (columns - j) ≡ then_columns (read_column text) others
+    next l =
+        let e : columns - j ≡ suc (columns - (j + 1)) = omega arith in
+        let n : (j + 1) * file_width ≡ j * file_width + file_width = omega arith in
+        rw (e, n, ← drop-drop file_width (j * file_width) bs)
+        (next-column (drop (j * file_width) bs) (columns - (j + 1)))
+
+    pub line_next : {z : ℤ} → j < columns → j < length line → Some z ≡ reading_of (read_column text)
+        → InLine bs columns (set line j z) (j + 1)
     unfolding then_columns
-    line_next {z} l n m e =
-        let r = reading_some (read_column (take file_width rest)) z e in
-        let others : Option (List ℤ) = columns_of (drop file_width rest) (columns - (j + 1)) in
+    line_next {z} l n e =
+        let r = reading_some (read_column text) z e in
         let front : take (j + 1) (set line j z) ≡ take j line ++ (z ∷ []) =
         rw (add-one j) (take-suc-set line j z n) in
-        record {
-          left = omega (arith, h.left, length-drop file_width rest);
-          same = h.same ∙ rw (next l, r, front) (map_next (take j line) z others);
-        }
+        record { same = h.same ∙ rw (next l, r, front) (map_next (take j line) z others) }
 
-    pub line_stops : j < columns → None ≡ reading_of (read_column (take file_width rest)) → columns_of bs columns ≡ none
+    pub line_stops : j < columns → None ≡ reading_of (read_column text) → columns_of bs columns ≡ none
     unfolding then_columns
     line_stops l e =
-        let r = reading_none (read_column (take file_width rest)) e in
+        let r = reading_none (read_column text) e in
         h.same ∙ rw (next l, r)
 
-    pub line_ends : columns ≤ j → length line ≤ j → 0 < length rest
-        → columns_of bs columns ≡ cond (eqb (get_or rest 0 0) 10) (some line) none
+    pub line_ends : j ≡ columns → length line ≤ j → columns * file_width < length bs
+        → columns_of bs columns ≡ cond (eqb (get_or bs (columns * file_width) 0) 10) (some line) none
     line_ends l m n =
         let z : columns - j ≡ 0 = omega arith in
-        h.same ∙ rw (z, last_byte rest n, take_all j line m) (map_last line (eqb (get_or rest 0 0) 10))
+        let end = columns * file_width in
+        let left : 0 < length (drop end bs) = omega (arith, length-drop end bs) in
+        let last = rw (get_or-drop end bs 0, add-zero end) at (last_byte (drop end bs) left) in
+        h.same ∙ rw (z, l, last, take_all columns line (omega arith)) (map_last line (eqb (get_or bs end 0) 10))

@@ -1,36 +1,33 @@
--- What a header tells of the lines after it: their columns are those of the layout, and their numbers fit the list that
--- is lent.
+-- What a header tells of the lines after it: their columns are those of the layout, and they are read where its check
+-- passes.
 use mathlib.Core.Path.{◌≡◌, refl, sym, ap, ap₂, ◌∙◌}
-use mathlib.Core.Bool.{Bool, false}
+use mathlib.Core.Bool.{Bool, true, false, not}
 use mathlib.Core.List.{List, [], ◌∷◌, ◌++◌, map}
-use Prim.Native.Nat.{ℕ, ◌≤◌}
-use native.Mathlib.Omega.{arith}
-use lib.IntN.{ℤ, pos}
-use lib.ListN.{length, take, drop, replicate, take-append-drop}
-use lib.Seq.{get_or-take, length-take-le}
-use Rattle.scope.specs.declared.Place.{Place}
+use Prim.Native.Nat.{ℕ}
+use lib.IntN.{ℤ}
+use lib.ListN.{take, replicate}
+use Rattle.std.specs.Prelude.{Result, Ok, Err, is_err}
 use Rattle.scope.specs.declared.Place.TheVariants.{Line}
-use Rattle.scope.specs.declared.Outcome.{Outcome}
-use Rattle.scope.specs.declared.Outcome.TheVariants.{Passed, Refused}
-use Rattle.mesh.specs.declared.sizes.Sizes.{Sizes}
-use Rattle.lines.specs.declared.layout.Group as Code
-use Rattle.scope.specs.Columns.{at, has_field, has_multipliers}
-use Rattle.scope.specs.Layout.{Group, groups, line_of, line_numbers}
+use Rattle.scope.specs.declared.Refusal.{Refusal}
+use Rattle.scope.specs.Answer.{outcome_of}
+use Rattle.scope.specs.Cases.Outcome.{Outcome, has_passed}
+use Rattle.scope.specs.Columns.{has_field, has_multipliers}
+use Rattle.scope.specs.Layout.{Group}
 use Rattle.scope.specs.Verdict.{line_check, line_at}
-use Rattle.scope.specs.Mesh.{mesh_header_columns, mesh_layout, layout_with, mesh_header}
+use Rattle.scope.specs.Mesh.{mesh_layout, layout_with, mesh_header}
 use Rattle.scope.specs.Claim.{claim_header_columns, claim_layout, claim_header}
-use Rattle.mesh.specs.MeshContracts.{SizesAre, Counted, HeaderThere}
-use Rattle.lines.specs.Table.{meant, AllGood, Known, Tabled, mesh_body, claim_body, line_widths}
+use Rattle.mesh.specs.declared.sizes.Sizes.{Sizes}
+use Rattle.mesh.specs.declared.pairs.ClaimSizes.{ClaimSizes}
+use Rattle.mesh.specs.MeshContracts.{SizesAre, HeaderThere}
+use Rattle.mesh.specs.ClaimContracts.{Counted}
+use Rattle.mesh.proofs.PairLaws.{outcome_passed}
+use Rattle.lines.specs.declared.layout.Group as Code
+use Rattle.lines.specs.Table.{meant, AllGood, Tabled, mesh_body, claim_body, line_widths}
 use Rattle.lines.proofs.TableLaws.{lines_meant}
+use Rattle.lines.proofs.LineLaws.{mesh_header_line}
 use Rattle.lines.proofs.GroupLaws.{mesh_body_lem, claim_body_lem, header_counts}
-use Rattle.std.specs.Prelude.{Some, None}
-use Rattle.reader.specs.declared.file_lines.Progress.{Progress}
-use Rattle.reader.specs.File.{file_width, widths, numbers_of}
-use Rattle.reader.specs.ReadSoFar.{start, LineTaken, all_numbers, Room}
-use Rattle.reader.specs.Listed.{Listed, ClaimListed}
-use Rattle.reader.proofs.Regular.{mesh_regular}
-use Rattle.reader.proofs.Whole.{HeaderRead, header_says, no_header, header_read, header_refused, header_room}
-use Rattle.reader.proofs.Whole.{header_passed}
+use Rattle.reader.specs.File.{widths}
+use Rattle.reader.proofs.Whole.{header_says}
 
 -- ---- the lines of a table
 
@@ -45,125 +42,42 @@ pub widths-meant : {s : Sizes} {gs : List Code.Group} {body : List Group} → Ta
     → line_widths gs ≡ widths body
 widths-meant {s} {gs} t = widths-good s gs t.table.good ∙ ap widths t.same
 
-pub known : {s : Sizes} {gs : List Code.Group} {body : List Group} → Tabled s gs body → Known gs
-known {s} t = record { sizes = s; table = t.table }
-
 pub mesh_lines_lem : {m : List ℤ} {s : Sizes} {gs : List Code.Group} → Tabled s gs (mesh_body s false) → SizesAre m s
     → line_widths gs ≡ widths (mesh_layout.body m)
 unfolding mesh_layout layout_with
 mesh_lines_lem t k = widths-meant t ∙ ap widths (mesh_body_lem false k)
 
--- ---- the header of a mesh file
+-- and so have those of a claim, by its flags
+pub claim_lines_lem : (s : ClaimSizes) {gs : List Code.Group} {field multipliers : Bool} (c : List ℤ)
+    → Tabled s.sizes gs (claim_body s.sizes s.pairs field multipliers)
+    → field ≡ has_field c → multipliers ≡ has_multipliers c
+    → line_widths gs ≡ widths (claim_body s.sizes s.pairs (has_field c) (has_multipliers c))
+claim_lines_lem s c t f g = widths-meant t ∙ ap₂ (λ (a b : Bool). widths (claim_body s.sizes s.pairs a b)) f g
 
-module _ (bs : List ℕ) (out : List ℤ) {after : List ℤ} where
-  pub mesh_no_header : LineTaken bs mesh_header_columns start out None after
-      → Listed (numbers_of file_width mesh_layout bs) out 0 after
-  unfolding mesh_layout mesh_header
-  mesh_no_header t = no_header mesh_layout bs out t
+-- which are the same for every mesh with these sizes and so many pairs
+pub claim_widths : {m : List ℤ} {s : ClaimSizes} → Counted m s → (c : List ℤ)
+    → widths (claim_body s.sizes s.pairs (has_field c) (has_multipliers c)) ≡ widths ((claim_layout m).body c)
+claim_widths k c = ap widths (claim_body_lem k c)
 
-module _ (bs : List ℕ) (out : List ℤ) {p : Progress} {after : List ℤ} where
-  pub mesh_header_read : LineTaken bs mesh_header_columns start out (Some p) after
-      → HeaderRead mesh_layout bs out p after
-  unfolding mesh_layout mesh_header
-  mesh_header_read t = header_read mesh_layout bs out t
+-- ---- the header, by the test of what its check answers
 
-  module _ (h : HeaderRead mesh_layout bs out p after) where
-    mesh_numbers_lem : p.numbers ≡ mesh_header_columns
-    unfolding mesh_layout mesh_header
-    mesh_numbers_lem = ap (λ q. q.numbers) h.progress
+tested : (r : Result (Unit {0}) Refusal) {o : Outcome} {b : Bool} → outcome_of r ≡ o → b ≡ is_err r
+    → has_passed o ≡ not b
+unfolding has_passed
+tested (Ok x) e t = rw (← e, t) refl
+tested (Err x) e t = rw (← e, t) refl
 
-    mesh_says : {o : Outcome} → o ≡ line_at mesh_layout after 0 → o ≡ header_says mesh_layout after
-    unfolding line_at line_of line_numbers groups mesh_layout mesh_header
-    mesh_says e = e
+pub mesh_tested : (m : List ℤ) (r : Result (Unit {0}) Refusal) {b : Bool} → outcome_of r ≡ line_at mesh_layout m 0
+    → b ≡ is_err r → has_passed (header_says mesh_layout m) ≡ not b
+unfolding mesh_layout mesh_header
+mesh_tested m r e t = tested r (e ∙ sym (mesh_header_line m)) t
 
-    pub mesh_refused : {o : Outcome} {k : ℕ} {q : Place} → o ≡ line_at mesh_layout after 0 → o ≡ Refused k q
-        → Listed (numbers_of file_width mesh_layout bs) out p.numbers after
-    unfolding mesh_layout mesh_header
-    mesh_refused e r = rw mesh_numbers_lem (header_refused mesh_layout bs out h (sym (mesh_says e) ∙ r))
+pub mesh_header_there : (m : List ℤ) → has_passed (header_says mesh_layout m) ≡ true → HeaderThere m
+unfolding mesh_layout mesh_header
+mesh_header_there m e = header_counts m (sym (mesh_header_line m) ∙ outcome_passed _ e)
 
-    pub mesh_header_there : {o : Outcome} → o ≡ line_at mesh_layout after 0 → o ≡ Passed → HeaderThere after
-    mesh_header_there e r = header_counts after (sym e ∙ r)
-
-    same_body : mesh_layout.body after ≡ mesh_layout.body (take mesh_header_columns after)
-    unfolding mesh_layout mesh_header
-    same_body =
-        ap (λ ns. mesh_layout.body ns) (sym (take-append-drop mesh_header_columns after))
-        ∙ mesh_regular.by_header (take mesh_header_columns after) (drop mesh_header_columns after)
-        (length-take-le mesh_header_columns after h.room)
-
-    pub mesh_room_lem : {o : Outcome} → o ≡ line_at mesh_layout after 0 → o ≡ Passed
-        → length (numbers_of file_width mesh_layout bs) ≤ length after
-        → Room bs (widths (mesh_layout.body after)) p after
-    unfolding mesh_layout mesh_header
-    mesh_room_lem e r l = rw same_body (header_room mesh_layout bs out h (sym (mesh_says e) ∙ r) l)
-
-    pub mesh_passed : {o : Outcome} {r : ℕ} {end : List ℤ} → o ≡ line_at mesh_layout after 0 → o ≡ Passed
-        → Listed (all_numbers bs (widths (mesh_layout.body after)) p after) after r end
-        → Listed (numbers_of file_width mesh_layout bs) out r end
-    unfolding mesh_layout mesh_header
-    mesh_passed e r l = header_passed mesh_layout bs out h (sym (mesh_says e) ∙ r) (rw same_body at l)
-
--- ---- the header of a claim file
-
-module _ (bs : List ℕ) (out : List ℤ) {after : List ℤ} where
-  pub claim_no_header : (s : Sizes) → LineTaken bs claim_header_columns start out None after
-      → ClaimListed bs s out 0 after
-  unfolding claim_layout claim_header
-  claim_no_header s t = record { against = λ m k. no_header (claim_layout m) bs out t }
-
-module _ (bs : List ℕ) (out : List ℤ) {p : Progress} {after : List ℤ} where
-  pub claim_header_read : LineTaken bs claim_header_columns start out (Some p) after → (m : List ℤ)
-      → HeaderRead (claim_layout m) bs out p after
-  unfolding claim_layout claim_header
-  claim_header_read t m = header_read (claim_layout m) bs out t
-
-  module _ (h : (m : List ℤ) → HeaderRead (claim_layout m) bs out p after) where
-    claim_numbers_lem : p.numbers ≡ claim_header_columns
-    unfolding claim_layout claim_header
-    claim_numbers_lem = ap (λ q. q.numbers) (h []).progress
-
-    claim_says : (m : List ℤ) {o : Outcome}
-        → o ≡ line_check (claim_layout []) claim_header (take claim_header_columns after) (Line 1)
-        → o ≡ header_says (claim_layout m) after
-    unfolding line_check claim_layout claim_header
-    claim_says m e = e
-
-    same_field : has_field (take claim_header_columns after) ≡ has_field after
-    unfolding has_field at
-    same_field = rw (get_or-take claim_header_columns after 0 (pos 0) (omega arith))
-
-    same_multipliers : has_multipliers (take claim_header_columns after) ≡ has_multipliers after
-    unfolding has_multipliers at
-    same_multipliers = rw (get_or-take claim_header_columns after 1 (pos 0) (omega arith))
-
-    module _ (s : Sizes) {o : Outcome}
-        (e : o ≡ line_check (claim_layout []) claim_header (take claim_header_columns after) (Line 1)) where
-      pub claim_refused : {k : ℕ} {q : Place} → o ≡ Refused k q → ClaimListed bs s out p.numbers after
-      unfolding claim_layout claim_header
-      claim_refused r = record {
-        against = λ m k. rw claim_numbers_lem (header_refused (claim_layout m) bs out (h m) (sym (claim_says m e) ∙ r));
-      }
-
-      same_lines : (m : List ℤ) → Counted m s
-          → widths (claim_body s (has_field after) (has_multipliers after))
-          ≡ widths ((claim_layout m).body (take claim_header_columns after))
-      same_lines m k =
-          ap₂ (λ (a b : Bool). widths (claim_body s a b)) (sym same_field) (sym same_multipliers)
-          ∙ ap widths (claim_body_lem k (take claim_header_columns after))
-
-      pub claim_room_lem : o ≡ Passed → (m : List ℤ) → Counted m s
-          → length (numbers_of file_width (claim_layout m) bs) ≤ length after
-          → Room bs (widths (claim_body s (has_field after) (has_multipliers after))) p after
-      unfolding claim_layout claim_header
-      claim_room_lem r m k l =
-          rw (same_lines m k) (header_room (claim_layout m) bs out (h m) (sym (claim_says m e) ∙ r) l)
-
-      pub claim_passed : {r : ℕ} {end : List ℤ} → o ≡ Passed
-          → Listed (all_numbers bs (widths (claim_body s (has_field after) (has_multipliers after))) p after)
-          after r end
-          → ClaimListed bs s out r end
-      unfolding claim_layout claim_header
-      claim_passed r l = record {
-        against = λ m k.
-            header_passed (claim_layout m) bs out (h m) (sym (claim_says m e) ∙ r) (rw (same_lines m k) at l);
-      }
+pub claim_tested : (m c : List ℤ) (r : Result (Unit {0}) Refusal) {b : Bool}
+    → outcome_of r ≡ line_check (claim_layout []) claim_header (take claim_header_columns c) (Line 1)
+    → b ≡ is_err r → has_passed (header_says (claim_layout m) c) ≡ not b
+unfolding line_check claim_layout claim_header
+claim_tested m c r e t = tested r e t

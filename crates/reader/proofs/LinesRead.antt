@@ -1,7 +1,6 @@
 -- What the functions that read lines say holds again after each turn of their loops, and at their ends.
-use mathlib.Core.Path.{◌≡◌, refl, sym, ◌∙◌, ap, subst}
+use mathlib.Core.Path.{◌≡◌, refl, sym, ◌∙◌, ap, ap₂, subst}
 use mathlib.Core.List.{List, [], ◌∷◌, ◌++◌, append-nil, append_assoc}
-use mathlib.Core.Bool.{Bool, true, false, cond}
 use mathlib.Core.Option.{Option, none, some}
 use Prim.Native.Nat.{ℕ, suc, ◌+◌, ◌*◌, ◌-◌, ◌≤◌, ◌<◌}
 use native.Mathlib.Numerals.{add-one}
@@ -21,27 +20,29 @@ use Rattle.lines.proofs.ThroughLaws.{no_group}
 use Rattle.reader.specs.File.{file_width, line_bytes, read_line, read_lines}
 use Rattle.reader.specs.Listed.{Listed}
 use Rattle.reader.specs.ReadSoFar.{past, written, LineTaken, LineRoom, lines_of, all_numbers, LinesTaken, LinesStopped}
-use Rattle.reader.specs.ReadSoFar.{Room, RoomBefore}
+use Rattle.reader.specs.ReadSoFar.{start, Room, RoomBefore}
 use Rattle.reader.proofs.Line.{line_means}
 use Rattle.reader.proofs.Cut.{line_there}
 
+-- ---- where nothing is read
+
+pub is_start : {p : Progress} → (p.at ≡ 0) × (p.numbers ≡ 0) → p ≡ start
+unfolding start
+is_start h = ap₂ (λ (a n : ℕ). record { at = a; numbers = n }) h.0 h.1
+
 -- ---- one line
 
-module _ (bs : List ℕ) (k : ℕ) (p : Progress) (formed : Bool) (line : List ℤ)
-    (h : read_line file_width k (drop p.at bs) ≡ cond formed (some line) none) where
-  pub line_malformed : (out : List ℤ) → formed ≡ false → LineTaken bs k p out None out
+module _ {bs : List ℕ} {k : ℕ} (p : Progress) where
+  pub line_malformed : {out : List ℤ} → read_line file_width k (drop p.at bs) ≡ none → LineTaken bs k p out None out
   unfolding past written
-  line_malformed out f =
-      let e : read_line file_width k (drop p.at bs) ≡ none = h ∙ rw f in
-      record { progress = rw e; numbers = rw e }
+  line_malformed e = record { progress = rw e; numbers = rw e }
 
   -- its numbers are written from place p.numbers on
-  pub line_formed : {n : ℕ} {out after : List ℤ} → formed ≡ true → n ≡ k
+  pub line_formed : {n : ℕ} {line out after : List ℤ} → read_line file_width k (drop p.at bs) ≡ some line → n ≡ k
       → after ≡ put_mid p.numbers (p.numbers + n - p.numbers) out line
       → LineTaken bs k p out (Some (record { at = p.at + n * file_width + 1; numbers = p.numbers + n })) after
   unfolding past written line_bytes
-  line_formed {n} {out} f same c =
-      let e : read_line file_width k (drop p.at bs) ≡ some line = h ∙ rw f in
+  line_formed {n} {line} {out} e same c =
       let a : p.at + k * file_width + 1 ≡ p.at + (k * file_width + 1) = omega arith in
       let j : p.numbers + n - p.numbers ≡ k = omega arith in
       record {

@@ -200,8 +200,7 @@ value_fits a k (b ∷ bs) h =
 
 value_below : (bs : List ℕ) → length bs ≤ file_width → value_over 0 bs < value_bound
 value_below bs l =
-    lt_of_lt_of_le (value_fits 0 0 bs (omega arith))
-    (pow-le-pow_right {n = 10} (omega arith) {j = file_width} (omega arith))
+    lt_of_lt_of_le (value_fits 0 0 bs (omega arith)) (pow-le-pow_right {n = 10} (omega arith) {j = file_width} (omega arith))
 
 -- ---- the program's state after some bytes
 
@@ -248,17 +247,18 @@ module _ (t : List ℕ) (h : Table t) (b : ℕ) (l : b < 256) where
 -- ---- what the state says
 
 module _ (c : Kept) where
-  pub said_none : c.phase < 18 → Said c None
+  -- 18, 24 and 30 are the phases of a zero alone, of digits, and of a minus and digits
+  pub said_none : (c.phase ≡ 18 → ⊥) → (c.phase ≡ 24 → ⊥) → (c.phase ≡ 30 → ⊥) → Said c None
   unfolding shift meant reading_of
-  said_none l = record { says = by }
+  said_none l m n = record { says = by }
     where
       by : (p : Phase) → c.phase ≡ shift p → None ≡ reading_of (meant p c.value)
       by bad e = refl
       by blank e = refl
       by sign e = refl
-      by nought e = absurd (omega arith)
-      by up e = absurd (omega arith)
-      by down e = absurd (omega arith)
+      by nought e = absurd (l e)
+      by up e = absurd (m e)
+      by down e = absurd (n e)
 
   pub said_down : (z : ℤ) → c.phase ≡ 30 → z ≡ neg_ℤ (pos c.value) → Said c (Some z)
   unfolding shift meant reading_of

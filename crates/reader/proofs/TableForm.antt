@@ -15,8 +15,8 @@ use lib.Seq.{drop-drop, length-take-le, take_all}
 use borrow.Author.Tests.{lt-leb}
 use Rattle.scope.specs.declared.Place.{Place}
 use Rattle.scope.specs.declared.Place.TheVariants.{Line}
-use Rattle.scope.specs.declared.Outcome.{Outcome}
-use Rattle.scope.specs.declared.Outcome.TheVariants.{Passed, Refused}
+use Rattle.scope.specs.Cases.Outcome.{Outcome}
+use Rattle.scope.specs.Cases.Outcome.{Passed, Refused}
 use Rattle.scope.specs.Answer.{place_number}
 use Rattle.scope.specs.Checks.{◌then◌, lowest}
 use Rattle.scope.specs.Phases.{Step, Phase, check_steps, check_phase, check_phases}

@@ -1,5 +1,6 @@
 -- The numbers of a whole file, from what is said of its header and of its lines.
 use mathlib.Core.Path.{◌≡◌, refl, sym, ap, ◌∙◌}
+use mathlib.Core.Bool.{true, false}
 use mathlib.Core.List.{List, [], ◌∷◌, ◌++◌, append-nil}
 use mathlib.Core.Option.{Option, none, some}
 use Prim.Native.Nat.{ℕ, suc, ◌+◌, ◌≤◌, ◌<◌}
@@ -10,14 +11,13 @@ use lib.IntN.{ℤ, pos}
 use lib.ListN.{length, take, drop, set, take-append-drop, length-append, drop_of_length-le}
 use lib.Seq.{length-take-le, set_split, drop-cons, take_at, drop_at, append_snoc}
 use Rattle.scope.specs.declared.Place.TheVariants.{Line}
-use Rattle.scope.specs.declared.Place.{Place}
-use Rattle.scope.specs.declared.Outcome.{Outcome}
-use Rattle.scope.specs.declared.Outcome.TheVariants.{Passed, Refused}
+use Rattle.scope.specs.Cases.Outcome.{Outcome, has_passed}
 use Rattle.scope.specs.Layout.{Layout, width}
 use Rattle.scope.specs.Verdict.{line_check}
 use Rattle.reader.specs.declared.file_lines.Progress.{Progress}
-use Rattle.reader.specs.File.{file_width, line_bytes, read_line, widths, read_lines, has_passed, header_passes}
+use Rattle.reader.specs.File.{file_width, line_bytes, read_line, widths, read_lines, header_passes}
 use Rattle.reader.specs.File.{numbers_of}
+use Rattle.reader.specs.WellFormed.{Regular}
 use Rattle.reader.specs.ReadSoFar.{start, past, written, LineTaken, LineRoom, all_numbers, Room}
 use Rattle.reader.specs.Listed.{Listed}
 use Rattle.reader.proofs.Line.{line_means}
@@ -107,41 +107,47 @@ module _ (f : Layout) (bs : List ℕ) (out : List ℤ) {p : Progress} {after : L
             others = rw w' (drop_at zs (drop (header_columns f) out) (header_columns f) n);
           }
 
-  pub header_refused : {n : ℕ} {q : Place} → HeaderRead f bs out p after → header_says f after ≡ Refused n q
-      → Listed (numbers_of file_width f bs) out (header_columns f) after
-  unfolding numbers_of header_passes has_passed
+  pub header_refused : HeaderRead f bs out p after → has_passed (header_says f after) ≡ false
+      → Listed (numbers_of file_width f bs) out p.numbers after
+  unfolding numbers_of header_passes
   header_refused h e =
-      rw (h.read, numbers_of)
-      (rw (e, header_passes)
-      (rw (append-nil (take (header_columns f) after))
+      rw (h.progress, h.read, numbers_of)
+      (rw (e, append-nil (take (header_columns f) after))
       (record {
         count = sym (length-take-le (header_columns f) after h.room);
         list = rw (← h.others) (sym (take-append-drop (header_columns f) after));
-      })))
+      }))
+
+  -- the header alone tells of the lines after it
+  same_body : Regular f → HeaderRead f bs out p after → f.body after ≡ f.body (take (header_columns f) after)
+  same_body k h =
+      ap (λ ns. f.body ns) (sym (take-append-drop (header_columns f) after))
+      ∙ k.by_header (take (header_columns f) after) (drop (header_columns f) after)
+      (length-take-le (header_columns f) after h.room)
 
   -- all numbers are those of the header and of the lines that it tells of
-  numbers-told : HeaderRead f bs out p after → header_says f after ≡ Passed
-      → all_numbers bs (widths (f.body (take (header_columns f) after))) p after ≡ numbers_of file_width f bs
-  unfolding all_numbers numbers_of header_passes has_passed
-  numbers-told h e = rw (h.progress, h.read, numbers_of) (rw (e, header_passes))
+  numbers-told : Regular f → HeaderRead f bs out p after → has_passed (header_says f after) ≡ true
+      → all_numbers bs (widths (f.body after)) p after ≡ numbers_of file_width f bs
+  unfolding all_numbers numbers_of header_passes
+  numbers-told k h e = rw (same_body k h, h.progress, h.read, numbers_of) (rw e)
 
   -- there is room for the lines after the header where there is for all numbers
-  pub header_room : HeaderRead f bs out p after → header_says f after ≡ Passed
-      → length (numbers_of file_width f bs) ≤ length after
-      → Room bs (widths (f.body (take (header_columns f) after))) p after
-  header_room h e l = record {
+  pub header_room : Regular f → HeaderRead f bs out p after → has_passed (header_says f after) ≡ true
+      → length (numbers_of file_width f bs) ≤ length after → Room bs (widths (f.body after)) p after
+  header_room k h e l = record {
     within = omega (arith, ap (λ q. q.at) h.progress, h.bytes);
     front = omega (arith, ap (λ q. q.numbers) h.progress, h.room);
-    fits = omega (arith, ap length (numbers-told h e), l);
+    fits = omega (arith, ap length (numbers-told k h e), l);
   }
 
-  pub header_passed : {r : ℕ} {end : List ℤ} → HeaderRead f bs out p after → header_says f after ≡ Passed
-      → Listed (all_numbers bs (widths (f.body (take (header_columns f) after))) p after) after r end
+  pub header_passed : {r : ℕ} {end : List ℤ} → Regular f → HeaderRead f bs out p after
+      → has_passed (header_says f after) ≡ true
+      → Listed (all_numbers bs (widths (f.body after)) p after) after r end
       → Listed (numbers_of file_width f bs) out r end
   unfolding all_numbers
-  header_passed {r} {end} h e l =
-      let all = numbers-told h e in
-      let rest = read_lines file_width (widths (f.body (take (header_columns f) after))) (drop p.at bs) in
+  header_passed {r} {end} k h e l =
+      let all = numbers-told k h e in
+      let rest = read_lines file_width (widths (f.body after)) (drop p.at bs) in
       let m : header_columns f ≤ r =
       omega (
         arith,

@@ -15,8 +15,8 @@ use borrow.Table.Steps.{cases}
 use Rattle.integer.proofs.DecimalLaws.{digits_some}
 use Rattle.scope.specs.declared.Place.{Place}
 use Rattle.scope.specs.declared.Place.TheVariants.{Line}
-use Rattle.scope.specs.declared.Outcome.{Outcome}
-use Rattle.scope.specs.declared.Outcome.TheVariants.{Passed, Refused}
+use Rattle.scope.specs.Cases.Outcome.{Outcome}
+use Rattle.scope.specs.Cases.Outcome.{Passed, Refused}
 use Rattle.scope.specs.Layout.{Group, Layout, width, groups}
 use Rattle.scope.proofs.Checks.{passed_is_not_refused, then_passed}
 use Rattle.scope.proofs.InOrder.{lines_of, check_from, lines_in_order, check_line, check_short}

@@ -9,7 +9,7 @@ use lib.ListN.{length, drop, take-append-drop, length-append}
 use lib.Seq.{take_at, drop_at}
 use borrow.Author.Tests.{le-leb}
 use Rattle.scope.specs.declared.Place.TheVariants.{Line}
-use Rattle.scope.specs.declared.Outcome.TheVariants.{Passed}
+use Rattle.scope.specs.Cases.Outcome.{Passed}
 use Rattle.scope.specs.Layout.{Group, Layout, width, groups}
 use Rattle.scope.proofs.Checks.{passed_is_not_refused, then_passed}
 use Rattle.scope.proofs.InOrder.{lines_of, check_from}

@@ -1,10 +1,10 @@
 -- The bytes of a file and its numbers (document 01, 'The two files'): "A line is its columns and one byte 10."
 -- The column's width w is a parameter: `file_width` in a file.
-use Rattle.std.specs.Prelude.{Bool, true, false, cond, List, [], ◌∷◌, ◌++◌, ℕ, zero, suc, ◌+◌, ◌*◌, ℤ, pos, leb, eqb, length, take, drop, replicate}
+use Rattle.std.specs.Prelude.{Bool, true, false, cond, List, [], ◌∷◌, ◌++◌, ℕ, zero, suc, ◌+◌, ◌*◌, ℤ, pos, leb, eqb}
+use Rattle.std.specs.Prelude.{length, take, drop, replicate}
 use Rattle.std.proofs.Math.Option.{Option, none, some, map}
 use Rattle.scope.specs.declared.Place.TheVariants.{Line}
-use Rattle.scope.specs.declared.Outcome.{Outcome}
-use Rattle.scope.specs.declared.Outcome.TheVariants.{Passed, Refused}
+use Rattle.scope.specs.Cases.Outcome.{has_passed}
 use Rattle.scope.specs.Layout.{Group, Layout, width}
 use Rattle.scope.specs.Verdict.{line_check}
 use Rattle.scope.specs.Layers.{most_layers, layer_columns}
@@ -52,10 +52,6 @@ read_lines w (k ∷ ks) bs =
       | none ↦ []
       | some zs ↦ zs ++ read_lines w ks (drop (line_bytes w k) bs)
     ]
-
-unfoldable pub has_passed : Outcome → Bool
-has_passed Passed = true
-has_passed (Refused n p) = false
 
 -- the header's numbers pass the header's checks; where they don't, no later line is looked at
 unfoldable pub header_passes : Layout → List ℤ → Bool

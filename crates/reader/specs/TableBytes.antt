@@ -1,5 +1,5 @@
 -- The bytes of the lines of a table.
-use Rattle.std.specs.Prelude.{List, [], ◌∷◌, ℕ, ◌+◌, ◌*◌}
+use Rattle.std.specs.Prelude.{List, ℕ, ◌+◌, ◌*◌, sum_by}
 use Rattle.lines.specs.declared.layout.Group.{Group}
 use Rattle.lines.specs.Table.{group_count, most_lines, most_columns}
 use Rattle.reader.specs.File.{file_width}
@@ -11,7 +11,9 @@ most_line_bytes = most_columns * file_width + 1
 abbrev pub most_bytes : ℕ
 most_bytes = group_count * (most_lines * most_line_bytes)
 
--- a column takes `file_width` bytes, and a line one more
-unfoldable pub bytes_in : List Group → ℕ
-bytes_in [] = 0
-bytes_in (g ∷ gs) = g.lines * (g.columns * file_width + 1) + bytes_in gs
+-- the lines of a group: a column takes `file_width` bytes, and a line one more
+abbrev pub group_bytes : Group → ℕ
+group_bytes g = g.lines * (g.columns * file_width + 1)
+
+abbrev pub bytes_in : List Group → ℕ
+bytes_in gs = sum_by group_bytes gs

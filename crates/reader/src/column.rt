@@ -1,7 +1,9 @@
 // A column's bytes, taken once each, front to back, into a state of fixed size that copies none of them.
-ghost use Rattle.std.specs.Prelude.{◌≡◌, ◌≤◌, ◌<◌, length};
+ghost use Rattle.std.specs.Prelude.{◌≡◌, ◌<◌, ◌≤◌, length, cond, is_some};
+ghost use Rattle.std.proofs.Math.Option.{none, some};
+ghost use Rattle.lines.specs.Table.{most_columns};
 ghost use Rattle.reader.specs.Spelling.{read_column};
-ghost use Rattle.reader.specs.File.{file_width};
+ghost use Rattle.reader.specs.File.{file_width, read_line};
 ghost use Rattle.reader.specs.OnePass.{Table, value_bound, Stepped, Said, Partway, OnlySpaces, reading_of};
 
 // The bytes of a column.
@@ -68,100 +70,118 @@ const NONE_TAKEN: Kept = Kept {
     value: 0,
 };
 
-// The entries of all bytes, made once for a file and lent.
+// What the state after a column's last byte says.
+fn said(c: Kept) -> Option<i64>
+    requires { c.value < value_bound }
+    ensures { Said c result }
+{
+    let value = c.value as i64;
+    match c.phase {
+        NOUGHT | UP => Some(value),
+        DOWN => Some(-value),
+        _ => None,
+    }
+}
+
+// The entries of all bytes, made once for a file.
 #[derive(Drop)]
 pub struct Entries {
     of_byte: [u64; 256],
     ghost is_table: { Table of_byte },
 }
 
-pub fn table() -> Entries {
-    let mut of_byte = [BAD; 256];
-    of_byte[32] = SPACE;
-    of_byte[45] = MINUS;
-    of_byte[48] = ZERO;
-    of_byte[49] = ONE;
-    of_byte[50] = TWO;
-    of_byte[51] = THREE;
-    of_byte[52] = FOUR;
-    of_byte[53] = FIVE;
-    of_byte[54] = SIX;
-    of_byte[55] = SEVEN;
-    of_byte[56] = EIGHT;
-    of_byte[57] = NINE;
-    Entries { of_byte }
-}
-
-// The state after one byte more.
-fn step(entries: &Entries, c: Kept, b: u8) -> Kept
-    requires phase { c.phase < 64 }
-    requires value { c.value < value_bound }
-    ensures { Stepped c b result }
-{
-    let entry = entries.of_byte[usize::from(b)];
-    Kept {
-        phase: (entry >> c.phase) % 64,
-        value: c.value * 10 + (entry >> 60),
+impl Entries {
+    pub fn table() -> Entries {
+        let mut of_byte = [BAD; 256];
+        of_byte[32] = SPACE;
+        of_byte[45] = MINUS;
+        of_byte[48] = ZERO;
+        of_byte[49] = ONE;
+        of_byte[50] = TWO;
+        of_byte[51] = THREE;
+        of_byte[52] = FOUR;
+        of_byte[53] = FIVE;
+        of_byte[54] = SIX;
+        of_byte[55] = SEVEN;
+        of_byte[56] = EIGHT;
+        of_byte[57] = NINE;
+        Entries { of_byte }
     }
-}
 
-// What the state after a column's last byte says.
-fn said(c: Kept) -> Option<i64>
-    requires { c.value < value_bound }
-    ensures { Said c result }
-{
-    if c.phase < NOUGHT {
-        return None;
-    }
-    let value = c.value as i64;
-    Some(if c.phase == DOWN { -value } else { value })
-}
-
-// What the rest of a column says, from its byte `from` on, after the state c.
-fn rest_of(entries: &Entries, bytes: &[u8], from: usize, c: Kept) -> Option<i64>
-    requires whole { length bytes.now ≡ file_width }
-    requires so_far { Partway bytes.now from c }
-    ensures { result ≡ reading_of (read_column bytes.now) }
-{
-    let mut kept = c;
-    for b in &bytes[from..] {
-        kept = step(entries, kept, *b);
-    }
-    said(kept)
-}
-
-// What a column says whose bytes before byte `FRONT_BYTES` are spaces. Spaces leave the first state as it is, so for
-// speed a loop of its own passes over them, and the first other byte is stepped from the local that was compared. The
-// last byte of a number is a digit, so it is stepped without being compared.
-fn after_spaces(entries: &Entries, bytes: &[u8]) -> Option<i64>
-    requires whole { length bytes.now ≡ file_width }
-    requires so_far { OnlySpaces bytes.now FRONT_BYTES }
-    ensures { result ≡ reading_of (read_column bytes.now) }
-{
-    for i in FRONT_BYTES..LAST_BYTE {
-        let b = bytes[i];
-        if b != 32 {
-            return rest_of(entries, bytes, i + 1, step(entries, NONE_TAKEN, b));
+    // The state after one byte more.
+    fn step(&self, c: Kept, b: u8) -> Kept
+        requires phase { c.phase < 64 }
+        requires value { c.value < value_bound }
+        ensures { Stepped c b result }
+    {
+        let entry = self.of_byte[usize::from(b)];
+        Kept {
+            phase: (entry >> c.phase) % 64,
+            value: c.value * 10 + (entry >> 60),
         }
     }
-    rest_of(entries, bytes, LAST_BYTE, NONE_TAKEN)
-}
 
-// What a column says: each byte is indexed once, front to back, and goes into the state. Where only spaces have come
-// the state is the first one: the program goes on with that, so that it need not wait for the steps.
-pub fn column(entries: &Entries, bytes: &[u8]) -> Option<i64>
-    requires { length bytes.now ≡ file_width }
-    ensures { result ≡ reading_of (read_column bytes.now) }
-{
-    let mut kept = NONE_TAKEN;
-    let mut blank = true;
-    for b in &bytes[..FRONT_BYTES] {
-        let b = *b;
-        kept = step(entries, kept, b);
-        blank &= b == 32;
+    // What the rest of a column says, from its byte `from` on, after the state c.
+    fn rest_of(&self, text: &[u8; COLUMN_BYTES], from: usize, c: Kept) -> Option<i64>
+        requires { Partway text.now from c }
+        ensures { result ≡ reading_of (read_column text.now) }
+    {
+        let mut kept = c;
+        for b in &text[from..] {
+            kept = self.step(kept, *b);
+        }
+        said(kept)
     }
-    if blank {
-        return after_spaces(entries, bytes);
+
+    // What a column says whose bytes before byte `FRONT_BYTES` are spaces. Spaces leave the first state as it is, so
+    // for speed a loop of its own passes over them, and the first other byte is stepped from the local that was
+    // compared. The last byte of a number is a digit, so it is stepped without being compared.
+    fn after_spaces(&self, text: &[u8; COLUMN_BYTES]) -> Option<i64>
+        requires { OnlySpaces text.now FRONT_BYTES }
+        ensures { result ≡ reading_of (read_column text.now) }
+    {
+        for i in FRONT_BYTES..LAST_BYTE {
+            let b = text[i];
+            if b != 32 {
+                return self.rest_of(text, i + 1, self.step(NONE_TAKEN, b));
+            }
+        }
+        self.rest_of(text, LAST_BYTE, NONE_TAKEN)
     }
-    rest_of(entries, bytes, FRONT_BYTES, kept)
+
+    // What a column says: each byte is indexed once, front to back, and goes into the state. Where only spaces have
+    // come the state is the first one: the program goes on with that, so that it need not wait for the steps.
+    pub fn column(&self, text: &[u8; COLUMN_BYTES]) -> Option<i64>
+        ensures { result ≡ reading_of (read_column text.now) }
+    {
+        let mut kept = NONE_TAKEN;
+        let mut blank = true;
+        for b in &text[..FRONT_BYTES] {
+            let b = *b;
+            kept = self.step(kept, b);
+            blank &= b == 32;
+        }
+        if blank {
+            return self.after_spaces(text);
+        }
+        self.rest_of(text, FRONT_BYTES, kept)
+    }
+
+    // The line at the front of these bytes, with as many columns as `line` has numbers: whether it is well formed, and
+    // its numbers.
+    pub fn read_line(&self, bytes: &[u8], line: &mut [i64]) -> Option<()>
+        requires { length line.old ≤ most_columns }
+        ensures { read_line file_width (length line.old) bytes.now
+            ≡ cond (is_some result) (some line.new) none }
+    {
+        let end = line.len() * COLUMN_BYTES;
+        if bytes.len() <= end {
+            return None;
+        }
+        let (columns, _) = bytes.as_chunks::<COLUMN_BYTES>();
+        for (i, number) in line.iter_mut().enumerate() {
+            *number = self.column(&columns[i])?;
+        }
+        (bytes[end] == 10).then_some(())
+    }
 }

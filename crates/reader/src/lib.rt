@@ -7,28 +7,21 @@ mod column;
 mod file_lines;
 
 ghost use Rattle.std.specs.Prelude.{◌≡◌, ◌≤◌, length};
-ghost use Rattle.scope.specs.Columns.{has_field, has_multipliers};
 ghost use Rattle.scope.specs.Mesh.{mesh_layout};
-ghost use Rattle.mesh.specs.MeshContracts.{HeaderThere, FewThings};
-ghost use Rattle.lines.specs.Table.{Known, claim_body};
-ghost use Rattle.reader.specs.File.{file_width, numbers_of, table_numbers_of, widths};
-ghost use Rattle.reader.specs.ReadSoFar.{all_numbers, Room};
+ghost use Rattle.reader.specs.File.{file_width, numbers_of, table_numbers_of};
 ghost use Rattle.reader.specs.Listed.{Listed, ClaimRoom, ClaimListed};
 ghost use Rattle.reader.specs.Most.{most_numbers};
 ghost use Rattle.reader.specs.TableBytes.{most_bytes, bytes_in};
 
-use crate::column::{COLUMN_BYTES, Entries, table};
-use crate::file_lines::{Progress, finish, read_groups, read_header, read_rows};
-use lines::layout::{
-    CLAIM_HEADER, GROUPS, Group, STRESS_COLUMNS, claim_groups, has_part, mesh_groups,
-};
+use crate::column::COLUMN_BYTES;
+use crate::file_lines::Source;
+use lines::layout::{CLAIM_HEADER, Groups, STRESS_COLUMNS};
 use lines::line_checks::{claim_header, mesh_header};
-use mesh::sizes::{
+use mesh::limits::{
     EDGE_ROWS, ELEMENT_ROWS, JUMP_ROWS, LAYER_COLUMNS, MESH_HEADER, MESH_NUMBERS, MOST_EDGES,
-    MOST_ELEMENTS, MOST_JUMPS, MOST_LAYERS, MOST_NODES, MOST_PAIRS, MOST_SIDES, Sizes,
-    header_sizes,
+    MOST_ELEMENTS, MOST_JUMPS, MOST_LAYERS, MOST_NODES, MOST_PAIRS, MOST_SIDES,
 };
-use scope::Outcome;
+use mesh::pairs::ClaimSizes;
 
 // The most numbers of a mesh file, of a table file and of a claim file: their headers, as many lines as there can be,
 // and one for bytes left over.
@@ -54,32 +47,20 @@ pub fn most_numbers(bytes: usize) -> usize
     bytes / COLUMN_BYTES + 1
 }
 
-// The lines after a mesh's header, which stands at the front of `out`.
-fn mesh_body(entries: &Entries, bytes: &[u8], p: Progress, out: &mut [i64]) -> usize
-    requires header { HeaderThere out.old }
-    requires room { Room bytes.now (widths (mesh_layout.body out.old)) p out.old }
-    ensures { Listed
-        (all_numbers bytes.now (widths (mesh_layout.body out.old)) p out.old)
-        out.old result out.new }
-{
-    let groups = mesh_groups(header_sizes(out), false);
-    read_groups(entries, bytes, p, groups, out)
-}
-
 // The numbers of a mesh file, and how many they are: the list that is lent has room for them.
 pub fn read_mesh(bytes: &[u8], out: &mut [i64]) -> usize
     requires { length (numbers_of file_width mesh_layout bytes.now) ≤ length out.old }
     ensures { Listed (numbers_of file_width mesh_layout bytes.now) out.old result
         out.new }
 {
-    let entries = table();
-    let Some(p) = read_header(&entries, bytes, MESH_HEADER, out) else {
+    let source = Source::new(bytes);
+    let Some(p) = source.read_header(MESH_HEADER, out) else {
         return 0;
     };
-    let Outcome::Passed = mesh_header(out) else {
+    if mesh_header(out).is_err() {
         return p.numbers;
-    };
-    mesh_body(&entries, bytes, p, out)
+    }
+    source.mesh_body(p, out)
 }
 
 // The numbers of a table file, and how many they are. Where bytes follow its well-formed lines they add one number, so
@@ -89,48 +70,34 @@ pub fn read_table(bytes: &[u8], out: &mut [i64]) -> usize
     ensures { Listed (table_numbers_of file_width bytes.now) out.old result
         out.new }
 {
-    let p = read_rows(&table(), bytes, out);
-    finish(bytes, p, out)
-}
-
-// The lines after a claim's header, which stands at the front of `out`.
-fn claim_body(entries: &Entries, bytes: &[u8], p: Progress, s: Sizes, out: &mut [i64]) -> usize
-    requires few { FewThings s }
-    requires room { Room bytes.now
-        (widths (claim_body s (has_field out.old) (has_multipliers out.old))) p out.old }
-    ensures { Listed
-        (all_numbers bytes.now
-        (widths (claim_body s (has_field out.old) (has_multipliers out.old))) p out.old)
-        out.old result out.new }
-{
-    let groups = claim_groups(s, has_part(out, 0), has_part(out, 1));
-    read_groups(entries, bytes, p, groups, out)
+    let source = Source::new(bytes);
+    let p = source.read_rows(out);
+    source.finish(p, out)
 }
 
 // The numbers of a claim file, and how many they are: for every mesh with these sizes and so many pairs.
-pub fn read_claim(bytes: &[u8], s: Sizes, out: &mut [i64]) -> usize
+pub fn read_claim(bytes: &[u8], s: ClaimSizes, out: &mut [i64]) -> usize
     requires { ClaimRoom bytes.now s out.old }
     ensures { ClaimListed bytes.now s out.old result out.new }
 {
-    let entries = table();
-    let Some(p) = read_header(&entries, bytes, CLAIM_HEADER, out) else {
+    let source = Source::new(bytes);
+    let Some(p) = source.read_header(CLAIM_HEADER, out) else {
         return 0;
     };
-    let Outcome::Passed = claim_header(out) else {
+    if claim_header(out).is_err() {
         return p.numbers;
-    };
-    claim_body(&entries, bytes, p, s, out)
+    }
+    source.claim_body(p, s, out)
 }
 
 // The bytes of the lines of a table: a column takes `COLUMN_BYTES`, and a line one more.
-pub fn body_bytes(groups: [Group; GROUPS]) -> usize
-    requires { Known groups }
-    ensures fact_1 { result ≡ bytes_in groups }
-    ensures fact_2 { result ≤ most_bytes }
+pub fn body_bytes(groups: Groups) -> usize
+    ensures sum { result ≡ bytes_in groups.of }
+    ensures few { result ≤ most_bytes }
 {
-    let mut sum: usize = 0;
-    for g in groups {
-        sum += g.lines * (g.columns * COLUMN_BYTES + 1);
-    }
-    sum
+    groups
+        .of
+        .iter()
+        .map(|g| g.lines * (g.columns * COLUMN_BYTES + 1))
+        .sum()
 }

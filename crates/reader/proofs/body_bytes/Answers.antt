@@ -1,26 +1,17 @@
--- `reader::body_bytes` meets its contract. The loop's invariant: the bytes of the groups before this one are summed.
+-- `reader::body_bytes` meets its contract: the groups are few, so that the sum fits.
 use native.Mathlib.Omega.{arith}
-use Rattle.reader.proofs.TableBytes.{few_here, summed_start, summed_next, summed_end}
+use borrow.Author.Rules.{rules}
+use Rattle.std.proofs.Common.{◌≡◌, ◌<◌, ◌^◌}
+use Rattle.reader.specs.TableBytes.{bytes_in}
+use Rattle.reader.proofs.TableBytes.{bytes_few}
 use Rattle.reader.proofs.body_bytes.Goals as goal
 
-pub loop-g-init : goal.loop-g-init
-loop-g-init c = summed_start
+pub sum-requires-clause-fits : goal.sum-requires-clause-fits
+sum-requires-clause-fits c =
+    let few : bytes_in c.args.groups.of < 2 ^ 64 = omega (arith, bytes_few c.args.groups.known) in
+    search rules
 
-pub overflow_mul-sum : goal.overflow_mul-sum
-overflow_mul-sum c = record { fits = omega (arith, (few_here c.requires c.loop-g-test.true).0) }
-
-pub overflow_add-sum : goal.overflow_add-sum
-overflow_add-sum c = record { fits = omega (arith, (few_here c.requires c.loop-g-test.true).0) }
-
-pub overflow_mul-sum-in-loop-g : goal.overflow_mul-sum-in-loop-g
-overflow_mul-sum-in-loop-g c = record { fits = omega (arith, (few_here c.requires c.loop-g-test.true).1) }
-
-pub overflow_add-sum-in-loop-g : goal.overflow_add-sum-in-loop-g
-overflow_add-sum-in-loop-g c =
-    record { fits = omega (arith, (few_here c.requires c.loop-g-test.true).1, c.loop-g.invariant.few) }
-
-pub loop-g-preserved : goal.loop-g-preserved
-loop-g-preserved c = summed_next c.requires c.loop-g.invariant c.loop-g-test.true
-
-pub returns-clause-fact_1 : goal.returns-clause-fact_1
-returns-clause-fact_1 c = summed_end c.requires c.loop-g.invariant c.loop-g-test.false
+pub returns-clause-few : goal.returns-clause-few
+returns-clause-few c =
+    let is : c.sum.result ≡ bytes_in c.args.groups.of = search rules in
+    omega (arith, is, bytes_few c.args.groups.known)

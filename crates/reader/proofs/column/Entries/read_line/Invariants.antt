@@ -1,0 +1,7 @@
+-- `Entries::read_line` meets its contract. The loop's invariant: the columns before this one are read.
+use lib.ListN.{length}
+use Rattle.reader.proofs.InLine.{InLine}
+use Rattle.reader.proofs.column.Entries.read_line.Given as goal
+
+abbrev pub invariant-loop-i : goal.invariant-loop-i
+invariant-loop-i l = InLine l.bytes (length l.initial.line) l.line l.i

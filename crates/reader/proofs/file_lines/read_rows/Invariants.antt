@@ -1,7 +1,0 @@
--- `reader::file_lines::read_rows` meets its contract. The loop's invariant: the lines before the next one are read.
--- Assumes nothing.
-use Rattle.reader.proofs.TableRead.{InRows}
-use Rattle.reader.proofs.file_lines.read_rows.Given as goal
-
-abbrev pub invariant-loop : goal.invariant-loop
-invariant-loop l = InRows l.bytes l.initial.out l.out l.q l.counter
