@@ -5,12 +5,10 @@ use Prim.Native.Nat.{ℕ, zero, suc, ◌+◌, ◌-◌, ◌%◌, ◌^◌, ◌≤�
 use native.Mathlib.Omega.{arith}
 use lib.ListN.{length, take, drop, set, replicate, length-replicate, replicate-append-replicate, take-append-drop}
 use lib.Seq.{take_at, drop_at}
-use borrow.Rule.Slice.PartMut.{put_mid}
 use Rattle.std.specs.Fmt.{decimal}
 use Rattle.std.proofs.lemmas.Fmt.{decimal_by_steps}
 use Rattle.integer.specs.Decimal.{digits, right_justified}
 use Rattle.integer.proofs.DecimalLaws.{digits_one, digits_more, digits-length}
-use Rattle.report.specs.Text.{none_text}
 
 -- std writes the digits of the definition
 pub decimal_digits : (k : ℕ) → k < 2 ^ 64 → decimal k ≡ digits k
@@ -55,15 +53,9 @@ justified w from text e = let n : from ≡ w - length text = omega arith in ap (
 
 -- ---- a whole column
 
-pub number_column : (first : List ℕ) (k from : ℕ) {blank now : List ℕ} → k < 2 ^ 64 → length first ≡ 28
-    → blank ≡ replicate (length first) 32 → from + length (decimal k) ≡ 28
-    → drop from now ≡ decimal k ++ drop 28 blank → take from now ≡ take from blank → now ≡ right_justified 28 (digits k)
-number_column first k from f l b e d t =
-    put_before 28 from (decimal k) [] (b ∙ ap spaces l ∙ sym (append-nil (spaces 28))) e d t
+pub digits_column : (k from : ℕ) {now : List ℕ} → k < 2 ^ 64 → from + length (decimal k) ≡ 28
+    → drop from now ≡ decimal k ++ [] → take from now ≡ take from (spaces 28) → now ≡ right_justified 28 (digits k)
+digits_column k from f e d t =
+    put_before 28 from (decimal k) [] refl e d t
     ∙ rw (append-nil (decimal k)) (justified 28 from (decimal k) e)
     ∙ ap (right_justified 28) (decimal_digits k f)
-
-pub none_column : (first : List ℕ) {blank word : List ℕ} → length first ≡ 28 → blank ≡ replicate (length first) 32
-    → word ≡ 110 ∷ 111 ∷ 110 ∷ 101 ∷ [] → put_mid 24 (length blank - 24) blank word ≡ right_justified 28 none_text
-unfolding right_justified none_text
-none_column first l b e = rw (b, l, e)

@@ -58,8 +58,8 @@ units_small num d h =
     omega (arith, nat_abs_*ℤ num (pos (10 ^ d)))
 
 -- n, ten and by are numerator, power and denominator as the code has them
-module _ (num den : ℤ) (d : ℕ) (f : SFits w64 num) (g : SFits w64 den) (h : d ≤ 7) {n power ten by : ℤ}
-    (en : n ≡ read num) (ep : power ≡ pos (10 ^ d)) (et : ten ≡ read power) (eb : by ≡ read den) where
+module _ (num den : ℤ) (d : ℕ) (f : SFits w64 num) (g : SFits w64 den) (h : d ≤ 7) {n ten by : ℤ} {power : ℕ}
+    (en : n ≡ read num) (ep : power ≡ 10 ^ d) (et : ten ≡ pos power) (eb : by ≡ read den) where
   abbrev units : ℤ
   units = num *ℤ pos (10 ^ d)
 
@@ -69,13 +69,9 @@ module _ (num den : ℤ) (d : ℕ) (f : SFits w64 num) (g : SFits w64 den) (h : 
   product_is : wide n *ℤ wide ten ≡ units
   product_is =
       let p = power_small d h in
-      let i : SFits w64 (pos (10 ^ d)) = record { sfits = omega arith } in
       ap₂ ◌*ℤ◌
       (is_wide num (omega (arith, nat_abs-le num f.sfits)) (en ∙ to_z-of_z f))
-      (is_wide (pos (10 ^ d)) (omega arith) (et ∙ ap read ep ∙ to_z-of_z i))
-
-  pub product_fits : SFits w128 (wide n *ℤ wide ten)
-  product_fits = rw product_is (fits_wide units small)
+      (is_wide (pos (10 ^ d)) (omega arith) (et ∙ ap pos ep))
 
   by_is : wide by ≡ den
   by_is = is_wide den (omega (arith, nat_abs-le den g.sfits)) (eb ∙ to_z-of_z g)

@@ -16,24 +16,26 @@ use Rattle.integer.specs.Decimal.{digits_within, digits, last_digits, right_just
 use Rattle.integer.proofs.DecimalLaws.{right_justified-length}
 use Rattle.integer.specs.Round.{floor_div, ceil_div, Floor, Ceil}
 use Rattle.integer.proofs.RoundLaws.{floor_div_is, ceil_div_is}
-use Rattle.scope.specs.declared.Load.{Load}
-use Rattle.scope.specs.declared.Load.TheVariants.{Absent, Exact}
-use Rattle.scope.specs.declared.OpenRows.{OpenRows}
-use Rattle.scope.specs.declared.OpenRows.TheVariants.{Absent as NoCount, Count}
-use Rattle.scope.specs.declared.Verdict.{Verdict}
-use Rattle.scope.specs.declared.Verdict.TheVariants.{Accepted, Refused}
+use Rattle.scope.specs.Cases.Load.{Load}
+use Rattle.scope.specs.Cases.Load.{Absent, Exact}
+use Rattle.scope.specs.Cases.OpenRows.{OpenRows}
+use Rattle.scope.specs.Cases.OpenRows.{Absent as NoCount, Count}
+use Rattle.scope.specs.Cases.Verdict.{Verdict}
+use Rattle.scope.specs.Cases.Verdict.{Accepted, Refused}
 use Rattle.scope.specs.Answer.{place_number}
 use Rattle.report.specs.Text.{pointed, fixed, none_text, Said, word, number, said}
-use Rattle.report.specs.Report.{column_bytes, most_decimals, load_text, lower_text, upper_text, open_text, four_columns}
-use Rattle.report.specs.Report.{report_line}
-use Rattle.report.specs.Says.{column_of, HeldLoad, HeldRows, Held, NoLoad, NoLower, NoUpper, LoadSays, no_load, rounded}
-use Rattle.report.specs.Says.{RowsSay, no_rows, rows, Says, says_accepted, says_refused, LineSays}
+use Rattle.report.specs.Report.{column_bytes, most_decimals, load_text, lower_text, upper_text, open_text}
+use Rattle.report.specs.Report.{four_columns, report_line}
+use Rattle.report.specs.Says.{column_of, HeldLoad, HeldRows, Held, NoLoad, NoLower, NoUpper}
+use Rattle.report.specs.Says.{LoadSays, no_load, rounded, RowsSay, no_rows, rows}
+use Rattle.report.specs.Says.{Says, says_accepted, says_refused, LineSays}
 use Rattle.report.proofs.DivisionLaws.{floor_small, ceil_small, units_small}
 use Rattle.report.proofs.Text.{said-column, said_none, said-fixed, said-digits, digits-length-64, fixed-length}
 
 -- ---- four texts in four columns
 
-past : (i : ℕ) (a rest : List ℕ) → length a ≤ 28 → drop (suc i * 28) (right_justified 28 a ++ rest) ≡ drop (i * 28) rest
+past : (i : ℕ) (a rest : List ℕ) → length a ≤ 28
+    → drop (suc i * 28) (right_justified 28 a ++ rest) ≡ drop (i * 28) rest
 past i a rest h =
     let e = right_justified-length 28 a h in
     let n : suc i * 28 ≡ length (right_justified 28 a) + i * 28 = omega arith in
@@ -77,7 +79,8 @@ module _ (a b c e : List ℕ) (ha : length a ≤ 28) (hb : length b ≤ 28) (hc 
 
   said_third : said (column_of 2 (four_columns a b c e)) ≡ said c
   unfolding four_columns after_first after_second after_third
-  said_third = ap said (next-column 1 a after_first ha ∙ next-column 0 b after_second hb) ∙ this_column c after_third hc
+  said_third =
+      ap said (next-column 1 a after_first ha ∙ next-column 0 b after_second hb) ∙ this_column c after_third hc
 
   said_fourth : said (column_of 3 (four_columns a b c e)) ≡ said e
   unfolding four_columns after_first after_second after_third
@@ -212,13 +215,15 @@ rows_none d o lower upper h x =
 
 -- the third column has the word none exactly when the field is absent or the claim is refused, the fourth when the
 -- multipliers are absent or the claim is refused
-pub lower_none : (d : ℕ) (v : Verdict) → d ≤ 7 → Held v → (said (column_of 2 (report_line d v)) ≡ some word) ↔ NoLower v
+pub lower_none : (d : ℕ) (v : Verdict) → d ≤ 7 → Held v
+    → (said (column_of 2 (report_line d v)) ≡ some word) ↔ NoLower v
 lower_none d v h x =
     let l = line_says d v h x in
     let t = third_none l.says in
     (λ e. t.0 (cc l.read_third), λ n. l.read_third ∙ ap some (t.1 n))
 
-pub upper_none : (d : ℕ) (v : Verdict) → d ≤ 7 → Held v → (said (column_of 3 (report_line d v)) ≡ some word) ↔ NoUpper v
+pub upper_none : (d : ℕ) (v : Verdict) → d ≤ 7 → Held v
+    → (said (column_of 3 (report_line d v)) ≡ some word) ↔ NoUpper v
 upper_none d v h x =
     let l = line_says d v h x in
     let t = fourth_none l.says in

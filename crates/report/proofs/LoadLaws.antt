@@ -1,116 +1,83 @@
--- A load's text: decimals after zeros, the whole part and the minus, each put before the one that stands already.
+-- A load's text: the decimals behind a one that keeps their zeros, the whole part and the minus, each put before what
+-- stands already.
 use mathlib.Core.Path.{◌≡◌, refl, sym, ap, ap₂, ◌∙◌}
 use mathlib.Core.Bool.{Bool, true, false}
-use mathlib.Core.List.{List, [], ◌∷◌, ◌++◌, append-nil, append_assoc}
+use mathlib.Core.List.{List, [], ◌∷◌, ◌++◌, append-nil}
 use Prim.Native.Nat.{ℕ, zero, suc, ◌+◌, ◌*◌, ◌-◌, ◌/◌, ◌%◌, ◌^◌, ◌≤◌, ◌<◌}
 use native.Mathlib.Nat.{pow-suc, one-le-pow, div-add-mod', mod-lt, div-le_of_le-mul}
 use native.Mathlib.Omega.{arith}
 use lib.IntN.{ℤ, pos, negsuc, nat_abs, ◌*ℤ◌}
-use lib.ListN.{length, take, drop, set, replicate, length-append, length-replicate, replicate-append-replicate}
-use lib.ListN.{take-append-drop}
-use lib.Seq.{take_at, drop_at, take_all, drop-length}
+use lib.ListN.{length, take, drop, set, length-append, length-replicate}
+use lib.Seq.{set_at}
 use lib.Signed.{◌≤ℤ◌, ◌<ℤ◌, lt_z, lt_z_yes, lt_z_no, clash_ℤ, nat_abs-le}
 use mir.Syntax.{w64, w128}
 use mir.Val.{SFits}
 use mir.Facts.{to_z-of_z}
-use borrow.Rule.Slice.PartMut.{put_mid}
 use Rattle.std.specs.Fmt.{decimal}
 use Rattle.integer.proofs.Machine.{is_true, is_false}
 use Rattle.integer.proofs.Order.{nonneg, ≤ℤ_pos}
 use Rattle.integer.specs.Decimal.{digits, last_digits, right_justified}
-use Rattle.integer.proofs.DecimalLaws.{digits_one, digits_more, digits-length, by_digits, last_digits-length}
-use Rattle.scope.specs.declared.Load.{Load}
-use Rattle.scope.specs.declared.Load.TheVariants.{Absent, Exact}
+use Rattle.integer.proofs.DecimalLaws.{digits_one, digits_more, last_digits-length}
+use Rattle.scope.specs.Cases.Load.{Exact}
 use Rattle.report.specs.Text.{pointed, fixed, none_text}
 use Rattle.report.specs.Report.{load_text}
 use Rattle.report.specs.Spelled.{decimals_text, round_to}
 use Rattle.report.proofs.DivisionLaws.{read, wide, is_wide, power_small, round_small, units_small}
 use Rattle.report.proofs.ColumnLaws.{decimal_digits, decimal_short, spaces, put_before, byte_before, justified}
 
--- ---- the last d digits of a number below 10^d are its digits after zeros
+-- ---- the decimals: after a one, each of the last d digits is written, and the point takes the one's place
 
-abbrev zeros : ℕ → List ℕ
-zeros n = replicate n 48
-
-last_zeros : (d : ℕ) → last_digits d 0 ≡ zeros d
+after_one : (d k : ℕ) → k < 10 ^ d → digits (10 ^ d + k) ≡ 49 ∷ last_digits d k
 unfolding last_digits
-last_zeros zero = refl
-last_zeros (suc d) = ap (λ x. x ++ (48 ∷ [])) (last_zeros d) ∙ push d
-  where
-    push : (n : ℕ) → zeros n ++ (48 ∷ []) ≡ zeros (suc n)
-    push zero = refl
-    push (suc n) = ap (λ l. 48 ∷ l) (push n)
+after_one zero k h = let e : 10 ^ 0 + k ≡ 1 = omega arith in ap digits e ∙ digits_one 1 (omega arith)
+after_one (suc d) k h =
+    let n = 10 ^ suc d + k in
+    let p : 10 ^ suc d ≡ 10 ^ d * 10 = pow-suc 10 d in
+    let some : 1 ≤ 10 ^ d = one-le-pow d 10 (omega arith) in
+    let q : n / 10 ≡ 10 ^ d + k / 10 = omega arith in
+    let r : n % 10 ≡ k % 10 = omega arith in
+    let small : k / 10 < 10 ^ d = omega arith in
+    digits_more n (omega arith)
+    ∙ ap₂ (λ x y. x ++ ((48 + y) ∷ [])) (ap digits q ∙ after_one d (k / 10) small) r
 
-Padded : ℕ → Type 0
-Padded k = (d : ℕ) → k < 10 ^ d → 0 < d → zeros (d - length (digits k)) ++ digits k ≡ last_digits d k
+after_point : (d k : ℕ) → (d ≡ 0 → ⊥) → decimals_text d k ≡ 46 ∷ last_digits d k
+unfolding decimals_text
+after_point zero k z = absurd (z refl)
+after_point (suc d) k z = refl
 
-padded_one : (k : ℕ) → k < 10 → Padded k
-unfolding Padded last_digits
-padded_one k h zero l s = absurd (omega arith)
-padded_one k h (suc d) l s =
-    let q : k / 10 ≡ 0 = omega arith in
-    let r : k % 10 ≡ k = omega arith in
-    let n : suc d - 1 ≡ d = omega arith in
-    rw (digits_one k h, q, r) (rw n (ap (λ x. x ++ ((48 + k) ∷ [])) (sym (last_zeros d))))
+module _ (d k : ℕ) (few : d ≤ 7) (h : k < 10 ^ d) {power : ℕ} (p : power ≡ 10 ^ d) where
+  after_one_fits : power + k < 2 ^ 64
+  after_one_fits = omega (arith, power_small d few)
 
-padded_more : (k : ℕ) → 10 ≤ k → Padded (k / 10) → Padded k
-unfolding Padded last_digits
-padded_more k h p zero l s = absurd (omega arith)
-padded_more k h p (suc zero) l s = absurd (omega arith)
-padded_more k h p (suc (suc d)) l s =
-    let ds = digits (k / 10) in
-    let n : suc (suc d) - length (ds ++ ((48 + k % 10) ∷ [])) ≡ suc d - length ds =
-    omega (arith, length-append ds ((48 + k % 10) ∷ [])) in
-    let small : k / 10 < 10 ^ suc d = omega (arith, pow-suc 10 (suc d)) in
-    rw (digits_more k h, n, ← append_assoc) (ap (λ x. x ++ ((48 + k % 10) ∷ [])) (p (suc d) small (omega arith)))
+  after_one_is : decimal (power + k) ≡ 49 ∷ last_digits d k
+  after_one_is = decimal_digits (power + k) after_one_fits ∙ ap (λ n. digits (n + k)) p ∙ after_one d k h
 
-padded : (d k : ℕ) → k < 10 ^ d → 0 < d → zeros (d - length (digits k)) ++ digits k ≡ last_digits d k
-unfolding Padded
-padded d k = by_digits Padded padded_one padded_more k d
+  pub after_one_short : length (decimal (power + k)) ≤ 28
+  after_one_short = omega (arith, ap length after_one_is, last_digits-length d k)
 
--- ---- the decimals
+  module _ (from : ℕ) (e : from + length (decimal (power + k)) ≡ 28) where
+    pub point_room : from < 28
+    point_room = omega (arith, ap length after_one_is)
 
--- zeros are put at the end of a blank column
-zeros_put : (a d : ℕ) {blank put : List ℕ} → blank ≡ spaces (a + d)
-    → put ≡ replicate (length (take (length blank - a) (drop a blank))) 48
-    → put_mid a (length blank - a) blank put ≡ spaces a ++ zeros d
-zeros_put a d {blank} {put} e f =
-    let c : blank ≡ spaces a ++ spaces d = e ∙ sym (replicate-append-replicate a d 32) in
-    let k : length blank - a ≡ d = omega (arith, ap length e, length-replicate {A = ℕ} (a + d) 32) in
-    let n = length-replicate {A = ℕ} d 32 in
-    let x : drop a blank ≡ spaces d = ap (drop a) c ∙ drop_at (spaces a) (spaces d) a (length-replicate a 32) in
-    let y : take a blank ≡ spaces a = ap (take a) c ∙ take_at (spaces a) (spaces d) a (length-replicate a 32) in
-    let z : put ≡ zeros d = f ∙ ap zeros (ap length (ap₂ take k x ∙ take_all d (spaces d) (omega arith)) ∙ n) in
-    let t : drop (length blank - a) (drop a blank) ≡ [] =
-    ap₂ drop k x ∙ ap (λ i. drop i (spaces d)) (sym n) ∙ drop-length (spaces d) in
-    ap₂ ◌++◌ y (ap₂ ◌++◌ z t ∙ append-nil (zeros d))
+    module _ (z : d ≡ 0 → ⊥) where
+      pub point_place : from + length (decimals_text d k) ≡ 28
+      point_place = ap (λ t. from + length t) (after_point d k z) ∙ ap (λ t. from + length t) (sym after_one_is) ∙ e
 
--- and digits over the last of them
-digits_put : (a d k from : ℕ) {before after : List ℕ} → before ≡ spaces a ++ zeros d → k < 10 ^ d → 0 < d → k < 2 ^ 64
-    → from + length (decimal k) ≡ a + d → drop from after ≡ decimal k ++ drop (a + d) before
-    → take from after ≡ take from before → after ≡ spaces a ++ last_digits d k
-digits_put a d k from {before} {after} b s p f e u t =
-    let n = length (digits k) in
-    let c = decimal_digits k f in
-    let l : n ≤ d = digits-length d k p s in
-    let m = d - n in
-    let x : d ≡ m + n = omega arith in
-    let front = spaces a ++ zeros m in
-    let w : before ≡ front ++ zeros n =
-    b ∙ ap (λ z. spaces a ++ z) (ap zeros x ∙ sym (replicate-append-replicate m n 48))
-    ∙ sym (append_assoc (spaces a) (zeros m) (zeros n)) in
-    let la = length-replicate {A = ℕ} a 32 in
-    let long : length front ≡ from =
-    length-append (spaces a) (zeros m) ∙ omega (arith, la, length-replicate {A = ℕ} m 48, ap length c) in
-    let whole : a + d ≡ length before =
-    sym (ap length b ∙ length-append (spaces a) (zeros d) ∙ ap₂ ◌+◌ la (length-replicate {A = ℕ} d 48)) in
-    let none : drop (a + d) before ≡ [] = ap (λ i. drop i before) whole ∙ drop-length before in
-    sym (take-append-drop from after)
-    ∙ ap₂ ◌++◌
-    (t ∙ ap (take from) w ∙ take_at front (zeros n) from long)
-    (u ∙ ap₂ ◌++◌ c none ∙ append-nil (digits k))
-    ∙ append_assoc (spaces a) (zeros m) (digits k)
-    ∙ ap (λ z. spaces a ++ z) (padded d k s p)
+      pub with_point : (before after : List ℕ) → before ≡ spaces 28
+          → drop from after ≡ decimal (power + k) ++ drop 28 before → take from after ≡ take from before
+          → set after from 46 ≡ spaces from ++ decimals_text d k
+      with_point before after b u t =
+          let y : after ≡ spaces from ++ (49 ∷ last_digits d k) =
+          put_before 28 from (decimal (power + k)) [] b e u t
+          ∙ ap (λ x. spaces from ++ x) (append-nil (decimal (power + k)) ∙ after_one_is) in
+          ap (λ x. set x from 46) y
+          ∙ set_at (spaces from) 49 (last_digits d k) 46 from (length-replicate from 32)
+          ∙ ap (λ x. spaces from ++ x) (sym (after_point d k z))
+
+-- the point is in its column, or at its end
+pub point_there : (point : ℕ) (text column : List ℕ) → column ≡ spaces point ++ text → point ≤ length column
+point_there point text column e =
+    omega (arith, ap length e, length-append (spaces point) text, length-replicate {A = ℕ} point 32)
 
 decimals_short : (d k : ℕ) → d ≤ 7 → length (decimals_text d k) ≤ 8
 unfolding decimals_text
@@ -124,39 +91,8 @@ no_place (suc d) k h = absurd (omega arith)
 
 pub no_decimals : (d k : ℕ) {column : List ℕ} → d ≡ 0 → column ≡ spaces 28 → column ≡ spaces 28 ++ decimals_text d k
 unfolding decimals_text
-no_decimals zero k h e = e ∙ sym (append-nil (spaces 28))
+no_decimals zero k h e = e
 no_decimals (suc d) k h e = absurd (omega arith)
-
-pub point_place : (d k : ℕ) → d ≤ 7 → (d ≡ 0 → ⊥) → 28 - d - 1 + length (decimals_text d k) ≡ 28
-unfolding decimals_text
-point_place zero k h z = absurd (z refl)
-point_place (suc d) k h z = omega (arith, last_digits-length (suc d) k)
-
-pub with_point : (d k from : ℕ) (blank after : List ℕ) {put : List ℕ} → d ≤ 7 → (d ≡ 0 → ⊥) → k < 10 ^ d → k < 2 ^ 64
-    → blank ≡ spaces 28 → put ≡ replicate (length (take (length blank - (28 - d)) (drop (28 - d) blank))) 48
-    → from + length (decimal k) ≡ 28
-    → drop from after ≡ decimal k ++ drop 28 (put_mid (28 - d) (length blank - (28 - d)) blank put)
-    → take from after ≡ take from (put_mid (28 - d) (length blank - (28 - d)) blank put)
-    → set after (28 - d - 1) 46 ≡ spaces (28 - d - 1) ++ decimals_text d k
-unfolding decimals_text
-with_point zero k from blank after h z s f b p e u t = absurd (z refl)
-with_point (suc d) k from blank after {put} h z s f b p e u t =
-    let a = 28 - suc d in
-    let n : 28 ≡ a + suc d = omega arith in
-    let x = zeros_put a (suc d) (b ∙ ap spaces n) p in
-    let y : after ≡ spaces a ++ last_digits (suc d) k =
-    digits_put a (suc d) k from x s (omega arith) f (e ∙ n)
-    (u ∙ ap (λ i. decimal k ++ drop i (put_mid a (length blank - a) blank put)) n) t in
-    byte_before a 46 (last_digits (suc d) k) y (omega arith)
-
-pub zeros_long : (d : ℕ) (blank : List ℕ) {put : List ℕ} → d ≤ 7 → blank ≡ spaces 28
-    → put ≡ replicate (length (take (length blank - (28 - d)) (drop (28 - d) blank))) 48
-    → 28 ≤ length (put_mid (28 - d) (length blank - (28 - d)) blank put)
-zeros_long d blank h b p =
-    let a = 28 - d in
-    let n : 28 ≡ a + d = omega arith in
-    rw (zeros_put a d (b ∙ ap spaces n) p)
-    (omega (arith, length-append (spaces a) (zeros d), length-replicate {A = ℕ} a 32, length-replicate {A = ℕ} d 48))
 
 -- ---- the pieces together
 
@@ -264,18 +200,12 @@ none_text_of round d num (pos zero) h = refl
 none_text_of round d num (pos (suc k)) h = absurd (omega (arith, ≤ℤ_pos h))
 none_text_of round d num (negsuc k) h = refl
 
-pub absent_column : (round : ℤ → ℕ → ℤ) (d : ℕ) (load : Load) {now : List ℕ} → load ≡ Absent
-    → now ≡ right_justified 28 none_text → now ≡ right_justified 28 (load_text round d load)
-unfolding load_text
-absent_column round d load e f = rw e f
-
 module _ (num den : ℤ) (g : SFits w64 den) where
-  pub no_load_column : (round : ℤ → ℕ → ℤ) (d : ℕ) (load : Load) {now : List ℕ} → load ≡ Exact num den
-      → lt_z (pos 0) (read den) ≡ false → now ≡ right_justified 28 none_text
-      → now ≡ right_justified 28 (load_text round d load)
-  no_load_column round d load e l n =
+  pub no_load_column : (round : ℤ → ℕ → ℤ) (d : ℕ) {now : List ℕ} → lt_z (pos 0) (read den) ≡ false
+      → now ≡ right_justified 28 none_text → now ≡ right_justified 28 (load_text round d (Exact num den))
+  no_load_column round d l n =
       let h = lt_z_no (is_false (ap (λ z. lt_z (pos 0) z) (to_z-of_z g)) l) in
-      n ∙ ap (right_justified 28) (sym (ap (load_text round d) e ∙ none_text_of round d num den h))
+      n ∙ ap (right_justified 28) (sym (none_text_of round d num den h))
 
   module _ (f : SFits w64 num) (up : Bool) (d : ℕ) (few : d ≤ 7) {v : ℤ}
       (r : v ≡ round_to up (read num *ℤ pos (10 ^ d)) (nat_abs (read den))) where
@@ -293,9 +223,9 @@ module _ (num den : ℤ) (g : SFits w64 den) where
     pub load_room : nat_abs (wide v) ≤ 10 ^ d * 2 ^ 63
     load_room = rw rounded_wide rounded_short
 
-    pub load_column : (load : Load) {now : List ℕ} → load ≡ Exact num den → lt_z (pos 0) (read den) ≡ true
-        → now ≡ right_justified 28 (fixed d (wide v)) → now ≡ right_justified 28 (load_text (round_to up) d load)
-    load_column load e l n =
+    pub load_column : {now : List ℕ} → lt_z (pos 0) (read den) ≡ true → now ≡ right_justified 28 (fixed d (wide v))
+        → now ≡ right_justified 28 (load_text (round_to up) d (Exact num den))
+    load_column l n =
         let h = lt_z_yes (is_true (ap (λ z. lt_z (pos 0) z) (to_z-of_z g)) l) in
         n ∙ ap (λ z. right_justified 28 (fixed d z)) (rounded_wide ∙ rounded_is)
-        ∙ ap (right_justified 28) (sym (ap (load_text (round_to up) d) e ∙ exact_text (round_to up) d num den h))
+        ∙ ap (right_justified 28) (sym (exact_text (round_to up) d num den h))

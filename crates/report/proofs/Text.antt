@@ -1,4 +1,5 @@
--- A text of the report says the number that it was written from: the digits before the point and after it are read back by the laws of decimal digits.
+-- A text of the report says the number that it was written from: the digits before the point and after it are read
+-- back by the laws of decimal digits.
 use mathlib.Core.Path.{◌≡◌, refl, sym, ap, ap₂, ◌∙◌}
 use mathlib.Core.Logic.{◌≢◌}
 use mathlib.Core.Bool.{Bool, true, false, cond, ◌&&◌}
@@ -13,9 +14,12 @@ use lib.Signed.{◌<ℤ◌, lt_z_yes}
 use lib.ListN.{length, replicate, length-append}
 use borrow.Author.Tests.{ne_eqb}
 use mir.Facts.{and_yes, yes_and}
-use Rattle.integer.specs.Decimal.{digits, last_digits, right_justified, proper_digits, is_digit, all_digits, value_after}
-use Rattle.integer.proofs.DecimalLaws.{digits-length, value_digits, digits_proper, digits_some, proper_all, first_digit, last_digits-length, last_digits-digits, last_digits_value}
-use Rattle.report.specs.Text.{pointed, fixed, none_text, word, number, MinusSaid, before_point, after_point, decimal, said_number, below_zero, said_minus, and_said, signed_decimal, is_none, said}
+use Rattle.integer.specs.Decimal.{digits, last_digits, right_justified}
+use Rattle.integer.specs.Decimal.{proper_digits, is_digit, all_digits, value_after}
+use Rattle.integer.proofs.DecimalLaws.{digits-length, value_digits, digits_proper, digits_some, proper_all}
+use Rattle.integer.proofs.DecimalLaws.{first_digit, last_digits-length, last_digits-digits, last_digits_value}
+use Rattle.report.specs.Text.{pointed, fixed, none_text, word, number, MinusSaid, before_point, after_point, decimal}
+use Rattle.report.specs.Text.{said_number, below_zero, said_minus, and_said, signed_decimal, is_none, said}
 
 -- ---- before and after the point
 
@@ -24,28 +28,34 @@ unfolding before_point all_digits
 before_digits [] cs t = refl
 before_digits (b ∷ bs) cs t =
     let h = first_digit b bs t in
-    rw (ne_eqb b 46 (omega arith), before_point) (ap (λ x. b ∷ x) (before_digits bs cs (and_yes (is_digit b) (all_digits bs) t).1))
+    let rest = (and_yes (is_digit b) (all_digits bs) t).1 in
+    rw (ne_eqb b 46 (omega arith), before_point) (ap (λ x. b ∷ x) (before_digits bs cs rest))
 
 after_digits : (bs cs : List ℕ) → T (all_digits bs) → after_point (bs ++ cs) ≡ after_point cs
 unfolding after_point all_digits
 after_digits [] cs t = refl
 after_digits (b ∷ bs) cs t =
     let h = first_digit b bs t in
-    rw (ne_eqb b 46 (omega arith), after_point) (after_digits bs cs (and_yes (is_digit b) (all_digits bs) t).1)
+    let rest = (and_yes (is_digit b) (all_digits bs) t).1 in
+    rw (ne_eqb b 46 (omega arith), after_point) (after_digits bs cs rest)
 
 passes : {A : Type 0} (b : Bool) (x : A) → T b → cond b (some x) none ≡ some x
 passes true x t = refl
 passes false x t = absurd t
 
-without_point : (bs ws : List ℕ) → after_point bs ≡ none → before_point bs ≡ ws → T (proper_digits ws) → decimal bs ≡ some (value_after 0 ws, 0)
+without_point : (bs ws : List ℕ) → after_point bs ≡ none → before_point bs ≡ ws → T (proper_digits ws)
+    → decimal bs ≡ some (value_after 0 ws, 0)
 unfolding decimal
 without_point bs ws a b t = rw (a, decimal) (rw b (passes (proper_digits ws) (value_after 0 ws, 0) t))
 
-with_point : (bs ws cs : List ℕ) → after_point bs ≡ some cs → before_point bs ≡ ws → T (proper_digits ws) → T (all_digits cs) → 0 < length cs → decimal bs ≡ some (value_after (value_after 0 ws) cs, length cs)
+with_point : (bs ws cs : List ℕ) → after_point bs ≡ some cs → before_point bs ≡ ws → T (proper_digits ws)
+    → T (all_digits cs) → 0 < length cs → decimal bs ≡ some (value_after (value_after 0 ws) cs, length cs)
 unfolding decimal
 with_point bs ws [] a b t u l = absurd (omega arith)
 with_point bs ws (c ∷ cs) a b t u l =
-    rw (a, decimal) (rw b (passes (proper_digits ws && all_digits (c ∷ cs)) (value_after (value_after 0 ws) (c ∷ cs), length (c ∷ cs)) (yes_and (proper_digits ws) (all_digits (c ∷ cs)) t u)))
+    let both = yes_and (proper_digits ws) (all_digits (c ∷ cs)) t u in
+    let v : ℕ = value_after (value_after 0 ws) (c ∷ cs) in
+    rw (a, decimal) (rw b (passes (proper_digits ws && all_digits (c ∷ cs)) (v, length (c ∷ cs)) both))
 
 pointed-said : (d k : ℕ) → decimal (pointed d k) ≡ some (k, d)
 unfolding pointed before_point after_point
@@ -53,7 +63,9 @@ pointed-said zero k =
     let t = digits_proper k in
     let a = proper_all (digits k) t in
     let n = append-nil (digits k) in
-    without_point (digits k) (digits k) (rw n at (after_digits (digits k) [] a)) (rw n at (before_digits (digits k) [] a)) t
+    let after = rw n at (after_digits (digits k) [] a) in
+    let before = rw n at (before_digits (digits k) [] a) in
+    without_point (digits k) (digits k) after before t
     ∙ ap (λ x. some (x, 0)) (value_digits k)
 pointed-said (suc d) k =
     let q = k / 10 ^ suc d in
@@ -61,8 +73,11 @@ pointed-said (suc d) k =
     let t = digits_proper q in
     let a = proper_all (digits q) t in
     let l = last_digits-length (suc d) k in
-    let v : value_after (value_after 0 (digits q)) cs ≡ k = ap (λ x. value_after x cs) (value_digits q) ∙ last_digits_value q (suc d) k ∙ div-add-mod' k (10 ^ suc d) in
-    with_point (digits q ++ (46 ∷ cs)) (digits q) cs (after_digits (digits q) (46 ∷ cs) a) (before_digits (digits q) (46 ∷ cs) a ∙ append-nil (digits q)) t (last_digits-digits (suc d) k) (omega arith)
+    let v : value_after (value_after 0 (digits q)) cs ≡ k =
+    ap (λ x. value_after x cs) (value_digits q) ∙ last_digits_value q (suc d) k ∙ div-add-mod' k (10 ^ suc d) in
+    let after = after_digits (digits q) (46 ∷ cs) a in
+    let before = before_digits (digits q) (46 ∷ cs) a ∙ append-nil (digits q) in
+    with_point (digits q ++ (46 ∷ cs)) (digits q) cs after before t (last_digits-digits (suc d) k) (omega arith)
     ∙ ap₂ (λ x n. some (x, n)) v l
 
 -- ---- a column
@@ -89,12 +104,14 @@ not_none b (c ∷ d ∷ e ∷ []) h = rw (ne_eqb b 110 h)
 not_none b (c ∷ d ∷ e ∷ f ∷ bs) h = refl
 
 -- a text that begins with a digit is no word and has no minus
-from_digit : (bs cs : List ℕ) → T (all_digits bs) → 0 < length bs → said (bs ++ cs) ≡ and_said said_number (decimal (bs ++ cs))
+from_digit : (bs cs : List ℕ) → T (all_digits bs) → 0 < length bs
+    → said (bs ++ cs) ≡ and_said said_number (decimal (bs ++ cs))
 unfolding said signed_decimal
 from_digit [] cs t l = absurd (omega arith)
 from_digit (b ∷ bs) cs t l =
     let h = first_digit b bs t in
-    rw (ne_eqb b 32 (omega arith), said) (rw (not_none b (bs ++ cs) (omega arith)) (rw (ne_eqb b 45 (omega arith), signed_decimal)))
+    rw (ne_eqb b 32 (omega arith), said)
+    (rw (not_none b (bs ++ cs) (omega arith)) (rw (ne_eqb b 45 (omega arith), signed_decimal)))
 
 -- a text after a minus
 from_minus : (bs : List ℕ) → said (45 ∷ bs) ≡ and_said said_minus (decimal bs)
@@ -104,7 +121,8 @@ from_minus bs = rw (not_none 45 bs (omega arith))
 said-pointed : (d k : ℕ) → said (pointed d k) ≡ some (number (pos k) d)
 unfolding pointed said_number and_said
 said-pointed zero k =
-    (rw (append-nil (digits k)) at (from_digit (digits k) [] (proper_all (digits k) (digits_proper k)) (digits_some k)))
+    let all = proper_all (digits k) (digits_proper k) in
+    (rw (append-nil (digits k)) at (from_digit (digits k) [] all (digits_some k)))
     ∙ ap (and_said said_number) (pointed-said 0 k)
 said-pointed (suc d) k =
     let q = k / 10 ^ suc d in

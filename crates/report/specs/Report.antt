@@ -4,12 +4,12 @@ use Rattle.std.specs.Prelude.{Bool, ◌&&◌, List, [], ◌∷◌, ◌++◌, ℕ
 use Rattle.std.specs.Int.Signed.{le_z}
 use Rattle.integer.specs.Decimal.{digits, right_justified}
 use Rattle.integer.specs.Round.{floor_div, ceil_div}
-use Rattle.scope.specs.declared.Load.{Load}
-use Rattle.scope.specs.declared.Load.TheVariants.{Absent, Exact}
-use Rattle.scope.specs.declared.OpenRows.{OpenRows}
-use Rattle.scope.specs.declared.OpenRows.TheVariants.{Absent as NoCount, Count}
-use Rattle.scope.specs.declared.Verdict.{Verdict}
-use Rattle.scope.specs.declared.Verdict.TheVariants.{Accepted, Refused}
+use Rattle.scope.specs.Cases.Load.{Load}
+use Rattle.scope.specs.Cases.Load.{Absent, Exact}
+use Rattle.scope.specs.Cases.OpenRows.{OpenRows}
+use Rattle.scope.specs.Cases.OpenRows.{Absent as NoCount, Count}
+use Rattle.scope.specs.Cases.Verdict.{Verdict}
+use Rattle.scope.specs.Cases.Verdict.{Accepted, Refused}
 use Rattle.scope.specs.Answer.{place_number}
 use Rattle.report.specs.Text.{fixed, none_text}
 
@@ -43,7 +43,8 @@ open_text (Count k) = digits k
 unfoldable pub four_columns : List ℕ → List ℕ → List ℕ → List ℕ → List ℕ
 four_columns a b c e =
     right_justified column_bytes a
-    ++ (right_justified column_bytes b ++ (right_justified column_bytes c ++ (right_justified column_bytes e ++ (10 ∷ []))))
+    ++ (right_justified column_bytes b
+    ++ (right_justified column_bytes c ++ (right_justified column_bytes e ++ (10 ∷ []))))
 
 -- "Accepted .. reports: 0; the open rows ..; l/n; W/m"; "Refused: number, place, none, none"
 unfoldable pub report_line : ℕ → Verdict → List ℕ

@@ -1,7 +1,8 @@
 -- How the report spells a load (document 01, 'Verdict and report'): "at least one digit before the point; a zero has
 -- no minus"; with d decimals, "with no point at 0" (document 02, N5).
 -- And what such a text says, read with no look at how it was written.
-use Rattle.std.specs.Prelude.{◌≡◌, Bool, true, false, cond, ◌&&◌, List, [], ◌∷◌, ◌++◌, ℕ, zero, suc, ◌/◌, ◌^◌, ℤ, pos, negsuc, ◌<ℤ◌, eqb, length, replicate}
+use Rattle.std.specs.Prelude.{◌≡◌, Bool, true, false, cond, ◌&&◌, List, [], ◌∷◌, ◌++◌, length, replicate}
+use Rattle.std.specs.Prelude.{ℕ, zero, suc, ◌/◌, ◌^◌, ℤ, pos, negsuc, ◌<ℤ◌, eqb}
 use Rattle.std.proofs.Math.Option.{Option, none, some}
 use Rattle.integer.specs.Decimal.{digits, last_digits, proper_digits, all_digits, value_after}
 

@@ -3,122 +3,86 @@
 #![tactic(auto)]
 
 mod column;
+mod decimals;
 mod division;
 mod load;
 
-ghost use Rattle.std.specs.Prelude.{◌≡◌, ◌++◌, ◌≤◌, length, drop};
-ghost use Rattle.integer.specs.Decimal.{digits, right_justified};
-ghost use Rattle.report.specs.Report.{
-  column_bytes,
-  report_bytes,
-  lower_text,
-  upper_text,
-  open_text,
-  four_columns,
-  report_line,
-  most_decimals,
-  is_decimals,
-};
-ghost use Rattle.report.specs.Buffer.{Reports};
+ghost use Rattle.std.specs.Prelude.{◌≡◌, [], ◌∷◌, ◌++◌, ◌≤◌, length, drop, flat_map};
+ghost use Rattle.scope.specs.Answer.{verdict_of};
+ghost use Rattle.report.specs.Report.{report_bytes, report_line};
+ghost use Rattle.report.specs.Buffer.{error_number, Reports};
 
-use column::{WIDTH, put_none, put_number};
-use load::put_load;
-use scope::{Load, OpenRows, Verdict, place_number};
+use column::{Column, WIDTH, none_column, number_column, open_column};
+use decimals::Decimals;
+use load::load_column;
+use scope::Verdict;
 
-// Whether the line was written, the buffer has no room for it, or no report has so many decimals.
+// Why no line is written, by the number that is returned for it: no report has so many decimals, which comes first, or
+// the buffer has no room for it.
 #[derive(Clone, Copy)]
-pub enum Reported {
-    Written,
-    TooShort,
-    OtherDecimals,
+pub enum ReportError {
+    OtherDecimals = 43,
+    ShortBuffer = 41,
 }
 
-// Where the columns after the first begin, and where the last ends.
-const SECOND: usize = WIDTH;
+impl ReportError {
+    // The number that is returned for it, with place 0.
+    pub fn number(self) -> u32
+        ensures { result ≡ error_number self }
+    {
+        self as u32
+    }
+}
 
-const THIRD: usize = 2 * WIDTH;
+const COLUMNS: usize = 4;
 
-const FOURTH: usize = 3 * WIDTH;
-
-const END: usize = 4 * WIDTH;
+// Where the columns end.
+const END: usize = COLUMNS * WIDTH;
 
 // "The report is 113 bytes": four columns and byte 10.
 pub const LINE: usize = END + 1;
 
-// "a number of decimals from 0 to 7"
-const MOST_DECIMALS: i64 = 7;
-
 // "The desk program and N3's runs go on with six"
 pub const USUAL_DECIMALS: i64 = 6;
 
-// The open rows, or none where there is no count.
-fn put_open(column: &mut [u8], open_rows: OpenRows)
-    requires { length column.old ≡ column_bytes }
-    ensures { column.new ≡ right_justified column_bytes (open_text open_rows) }
+// The columns that make the line, with byte 10 behind them: "Accepted .. reports: 0; the open rows ..; l/n; W/m";
+// "Refused: number, place, none, none".
+fn line_columns(v: Verdict, d: Decimals) -> [Column; COLUMNS]
+    ensures { flat_map (λ c. c) result ++ (10 ∷ []) ≡ report_line d.count (verdict_of v) }
 {
-    match open_rows {
-        OpenRows::Absent => put_none(column),
-        OpenRows::Count(k) => put_number(column, k),
+    match v {
+        Ok(a) => [
+            number_column(0),
+            open_column(a.open_rows),
+            load_column(a.lower, false, d),
+            load_column(a.upper, true, d),
+        ],
+        Err(refusal) => [
+            number_column(u64::from(refusal.number)),
+            number_column(u64::from(refusal.place.number())),
+            none_column(),
+            none_column(),
+        ],
     }
 }
 
-// Four columns and byte 10. The second is a number or none, as the open rows are.
-fn put_line(buffer: &mut [u8], number: u64, second: OpenRows, lower: Load, upper: Load, d: usize)
-    requires few_decimals { d ≤ most_decimals }
+// Four columns and byte 10, at the front of the buffer.
+fn put_line(buffer: &mut [u8], columns: &[Column; COLUMNS])
     requires room { report_bytes ≤ length buffer.old }
-    ensures { buffer.new
-        ≡ four_columns (digits number) (open_text second) (lower_text d lower) (upper_text d upper)
-        ++ drop report_bytes buffer.old }
+    ensures { buffer.new ≡ flat_map (λ c. c) columns.now ++ (10 ∷ drop report_bytes buffer.old) }
 {
-    put_number(&mut buffer[0..SECOND], number);
-    put_open(&mut buffer[SECOND..THIRD], second);
-    put_load(&mut buffer[THIRD..FOURTH], lower, false, d);
-    put_load(&mut buffer[FOURTH..END], upper, true, d);
+    buffer[0..END].copy_from_slice(columns.as_flattened());
     buffer[END] = b'\n';
 }
 
-// "Accepted .. reports: 0; the open rows ..; l/n; W/m"; "Refused: number, place, none, none"
-fn write_line(v: Verdict, buffer: &mut [u8], d: usize)
-    requires room { report_bytes ≤ length buffer.old }
-    requires few_decimals { d ≤ most_decimals }
-    ensures { buffer.new ≡ report_line d v ++ drop report_bytes buffer.old }
-{
-    match v {
-        Verdict::Accepted {
-            open_rows,
-            lower,
-            upper,
-        } => put_line(buffer, 0, open_rows, lower, upper, d),
-        Verdict::Refused { number, place } => {
-            let second = OpenRows::Count(u64::from(place_number(place)));
-            put_line(
-                buffer,
-                u64::from(number),
-                second,
-                Load::Absent,
-                Load::Absent,
-                d,
-            );
-        }
-    }
-}
-
-fn has_decimals(decimals: i64) -> bool
-    ensures { result ≡ is_decimals decimals }
-{
-    (0..=MOST_DECIMALS).contains(&decimals)
-}
-
 // The report of a verdict, with so many decimals, at the front of the buffer that is lent.
-pub fn write_report(v: Verdict, buffer: &mut [u8], decimals: i64) -> Reported
-    ensures { Reports decimals v buffer.old buffer.new result }
+pub fn write_report(v: Verdict, buffer: &mut [u8], decimals: i64) -> Result<(), ReportError>
+    ensures { Reports decimals (verdict_of v) buffer.old buffer.new result }
 {
-    if !has_decimals(decimals) {
-        return Reported::OtherDecimals;
-    }
+    let d = Decimals::try_from(decimals)?;
     if buffer.len() < LINE {
-        return Reported::TooShort;
+        return Err(ReportError::ShortBuffer);
     }
-    write_line(v, buffer, decimals as usize);
-    Reported::Written
+    put_line(buffer, &line_columns(v, d));
+    Ok(())
 }

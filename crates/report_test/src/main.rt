@@ -4,12 +4,12 @@
 #![tactic(auto)]
 
 use report::{USUAL_DECIMALS, write_report};
-use scope::{Load, OpenRows, Place, Verdict};
+use scope::{Accepted, Load, Place, Reason, Refusal, Verdict};
 use std::io;
 
 fn show_with(rt: &impl Print, v: Verdict, decimals: i64) -> io::Result<()> {
     let mut buffer = [b'#'; 113];
-    write_report(v, &mut buffer, decimals);
+    let _ = write_report(v, &mut buffer, decimals);
     rt.write_all(&buffer)
 }
 
@@ -19,11 +19,12 @@ fn show(rt: &impl Print, v: Verdict) -> io::Result<()> {
 
 // The same load as lower and as upper.
 fn both_with(rt: &impl Print, num: i64, den: i64, decimals: i64) -> io::Result<()> {
-    let v = Verdict::Accepted {
-        open_rows: OpenRows::Count(2),
-        lower: Load::Exact { num, den },
-        upper: Load::Exact { num, den },
-    };
+    let load = Some(Load { num, den });
+    let v = Ok(Accepted {
+        open_rows: Some(2),
+        lower: load,
+        upper: load,
+    });
     show_with(rt, v, decimals)
 }
 
@@ -32,20 +33,17 @@ fn both(rt: &impl Print, num: i64, den: i64) -> io::Result<()> {
 }
 
 fn refused() -> Verdict {
-    Verdict::Refused {
-        number: 22,
-        place: Place::Row(1),
-    }
+    Err(Reason::Strength.at(Place::Row(1)))
 }
 
 // One byte too few, and some too many.
 fn other_buffers(rt: &impl Print) -> io::Result<()> {
     let mut short = [b'#'; 112];
-    write_report(refused(), &mut short, USUAL_DECIMALS);
+    let _ = write_report(refused(), &mut short, USUAL_DECIMALS);
     rt.write_all(&short)?;
     rt.write_all(b"\n")?;
     let mut long = [b'#'; 120];
-    write_report(refused(), &mut long, USUAL_DECIMALS);
+    let _ = write_report(refused(), &mut long, USUAL_DECIMALS);
     rt.write_all(&long)?;
     rt.write_all(b"\n")
 }
@@ -53,7 +51,7 @@ fn other_buffers(rt: &impl Print) -> io::Result<()> {
 // A number of decimals that no report has: nothing is written.
 fn no_line(rt: &impl Print, decimals: i64) -> io::Result<()> {
     let mut buffer = [b'#'; 113];
-    write_report(refused(), &mut buffer, decimals);
+    let _ = write_report(refused(), &mut buffer, decimals);
     rt.write_all(&buffer)?;
     rt.write_all(b"\n")
 }
@@ -70,11 +68,11 @@ fn other_decimals(rt: &impl Print) -> io::Result<()> {
     both_with(rt, 333000001, 1000000000, 7)?;
     both_with(rt, -1, 2, 0)?;
     both_with(rt, 1, 2, 0)?;
-    both_with(rt, 9223372036854775807, 1, 0)?;
-    both_with(rt, -9223372036854775808, 1, 7)?;
+    both_with(rt, i64::MAX, 1, 0)?;
+    both_with(rt, i64::MIN, 1, 7)?;
     no_line(rt, -1)?;
     no_line(rt, 8)?;
-    no_line(rt, -9223372036854775808)
+    no_line(rt, i64::MIN)
 }
 
 fn main(rt: HostRuntime) -> io::Result<()> {
@@ -86,33 +84,33 @@ fn main(rt: HostRuntime) -> io::Result<()> {
     both(&rt, 0, 7)?;
     both(&rt, 5, 0)?;
     both(&rt, 5, -3)?;
-    both(&rt, 9223372036854775807, 1)?;
-    both(&rt, -9223372036854775808, 1)?;
-    both(&rt, -9223372036854775808, 9223372036854775807)?;
-    both(&rt, 9223372036854775806, 9223372036854775807)?;
-    both(&rt, -9223372036854775806, 9223372036854775807)?;
+    both(&rt, i64::MAX, 1)?;
+    both(&rt, i64::MIN, 1)?;
+    both(&rt, i64::MIN, i64::MAX)?;
+    both(&rt, i64::MAX - 1, i64::MAX)?;
+    both(&rt, 1 - i64::MAX, i64::MAX)?;
     show(
         &rt,
-        Verdict::Accepted {
-            open_rows: OpenRows::Absent,
-            lower: Load::Absent,
-            upper: Load::Exact { num: 600, den: 30 },
-        },
+        Ok(Accepted {
+            open_rows: None,
+            lower: None,
+            upper: Some(Load { num: 600, den: 30 }),
+        }),
     )?;
     show(
         &rt,
-        Verdict::Accepted {
-            open_rows: OpenRows::Count(18446744073709551615),
-            lower: Load::Exact { num: 19, den: 1 },
-            upper: Load::Absent,
-        },
+        Ok(Accepted {
+            open_rows: Some(u64::MAX),
+            lower: Some(Load { num: 19, den: 1 }),
+            upper: None,
+        }),
     )?;
     show(
         &rt,
-        Verdict::Refused {
-            number: 4294967295,
-            place: Place::Column(4294967295),
-        },
+        Err(Refusal {
+            number: u32::MAX,
+            place: Place::Column(u32::MAX),
+        }),
     )?;
     other_buffers(&rt)?;
     other_decimals(&rt)
