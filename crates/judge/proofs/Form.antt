@@ -9,8 +9,8 @@ use lib.IntN.{ℤ}
 use borrow.Table.Steps.{cases}
 use Rattle.scope.specs.declared.Place.{Place}
 use Rattle.scope.specs.declared.Place.TheVariants.{Line}
-use Rattle.scope.specs.declared.Outcome.TheVariants.{Refused as Fails}
-use Rattle.scope.specs.declared.Verdict.TheVariants.{Refused}
+use Rattle.scope.specs.Cases.Outcome.{Refused as Fails}
+use Rattle.scope.specs.Cases.Verdict.{Refused}
 use Rattle.scope.specs.Answer.{place_number}
 use Rattle.scope.specs.Layout.{groups, line_count}
 use Rattle.scope.specs.Mesh.{mesh_layout, layout_with}

@@ -6,9 +6,9 @@ use Prim.Native.Nat.{ℕ, ◌+◌, ◌<◌}
 use native.Mathlib.Omega.{arith}
 use lib.IntN.{ℤ}
 use Rattle.scope.specs.declared.Place.{Place}
-use Rattle.scope.specs.declared.Outcome.{Outcome}
-use Rattle.scope.specs.declared.Outcome.TheVariants.{Passed, Refused as Fails}
-use Rattle.scope.specs.declared.Verdict.TheVariants.{Refused}
+use Rattle.scope.specs.Cases.Outcome.{Outcome}
+use Rattle.scope.specs.Cases.Outcome.{Passed, Refused as Fails}
+use Rattle.scope.specs.Cases.Verdict.{Refused}
 use Rattle.scope.specs.Mesh.{mesh_layout, layout_with, element_lines, sides}
 use Rattle.scope.specs.Claim.{claim_layout}
 use Rattle.scope.specs.Verdict.{mesh_check, claim_verdict, answer, verdict, lines_check}

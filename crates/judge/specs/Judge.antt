@@ -1,8 +1,8 @@
 -- The verdict on the bytes of a mesh file, a table file and a claim file (document 01, 'What the product does'; document
 -- 02, N8: "Every call that takes a mesh takes the table too"): the verdict on their numbers. An empty file is no table.
 use Rattle.std.specs.Prelude.{List, ℕ, ℤ}
-use Rattle.scope.specs.declared.Outcome.{Outcome}
-use Rattle.scope.specs.declared.Verdict.{Verdict}
+use Rattle.scope.specs.Cases.Outcome.{Outcome}
+use Rattle.scope.specs.Cases.Verdict.{Verdict}
 use Rattle.scope.specs.Mesh.{mesh_layout}
 use Rattle.scope.specs.Claim.{claim_layout}
 use Rattle.scope.specs.Table.{mesh_read, tabled_check}

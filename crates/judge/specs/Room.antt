@@ -1,8 +1,8 @@
 -- Room worked out beforehand (document 02, N7): "The buyer lends the buffers and wants their sizes from the mesh
 -- alone."
 use Rattle.std.specs.Prelude.{List, [], ◌∷◌, ℕ, ◌*◌, ℤ, pos, length}
-use Rattle.scope.specs.declared.Outcome.{Outcome}
-use Rattle.scope.specs.declared.Outcome.TheVariants.{Passed, Refused}
+use Rattle.scope.specs.Cases.Outcome.{Outcome}
+use Rattle.scope.specs.Cases.Outcome.{Passed, Refused}
 use Rattle.scope.specs.Answer.{place_number}
 use Rattle.scope.specs.Mesh.{nodes}
 use Rattle.scope.specs.Rows.{balance_rows, side_rows, jump_rows, strength_rows}

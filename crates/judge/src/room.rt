@@ -1,22 +1,24 @@
 // Room worked out beforehand (document 02, N7): the rows of each kind, the columns and the bytes of a claim, from the
 // mesh alone.
 
-ghost use Rattle.std.specs.Prelude.{◌≡◌, List, ◌*◌, ◌≤◌, ℤ};
-ghost use Rattle.scope.specs.declared.Outcome.TheVariants.{Passed};
-ghost use Rattle.scope.specs.Mesh.{most_pairs, most_sides};
-ghost use Rattle.mesh.specs.MeshContracts.{FewThings, Counted};
+ghost use Rattle.std.specs.Prelude.{◌≡◌, List, ℤ};
+ghost use Rattle.scope.specs.Answer.{place_number};
+ghost use Rattle.scope.specs.Cases.Outcome.{Passed};
+ghost use Rattle.mesh.specs.ClaimContracts.{Counted};
 ghost use Rattle.judge.specs.Room.{no_sizes, sizes_for, mesh_sizes};
 
-use crate::{claim_bytes, judge_mesh_file};
+use crate::{JudgedMesh, claim_bytes, judge_mesh_file};
 use lines::layout::STRESS_COLUMNS;
-use mesh::sizes::{EDGE_ROWS, ELEMENT_ROWS, JUMP_ROWS, Sizes};
+use mesh::limits::{EDGE_ROWS, ELEMENT_ROWS, JUMP_ROWS};
+use mesh::pairs::ClaimSizes;
 use reader::MESH_ROOM;
-use scope::{Outcome, place_number};
+use scope::Refusal;
+use verdict::passed_mesh;
 
 // What a mesh asks room for, as C reads it: its refusal, or the rows of each kind, the columns, and the bytes of a
 // claim with a field, with multipliers, and with both.
 #[repr(C)]
-#[derive(Clone, Copy)]
+#[derive(Clone, Copy, Default)]
 pub struct MeshSizes {
     pub number: u32,
     pub place: u32,
@@ -30,45 +32,31 @@ pub struct MeshSizes {
     pub both_bytes: u64,
 }
 
-// "A refused mesh gives its refusal and no sizes."
-fn no_sizes(number: u32, place: u32) -> MeshSizes
-    ensures { result ≡ no_sizes number place }
-{
-    MeshSizes {
-        number,
-        place,
-        balance_rows: 0,
-        side_rows: 0,
-        jump_rows: 0,
-        strength_rows: 0,
-        columns: 0,
-        field_bytes: 0,
-        multipliers_bytes: 0,
-        both_bytes: 0,
+impl From<Refusal> for MeshSizes {
+    ghost from_gives = { λ e r. r ≡ no_sizes e.number (place_number e.place) };
+
+    // "A refused mesh gives its refusal and no sizes."
+    fn from(refusal: Refusal) -> MeshSizes {
+        MeshSizes {
+            number: refusal.number,
+            place: refusal.place.number(),
+            ..MeshSizes::default()
+        }
     }
 }
 
-// So many rows, or columns, for each of so many things.
-fn count_of(things: usize, each: usize) -> u64
-    requires { (things ≤ most_pairs) × (each ≤ most_sides) }
-    ensures { result ≡ things * each }
-{
-    (things * each) as u64
-}
-
-// The sizes of an accepted mesh with these counts.
-fn sizes_for(s: Sizes) -> MeshSizes
-    requires { FewThings s }
+// The sizes of a mesh that passes, from its counts.
+fn sizes_for(s: ClaimSizes) -> MeshSizes
     ensures { (m : List ℤ) → Counted m s → result ≡ sizes_for Passed m }
 {
     MeshSizes {
         number: 0,
         place: 0,
-        balance_rows: count_of(s.elements, ELEMENT_ROWS),
-        side_rows: count_of(s.edges, EDGE_ROWS),
-        jump_rows: count_of(s.jumps, JUMP_ROWS),
-        strength_rows: count_of(s.pairs, s.sides),
-        columns: count_of(s.nodes, STRESS_COLUMNS),
+        balance_rows: (s.sizes.elements * ELEMENT_ROWS) as u64,
+        side_rows: (s.sizes.edges * EDGE_ROWS) as u64,
+        jump_rows: (s.sizes.jumps * JUMP_ROWS) as u64,
+        strength_rows: (s.pairs * s.sizes.sides) as u64,
+        columns: (s.sizes.nodes * STRESS_COLUMNS) as u64,
         field_bytes: claim_bytes(s, &[1, 0]) as u64,
         multipliers_bytes: claim_bytes(s, &[0, 1]) as u64,
         both_bytes: claim_bytes(s, &[1, 1]) as u64,
@@ -76,13 +64,17 @@ fn sizes_for(s: Sizes) -> MeshSizes
 }
 
 // The sizes of a mesh file, with a table file beside it.
+#[tactic(auto, using(crate::proofs::FilesJudged::mesh_fits))]
 pub fn mesh_sizes(mesh: &[u8], table: &[u8]) -> MeshSizes
     ensures { result ≡ mesh_sizes mesh.now table.now }
 {
     let mut numbers = [0i64; MESH_ROOM];
-    let judged = judge_mesh_file(mesh, table, &mut numbers);
-    match judged.answer.outcome {
-        Outcome::Refused { number, place } => no_sizes(number, place_number(place)),
-        Outcome::Passed => sizes_for(judged.answer.sizes),
+    let JudgedMesh { count, pairs } = judge_mesh_file(mesh, table, &mut numbers);
+    match pairs {
+        Ok(pairs) => {
+            let m = passed_mesh(&numbers[..count], &pairs);
+            sizes_for(m.claim_sizes())
+        }
+        Err(refusal) => MeshSizes::from(refusal),
     }
 }

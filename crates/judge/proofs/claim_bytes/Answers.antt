@@ -14,5 +14,8 @@ unfolding has_field has_multipliers
 returns c =
     let h = c.args.header.now in
     let s = c.args.s in
-    let flags = ap₂ (λ (a b : Bool). claim_body s a b) c.has_part.ensures c.has_part-2.ensures in
-    λ m k. ap (λ (n : ℕ). (claim_header_columns * file_width + 1) + n) c.body_bytes.ensures.fact_1 ∙ table_bytes h k (subst (λ body. Tabled s c.claim_groups-groups.result body) flags c.claim_groups-groups.ensures)
+    let flags = ap₂ (λ (a b : Bool). claim_body s.sizes s.pairs a b) c.has_part.ensures c.has_part-2.ensures in
+    λ m k.
+    ap (λ (n : ℕ). (claim_header_columns * file_width + 1) + n) c.body_bytes.ensures.sum
+    ∙ table_bytes h k
+    (subst (λ body. Tabled s.sizes c.claim_groups-groups.result.of body) flags c.claim_groups-groups.ensures)

@@ -1,35 +1,34 @@
 -- `judge_mesh_file` meets its contract: the numbers that are judged are those that were read, and a table fills them.
-use native.Mathlib.Omega.{arith}
+use mathlib.Core.Path.{◌∙◌}
 use borrow.Author.Rules.{rules}
-use borrow.Author.Tests.{tests}
-use Rattle.judge.specs.Judge.{mesh_numbers}
-use Rattle.judge.proofs.FilesJudged.{fits, as_many, some_file, judged_alone, judged_with}
+use Rattle.std.proofs.lemmas.Result.{on_ok_weaker}
+use Rattle.judge.specs.Judge.{mesh_numbers, mesh_from, mesh_outcome}
+use Rattle.judge.proofs.FilesJudged.{front, filled_front, filled_behind}
 use Rattle.judge.proofs.judge_mesh_file.Goals as goal
 
 pub read_mesh-count-requires : goal.read_mesh-count-requires
 unfolding mesh_numbers
 read_mesh-count-requires c = search rules
 
-pub slice_bounds-judge_mesh-end : goal.slice_bounds-judge_mesh-end
-slice_bounds-judge_mesh-end c = fits c.read_mesh-count.ensures
+pub returns-clause-count : goal.returns-clause-count
+unfolding mesh_numbers
+returns-clause-count c = c.read_mesh-count.ensures.count
 
-pub slice_bounds-judge_mesh-end-then-is_empty : goal.slice_bounds-judge_mesh-end-then-is_empty
-slice_bounds-judge_mesh-end-then-is_empty c = as_many c.read_mesh-count.ensures
+pub returns-clause-behind : goal.returns-clause-behind
+returns-clause-behind c = filled_behind c.read_mesh-count.ensures _ c.judge_with-pairs.auto.m
 
-pub returns-then-is_empty : goal.returns-then-is_empty
-returns-then-is_empty c =
-    judged_alone (omega (arith, tests)) c.requires c.read_mesh-count.ensures c.judge_mesh-answer.ensures
+pub returns-clause-outcome : goal.returns-clause-outcome
+unfolding mesh_numbers mesh_outcome
+returns-clause-outcome c = rw (front c.read_mesh-count.ensures) at c.judge_with-pairs.ensures.outcome
 
-pub slice_bounds-judge_with-end : goal.slice_bounds-judge_with-end
-slice_bounds-judge_with-end c = fits c.read_mesh-count.ensures
+pub returns-clause-pairs : goal.returns-clause-pairs
+unfolding mesh_numbers mesh_from
+returns-clause-pairs c = rw (front c.read_mesh-count.ensures) at c.judge_with-pairs.ensures.pairs
 
-pub slice_bounds-judge_with-end-2 : goal.slice_bounds-judge_with-end-2
-slice_bounds-judge_with-end-2 c = as_many c.read_mesh-count.ensures
-
-pub judge_with-answer-requires : goal.judge_with-answer-requires
-judge_with-answer-requires c = some_file _ _ (omega (arith, tests))
-
-pub returns : goal.returns
-returns c =
-    let judged = c.judge_with-answer in
-    judged_with {filled = judged.new.m} c.requires c.read_mesh-count.ensures judged.auto.m judged.ensures
+pub returns-clause-read : goal.returns-clause-read
+unfolding mesh_numbers mesh_from
+returns-clause-read c =
+    let listed = c.read_mesh-count.ensures in
+    on_ok_weaker c.judge_with-pairs.result
+    (λ e. filled_front listed _ c.judge_with-pairs.auto.m ∙ (rw (front listed) at e))
+    c.judge_with-pairs.ensures.read

@@ -1,27 +1,34 @@
--- `judge_with` meets its contract: the numbers of the table that are judged are those that were read.
-use mathlib.Core.Path.{◌≡◌, sym, subst}
-use mathlib.Core.Bool.{true}
-use mathlib.Core.List.{List}
-use lib.IntN.{ℤ}
-use Rattle.scope.specs.Table.{has_table}
-use Rattle.verdict.specs.JudgeContracts.{TabledAnswered}
-use Rattle.judge.proofs.FilesJudged.{front, fits, as_many, table_fits}
+-- `judge_with` meets its contract: an empty file is no table, and else the numbers of the table that are judged are
+-- those that were read.
+use mathlib.Core.Path.{◌∙◌}
+use native.Mathlib.Omega.{arith}
+use borrow.Author.Tests.{tests}
+use Rattle.judge.proofs.FilesJudged.{alone_check, alone_read, whichever, some_file, table_fits, front}
 use Rattle.judge.proofs.judge_with.Goals as goal
+
+pub returns-then-is_empty-clause-outcome : goal.returns-then-is_empty-clause-outcome
+returns-then-is_empty-clause-outcome c =
+    c.judge_mesh.ensures.outcome ∙ alone_check c.args.table.now c.args.m.now (omega (arith, tests))
+
+pub returns-then-is_empty-clause-pairs : goal.returns-then-is_empty-clause-pairs
+returns-then-is_empty-clause-pairs c =
+    rw (← alone_read c.args.table.now c.args.m.now (omega (arith, tests))) c.judge_mesh.ensures.pairs
+
+pub returns-then-is_empty-clause-read : goal.returns-then-is_empty-clause-read
+returns-then-is_empty-clause-read c =
+    whichever c.judge_mesh.result (λ p. alone_read c.args.table.now c.args.m.now (omega (arith, tests)))
 
 pub read_table-count-requires : goal.read_table-count-requires
 read_table-count-requires c = table_fits _
 
-pub slice_bounds-room-end : goal.slice_bounds-room-end
-slice_bounds-room-end c = fits c.read_table-count.ensures
-
-pub slice_bounds-judge_tabled-end : goal.slice_bounds-judge_tabled-end
-slice_bounds-judge_tabled-end c = as_many c.read_table-count.ensures
-
 pub judge_tabled-requires : goal.judge_tabled-requires
-judge_tabled-requires c = subst (λ (t : List ℤ). has_table t ≡ true) (sym (front c.read_table-count.ensures)) c.requires
+judge_tabled-requires c = rw (front c.read_table-count.ensures) (some_file _ _ (omega (arith, tests)))
 
-pub returns : goal.returns
-returns c =
-    subst (λ (t : List ℤ). TabledAnswered t c.args.m.now c.judge_tabled.result c.judge_tabled.new.m)
-    (front c.read_table-count.ensures)
-    c.judge_tabled.ensures
+pub returns-clause-outcome : goal.returns-clause-outcome
+returns-clause-outcome c = rw (front c.read_table-count.ensures) at c.judge_tabled.ensures.outcome
+
+pub returns-clause-pairs : goal.returns-clause-pairs
+returns-clause-pairs c = rw (front c.read_table-count.ensures) at c.judge_tabled.ensures.pairs
+
+pub returns-clause-read : goal.returns-clause-read
+returns-clause-read c = rw (front c.read_table-count.ensures) at c.judge_tabled.ensures.read

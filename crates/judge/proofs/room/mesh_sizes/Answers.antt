@@ -1,25 +1,33 @@
 -- `mesh_sizes` meets its contract: the mesh is judged, and its sizes are told only where it passes.
-use mathlib.Core.Path.{◌∙◌, ap}
-use Rattle.mesh.proofs.Places.{few_things}
-use Rattle.judge.specs.Room.{no_sizes}
-use Rattle.judge.proofs.FilesJudged.{mesh_fits, sound_counted, read_sound}
+use mathlib.Core.Path.{sym, subst, ◌∙◌}
+use native.Mathlib.Omega.{arith}
+use lib.Seq.{length-take-le}
+use Rattle.std.proofs.lemmas.Result.{IfOk-at_ok}
+use Rattle.mesh.proofs.PairLaws.{counted}
+use Rattle.verdict.specs.JudgeContracts.{SoundMesh}
+use Rattle.judge.proofs.FilesJudged.{mesh_fits, passed_as, refused_as, judged_sound}
 use Rattle.judge.proofs.RoomLaws.{sizes_refused, sizes_passed}
 use Rattle.judge.proofs.room.mesh_sizes.Goals as goal
 
-pub judge_mesh_file-judged-requires : goal.judge_mesh_file-judged-requires
-judge_mesh_file-judged-requires c = mesh_fits _
+pub slice_bounds-passed_mesh-end : goal.slice_bounds-passed_mesh-end
+slice_bounds-passed_mesh-end c =
+    let judged = c.judge_mesh_file-count.ensures in
+    sym (length-take-le _ _ (omega (arith, mesh_fits c.args.mesh.now, judged.count, judged.size)))
 
-pub sizes_for-requires : goal.sizes_for-requires
-sizes_for-requires c = few_things (read_sound c.judge_mesh_file-judged.ensures c.in-Passed.is).sized
+pub passed_mesh-m-requires : goal.passed_mesh-m-requires
+passed_mesh-m-requires c =
+    let judged = c.judge_mesh_file-count.ensures in
+    subst (SoundMesh _) (sym c.deref.ensures.0)
+    (judged_sound _ _ _ _ judged.outcome judged.pairs judged.read c.in-Ok.is)
 
-pub returns-in-Refused : goal.returns-in-Refused
-returns-in-Refused c =
-    c.no_sizes.ensures
-    ∙ ap (no_sizes _) c.place_number.ensures
-    ∙ sizes_refused _ _ c.judge_mesh_file-judged.ensures.answer c.in-Refused.is
+pub returns-in-Ok : goal.returns-in-Ok
+returns-in-Ok c =
+    let judged = c.judge_mesh_file-count.ensures in
+    let read = c.passed_mesh-m.ensures ∙ IfOk-at_ok _ c.in-Ok.is judged.read in
+    let sizes = c.claim_sizes.ensures in
+    sizes_passed _ _ (passed_as judged.outcome c.in-Ok.is) read
+    (c.sizes_for.ensures _ (counted c.passed_mesh-m.result _ sizes.sizes sizes.pairs))
 
-pub returns-in-Passed : goal.returns-in-Passed
-returns-in-Passed c =
-    let judged = c.judge_mesh_file-judged.ensures in
-    let passed = c.in-Passed.is in
-    sizes_passed _ _ judged.answer passed (c.sizes_for.ensures _ (sound_counted (read_sound judged passed)))
+pub returns-in-Err : goal.returns-in-Err
+returns-in-Err c =
+    c.from.ensures ∙ sizes_refused _ _ (refused_as c.judge_mesh_file-count.ensures.outcome c.in-Err.is)
