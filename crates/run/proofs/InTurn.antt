@@ -12,10 +12,10 @@ use lib.ListN.{length, take, drop, length-append, length-drop}
 use lib.Seq.{take-add}
 use borrow.Author.Tests.{eqb-true}
 use borrow.Table.Steps.{cases}
-use Rattle.scope.specs.declared.Outcome.{Outcome}
-use Rattle.scope.specs.declared.Outcome.TheVariants.{Passed, Refused as Fails}
-use Rattle.scope.specs.declared.Verdict.{Verdict}
-use Rattle.scope.specs.declared.Verdict.TheVariants.{Accepted, Refused}
+use Rattle.scope.specs.Cases.Outcome.{Outcome}
+use Rattle.scope.specs.Cases.Outcome.{Passed, Refused as Fails}
+use Rattle.scope.specs.Cases.Verdict.{Verdict}
+use Rattle.scope.specs.Cases.Verdict.{Accepted, Refused}
 use Rattle.scope.specs.Mesh.{mesh_layout, sides}
 use Rattle.scope.specs.Claim.{claim_header, claim_layout}
 use Rattle.scope.specs.Verdict.{answer, claim_verdict, mesh_check}

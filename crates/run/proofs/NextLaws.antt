@@ -1,29 +1,25 @@
--- The next claim's own bytes: its header stands in the first bytes that are left, and with the mesh it says how many are its own.
+-- The next claim's own bytes: its header stands in the first bytes that are left, and with the mesh it says how many are
+-- its own.
 use mathlib.Core.Path.{◌≡◌, sym, ap, ◌∙◌}
 use mathlib.Core.List.{List}
-use Prim.Native.Nat.{ℕ, min, ◌+◌, ◌*◌, ◌≤◌}
+use Prim.Native.Nat.{ℕ, min, ◌+◌, ◌*◌, ◌≤◌, ◌<◌}
 use native.Mathlib.Decide.{dec_le}
 use native.Mathlib.Nat.{div-lt_iff_lt-mul}
 use native.Mathlib.Omega.{arith}
 use lib.IntN.{ℤ}
 use lib.ListN.{length, take, length-take}
 use lib.Seq.{take_all, take-length}
-use Rattle.scope.specs.declared.Verdict.{Verdict}
 use Rattle.scope.specs.Layout.{Layout}
-use Rattle.scope.specs.Claim.{claim_header_columns}
-use Rattle.scope.specs.Verdict.{answer, claim_verdict}
-use Rattle.scope.proofs.NumberRanges.{some_sides_lem}
-use Rattle.mesh.specs.declared.sizes.Sizes.{Sizes}
-use Rattle.mesh.specs.MeshContracts.{Counted}
+use Rattle.scope.specs.Claim.{claim_header_columns, claim_layout}
+use Rattle.scope.specs.Mesh.{sides}
 use Rattle.reader.specs.File.{file_width, numbers_of}
-use Rattle.reader.specs.Listed.{ClaimListed}
+use Rattle.reader.specs.Listed.{Listed}
 use Rattle.reader.proofs.Most.{numbers_by_length}
 use Rattle.judge.specs.Judge.{claim_numbers}
 use Rattle.judge.specs.ClaimBytes.{claim_bytes}
 use Rattle.judge.proofs.ClaimBytes.{by_header_bytes}
 use Rattle.judge.proofs.FilesJudged.{front}
-use Rattle.run.specs.Run.{own_bytes, verdict_on}
-use Rattle.run.specs.NextClaim.{NextOf}
+use Rattle.run.specs.Run.{own_bytes}
 
 -- the bytes of a claim's header
 abbrev pub header_bytes : ℕ
@@ -50,17 +46,14 @@ unfolding own_bytes
 own_front m left = rw (length-take (claim_bytes m (claim_numbers file_width m left)) left) (take_least (claim_bytes m (claim_numbers file_width m left)) left)
 
 -- the header's numbers, read alone, count them
-pub own_counted : {m before header : List ℤ} {s : Sizes} (left : List ℕ) {end count bytes r : ℕ} → Counted m s → end ≡ min header_bytes (length left) → ClaimListed (take end left) s before count header → bytes ≡ claim_bytes m (take count header) → r ≡ min bytes (length left) → r ≡ length (own_bytes m left)
-unfolding claim_numbers
-own_counted {m} left {end} k e l b r =
-    let cut : take end left ≡ take header_bytes left = ap (λ (n : ℕ). take n left) e ∙ take_least header_bytes left in
-    let bytes = b ∙ ap (claim_bytes m) (front (l.against m k)) ∙ ap (λ (bs : List ℕ). claim_bytes m (claim_numbers file_width m bs)) cut ∙ by_header_bytes m header_bytes left (some_sides_lem k.sizes.counts) (omega arith) in
-    r ∙ ap (λ (n : ℕ). min n (length left)) bytes ∙ sym (own_length m left)
-
--- the verdict on them is that of a single call
-pub next_claim : {m : List ℤ} (left : List ℕ) {v : Verdict} {bytes : ℕ} → bytes ≡ length (own_bytes m left) → v ≡ claim_verdict m (claim_numbers file_width m (take bytes left)) → NextOf m left (record { verdict = v; bytes = bytes })
-unfolding verdict_on answer
-next_claim {m} left b v = record {
-  verdict_is = v ∙ ap (λ (bs : List ℕ). claim_verdict m (claim_numbers file_width m bs)) (ap (λ (n : ℕ). take n left) b ∙ own_front m left);
-  bytes_are = b;
-}
+pub own_counted : (m : List ℤ) {before header : List ℤ} (left : List ℕ) {end count bytes : ℕ} → 0 < sides m
+    → end ≡ min header_bytes (length left)
+    → Listed (numbers_of file_width (claim_layout m) (take end left)) before count header
+    → bytes ≡ claim_bytes m (take count header) → take (min bytes (length left)) left ≡ own_bytes m left
+unfolding own_bytes claim_numbers
+own_counted m left {bytes = bytes} s e l b =
+    let cut = ap (λ (n : ℕ). take n left) e ∙ take_least header_bytes left in
+    let told =
+    b ∙ ap (claim_bytes m) (front l ∙ ap (claim_numbers file_width m) cut)
+    ∙ by_header_bytes m header_bytes left s (omega arith) in
+    take_least bytes left ∙ ap (λ (n : ℕ). take n left) told

@@ -12,18 +12,17 @@ use lib.Seq.{take_all, take_at, drop_at, drop-drop, drop-length}
 use borrow.Author.Tests.{le-ltb}
 use borrow.Rule.Slice.PartMut.{mid_of, put_mid}
 use Rattle.scope.specs.declared.Place.{Place}
-use Rattle.scope.specs.declared.Outcome.{Outcome}
-use Rattle.scope.specs.declared.Outcome.TheVariants.{Passed, Refused as Fails}
-use Rattle.scope.specs.declared.Verdict.{Verdict}
-use Rattle.scope.specs.declared.Verdict.TheVariants.{Refused}
-use Rattle.scope.specs.Verdict.{answer}
+use Rattle.scope.specs.Cases.Outcome.{Outcome}
+use Rattle.scope.specs.Cases.Outcome.{Passed, Refused as Fails}
+use Rattle.scope.specs.Cases.Verdict.{Verdict}
+use Rattle.scope.specs.Cases.Verdict.{Refused}
+use Rattle.scope.specs.Verdict.{answer, claim_verdict}
 use Rattle.report.specs.Report.{report_bytes, report_line, is_decimals, usual_decimals}
-use Rattle.report.specs.declared.Reported.{Reported}
-use Rattle.report.specs.Buffer.{reported, after_answer, after_report, Reports}
-use Rattle.run.specs.declared.NextClaim.{NextClaim}
+use Rattle.report.specs.Buffer.{Written, reported, after_answer, after_report, Reports}
+use Rattle.reader.specs.File.{file_width}
+use Rattle.judge.specs.Judge.{claim_numbers}
 use Rattle.run.specs.declared.RunAnswer.{RunAnswer}
 use Rattle.run.specs.Run.{own_bytes, verdict_on, ends_run, taken_of, line_of, claims_judged, ran, run, RunAnswers}
-use Rattle.run.specs.NextClaim.{NextOf}
 use Rattle.run.proofs.NextLaws.{own_length}
 
 -- ---- the claims that get a report
@@ -57,7 +56,7 @@ up_to_end from l = take_all (length l - from) (drop from l) (omega (arith, lengt
 none_after : (from : ℕ) (l : List ℕ) → drop (length l - from) (drop from l) ≡ []
 none_after from l = drop_of_length-le (drop from l) {i = length l - from} (omega (arith, length-drop from l))
 
-written-there : {after : List ℕ} {w : Reported} (v : Verdict) (before : List ℕ) → report_bytes ≤ length before → Reports (pos usual_decimals) v before after w → after ≡ report_line usual_decimals v ++ drop report_bytes before
+written-there : {after : List ℕ} {w : Written} (v : Verdict) (before : List ℕ) → report_bytes ≤ length before → Reports (pos usual_decimals) v before after w → after ≡ report_line usual_decimals v ++ drop report_bytes before
 unfolding after_report after_answer reported is_decimals usual_decimals
 written-there v before l r = r.buffer ∙ rw (le-ltb (length before) report_bytes l, reported)
 
@@ -131,69 +130,84 @@ same_mesh {q = q} {m} {claims = claims} {before} {after} {r} e f h =
     subst (λ (n : List ℤ). RunAnswers q n claims before r after) f (subst (λ (o : Outcome). RunAnswers o m claims before r after) e h)
 
 module _ {m : List ℤ} {claims before : List ℕ} {at from count : ℕ} {buffer : List ℕ} (h : SoFar m claims before at from count buffer) where
-  ended : {r : RunAnswer} → claims_judged ((length before - from) / report_bytes) Passed m (drop at claims) ≡ [] → (r.reports ≡ count) × (r.bytes ≡ at) → RunAnswers Passed m claims before r buffer
-  ended e a =
+  ended : claims_judged ((length before - from) / report_bytes) Passed m (drop at claims) ≡ []
+      → RunAnswers Passed m claims before (record { reports = count; bytes = at }) buffer
+  ended e =
       ran_over h.done
       (h.all ∙ ap (λ (cs : List (List ℕ)). h.done ++ cs) e ∙ append-nil h.done)
-      (a.0 ∙ h.counts)
-      (a.1 ∙ h.takes)
+      h.counts
+      h.takes
       (h.written ∙ ap (λ (n : ℕ). flat_map (line_of Passed m) h.done ++ drop n before) (sym h.lines))
 
   -- "A run ends first of all when the buffer lacks 113 bytes for the next report"
-  pub ends_for_room : {r : RunAnswer} → length before - from < report_bytes → (r.reports ≡ count) × (r.bytes ≡ at) → RunAnswers Passed m claims before r buffer
+  pub ends_for_room : length before - from < report_bytes
+      → RunAnswers Passed m claims before (record { reports = count; bytes = at }) buffer
   unfolding claims_judged
-  ends_for_room l a = ended (ap (λ (n : ℕ). claims_judged n Passed m (drop at claims)) (no_room (length before - from) l)) a
+  ends_for_room l = ended (ap (λ (n : ℕ). claims_judged n Passed m (drop at claims)) (no_room (length before - from) l))
 
   -- "With no claim byte left it ends without a further report"
-  pub ends_for_claims : {r : RunAnswer} → at ≡ length claims → (r.reports ≡ count) × (r.bytes ≡ at) → RunAnswers Passed m claims before r buffer
-  ends_for_claims l a =
-      ended (ap (claims_judged ((length before - from) / report_bytes) Passed m) (ap (λ (n : ℕ). drop n claims) l ∙ drop-length claims) ∙ judged_none m ((length before - from) / report_bytes)) a
+  pub ends_for_claims : at ≡ length claims
+      → RunAnswers Passed m claims before (record { reports = count; bytes = at }) buffer
+  ends_for_claims l =
+      ended
+      (ap (claims_judged ((length before - from) / report_bytes) Passed m)
+      (ap (λ (n : ℕ). drop n claims) l ∙ drop-length claims)
+      ∙ judged_none m ((length before - from) / report_bytes))
 
   pub same_size : length buffer ≡ length before
   same_size = ap length h.written ∙ omega (arith, length-append (flat_map (line_of Passed m) h.done) (drop from before), length-drop from before, h.lines, h.room)
 
-  -- the next claim, and the part of the buffer that its report was written into
-  module _ (more : report_bytes ≤ length buffer - from) (left : at < length claims) {next : NextClaim} {w : Reported} (part : List ℕ) (n' : NextOf m (take (length claims - at) (drop at claims)) next) (rep : Reports (pos usual_decimals) next.verdict (mid_of from (length buffer - from) buffer) part w) (same : length part ≡ length (mid_of from (length buffer - from) buffer)) where
-    n : NextOf m (drop at claims) next
-    n = rw (up_to_end at claims) at n'
+  -- the next claim, the verdict on it, and the part of the buffer that its report was written into
+  module _ (more : report_bytes ≤ length buffer - from) (left : at < length claims) {claim : List ℕ} {v : Verdict}
+      {w : Written} (part : List ℕ) (claim_is : claim ≡ own_bytes m (take (length claims - at) (drop at claims)))
+      (judged : v ≡ claim_verdict m (claim_numbers file_width m claim))
+      (rep : Reports (pos usual_decimals) v (mid_of from (length buffer - from) buffer) part w)
+      (same : length part ≡ length (mid_of from (length buffer - from) buffer)) where
+    own : List ℕ
+    own = own_bytes m (drop at claims)
+
+    own_is : claim ≡ own
+    unfolding own
+    own_is = claim_is ∙ ap (own_bytes m) (up_to_end at claims)
+
+    verdict_is : v ≡ verdict_on Passed m own
+    unfolding verdict_on answer
+    verdict_is = judged ∙ ap (λ (bs : List ℕ). claim_verdict m (claim_numbers file_width m bs)) own_is
 
     mid_long : length (mid_of from (length buffer - from) buffer) ≡ length buffer - from
     mid_long = ap length (up_to_end from buffer) ∙ length-drop from buffer
 
-    part_is : part ≡ report_line usual_decimals next.verdict ++ drop report_bytes (drop from buffer)
+    part_is : part ≡ report_line usual_decimals v ++ drop report_bytes (drop from buffer)
     part_is =
-        written-there next.verdict (mid_of from (length buffer - from) buffer) (omega (arith, mid_long)) rep
-        ∙ ap (λ (l : List ℕ). report_line usual_decimals next.verdict ++ drop report_bytes l) (up_to_end from buffer)
+        written-there v (mid_of from (length buffer - from) buffer) (omega (arith, mid_long)) rep
+        ∙ ap (λ (l : List ℕ). report_line usual_decimals v ++ drop report_bytes l) (up_to_end from buffer)
 
-    long : length (report_line usual_decimals next.verdict) ≡ report_bytes
-    long = omega (arith, ap length part_is, same, mid_long, length-append (report_line usual_decimals next.verdict) (drop report_bytes (drop from buffer)), length-drop report_bytes (drop from buffer), length-drop from buffer)
+    long : length (report_line usual_decimals v) ≡ report_bytes
+    long = omega (arith, ap length part_is, same, mid_long, length-append (report_line usual_decimals v) (drop report_bytes (drop from buffer)), length-drop report_bytes (drop from buffer), length-drop from buffer)
 
     -- the buffer with one report more
     abbrev pub one_more : List ℕ
     one_more = put_mid from (length buffer - from) buffer part
 
-    put_is : one_more ≡ take from buffer ++ (report_line usual_decimals next.verdict ++ drop report_bytes (drop from buffer))
+    put_is : one_more ≡ take from buffer ++ (report_line usual_decimals v ++ drop report_bytes (drop from buffer))
     put_is = ap (λ (l : List ℕ). take from buffer ++ l) (ap (λ (l : List ℕ). part ++ l) (none_after from buffer) ∙ append-nil part ∙ part_is)
 
-    own : List ℕ
-    own = own_bytes m (drop at claims)
+    line_is : line_of Passed m own ≡ report_line usual_decimals v
+    unfolding line_of
+    line_is = ap (report_line usual_decimals) (sym verdict_is)
 
-    line_is : line_of Passed m own ≡ report_line usual_decimals next.verdict
-    unfolding own line_of
-    line_is = ap (report_line usual_decimals) (sym n.verdict_is)
-
-    lines_more : flat_map (line_of Passed m) (h.done ++ (own ∷ [])) ≡ flat_map (line_of Passed m) h.done ++ report_line usual_decimals next.verdict
+    lines_more : flat_map (line_of Passed m) (h.done ++ (own ∷ [])) ≡ flat_map (line_of Passed m) h.done ++ report_line usual_decimals v
     lines_more = flat_last (line_of Passed m) h.done own ∙ ap (λ (l : List ℕ). flat_map (line_of Passed m) h.done ++ l) line_is
 
     lines_long : length (flat_map (line_of Passed m) (h.done ++ (own ∷ []))) ≡ from + report_bytes
-    lines_long = ap length lines_more ∙ omega (arith, length-append (flat_map (line_of Passed m) h.done) (report_line usual_decimals next.verdict), h.lines, long)
+    lines_long = ap length lines_more ∙ omega (arith, length-append (flat_map (line_of Passed m) h.done) (report_line usual_decimals v), h.lines, long)
 
     written_more : one_more ≡ flat_map (line_of Passed m) (h.done ++ (own ∷ [])) ++ drop (from + report_bytes) before
     written_more =
         let front = ap (take from) h.written ∙ take_at (flat_map (line_of Passed m) h.done) (drop from before) from h.lines in
         let back = ap (drop from) h.written ∙ drop_at (flat_map (line_of Passed m) h.done) (drop from before) from h.lines in
         put_is
-        ∙ ap₂ (λ (x y : List ℕ). x ++ (report_line usual_decimals next.verdict ++ drop report_bytes y)) front back
+        ∙ ap₂ (λ (x y : List ℕ). x ++ (report_line usual_decimals v ++ drop report_bytes y)) front back
         ∙ rw (drop-drop report_bytes from before, lines_more, append_assoc)
 
     room_less : (length before - from) / report_bytes ≡ suc ((length before - (from + report_bytes)) / report_bytes)
@@ -201,52 +215,55 @@ module _ {m : List ℤ} {claims before : List ℕ} {at from count : ℕ} {buffer
         let e : length before - from - report_bytes ≡ length before - (from + report_bytes) = omega arith in
         one_room (length before - from) (omega (arith, same_size)) ∙ ap (λ (n : ℕ). suc (n / report_bytes)) e
 
-    all_next : claims_judged (length before / report_bytes) Passed m claims ≡ h.done ++ (own ∷ cond (ends_run next.verdict) [] (claims_judged ((length before - (from + report_bytes)) / report_bytes) Passed m (drop (at + next.bytes) claims)))
+    all_next : claims_judged (length before / report_bytes) Passed m claims ≡ h.done ++ (own ∷ cond (ends_run v) [] (claims_judged ((length before - (from + report_bytes)) / report_bytes) Passed m (drop (at + length claim) claims)))
     unfolding own
     all_next =
         h.all
         ∙ ap (λ (cs : List (List ℕ)). h.done ++ cs)
         (ap (λ (n : ℕ). claims_judged n Passed m (drop at claims)) room_less
         ∙ judged-next m ((length before - (from + report_bytes)) / report_bytes) (drop at claims) (omega (arith, length-drop at claims))
-        ∙ rw (n.verdict_is, n.bytes_are, drop-drop (length (own_bytes m (drop at claims))) at claims))
+        ∙ rw (verdict_is, own_is, drop-drop (length own) at claims))
 
-    taken_more : flat_map (taken_of Passed m) (h.done ++ (own ∷ [])) ≡ flat_map (taken_of Passed m) h.done ++ cond (ends_run next.verdict) [] own
-    unfolding taken_of own
-    taken_more = flat_last (taken_of Passed m) h.done own ∙ rw n.verdict_is
+    taken_more : flat_map (taken_of Passed m) (h.done ++ (own ∷ [])) ≡ flat_map (taken_of Passed m) h.done ++ cond (ends_run v) [] own
+    unfolding taken_of
+    taken_more =
+        flat_last (taken_of Passed m) h.done own
+        ∙ ap (λ (u : Verdict). flat_map (taken_of Passed m) h.done ++ cond (ends_run u) [] own) (sym verdict_is)
 
-    none_more : ends_run next.verdict ≡ true → flat_map (taken_of Passed m) (h.done ++ (own ∷ [])) ≡ flat_map (taken_of Passed m) h.done
+    none_more : ends_run v ≡ true → flat_map (taken_of Passed m) (h.done ++ (own ∷ [])) ≡ flat_map (taken_of Passed m) h.done
     none_more e = taken_more ∙ rw e (append-nil (flat_map (taken_of Passed m) h.done))
 
-    own_more : ends_run next.verdict ≡ false → flat_map (taken_of Passed m) (h.done ++ (own ∷ [])) ≡ flat_map (taken_of Passed m) h.done ++ own
+    own_more : ends_run v ≡ false → flat_map (taken_of Passed m) (h.done ++ (own ∷ [])) ≡ flat_map (taken_of Passed m) h.done ++ own
     own_more e = taken_more ∙ rw e
 
     counts_more : count + 1 ≡ length (h.done ++ (own ∷ []))
     counts_more = omega (arith, length-append h.done (own ∷ []), h.counts)
 
     -- "A claim refused with 11, 12 or 13 ends the run after its report, and its bytes aren't taken"
-    pub ends_for_claim : {r : RunAnswer} → ends_run next.verdict ≡ true → (r.reports ≡ count + 1) × (r.bytes ≡ at) → RunAnswers Passed m claims before r one_more
-    ends_for_claim e a =
+    pub ends_for_claim : ends_run v ≡ true
+        → RunAnswers Passed m claims before (record { reports = count + 1; bytes = at }) one_more
+    ends_for_claim e =
         ran_over (h.done ++ (own ∷ []))
         (all_next ∙ rw e)
-        (a.0 ∙ counts_more)
-        (a.1 ∙ h.takes ∙ ap length (sym (none_more e)))
+        counts_more
+        (h.takes ∙ ap length (sym (none_more e)))
         (written_more ∙ ap (λ (n : ℕ). flat_map (line_of Passed m) (h.done ++ (own ∷ [])) ++ drop n before) (sym lines_long))
 
-    pub taken_within : at + next.bytes ≤ length claims
-    taken_within = omega (arith, n.bytes_are, own_length m (drop at claims), length-drop at claims)
-
-    takes_more : ends_run next.verdict ≡ false → at + next.bytes ≡ length (flat_map (taken_of Passed m) (h.done ++ (own ∷ [])))
+    pub taken_within : at + length claim ≤ length claims
     unfolding own
+    taken_within = omega (arith, ap length own_is, own_length m (drop at claims), length-drop at claims)
+
+    takes_more : ends_run v ≡ false → at + length claim ≡ length (flat_map (taken_of Passed m) (h.done ++ (own ∷ [])))
     takes_more e =
-        ap₂ (λ (x y : ℕ). x + y) h.takes n.bytes_are
+        ap₂ (λ (x y : ℕ). x + y) h.takes (ap length own_is)
         ∙ sym (length-append (flat_map (taken_of Passed m) h.done) own)
         ∙ ap length (sym (own_more e))
 
     -- "Bytes after a full claim begin the next"
-    pub goes_on : ends_run next.verdict ≡ false → SoFar m claims before (at + next.bytes) (from + report_bytes) (count + 1) one_more
+    pub goes_on : ends_run v ≡ false → SoFar m claims before (at + length claim) (from + report_bytes) (count + 1) one_more
     goes_on e = record {
       done = h.done ++ (own ∷ []);
-      all = all_next ∙ rw e (sym (append_assoc h.done (own ∷ []) (claims_judged ((length before - (from + report_bytes)) / report_bytes) Passed m (drop (at + next.bytes) claims))));
+      all = all_next ∙ rw e (sym (append_assoc h.done (own ∷ []) (claims_judged ((length before - (from + report_bytes)) / report_bytes) Passed m (drop (at + length claim) claims))));
       counts = counts_more;
       places = omega (arith, h.places);
       room = omega (arith, h.room, same_size);
@@ -274,18 +291,22 @@ none_taken o m = by (ends_run (verdict_on o m []))
 
 module _ (k : ℕ) (p : Place) (m : List ℤ) (claims before : List ℕ) where
   -- "A refused mesh writes its report once, even with no claim byte, and takes no claim"
-  pub mesh_reported : {r : RunAnswer} {after : List ℕ} {w : Reported} → report_bytes ≤ length before → Reports (pos usual_decimals) (Refused k p) before after w → length after ≡ length before → (r.reports ≡ 1) × (r.bytes ≡ 0) → RunAnswers (Fails k p) m claims before r after
+  pub mesh_reported : {after : List ℕ} {w : Written} → report_bytes ≤ length before
+      → Reports (pos usual_decimals) (Refused k p) before after w → length after ≡ length before
+      → RunAnswers (Fails k p) m claims before (record { reports = 1; bytes = 0 }) after
   unfolding flat_map
-  mesh_reported {after = after} room w same a =
+  mesh_reported {after = after} room w same =
       let is = written-there (Refused k p) before room w in
       let long : length (report_line usual_decimals (Refused k p)) ≡ report_bytes = omega (arith, ap length is, same, length-append (report_line usual_decimals (Refused k p)) (drop report_bytes before), length-drop report_bytes before) in
       let line : flat_map (line_of (Fails k p) m) ([] ∷ []) ≡ report_line usual_decimals (Refused k p) = append-nil (line_of (Fails k p) m []) ∙ refused_line_lem k p m in
       ran_over ([] ∷ [])
       (ap (λ (n : ℕ). claims_judged n (Fails k p) m claims) (one_room (length before) room) ∙ judged_refused (Fails k p) k p refl ((length before - report_bytes) / report_bytes) m claims)
-      a.0
-      (a.1 ∙ sym (none_taken (Fails k p) m))
+      refl
+      (sym (none_taken (Fails k p) m))
       (is ∙ sym (ap (λ (l : List ℕ). l ++ drop (length l) before) line ∙ ap (λ (n : ℕ). report_line usual_decimals (Refused k p) ++ drop n before) long))
 
-  pub no_report : {r : RunAnswer} → length before < report_bytes → (r.reports ≡ 0) × (r.bytes ≡ 0) → RunAnswers (Fails k p) m claims before r before
+  pub no_report : length before < report_bytes
+      → RunAnswers (Fails k p) m claims before (record { reports = 0; bytes = 0 }) before
   unfolding claims_judged flat_map
-  no_report short a = ran_over [] (ap (λ (n : ℕ). claims_judged n (Fails k p) m claims) (no_room (length before) short)) a.0 a.1 refl
+  no_report short =
+      ran_over [] (ap (λ (n : ℕ). claims_judged n (Fails k p) m claims) (no_room (length before) short)) refl refl refl

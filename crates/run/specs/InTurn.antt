@@ -4,9 +4,9 @@ use Rattle.std.specs.Prelude.{◌≡◌, ◌⊎◌, false, ℕ, suc, ◌+◌, �
 use mathlib.Core.List.{List, [], ◌∷◌, flatten}
 use Rattle.std.proofs.Math.Option.{some}
 use Rattle.scope.specs.declared.Place.{Place}
-use Rattle.scope.specs.declared.Outcome.{Outcome}
-use Rattle.scope.specs.declared.Outcome.TheVariants.{Passed, Refused as Fails}
-use Rattle.scope.specs.declared.Verdict.{Verdict}
+use Rattle.scope.specs.Cases.Outcome.{Outcome}
+use Rattle.scope.specs.Cases.Outcome.{Passed, Refused as Fails}
+use Rattle.scope.specs.Cases.Verdict.{Verdict}
 use Rattle.scope.specs.Answer.{number_of}
 use Rattle.scope.specs.Claim.{claim_header_columns, claim_layout}
 use Rattle.reader.specs.File.{file_width, read_line, header_passes}

@@ -4,10 +4,10 @@
 -- judged on them: with a borehole table, the outcome of both and the filled mesh (document 02, N8).
 use Rattle.std.specs.Prelude.{◌≡◌, Bool, false, cond, ◌||◌, ℕ, zero, suc, ◌/◌, eqb, ℤ, length, take, drop}
 use mathlib.Core.List.{List, [], ◌∷◌, ◌++◌, flat_map}
-use Rattle.scope.specs.declared.Outcome.{Outcome}
-use Rattle.scope.specs.declared.Outcome.TheVariants.{Passed, Refused as Fails}
-use Rattle.scope.specs.declared.Verdict.{Verdict}
-use Rattle.scope.specs.declared.Verdict.TheVariants.{Accepted, Refused}
+use Rattle.scope.specs.Cases.Outcome.{Outcome}
+use Rattle.scope.specs.Cases.Outcome.{Passed, Refused as Fails}
+use Rattle.scope.specs.Cases.Verdict.{Verdict}
+use Rattle.scope.specs.Cases.Verdict.{Accepted, Refused}
 use Rattle.scope.specs.Verdict.{answer, claim_verdict}
 use Rattle.reader.specs.File.{file_width}
 use Rattle.report.specs.Report.{report_bytes, report_line, usual_decimals}

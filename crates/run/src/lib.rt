@@ -4,21 +4,22 @@
 #![tactic(auto)]
 
 ghost use Rattle.std.specs.Prelude.{◌≡◌, List, ℕ, ◌≤◌, ℤ, length};
-ghost use Rattle.scope.specs.declared.Outcome.TheVariants.{Passed, Refused as Fails};
-ghost use Rattle.mesh.specs.MeshContracts.{Counted};
-ghost use Rattle.verdict.specs.JudgeContracts.{SoundMesh};
+ghost use Rattle.scope.specs.Answer.{verdict_of};
+ghost use Rattle.scope.specs.Cases.Outcome.{Passed, Refused as Fails};
+ghost use Rattle.mesh.specs.ClaimContracts.{Counted};
 ghost use Rattle.reader.specs.File.{file_width};
 ghost use Rattle.reader.specs.Most.{mesh_room};
 ghost use Rattle.judge.specs.Judge.{mesh_numbers, mesh_from, mesh_outcome};
 ghost use Rattle.run.specs.Run.{own_bytes, ends_run, RunAnswers};
-ghost use Rattle.run.specs.NextClaim.{SomeMesh, NextOf};
+ghost use Rattle.run.specs.NextClaim.{SomeMesh};
 
-use judge::{MIDDLE_MESH, SMALL_ROOM, claim_bytes, judge_claim_file, judge_mesh_file};
+use judge::{JudgedMesh, MIDDLE_MESH, SMALL_ROOM, claim_bytes, judge_claim_file, judge_mesh_file};
 use lines::layout::CLAIM_HEADER;
-use mesh::sizes::Sizes;
+use mesh::pairs::{ClaimSizes, PairedMesh};
 use reader::{CLAIM_HEADER_BYTES, MESH_ROOM, most_numbers, read_claim};
 use report::{LINE, USUAL_DECIMALS, write_report};
-use scope::{Outcome, Place, Verdict};
+use scope::{Refusal, Verdict};
+use verdict::passed_mesh;
 
 // What is returned: the reports written and the claim bytes taken.
 #[repr(C)]
@@ -28,18 +29,11 @@ pub struct RunAnswer {
     pub bytes: u64,
 }
 
-// The verdict on the next claim, and how many bytes are its own.
-#[derive(Clone, Copy)]
-struct NextClaim {
-    verdict: Verdict,
-    bytes: usize,
-}
-
 // Room for the numbers of a claim's header, and one for bytes left over.
 const HEADER_ROOM: usize = CLAIM_HEADER + 1;
 
 fn answer_of(reports: usize, bytes: usize) -> RunAnswer
-    ensures { (result.reports ≡ reports) × (result.bytes ≡ bytes) }
+    ensures { result ≡ record { reports = reports; bytes = bytes } }
 {
     RunAnswer {
         reports: reports as u64,
@@ -48,68 +42,63 @@ fn answer_of(reports: usize, bytes: usize) -> RunAnswer
 }
 
 // "A claim refused with 11, 12 or 13 ends the run"
+#[tactic(auto, unfolding(crate::specs::Run::ends_run))]
 fn ends_run(v: Verdict) -> bool
-    ensures { result ≡ ends_run v }
+    ensures { result ≡ ends_run (verdict_of v) }
 {
-    match v {
-        Verdict::Accepted { .. } => false,
-        Verdict::Refused { number, .. } => [11, 12, 13].contains(&number),
-    }
+    matches!(
+        v,
+        Err(Refusal {
+            number: 11 | 12 | 13,
+            ..
+        })
+    )
 }
 
-// How many bytes are the next claim's own, of those that are left: for every mesh with these sizes and so many pairs.
-fn own_bytes(s: Sizes, left: &[u8]) -> usize
+// The next claim's own bytes, of those that are left: for every mesh with these sizes and so many pairs.
+fn own_bytes<'a>(s: ClaimSizes, left: &'a [u8]) -> &'a [u8]
     requires { SomeMesh s }
-    ensures { (m : List ℤ) → Counted m s → result ≡ length (own_bytes m left.now) }
+    ensures { (m : List ℤ) → Counted m s → result.now ≡ own_bytes m left.now }
 {
     let mut header = [0i64; HEADER_ROOM];
     let end = CLAIM_HEADER_BYTES.min(left.len());
     let count = read_claim(&left[..end], s, &mut header);
     let bytes = claim_bytes(s, &header[..count]);
-    bytes.min(left.len())
+    &left[..bytes.min(left.len())]
 }
 
-// The next claim on a judged mesh with the numbers m, these sizes and these pairs.
-fn next_claim(m: &[i64], s: Sizes, pairs: &[u8], left: &[u8]) -> NextClaim
-    requires { SoundMesh m.now s pairs.now }
-    ensures { NextOf m.now left.now result }
-{
-    let bytes = own_bytes(s, left);
-    let verdict = judge_claim_file(m, s, pairs, &left[..bytes]);
-    NextClaim { verdict, bytes }
-}
-
-// The claims on a judged mesh, one after another.
-fn run_claims(m: &[i64], s: Sizes, pairs: &[u8], claims: &[u8], reports: &mut [u8]) -> RunAnswer
-    requires { SoundMesh m.now s pairs.now }
-    ensures { RunAnswers Passed m.now claims.now reports.old result
+// The claims on a mesh with its pairs, one after another.
+fn run_claims(m: &PairedMesh, claims: &[u8], reports: &mut [u8]) -> RunAnswer
+    ensures { RunAnswers Passed m.now.mesh.numbers.now claims.now reports.old result
         reports.new }
 {
+    let sizes = m.claim_sizes();
     let room = reports.len() / LINE;
     let mut at = 0;
     for count in 0..room {
         if at == claims.len() {
             return answer_of(count, at);
         }
-        let next = next_claim(m, s, pairs, &claims[at..]);
-        write_report(next.verdict, &mut reports[count * LINE..], USUAL_DECIMALS);
-        if ends_run(next.verdict) {
+        let claim = own_bytes(sizes, &claims[at..]);
+        let verdict = judge_claim_file(m, claim);
+        let _ = write_report(verdict, &mut reports[count * LINE..], USUAL_DECIMALS);
+        if ends_run(verdict) {
             return answer_of(count + 1, at);
         }
-        at += next.bytes;
+        at += claim.len();
     }
     answer_of(room, at)
 }
 
 // The run on a refused mesh: "A refused mesh writes its report once, even with no claim byte, and takes no claim"
-fn run_refused(number: u32, place: Place, reports: &mut [u8]) -> RunAnswer
+fn run_refused(refusal: Refusal, reports: &mut [u8]) -> RunAnswer
     ensures { (m : List ℤ) (claims : List ℕ)
-        → RunAnswers (Fails number place) m claims reports.old result reports.new }
+        → RunAnswers (Fails refusal.number refusal.place) m claims reports.old result reports.new }
 {
     if reports.len() < LINE {
         return answer_of(0, 0);
     }
-    write_report(Verdict::Refused { number, place }, reports, USUAL_DECIMALS);
+    let _ = write_report(Err(refusal), reports, USUAL_DECIMALS);
     answer_of(1, 0)
 }
 
@@ -127,16 +116,13 @@ fn run_in<const ROOM: usize>(
         reports.old result reports.new }
 {
     let numbers: &mut [i64] = &mut [0; ROOM];
-    let judged = judge_mesh_file(mesh, table, numbers);
-    match judged.answer.outcome {
-        Outcome::Refused { number, place } => run_refused(number, place, reports),
-        Outcome::Passed => run_claims(
-            &numbers[..judged.count],
-            judged.answer.sizes,
-            &judged.answer.pairs,
-            claims,
-            reports,
-        ),
+    let JudgedMesh { count, pairs } = judge_mesh_file(mesh, table, numbers);
+    match pairs {
+        Ok(pairs) => {
+            let m = passed_mesh(&numbers[..count], &pairs);
+            run_claims(&m, claims, reports)
+        }
+        Err(refusal) => run_refused(refusal, reports),
     }
 }
 

@@ -6,4 +6,5 @@ use Rattle.run.proofs.RunLaws.{SoFar}
 use Rattle.run.proofs.run_claims.Given as goal
 
 abbrev pub invariant-loop-count : goal.invariant-loop-count
-invariant-loop-count l = SoFar l.m l.claims l.initial.reports l.at (l.count * report_bytes) l.count l.reports
+invariant-loop-count l =
+    SoFar l.m.mesh.numbers.now l.claims l.initial.reports l.at (l.count * report_bytes) l.count l.reports

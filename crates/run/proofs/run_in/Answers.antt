@@ -1,23 +1,28 @@
 -- `run_in` meets its contract: claims are judged only on a mesh that has passed, and a refused mesh has its report.
-use mathlib.Core.Path.{refl, sym, ◌∙◌}
+use mathlib.Core.Path.{refl, sym, subst, ◌∙◌}
 use lib.ListN.{length-replicate}
-use Rattle.judge.proofs.FilesJudged.{judged_sound}
+use Rattle.std.proofs.lemmas.Result.{IfOk-at_ok}
+use Rattle.verdict.specs.JudgeContracts.{SoundMesh}
+use Rattle.judge.proofs.FilesJudged.{passed_as, refused_as, judged_sound}
 use Rattle.run.proofs.RunLaws.{same_mesh}
 use Rattle.run.proofs.run_in.Goals as goal
 
-pub judge_mesh_file-judged-requires : goal.judge_mesh_file-judged-requires
-judge_mesh_file-judged-requires g c = simp length-replicate c.requires.fits
+pub judge_mesh_file-count-requires : goal.judge_mesh_file-count-requires
+judge_mesh_file-count-requires g c = simp length-replicate c.requires.fits
 
-pub run_claims-requires : goal.run_claims-requires
-run_claims-requires g c = judged_sound c.judge_mesh_file-judged.ensures c.in-Passed.is
+pub passed_mesh-m-requires : goal.passed_mesh-m-requires
+passed_mesh-m-requires g c =
+    let judged = c.judge_mesh_file-count.ensures in
+    subst (SoundMesh _) (sym c.deref.ensures.0)
+    (judged_sound _ _ _ _ judged.outcome judged.pairs judged.read c.in-Ok.is)
 
-pub returns-in-Refused : goal.returns-in-Refused
-returns-in-Refused g c =
-    let told = c.run_refused.ensures _ c.args.claims.now in
-    let e = sym c.in-Refused.is ∙ c.judge_mesh_file-judged.ensures.answer.outcome in
-    same_mesh (cc) refl told
+pub returns-in-Ok : goal.returns-in-Ok
+returns-in-Ok g c =
+    let judged = c.judge_mesh_file-count.ensures in
+    let read = c.passed_mesh-m.ensures ∙ IfOk-at_ok _ c.in-Ok.is judged.read in
+    same_mesh (passed_as judged.outcome c.in-Ok.is) read c.run_claims.ensures
 
-pub returns-in-Passed : goal.returns-in-Passed
-returns-in-Passed g c =
-    let passes = sym c.in-Passed.is ∙ c.judge_mesh_file-judged.ensures.answer.outcome in
-    same_mesh passes (c.judge_mesh_file-judged.ensures.numbers (sym passes)) c.run_claims.ensures
+pub returns-in-Err : goal.returns-in-Err
+returns-in-Err g c =
+    same_mesh (refused_as c.judge_mesh_file-count.ensures.outcome c.in-Err.is) refl
+    (c.run_refused.ensures _ c.args.claims.now)
