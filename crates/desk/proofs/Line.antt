@@ -5,7 +5,7 @@ use Prim.Native.Nat.{ℕ}
 use native.Mathlib.Omega.{arith}
 use lib.IntN.{pos}
 use lib.ListN.{length, drop_of_length-le}
-use Rattle.scope.specs.declared.Verdict.{Verdict}
+use Rattle.scope.specs.Cases.Verdict.{Verdict}
 use Rattle.report.specs.Report.{report_bytes, report_line, is_decimals, usual_decimals}
 use Rattle.pechuvo.specs.Check.{answered}
 use Rattle.pechuvo.specs.Answers.{AnswersFor}

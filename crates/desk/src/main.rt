@@ -3,7 +3,7 @@
 
 #![tactic(auto)]
 
-ghost use Rattle.std.specs.Prelude.{◌≡◌};
+ghost use Rattle.std.specs.Prelude.{◌≡◌, length};
 ghost use Rattle.io.specs.Counts.{IsPrefixLen};
 ghost use Rattle.reader.specs.File.{file_width};
 ghost use Rattle.judge.specs.Judge.{files_verdict};
@@ -30,21 +30,22 @@ fn read_full(file: &mut impl Read, bytes: &mut [u8]) -> usize
     done
 }
 
-// Reads the file that argument i names, as far as `bytes` goes, and answers how many bytes it has. "A file that can't
-// be opened counts as empty"; so does a missing argument, whose name is empty, and a name that isn't UTF-8, by which
-// `std::fs` opens nothing.
-fn read_argument(rt: &(impl Env + Files), i: usize, bytes: &mut [u8]) -> usize
-    ensures { IsPrefixLen result bytes.new }
+// The bytes of the file that argument i names, as far as the buffer that is lent goes. "A file that can't be opened
+// counts as empty"; so does a missing argument, whose name is empty, and a name that isn't UTF-8, by which `std::fs`
+// opens nothing.
+fn read_argument<'b>(rt: &(impl Env + Files), i: usize, buffer: &'b mut [u8]) -> &'b [u8]
+    ensures { IsPrefixLen (length result.now) buffer.old }
 {
     let mut name = io::buffer();
     let length = rt.arg(i, &mut name).unwrap_or(0);
     let Ok(name) = str::from_utf8(&name[..length]) else {
-        return 0;
+        return &[];
     };
-    match fs::open(rt, name) {
-        Ok(mut file) => read_full(&mut file, bytes),
-        Err(_) => 0,
-    }
+    let Ok(mut file) = fs::open(rt, name) else {
+        return &[];
+    };
+    let count = read_full(&mut file, buffer);
+    &buffer[..count]
 }
 
 // The report line of three files: "The desk program and N3's runs go on with six". A table of no bytes is none.
@@ -60,16 +61,12 @@ fn report_line(mesh: &[u8], table: &[u8], claim: &[u8]) -> [u8; LINE]
 
 fn main(rt: HostRuntime) {
     let mut mesh = io::large_buffer();
-    let mesh_count = read_argument(&rt, 1, &mut mesh);
+    let mesh = read_argument(&rt, 1, &mut mesh);
     let mut claim = io::large_buffer();
-    let claim_count = read_argument(&rt, 2, &mut claim);
+    let claim = read_argument(&rt, 2, &mut claim);
     let mut table = io::buffer();
-    let table_count = read_argument(&rt, 3, &mut table);
-    let line = report_line(
-        &mesh[..mesh_count],
-        &table[..table_count],
-        &claim[..claim_count],
-    );
+    let table = read_argument(&rt, 3, &mut table);
+    let line = report_line(mesh, table, claim);
     // A line that can't be written changes nothing of the exit status, which is 0.
     let _ = rt.write_all(&line);
 }

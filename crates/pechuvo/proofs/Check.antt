@@ -11,8 +11,8 @@ use lib.Signed.{◌≤ℤ◌}
 use lib.ListN.{length, take, get_or, replicate}
 use borrow.Table.Steps.{cases}
 use Rattle.scope.specs.declared.Place.TheVariants.{Line}
-use Rattle.scope.specs.declared.Outcome.{Outcome}
-use Rattle.scope.specs.declared.Outcome.TheVariants.{Passed, Refused as Fails}
+use Rattle.scope.specs.Cases.Outcome.{Outcome}
+use Rattle.scope.specs.Cases.Outcome.{Passed, Refused as Fails}
 use Rattle.scope.specs.Columns.{free, at, has_field, has_multipliers}
 use Rattle.integer.proofs.Order.{≤ℤ_pos}
 use Rattle.scope.specs.Layout.{width, count}

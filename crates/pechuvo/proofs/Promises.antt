@@ -17,11 +17,11 @@ use Rattle.integer.specs.Fraction.{◌over◌, ◌≤ᶠ◌, ◌<ᶠ◌}
 use Rattle.integer.specs.Round.{Floor, Ceil}
 use Rattle.integer.specs.Tests.{eq_z}
 use Rattle.integer.proofs.TestLaws.{yes_eq_z}
-use Rattle.scope.specs.declared.Load.{Load}
-use Rattle.scope.specs.declared.Load.TheVariants.{Exact}
-use Rattle.scope.specs.declared.OpenRows.{OpenRows}
-use Rattle.scope.specs.declared.Verdict.{Verdict}
-use Rattle.scope.specs.declared.Verdict.TheVariants.{Accepted}
+use Rattle.scope.specs.Cases.Load.{Load}
+use Rattle.scope.specs.Cases.Load.{Exact}
+use Rattle.scope.specs.Cases.OpenRows.{OpenRows}
+use Rattle.scope.specs.Cases.Verdict.{Verdict}
+use Rattle.scope.specs.Cases.Verdict.{Accepted}
 use Rattle.scope.specs.Answer.{number_of, place_of}
 use Rattle.scope.specs.Columns.{at, has_field, has_multipliers, n, l}
 use Rattle.scope.specs.Rows.{rows_of}

@@ -5,7 +5,7 @@ use mathlib.Core.List.{List, [], ◌∷◌, map, flat_map, flatten}
 use Prim.Native.Nat.{ℕ, ◌*◌, ◌≤◌}
 use native.Mathlib.Omega.{arith}
 use lib.ListN.{length, take, drop, replicate, length-replicate}
-use Rattle.scope.specs.declared.Outcome.TheVariants.{Passed}
+use Rattle.scope.specs.Cases.Outcome.{Passed}
 use Rattle.report.specs.Report.{report_bytes}
 use Rattle.reader.specs.File.{file_width}
 use Rattle.judge.specs.Judge.{mesh_outcome}

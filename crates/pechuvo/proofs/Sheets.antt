@@ -2,6 +2,7 @@
 use mathlib.Core.Path.{◌≡◌, refl}
 use mathlib.Core.List.{map}
 use Rattle.integer.specs.Decimal.{digits_within, digits, last_digits, right_justified, is_digit, all_digits, value_after, proper_digits}
+use Rattle.scope.specs.Cases.Outcome.{has_passed}
 use Rattle.scope.specs.Mesh.{layout_with}
 use Rattle.scope.specs.Layers.{layers, bottom, top, soil, node_at, none_above, lowest, highest, has, soil_at, top_above, apart, in_layer}
 use Rattle.scope.specs.Filled.{height_of, soil_place, soil_of, given_number, given, filled, with_soils}
@@ -9,7 +10,7 @@ use Rattle.scope.specs.Table.{layer_lines, table_lines, table_layout, has_table,
 use Rattle.scope.specs.TableVerdict.{tabled_verdict}
 use Rattle.scope.proofs.Computed.{computed}
 use Rattle.reader.specs.Spelling.{spelling, column, unsigned, negated, signed, read_column}
-use Rattle.reader.specs.File.{line_bytes, read_columns, read_line, widths, read_lines, has_passed, header_passes, numbers_of, left_over, read_rows, table_numbers_of, columns, write_lines, file_of, table_of}
+use Rattle.reader.specs.File.{line_bytes, read_columns, read_line, widths, read_lines, header_passes, numbers_of, left_over, read_rows, table_numbers_of, columns, write_lines, file_of, table_of}
 use Rattle.report.specs.Text.{pointed, fixed, none_text}
 use Rattle.report.specs.Report.{load_text, lower_text, upper_text, open_text, four_columns, report_line, is_decimals, usual_decimals}
 use Rattle.judge.specs.Judge.{mesh_numbers, mesh_from, mesh_outcome, claim_numbers, files_verdict}

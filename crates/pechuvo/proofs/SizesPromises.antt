@@ -12,8 +12,8 @@ use lib.ListN.{length, length-append}
 use Rattle.integer.specs.Tests.{eq_z}
 use Rattle.integer.proofs.TestLaws.{yes_eq_z, no_eq_z}
 use Rattle.scope.specs.declared.Place.{Place}
-use Rattle.scope.specs.declared.Outcome.{Outcome}
-use Rattle.scope.specs.declared.Outcome.TheVariants.{Passed, Refused}
+use Rattle.scope.specs.Cases.Outcome.{Outcome}
+use Rattle.scope.specs.Cases.Outcome.{Passed, Refused}
 use Rattle.scope.specs.Columns.{at, has_field, has_multipliers}
 use Rattle.scope.specs.Mesh.{nodes}
 use Rattle.scope.specs.Rows.{balance_rows, side_rows, jump_rows, equality_rows, strength_rows, rows_of}

@@ -6,8 +6,8 @@ use mathlib.Core.List.{List, [], ◌∷◌, map, append-nil}
 use Prim.Native.Nat.{ℕ, zero, suc, ◌≤◌, ◌<◌}
 use native.Mathlib.Omega.{arith}
 use lib.IntN.{ℤ, pos}
-use Rattle.scope.specs.declared.Outcome.TheVariants.{Passed}
-use Rattle.scope.specs.declared.Verdict.{Verdict}
+use Rattle.scope.specs.Cases.Outcome.{Passed}
+use Rattle.scope.specs.Cases.Verdict.{Verdict}
 use Rattle.scope.specs.Answer.{number_of, place_of}
 use Rattle.scope.specs.Members.{◌∈◌}
 use Rattle.scope.specs.Accepted.{FieldAccepted, MultipliersAccepted}

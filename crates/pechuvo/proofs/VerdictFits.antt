@@ -10,10 +10,10 @@ use lib.IntN.{ℤ, nat_abs}
 use lib.ListN.{length, length-append}
 use Rattle.integer.proofs.TestLaws.{eq_z_yes}
 use Rattle.scope.specs.declared.Place.{Place}
-use Rattle.scope.specs.declared.Load.TheVariants.{Absent, Exact}
-use Rattle.scope.specs.declared.OpenRows.TheVariants.{Absent as NoCount, Count}
-use Rattle.scope.specs.declared.Verdict.{Verdict}
-use Rattle.scope.specs.declared.Verdict.TheVariants.{Accepted, Refused}
+use Rattle.scope.specs.Cases.Load.{Absent, Exact}
+use Rattle.scope.specs.Cases.OpenRows.{Absent as NoCount, Count}
+use Rattle.scope.specs.Cases.Verdict.{Verdict}
+use Rattle.scope.specs.Cases.Verdict.{Accepted, Refused}
 use Rattle.scope.specs.Answer.{number_of}
 use Rattle.scope.specs.Columns.{has_field, has_multipliers, n, l}
 use Rattle.scope.specs.Rows.{Row, equality_rows, strength_rows, rows_of}

@@ -13,10 +13,10 @@ use lib.IntN.{ℤ, pos}
 use lib.Signed.{◌<ℤ◌, <ℤ_irrefl, <ℤ-≤ℤ_trans}
 use Rattle.integer.specs.Tests.{eq_z}
 use Rattle.integer.proofs.TestLaws.{eq_z_yes, eq_z_no, no_eq_z}
-use Rattle.scope.specs.declared.Load.TheVariants.{Absent, Exact}
-use Rattle.scope.specs.declared.OpenRows.TheVariants.{Absent as NoCount, Count}
-use Rattle.scope.specs.declared.Verdict.{Verdict}
-use Rattle.scope.specs.declared.Verdict.TheVariants.{Accepted, Refused}
+use Rattle.scope.specs.Cases.Load.{Absent, Exact}
+use Rattle.scope.specs.Cases.OpenRows.{Absent as NoCount, Count}
+use Rattle.scope.specs.Cases.Verdict.{Verdict}
+use Rattle.scope.specs.Cases.Verdict.{Accepted, Refused}
 use Rattle.scope.specs.Answer.{number_of}
 use Rattle.scope.specs.Columns.{at, has_field, has_multipliers, n, l}
 use Rattle.scope.specs.Claim.{stress, multiplier}

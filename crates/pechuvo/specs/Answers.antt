@@ -1,6 +1,6 @@
 -- What one call of the check answers and leaves in the buffer that is lent: the whole check's equations.
 use Rattle.std.specs.Prelude.{◌≡◌, List, ℕ, ℤ}
-use Rattle.scope.specs.declared.Verdict.{Verdict}
+use Rattle.scope.specs.Cases.Verdict.{Verdict}
 use Rattle.scope.specs.Verdict.{verdict}
 use Rattle.reader.specs.File.{file_width}
 use Rattle.judge.specs.Judge.{claim_numbers, files_verdict}

@@ -11,7 +11,7 @@ use Rattle.std.specs.Prelude.{◌≡◌, ◌↔◌, ◌⊎◌, ◌≢◌, List, 
 use Rattle.std.proofs.Math.Option.{some}
 use Rattle.integer.specs.Fraction.{◌over◌, ◌≈ᶠ◌, ◌≤ᶠ◌, ◌<ᶠ◌}
 use Rattle.scope.specs.Columns.{at, n, l}
-use Rattle.scope.specs.declared.Verdict.{Verdict}
+use Rattle.scope.specs.Cases.Verdict.{Verdict}
 use Rattle.scope.specs.Members.{◌∈◌}
 use Rattle.scope.specs.Mesh.{mesh_layout, nodes, elements, edges, sides, jumps}
 use Rattle.scope.specs.Answer.{place_for, number_of, place_of}

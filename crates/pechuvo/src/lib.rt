@@ -5,7 +5,7 @@
 #![tactic(auto)]
 
 ghost use Rattle.std.specs.Prelude.{◌≡◌};
-ghost use Rattle.scope.specs.Answer.{number_of, place_of};
+ghost use Rattle.scope.specs.Answer.{number_of, place_number, place_of, verdict_of};
 ghost use Rattle.scope.specs.TableVerdict.{tabled_verdict};
 ghost use Rattle.numbers.specs.NumbersAnswer.{answer_of};
 ghost use Rattle.report.specs.Buffer.{reported_number, reported_place};
@@ -15,9 +15,9 @@ ghost use Rattle.pechuvo.specs.Promises.{RunAsked, SizesAsked};
 use judge::judge_files;
 use judge::room::{MeshSizes, mesh_sizes};
 use numbers::numbers_answer::NumbersAnswer;
-use report::{Reported, write_report};
+use report::{ReportError, write_report};
 use run::{RunAnswer, check_run};
-use scope::{Verdict, place_number};
+use scope::{Refusal, Verdict};
 
 // What is returned: 0 and 0 for an accepted claim, else a refusal's number and its place.
 #[repr(C)]
@@ -27,37 +27,46 @@ pub struct Answer {
     pub place: u32,
 }
 
-// 0 and 0, or the refusal's number and place.
-fn verdict_answer(v: Verdict) -> Answer
-    ensures { (result.number ≡ number_of v) × (result.place ≡ place_of v) }
-{
-    match v {
-        Verdict::Accepted { .. } => Answer {
-            number: 0,
-            place: 0,
-        },
-        Verdict::Refused { number, place } => Answer {
-            number,
-            place: place_number(place),
-        },
+impl From<Refusal> for Answer {
+    ghost from_gives = { λ e r. r ≡ record { number = e.number; place = place_number e.place } };
+
+    // The refusal's number and place.
+    fn from(refusal: Refusal) -> Answer {
+        Answer {
+            number: refusal.number,
+            place: refusal.place.number(),
+        }
+    }
+}
+
+impl From<Verdict> for Answer {
+    ghost from_gives = { λ v r. r
+        ≡ record { number = number_of (verdict_of v); place = place_of (verdict_of v) } };
+
+    // 0 and 0, or the refusal's number and place.
+    fn from(v: Verdict) -> Answer {
+        match v {
+            Ok(_) => Answer {
+                number: 0,
+                place: 0,
+            },
+            Err(refusal) => Answer::from(refusal),
+        }
     }
 }
 
 // "43, place 0" for another number of decimals; "41, place 0: buffer under 113 bytes"; else the verdict's number and
 // place.
-fn answer_of(v: Verdict, reported: Reported) -> Answer
-    ensures { (result.number ≡ reported_number v reported) × (result.place ≡ reported_place v reported) }
+fn answer_of(v: Verdict, reported: Result<(), ReportError>) -> Answer
+    ensures number { result.number ≡ reported_number (verdict_of v) reported }
+    ensures place { result.place ≡ reported_place (verdict_of v) reported }
 {
     match reported {
-        Reported::OtherDecimals => Answer {
-            number: 43,
+        Ok(()) => Answer::from(v),
+        Err(error) => Answer {
+            number: error.number(),
             place: 0,
         },
-        Reported::TooShort => Answer {
-            number: 41,
-            place: 0,
-        },
-        Reported::Written => verdict_answer(v),
     }
 }
 

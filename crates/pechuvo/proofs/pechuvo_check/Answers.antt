@@ -3,4 +3,6 @@ use Rattle.pechuvo.proofs.Answers.{answers}
 use Rattle.pechuvo.proofs.pechuvo_check.Goals as goal
 
 pub returns : goal.returns
-returns c = search answers
+returns c =
+    answers c.ranges.decimals c.judge_files-v.ensures c.write_report-reported.ensures c.answer_of.ensures.number
+    c.answer_of.ensures.place
