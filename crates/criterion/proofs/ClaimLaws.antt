@@ -218,10 +218,6 @@ all_within_one : {B : ℕ} (l : List ℤ) → IsProp (AllWithin B l)
 all_within_one l x y = λ i. record { each = λ k. within_one (get_or l k (pos 0)) (x.each k) (y.each k) i }
 
 module _ {m c : List ℤ} (t : ∥ ClaimFacts m c ∥₁) where
-  -- the header is there
-  pub claim_long : 4 ≤ length c
-  claim_long = ∥∥₁_elim t le_prop (λ f. omega (arith, f.size))
-
   pub scale_within : Within most_scale (n c)
   scale_within = ∥∥₁_elim t (within_one _) (λ f. from_0 f.n_range)
 

@@ -42,7 +42,7 @@ pub fn multipliers_from(c: &[i64], nodes: usize) -> usize
     CLAIM_HEADER + if_there(has_part(c, FIELD), nodes) * STRESS_COLUMNS
 }
 
-// The mesh, the claim's numbers, and the polygon of the mesh. Its sides are made once for a claim, and lent to each part.
+// The mesh, the claim's numbers, and the mesh's polygon. Its sides are made once for a claim, and lent to each part.
 #[derive(Clone, Copy)]
 pub struct JudgedClaim<'m, 'p> {
     pub mesh: PairedMesh<'m>,

@@ -38,8 +38,8 @@ fn apart_check(layers: &Layers, heights: Heights) -> Outcome
     Ok(())
 }
 
-// 45: each of the heights is in some layer. From top to top: between two whole heights no layer begins or ends, and each
-// turn leaves one top more below, so that there are at most 33.
+// 45: each of the heights is in some layer. From top to top: between two whole heights no layer begins or ends, and
+// each turn leaves one top more below, so that there are at most 33.
 fn gaps_check(layers: &Layers, heights: Heights) -> Outcome
     ensures { outcome_of result ≡ check_phase (gaps_phase layers.now.numbers.now heights.lo heights.hi) }
 {

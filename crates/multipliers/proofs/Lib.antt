@@ -2,5 +2,6 @@
 pub mod SumLaws
 pub mod MultiplierLaws
 pub mod PairLaws
+pub mod PairSumLaws
 pub mod LimitLaws
 pub mod OpenLaws

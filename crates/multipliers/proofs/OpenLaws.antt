@@ -31,7 +31,8 @@ use Rattle.multipliers.specs.RowContracts.{RowsOf}
 use Rattle.multipliers.specs.MultiplierContracts.{Multipliers, count_below, pair_first}
 use Rattle.multipliers.specs.OpenContracts.{side_open}
 use Rattle.criterion.proofs.RowLaws.{equality_among, row_count}
-use Rattle.multipliers.proofs.PairLaws.{few_rows, next_first, pair_row_at, pair_length, pair_weight, pair_as_many}
+use Rattle.multipliers.proofs.PairLaws.{pair_row_at, pair_length, pair_weight, pair_as_many}
+use Rattle.multipliers.proofs.PairSumLaws.{few_rows, next_first}
 use Rattle.criterion.proofs.SideLaws.{side_step}
 use Rattle.criterion.proofs.StrengthLaws.{open_test_lem, sides_counted}
 use Rattle.multipliers.proofs.SumLaws.{weighed-count, count_below_front, count_below_cong, count_below_add}

@@ -9,7 +9,7 @@ use Rattle.scope.specs.Rows.{rows_of}
 use Rattle.scope.specs.Sums.{column_sum, live_sum}
 use Rattle.scope.specs.Verdict.{multipliers_check}
 use Rattle.scope.proofs.Answered.{first_refuses, second_decides}
-use Rattle.multipliers.proofs.PairLaws.{no_sums, whole_room, first_room}
+use Rattle.multipliers.proofs.PairSumLaws.{no_sums, whole_room, first_room}
 use Rattle.multipliers.proofs.LimitLaws.{sums_check, sums_checked, limit_found}
 use Rattle.multipliers.proofs.multiplier_checks.multipliers_limit.Goals as goal
 

@@ -2,7 +2,7 @@
 use native.Mathlib.Omega.{arith}
 use Rattle.integer.proofs.BoundLaws.{AllWithin-le}
 use Rattle.equality.proofs.EntryLaws.{sums_within}
-use Rattle.multipliers.proofs.PairLaws.{sx_added, sy_added, t_added}
+use Rattle.multipliers.proofs.PairSumLaws.{sx_added, sy_added, t_added}
 use Rattle.multipliers.proofs.multiplier_sums.add_columns.Goals as goal
 
 pub add_at-requires-2-clause-sums_fit : goal.add_at-requires-2-clause-sums_fit

@@ -4,7 +4,7 @@ use Prim.Native.Nat.{◌*◌}
 use native.Mathlib.Omega.{arith}
 use Rattle.integer.proofs.Machine.{fits, exact, of_within, of_read, of_+ℤ}
 use Rattle.criterion.proofs.StrengthLaws.{pair_within, node_read}
-use Rattle.multipliers.proofs.PairLaws.{room_before, one_pair_summed}
+use Rattle.multipliers.proofs.PairSumLaws.{room_before, one_pair_summed}
 use Rattle.multipliers.proofs.multiplier_sums.add_pair.Goals as goal
 
 pub offset_bounds-rows-a : goal.offset_bounds-rows-a

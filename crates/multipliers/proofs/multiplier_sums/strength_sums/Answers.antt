@@ -1,7 +1,7 @@
 -- `strength_sums` meets its contract: one pair more.
 use native.Mathlib.Omega.{arith}
 use Rattle.mesh.proofs.PairLaws.{pairs_counted}
-use Rattle.multipliers.proofs.PairLaws.{no_pairs_summed, all_pairs_summed}
+use Rattle.multipliers.proofs.PairSumLaws.{no_pairs_summed, all_pairs_summed}
 use Rattle.multipliers.proofs.multiplier_sums.strength_sums.Goals as goal
 
 pub loop-a-init : goal.loop-a-init
