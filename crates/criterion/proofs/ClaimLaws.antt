@@ -16,12 +16,13 @@ use Rattle.std.proofs.lemmas.List.{get_or_past}
 use Rattle.integer.specs.Bounds.{Within, AllWithin}
 use Rattle.integer.proofs.BoundLaws.{Within-le, all_within_lem}
 use Rattle.integer.specs.Tests.{eq_z}
-use Rattle.scope.specs.Bounds.{most_scale, most_load, most_stress, most_multiplier, strength_multiplier}
+use Rattle.scope.specs.Bounds.{most_scale, most_load, most_stress, most_multiplier}
 use Rattle.scope.specs.Columns.{at, has_field, has_multipliers, n, l}
 use Rattle.scope.specs.Layout.{groups, numbers_before}
-use Rattle.scope.specs.Mesh.{nodes, elements, edges, sides, jumps, equality_count}
+use Rattle.scope.specs.Mesh.{strength_multiplier, nodes, elements, edges, sides, jumps, equality_count}
 use Rattle.scope.specs.Rows.{pair_count}
 use Rattle.scope.specs.Claim.{claim_header, claim_layout, if_there, stress_lines, stress, multiplier}
+use Rattle.scope.proofs.SideLimits.{strength_most}
 use Rattle.scope.specs.NumberRanges.{ClaimFacts}
 use Rattle.scope.proofs.SumBounds.{between, from_0}
 use Rattle.criterion.specs.StrengthContracts.{multipliers_from}
@@ -179,7 +180,8 @@ module _ (m c : List ℤ) {k : ℕ} (e : k ≡ multipliers_from m c) where
             let same : equality_count m + j ≡ i = omega arith in
             let few : j < pair_count m * sides m = omega (arith, rest_length k c, with_multipliers_lem f z) in
             let w = at_row (equality_count m + j) (strength_within f z j few) in
-            subst (λ i. Within most_multiplier (at (rest k c) i)) same (Within-le w (omega arith))
+            subst (λ i. Within most_multiplier (at (rest k c) i)) same
+            (Within-le w (omega (arith, strength_most (sides m))))
 
     each_strength : (i : ℕ) → i < pair_count m * sides m
         → Within (strength_multiplier (sides m)) (at (rest k c) (equality_count m + i))

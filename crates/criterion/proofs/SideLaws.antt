@@ -27,6 +27,7 @@ use Rattle.scope.specs.Polygon.{
   twelve,
   twenty,
   thirty_six,
+  one_hundred_eight,
   polygon_of,
 }
 use Rattle.scope.specs.Bounds.{most_radius, most_step, most_cross}
@@ -314,8 +315,10 @@ module _ {g : Polygon} {t : List Step} (h : SidesAre g t) where
 
 -- every definition that a table computes with
 unfoldable pub shown : Unit {0}
-unfolding pairs_of polygon_of twelve twenty thirty_six four_quadrants quarter_turn
+unfolding pairs_of polygon_of twelve twenty thirty_six one_hundred_eight four_quadrants quarter_turn
 shown = tt
 
-pub last_listed : {n : ℕ} → Listed n → (n ≡ 12 → ⊥) → (n ≡ 20 → ⊥) → n ≡ 36
-last_listed l a b = ⊎_elim (λ e. absurd (a e)) (λ r. ⊎_elim (λ e. absurd (b e)) (λ e. e) r) l.listed
+-- the last of the listed numbers, where it is none before
+pub last_listed : {n : ℕ} → Listed n → ¬ (n ≡ 12) → ¬ (n ≡ 20) → ¬ (n ≡ 36) → n ≡ 108
+last_listed l a b c =
+    ⊎_elim (λ e. absurd (a e)) (⊎_elim (λ e. absurd (b e)) (⊎_elim (λ e. absurd (c e)) (λ e. e))) l.listed

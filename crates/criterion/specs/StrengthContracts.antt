@@ -2,7 +2,6 @@
 -- and a soil.
 use Rattle.std.specs.Prelude.{
   ◌≡◌,
-  ◌⊎◌,
   Bool,
   List,
   [],
@@ -31,7 +30,7 @@ use Rattle.scope.specs.Mesh.{most_sides, nodes, sides, p, q, h, cohesion}
 use Rattle.scope.specs.Bounds.{most_radius, most_step, most_cross}
 use Rattle.scope.specs.Columns.{at, has_field}
 use Rattle.scope.specs.Claim.{if_there}
-use Rattle.scope.specs.Polygon.{Point, Side, Polygon, polygon_sides, polygon_of}
+use Rattle.scope.specs.Polygon.{Point, Side, Polygon, polygon_sides, polygon_of, SidesListed}
 use Rattle.scope.specs.Rows.{pair_at, strength_rows, sx, sy, t, cross}
 use Rattle.scope.specs.Sums.{row_holds}
 use Rattle.scope.specs.Checks.{all_below}
@@ -39,9 +38,9 @@ use Rattle.scope.specs.Tests.{row_at}
 
 -- ---- a polygon's sides
 
--- "sides 12, 20 or 36"
+-- "sides 12, 20 or 36", or 108 (document 02, N9)
 pub record Listed (sides : ℕ) : Type 0 where
-  pub listed : (sides ≡ 12) ⊎ ((sides ≡ 20) ⊎ (sides ≡ 36))
+  pub listed : SidesListed sides
 
 -- after the last of n corners comes the first
 unfoldable pub next : ℕ → ℕ → ℕ

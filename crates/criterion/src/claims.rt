@@ -12,10 +12,10 @@ ghost use Rattle.std.specs.Prelude.{
   IfNone,
 };
 ghost use Rattle.integer.specs.Bounds.{Within, AllWithin};
-ghost use Rattle.scope.specs.Bounds.{most_multiplier, strength_multiplier};
+ghost use Rattle.scope.specs.Bounds.{most_multiplier};
 ghost use Rattle.scope.specs.Columns.{at, has_field, has_multipliers};
 ghost use Rattle.scope.specs.Claim.{if_there, multiplier};
-ghost use Rattle.scope.specs.Mesh.{most_nodes, sides, equality_count};
+ghost use Rattle.scope.specs.Mesh.{strength_multiplier, most_nodes, sides, equality_count};
 ghost use Rattle.scope.specs.Rows.{pair_count};
 ghost use Rattle.scope.specs.NumberRanges.{ClaimFacts};
 ghost use Rattle.criterion.specs.FieldContracts.{FieldOf};

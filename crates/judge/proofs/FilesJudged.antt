@@ -15,7 +15,7 @@ use Rattle.scope.specs.declared.Refusal.{Refusal}
 use Rattle.scope.specs.Answer.{outcome_of}
 use Rattle.scope.specs.Cases.Outcome.{Outcome, Passed, Refused as Fails}
 use Rattle.scope.specs.Cases.Verdict.{Verdict}
-use Rattle.scope.specs.Mesh.{most_pairs, mesh_layout}
+use Rattle.scope.specs.Mesh.{pairs_with, sides, mesh_layout}
 use Rattle.scope.specs.Claim.{claim_layout}
 use Rattle.scope.specs.NumberRanges.{Counts}
 use Rattle.scope.specs.Rows.{pair_count}
@@ -51,7 +51,7 @@ pub claim_by_length : (m : List ℤ) (claim : List ℕ)
 unfolding claim_numbers
 claim_by_length m claim = numbers_by_length (claim_layout m) claim
 
-pub claim_fits : {m : List ℤ} → Counts m → pair_count m ≤ most_pairs → (claim : List ℕ)
+pub claim_fits : {m : List ℤ} → Counts m → pair_count m ≤ pairs_with (sides m) → (claim : List ℕ)
     → length (claim_numbers file_width m claim) ≤ claim_room
 unfolding claim_numbers
 claim_fits counts few claim = claim_most counts few claim

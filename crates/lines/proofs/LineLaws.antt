@@ -1,7 +1,7 @@
 -- Laws of the check of one line, one for each return and each turn of a loop: numbers within limits by induction on
 -- the list, form and limits and rules by the tests that led there.
 use mathlib.Core.Path.{◌≡◌, refl, sym, ◌∙◌, ap, ap₂, subst}
-use mathlib.Core.Bool.{Bool, true, false, not, ◌&&◌, ◌||◌, and-true}
+use mathlib.Core.Bool.{Bool, true, false, cond, not, ◌&&◌, ◌||◌, and-true}
 use mathlib.Core.List.{List, [], ◌∷◌, ◌++◌, map}
 use Rattle.std.proofs.Math.Bool.{and_assoc}
 use Prim.Native.Nat.{ℕ, zero, suc, ◌+◌, ◌<◌, ◌≤◌}
@@ -32,11 +32,12 @@ use Rattle.scope.specs.Cases.Outcome.{Passed, Refused}
 use Rattle.scope.specs.Checks.{demand, ◌then◌}
 use Rattle.scope.proofs.Checks.{demand_then}
 use Rattle.scope.specs.Columns as C
-use Rattle.scope.specs.Columns.{Limit, between, free, within, is_one_of, all_within, Rule, right_angle, naming, parts}
+use Rattle.scope.specs.Columns.{Limit, between, free, within, is_one_of, all_within, Rule, right_angle, naming, parts, at_most_where}
 use Rattle.scope.specs.Columns.{has_field, has_multipliers, names, all_named, rule_test, at}
 use Rattle.scope.specs.Layout.{Group, Layout, width, groups, line_of, line_numbers}
 use Rattle.scope.specs.Verdict.{line_check, line_at, rules_hold}
-use Rattle.scope.specs.Mesh.{most_nodes, most_sides, most_jumps, mesh_header_columns, soil_columns, mesh_layout}
+use Rattle.scope.specs.Mesh.{most_nodes, most_sides, listed_sides, nodes_for_108, most_jumps, mesh_header_columns}
+use Rattle.scope.specs.Mesh.{soil_columns, mesh_layout}
 use Rattle.scope.specs.Mesh.{mesh_header, soil_lines, element_lines, edge_lines, jump_lines}
 use Rattle.scope.specs.Table.{layer_lines}
 use Rattle.mesh.specs.declared.sizes.Sizes.{Sizes}
@@ -253,7 +254,7 @@ mesh_header_line m = refl
 
 -- the number of sides z is listed, and the number of jumps j is within its limits
 abbrev pub last_of_header : ℤ → ℤ → Bool
-last_of_header z j = is_one_of (pos 12 ∷ pos 20 ∷ pos most_sides ∷ []) z && within (between (pos 0) (pos most_jumps)) j
+last_of_header z j = is_one_of listed_sides z && within (between (pos 0) (pos most_jumps)) j
 
 pub last_read : {z j : ℤ} → SFits w64 z → SFits w64 j → last_of_header z j ≡ last_of_header (read z) (read j)
 last_read f g = ap₂ last_of_header (sym (to_z-of_z f)) (sym (to_z-of_z g))
@@ -278,6 +279,19 @@ first_fails b e f = e ∙ rw f
 
 pub second_decides : {a b d : Bool} → d ≡ a && b → a ≡ true → d ≡ b
 second_decides e f = e ∙ rw f
+
+-- its rule, of the numbers as the machine reads them
+pub nodes_read : (m : List ℤ) → mesh_header_columns ≤ length m
+    → SFits w64 (get_or m 0 (pos 0)) → SFits w64 (get_or m 4 (pos 0))
+    → rule_test (at_most_where 0 nodes_for_108 4 most_sides) (take mesh_header_columns m)
+    ≡ cond (eq_z (read (get_or m 4 (pos 0))) (pos most_sides)) (le_z (read (get_or m 0 (pos 0))) (pos nodes_for_108)) true
+unfolding rule_test at
+nodes_read [] l f g = absurd (omega arith)
+nodes_read (a ∷ []) l f g = absurd (omega arith)
+nodes_read (a ∷ b ∷ []) l f g = absurd (omega arith)
+nodes_read (a ∷ b ∷ d ∷ []) l f g = absurd (omega arith)
+nodes_read (a ∷ b ∷ d ∷ e ∷ []) l f g = absurd (omega arith)
+nodes_read (a ∷ b ∷ d ∷ e ∷ z ∷ m) l f g = rw (to_z-of_z f, to_z-of_z g) refl
 
 -- ---- the header of a claim
 

@@ -4,13 +4,14 @@
 ghost use Rattle.std.specs.Prelude.{◌≡◌, cond, pos};
 ghost use Rattle.integer.specs.Tests.{eq_z};
 ghost use Rattle.scope.specs.Columns.{at};
+ghost use Rattle.scope.specs.Mesh.{strength_multiplier};
 ghost use Rattle.scope.specs.Claim.{if_there};
 ghost use Rattle.lines.specs.Table.{Known, Tabled, mesh_body, claim_body};
 
 use mesh::limits::{
     EDGE_COLUMNS, EDGE_ROWS, ELEMENT_COLUMNS, ELEMENT_ROWS, JUMP_COLUMNS, JUMP_ROWS, LAYER_COLUMNS,
     MESH_HEADER, MOST_EDGES, MOST_ELEMENTS, MOST_JUMPS, MOST_NODES, MOST_SIDES, MOST_SOILS,
-    NODE_COLUMNS, SOIL_COLUMNS,
+    NODE_COLUMNS, NODES_FOR_108, SOIL_COLUMNS,
 };
 use mesh::pairs::ClaimSizes;
 use mesh::sizes::Sizes;
@@ -39,8 +40,10 @@ pub const MESH_MOST: [i64; COUNTS] = [
     MOST_EDGES as i64,
 ];
 
-// The most sides, as a number of the header.
+// The most sides, and the most nodes with so many, as numbers of the header.
 pub const SIDES_MOST: i64 = MOST_SIDES as i64;
+
+pub const NODES_MOST: i64 = NODES_FOR_108 as i64;
 
 // The most jumps, as a number of the header.
 pub const JUMPS_MOST: i64 = MOST_JUMPS as i64;
@@ -49,6 +52,12 @@ pub const JUMPS_MOST: i64 = MOST_JUMPS as i64;
 pub const CLAIM_LEAST: [i64; CLAIM_HEADER] = [0, 0, 0, -100000000];
 
 pub const CLAIM_MOST: [i64; CLAIM_HEADER] = [1, 1, 100000, 100000000];
+
+// The largest multiplier of a strength row, and "its strength multipliers are at most 300" (document 02, N9), with the
+// most sides.
+const STRENGTH_MOST: i64 = 10000;
+
+const STRENGTH_FOR_108: i64 = 300;
 
 // The limits of a soil's columns.
 pub const SOIL_LEAST: [i64; SOIL_COLUMNS] = [0, 1, 1, 0, -1000, -1000, -1000, -1000];
@@ -187,6 +196,18 @@ pub fn if_there(there: bool, k: usize) -> usize
     if there { k } else { 0 }
 }
 
+// The largest multiplier of a strength row, of a mesh with so many sides.
+#[tactic(auto, unfolding(scope::specs::Mesh::strength_multiplier))]
+fn strength_most(sides: usize) -> i64
+    ensures { result ≡ pos (strength_multiplier sides) }
+{
+    if sides == MOST_SIDES {
+        STRENGTH_FOR_108
+    } else {
+        STRENGTH_MOST
+    }
+}
+
 // The groups of a claim on a mesh with these sizes and so many pairs, with a field and with multipliers or without.
 pub fn claim_groups(s: ClaimSizes, field: bool, multipliers: bool) -> Groups
     ensures { Tabled s.sizes result.of (claim_body s.sizes s.pairs field multipliers) }
@@ -216,7 +237,12 @@ pub fn claim_groups(s: ClaimSizes, field: bool, multipliers: bool) -> Groups
             if_there(multipliers, s.sizes.jumps),
             JUMP_ROWS,
         ),
-        even(0, 10000, if_there(multipliers, s.pairs), s.sizes.sides),
+        even(
+            0,
+            strength_most(s.sizes.sides),
+            if_there(multipliers, s.pairs),
+            s.sizes.sides,
+        ),
     ];
     Groups { of }
 }

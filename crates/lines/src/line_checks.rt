@@ -1,13 +1,16 @@
 // The checks of the lines of a mesh, of a table and of a claim: refusals 1 to 4, and 11 to 13. They take any numbers,
 // and any count of them.
-ghost use Rattle.std.specs.Prelude.{◌≡◌, ◌&&◌, List, [], ◌∷◌, map, min, ◌+◌, ◌/◌, ◌<◌, ◌≤◌, length, take, ℤ, pos};
+ghost use Rattle.std.specs.Prelude.{◌≡◌, true, cond, ◌&&◌, List, [], ◌∷◌, map, min, ◌+◌, ◌/◌, ◌<◌, ◌≤◌, length, take, ℤ, pos};
 ghost use Rattle.std.specs.Prelude.{IfSome, IfNone};
+ghost use Rattle.std.specs.Int.Signed.{le_z};
+ghost use Rattle.integer.specs.Tests.{eq_z};
 ghost use Rattle.scope.specs.Answer.{outcome_of};
 ghost use Rattle.scope.specs.Checks.{all_below};
-ghost use Rattle.scope.specs.Columns.{at, between, within, is_one_of, parts, rule_test};
+ghost use Rattle.scope.specs.Columns.{at, between, within, is_one_of, all_within, parts, rule_test};
 ghost use Rattle.scope.specs.Layout.{width};
 ghost use Rattle.scope.specs.Verdict.{line_check, line_at, lines_check};
-ghost use Rattle.scope.specs.Mesh.{most_sides, most_jumps, mesh_layout, layout_with, soils};
+ghost use Rattle.scope.specs.Mesh.{most_sides, listed_sides, nodes_for_108, most_jumps};
+ghost use Rattle.scope.specs.Mesh.{mesh_header_columns, mesh_header, mesh_layout, layout_with, soils};
 ghost use Rattle.scope.specs.Layers.{most_layers, layer_columns};
 ghost use Rattle.scope.specs.Phases.{check_phases};
 ghost use Rattle.scope.specs.Table.{table_line_phases};
@@ -25,7 +28,7 @@ ghost use Rattle.lines.specs.LineContracts.{
 
 use crate::layout::{
     CLAIM_FILE, CLAIM_HEADER, CLAIM_LEAST, CLAIM_MOST, COUNTS, FIRST_LAYER, FileNumbers, Group,
-    Groups, JUMPS_AT, JUMPS_MOST, Kind, MESH_FILE, MESH_LEAST, MESH_MOST, Rule, SIDES_MOST,
+    Groups, JUMPS_AT, JUMPS_MOST, Kind, MESH_FILE, MESH_LEAST, MESH_MOST, NODES_MOST, Rule, SIDES_MOST,
     claim_groups, has_part, mesh_groups,
 };
 use crate::line_tests::{is_within, limits_hold, line_at, refused};
@@ -107,27 +110,40 @@ fn ruled_check(
 
 // The number of sides is one of those that a polygon has.
 fn is_sides(z: i64) -> bool
-    ensures { result ≡ is_one_of (pos 12 ∷ pos 20 ∷ pos most_sides ∷ []) z }
+    ensures { result ≡ is_one_of listed_sides z }
 {
-    [12, 20, SIDES_MOST].contains(&z)
+    [12, 20, 36, SIDES_MOST].contains(&z)
 }
 
 // What stands after the counts in the header of a mesh: the number of sides, and then the number of jumps.
 fn sides_and_jumps(sides: i64, jumps: i64) -> bool
-    ensures { result
-        ≡ is_one_of (pos 12 ∷ pos 20 ∷ pos most_sides ∷ []) sides && within (between (pos 0) (pos most_jumps)) jumps }
+    ensures { result ≡ is_one_of listed_sides sides && within (between (pos 0) (pos most_jumps)) jumps }
 {
     is_sides(sides) && is_within(jumps, 0, JUMPS_MOST)
 }
 
-// The header of a mesh.
+// With the most sides the nodes are few (document 02, N9).
+fn nodes_fit(nodes: i64, sides: i64) -> bool
+    ensures { result ≡ cond (eq_z sides (pos most_sides)) (le_z nodes (pos nodes_for_108)) true }
+{
+    sides != SIDES_MOST || nodes <= NODES_MOST
+}
+
+// Each number of a mesh's header is within its own limits.
+fn header_within(m: &[i64]) -> bool
+    requires { mesh_header_columns ≤ length m.now }
+    ensures { result ≡ all_within mesh_header.limits (take mesh_header_columns m.now) }
+{
+    limits_hold(&m[..COUNTS], &MESH_LEAST, &MESH_MOST) && sides_and_jumps(m[COUNTS], m[JUMPS_AT])
+}
+
+// The header of a mesh: a limit that looks at another number, that of the nodes, is asked after those that don't.
 pub fn mesh_header(m: &[i64]) -> Outcome
     ensures { outcome_of result ≡ line_at mesh_layout m.now 0 }
 {
     demand(MESH_HEADER <= m.len(), Reason::MeshForm.at(HEADER_LINE))?;
-    let counts = limits_hold(&m[..COUNTS], &MESH_LEAST, &MESH_MOST);
-    let in_limits = counts && sides_and_jumps(m[COUNTS], m[JUMPS_AT]);
-    demand(in_limits, Reason::MeshLimit.at(HEADER_LINE))
+    demand(header_within(m), Reason::MeshLimit.at(HEADER_LINE))?;
+    demand(nodes_fit(m[0], m[COUNTS]), Reason::MeshLimit.at(HEADER_LINE))
 }
 
 // A claim has a part; with a field n is not 0, and without one n and l are 0.

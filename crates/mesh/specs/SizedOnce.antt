@@ -5,7 +5,7 @@ use native.Mathlib.Omega.{arith}
 use Rattle.std.specs.Prelude.{◌≡◌, ◌⊎◌, List, ℕ, ℤ}
 use Rattle.std.proofs.Props.{props}
 use Rattle.mesh.specs.declared.sizes.Sizes.{Sizes}
-use Rattle.scope.specs.Mesh.{most_sides}
+use Rattle.scope.specs.Polygon.{SidesListed}
 use Rattle.scope.specs.NumberRanges.{Counts, MeshFacts}
 use Rattle.mesh.specs.MeshContracts.{Sized}
 
@@ -16,16 +16,22 @@ either_once a b n (inl x) (inr y) = absurd (n x y)
 either_once a b n (inr x) (inl y) = absurd (n y x)
 either_once a b n (inr x) (inr y) = ap inr (b x y)
 
--- a number is one of three in one way
-listed_once : (k : ℕ) → IsProp ((k ≡ 12) ⊎ ((k ≡ 20) ⊎ (k ≡ most_sides)))
+-- no number is two: one that is a is none of those after
+apart : {k a : ℕ} {B : Type 0} → (k ≡ a → B → ⊥) → k ≡ a → (b : ℕ) → ¬ (a ≡ b) → (k ≡ b) ⊎ B → ⊥
+apart f x b n (inl y) = n (sym x ∙ y)
+apart f x b n (inr y) = f x y
+
+differ : {k a b : ℕ} → ¬ (a ≡ b) → k ≡ a → k ≡ b → ⊥
+differ n x y = n (sym x ∙ y)
+
+-- a number is one of four in one way
+listed_once : (k : ℕ) → IsProp (SidesListed k)
 listed_once k =
     either_once (Prim.hlevel props)
-    (either_once (Prim.hlevel props) (Prim.hlevel props) (λ x y. omega (arith, sym x ∙ y)))
-    (λ x y. apart x y)
-  where
-    apart : k ≡ 12 → (k ≡ 20) ⊎ (k ≡ most_sides) → ⊥
-    apart x (inl y) = omega (arith, sym x ∙ y)
-    apart x (inr y) = omega (arith, sym x ∙ y)
+    (either_once (Prim.hlevel props)
+    (either_once (Prim.hlevel props) (Prim.hlevel props) (differ (λ e. omega arith)))
+    (λ x. apart (differ (λ e. omega arith)) x 36 (λ e. omega arith)))
+    (λ x. apart (λ x. apart (differ (λ e. omega arith)) x 36 (λ e. omega arith)) x 20 (λ e. omega arith))
 
 counts_once : (m : List ℤ) → IsProp (Counts m)
 counts_once m = Prim.hlevel (listed_once, props)

@@ -10,13 +10,18 @@ pub const MOST_SOILS: usize = 16;
 
 pub const MOST_EDGES: usize = 60;
 
-pub const MOST_SIDES: usize = 36;
+pub const MOST_SIDES: usize = 108;
 
 // "jumps 0 to 60" (document 02, N6).
 pub const MOST_JUMPS: usize = 60;
 
 // "Pairs are at most 100" (document 02, N2).
 pub const MOST_PAIRS: usize = 100;
+
+// "Such a mesh has at most 40 nodes and 40 node-and-soil pairs" (document 02, N9): with the most sides.
+pub const NODES_FOR_108: usize = 40;
+
+pub const PAIRS_FOR_108: usize = 40;
 
 // The columns of each line: of the header, of a soil, of a node, of an element, of an edge, of a jump.
 pub const MESH_HEADER: usize = 6;

@@ -1,7 +1,7 @@
 // The pairs of a node and a soil around it (document 02, N2), a mesh with its pairs, and what a claim's lines go by.
 ghost use Rattle.std.specs.Prelude.{◌≡◌, ◌≤◌, length};
 ghost use Rattle.std.proofs.Props.{props};
-ghost use Rattle.scope.specs.Mesh.{most_pairs};
+ghost use Rattle.scope.specs.Mesh.{most_pairs, pairs_with, sides};
 ghost use Rattle.scope.specs.Rows.{pair_count};
 ghost use Rattle.mesh.specs.PairContracts.{PairsAre};
 
@@ -20,12 +20,13 @@ pub struct Pair {
 // The pairs of a mesh, nodes ascending and at a node soils ascending.
 pub type Pairs = ArrayVec<Pair, MOST_PAIRS>;
 
-// A mesh whose lines have passed, with its pairs, which are few.
+// A mesh whose lines have passed, with its pairs, which are as few as its number of sides asks (document 02, N9).
 #[derive(Clone, Copy)]
 pub struct PairedMesh<'a> {
     pub mesh: Mesh<'a>,
     pub pairs: &'a [Pair],
     pub ghost few: { pair_count mesh.numbers.now ≤ most_pairs },
+    pub ghost few_with_sides: { pair_count mesh.numbers.now ≤ pairs_with (sides mesh.numbers.now) },
     pub ghost paired: { PairsAre mesh.numbers.now pairs.now } by { Prim.hlevel props },
 }
 
@@ -48,4 +49,5 @@ pub struct ClaimSizes {
     pub sizes: Sizes,
     pub pairs: usize,
     pub ghost few_pairs: { pairs ≤ most_pairs },
+    pub ghost few_with_sides: { pairs ≤ pairs_with sizes.sides },
 }

@@ -11,7 +11,7 @@ use lib.ListN.{length, take, drop}
 use Rattle.std.specs.Prelude.{Option, Some, None, count_by, zip}
 use Rattle.std.proofs.lemmas.List.Sums.{sum_by-cons}
 use Rattle.scope.specs.Answer.{open_rows_of}
-use Rattle.scope.specs.Mesh.{most_sides, most_pairs, most_equality_rows, sides, equality_count}
+use Rattle.scope.specs.Mesh.{pairs_with, most_sides, most_equality_rows, sides, equality_count}
 use Rattle.scope.specs.Bounds.{most_strength_rows}
 use Rattle.scope.specs.Columns.{at, has_field, has_multipliers}
 use Rattle.scope.specs.Polygon.{polygon_of}
@@ -119,7 +119,7 @@ module _ (m : List ℤ) (s : ℕ → ℤ) (l n : ℤ) (y : List ℤ) where
         ∙ sym (count_below_add open_test (pair_first m a) (sides m))
         ∙ ap (count_below open_test) (next_first m a)
 
-  pub count_small : Counts m → pair_count m ≤ most_pairs → (a : ℕ) {count : ℕ} → a ≤ pair_count m
+  pub count_small : Counts m → pair_count m ≤ pairs_with (sides m) → (a : ℕ) {count : ℕ} → a ≤ pair_count m
       → count ≡ count_below open_test (pair_first m a) → count ≤ most_equality_rows + most_strength_rows
   unfolding pair_first
   count_small counts few a h e =

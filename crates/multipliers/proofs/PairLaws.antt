@@ -24,10 +24,11 @@ use Rattle.integer.proofs.BoundLaws.{Within-le, Within-*ℤ}
 use mir.Syntax.{w64}
 use mir.Val.{to_z, of_z}
 use Rattle.integer.proofs.Machine.{machine, exact, Is-as, Is-Within}
-use Rattle.scope.specs.Mesh.{most_sides, sides, p, q, h, cohesion, equality_count}
-use Rattle.scope.specs.Bounds.{most_multiplier, strength_multiplier, strength_sum}
+use Rattle.scope.specs.Mesh.{strength_multiplier, most_sides, sides, p, q, h, cohesion, equality_count}
+use Rattle.scope.specs.Bounds.{most_multiplier, strength_sum}
 use Rattle.scope.specs.PolygonRule.{ListedPolygon}
 use Rattle.scope.proofs.PolygonRule.{listed_polygon}
+use Rattle.scope.proofs.SideLimits.{strength_most}
 use Rattle.scope.specs.Columns.{at}
 use Rattle.scope.specs.NumberRanges.{Counts}
 use Rattle.scope.specs.Polygon.{Side, polygon_of}
@@ -244,7 +245,7 @@ module _ {m y w : List ℤ} {a : ℕ} (l : a < pair_count m) (h : Multipliers m 
           let same = side_step steps k (omega (arith, pair_as_many)) in
           let w = multiplier k i in
           record {
-            itself = Within-le w (omega arith);
+            itself = Within-le w (omega (arith, strength_most (sides m)));
             run = weighted w (run-within g.fits k i) g.fits.step_weighted (ap (λ s. s.0) same);
             rise = weighted w (rise_within g.fits k i) g.fits.step_weighted (ap (λ s. s.1) same);
             cross = weighted w (cross-within g.fits k i) g.fits.product_weighted (ap (λ s. s.2) same);

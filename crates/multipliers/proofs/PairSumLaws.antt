@@ -13,10 +13,11 @@ use Rattle.integer.proofs.Ring.{ring, terms}
 use Rattle.integer.specs.Bounds.{Within, AllWithin}
 use Rattle.integer.proofs.BoundLaws.{Within-le, Within-+ℤ, Within-*ℤ, AllWithin-le, all_within_lem}
 use Rattle.integer.proofs.Machine.{Is-Within, Is-within, Is-read}
-use Rattle.scope.specs.Mesh.{most_nodes, most_pairs, most_equality_rows, sides, equality_count}
-use Rattle.scope.specs.Bounds.{pairs_with, most_strength_rows, equality_columns}
+use Rattle.scope.specs.Mesh.{pairs_with, most_nodes, most_pairs, most_equality_rows, sides, equality_count}
+use Rattle.scope.specs.Bounds.{most_strength_rows, equality_columns}
 use Rattle.scope.specs.Bounds.{equality_sums, strength_sum, pair_column, most_column}
 use Rattle.scope.proofs.PolygonRule.{listed_polygon}
+use Rattle.scope.proofs.SideLimits.{few_most}
 use Rattle.scope.specs.Columns.{at}
 use Rattle.scope.specs.NumberRanges.{Counts}
 use Rattle.scope.specs.Rows.{Row, pair_count, pair_at, sx, sy, t, rows_of}
@@ -148,18 +149,18 @@ module _ (m y : List ℤ) (a : ℕ) where
 -- ---- all pairs
 
 -- the strength rows before pair a
-pub few_rows : {m : List ℤ} → Counts m → pair_count m ≤ most_pairs → (a : ℕ) → a ≤ pair_count m
+pub few_rows : {m : List ℤ} → Counts m → pair_count m ≤ pairs_with (sides m) → (a : ℕ) → a ≤ pair_count m
     → a * sides m ≤ most_strength_rows
 few_rows {m} counts few a l =
     let most : a ≤ pairs_with (sides m) = omega arith in
     le_trans (mul-le-mul_right (sides m) most) (listed_polygon (sides m) counts.sides_listed).fits.rows_fit
 
-module _ (m y : List ℤ) (counts : Counts m) (few : pair_count m ≤ most_pairs) where
+module _ (m y : List ℤ) (counts : Counts m) (few : pair_count m ≤ pairs_with (sides m)) where
   -- before each pair the sums leave room
   pub pair_room : (a : ℕ) {columns : List ℤ} {sums : Sums} → a ≤ pair_count m → PairsSummed m y a columns sums
       → WholeSumsFit columns sums
   pair_room a l h =
-      let most : a ≤ most_pairs = omega arith in
+      let most : a ≤ most_pairs = omega (arith, few_most (sides m) few) in
       let rows = few_rows counts few a l in
       record {
         columns_fit = AllWithin-le (sums_within h.columns_are) (omega arith);
@@ -216,7 +217,7 @@ pub room_before : (mesh : PairedMesh) {y columns : List ℤ} {sums : Sums} (a : 
     → PairsSummed mesh.mesh.numbers.now y a columns sums → WholeSumsFit columns sums
 room_before mesh {y} a l h =
     let m = mesh.mesh.numbers.now in
-    pair_room m y mesh.mesh.sized.facts.counts mesh.few a (omega arith) h
+    pair_room m y mesh.mesh.sized.facts.counts mesh.few_with_sides a (omega arith) h
 
 pub no_sums : {z : ℤ} → z ≡ pos 0 → NoSums (replicate (3 * most_nodes) z)
 unfolding at

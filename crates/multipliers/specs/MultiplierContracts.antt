@@ -3,8 +3,8 @@
 use Rattle.std.specs.Prelude.{◌≡◌, Bool, cond, List, ℕ, zero, suc, ◌+◌, ◌*◌, ◌≤◌, ◌<◌, ℤ, pos, ◌+ℤ◌, ◌-ℤ◌, ◌*ℤ◌, neg_ℤ}
 use Rattle.std.specs.Prelude.{length}
 use Rattle.integer.specs.Bounds.{Within, AllWithin, Is}
-use Rattle.scope.specs.Mesh.{most_nodes, most_sides, sides, equality_count}
-use Rattle.scope.specs.Bounds.{most_multiplier, strength_multiplier, weighted_step, weighted_cross, equality_column}
+use Rattle.scope.specs.Mesh.{strength_multiplier, most_nodes, most_sides, sides, equality_count}
+use Rattle.scope.specs.Bounds.{most_multiplier, weighted_step, weighted_cross, equality_column}
 use Rattle.scope.specs.Bounds.{equality_sum, equality_columns, equality_sums, strength_sum, pair_column, most_column}
 use Rattle.scope.specs.Bounds.{most_sum}
 use Rattle.scope.specs.Columns.{at}

@@ -5,7 +5,7 @@ use mathlib.Core.Bool.{Bool, true, false}
 use mathlib.Core.List.{List, [], ◌∷◌, ◌++◌}
 use mathlib.Core.Option.{Option, none, some}
 use Prim.Native.Nat.{ℕ, zero, suc, ◌+◌, ◌*◌, ◌/◌, ◌≤◌, ◌<◌}
-use native.Mathlib.Nat.{zero-mul, suc-mul, add-mul, mul-le-mul, le-div_iff_mul-le}
+use native.Mathlib.Nat.{zero-mul, suc-mul, add-mul, mul-le-mul, mul-le-mul_right, le-div_iff_mul-le}
 use native.Mathlib.Omega.{arith}
 use lib.IntN.{ℤ}
 use lib.ListN.{length, take, drop, replicate, length-append, length-drop, length-replicate}
@@ -16,7 +16,7 @@ use Rattle.scope.specs.Cases.Outcome.{Passed}
 use Rattle.scope.specs.Columns.{has_field, has_multipliers}
 use Rattle.scope.specs.Layout.{Group, Layout, width, number_count}
 use Rattle.scope.specs.Verdict.{line_check}
-use Rattle.scope.specs.Mesh.{most_sides, most_pairs, mesh_header_columns, mesh_layout, mesh_header, soil_lines}
+use Rattle.scope.specs.Mesh.{most_sides, pairs_with, mesh_header_columns, mesh_layout, mesh_header, soil_lines}
 use Rattle.scope.specs.Mesh.{node_lines, element_lines, edge_lines, jump_lines, nodes, elements, soils, edges, sides}
 use Rattle.scope.specs.Mesh.{jumps, element_rows, edge_rows, rows_per_jump}
 use Rattle.scope.specs.Claim.{claim_header_columns, stress_columns, claim_layout, claim_header, if_there, stress_lines}
@@ -193,7 +193,7 @@ unfolding number_count claim_layout stress_lines element_multipliers edge_multip
 claim_count m c = simp length-replicate (omega arith)
 
 -- a claim file on a mesh whose counts and pairs are within their limits
-pub claim_most : {m : List ℤ} → Counts m → pair_count m ≤ most_pairs → (bs : List ℕ)
+pub claim_most : {m : List ℤ} → Counts m → pair_count m ≤ pairs_with (sides m) → (bs : List ℕ)
     → length (numbers_of file_width (claim_layout m) bs) ≤ claim_room
 unfolding claim_layout claim_header
 claim_most {m} counts few_pairs =
@@ -206,10 +206,18 @@ claim_most {m} counts few_pairs =
         let d = there_most (has_multipliers c) (edges m) in
         let g = there_most (has_multipliers c) (jumps m) in
         let e = there_most (has_multipliers c) (pair_count m) in
-        let rows : if_there (has_multipliers c) (pair_count m) * sides m ≤ most_pairs * most_sides =
-        mul-le-mul {n₂ = most_pairs} {m₂ = most_sides} (omega (arith, e, few_pairs))
-        (listed_polygon (sides m) counts.sides_listed).fits.few_sides in
-        omega (arith, claim_count m c, counts.nodes_most, counts.elements_most, counts.edges_most, counts.jumps_most)
+        let most : if_there (has_multipliers c) (pair_count m) ≤ pairs_with (sides m) = omega (arith, e, few_pairs) in
+        let rows = mul-le-mul_right (sides m) most in
+        let fit = (listed_polygon (sides m) counts.sides_listed).fits.numbers_fit in
+        omega (
+          arith,
+          claim_count m c,
+          counts.nodes_fit,
+          fit,
+          counts.elements_most,
+          counts.edges_most,
+          counts.jumps_most,
+        )
 
 -- a table file
 left_most : (bs : List ℕ) → length (left_over bs) ≤ 1

@@ -1,6 +1,6 @@
 -- How many numbers a file has at most: by its bytes, and by the lines that a mesh and a claim can have.
 use Rattle.std.specs.Prelude.{ℕ, ◌+◌, ◌*◌, ◌/◌}
-use Rattle.scope.specs.Mesh.{most_nodes, most_elements, most_soils, most_edges, most_sides, most_jumps, most_pairs, mesh_header_columns, soil_columns, node_columns, element_columns, edge_columns, jump_columns, element_rows, edge_rows, rows_per_jump}
+use Rattle.scope.specs.Mesh.{most_nodes, most_elements, most_soils, most_edges, most_sides, most_jumps, nodes_for_108, pairs_for_108, mesh_header_columns, soil_columns, node_columns, element_columns, edge_columns, jump_columns, element_rows, edge_rows, rows_per_jump}
 use Rattle.scope.specs.Claim.{claim_header_columns, stress_columns}
 use Rattle.scope.specs.Layers.{most_layers, layer_columns}
 use Rattle.reader.specs.File.{file_width}
@@ -9,7 +9,8 @@ use Rattle.reader.specs.File.{file_width}
 abbrev pub most_numbers : ℕ → ℕ
 most_numbers bytes = bytes / file_width + 1
 
--- a mesh file, and a claim file: their headers, as many lines as there can be, and one for bytes left over
+-- a mesh file, and a claim file: their headers, as many lines as there can be, and one for bytes left over; with 108
+-- sides a claim has the most numbers
 abbrev pub mesh_room : ℕ
 mesh_room =
     mesh_header_columns
@@ -23,11 +24,11 @@ mesh_room =
 abbrev pub claim_room : ℕ
 claim_room =
     claim_header_columns
-    + most_nodes * stress_columns
+    + nodes_for_108 * stress_columns
     + most_elements * element_rows
     + most_edges * edge_rows
     + most_jumps * rows_per_jump
-    + most_pairs * most_sides
+    + pairs_for_108 * most_sides
     + 1
 
 -- a table file: as many lines as there can be, and one for bytes left over

@@ -19,22 +19,22 @@ use lines::layout::{CLAIM_HEADER, Groups, STRESS_COLUMNS};
 use lines::line_checks::{claim_header, mesh_header};
 use mesh::limits::{
     EDGE_ROWS, ELEMENT_ROWS, JUMP_ROWS, LAYER_COLUMNS, MESH_HEADER, MESH_NUMBERS, MOST_EDGES,
-    MOST_ELEMENTS, MOST_JUMPS, MOST_LAYERS, MOST_NODES, MOST_PAIRS, MOST_SIDES,
+    MOST_ELEMENTS, MOST_JUMPS, MOST_LAYERS, MOST_SIDES, NODES_FOR_108, PAIRS_FOR_108,
 };
 use mesh::pairs::ClaimSizes;
 
 // The most numbers of a mesh file, of a table file and of a claim file: their headers, as many lines as there can be,
-// and one for bytes left over.
+// and one for bytes left over. With 108 sides a claim has the most.
 pub const MESH_ROOM: usize = MESH_NUMBERS + 1;
 
 pub const TABLE_ROOM: usize = MOST_LAYERS * LAYER_COLUMNS + 1;
 
 pub const CLAIM_ROOM: usize = CLAIM_HEADER
-    + MOST_NODES * STRESS_COLUMNS
+    + NODES_FOR_108 * STRESS_COLUMNS
     + MOST_ELEMENTS * ELEMENT_ROWS
     + MOST_EDGES * EDGE_ROWS
     + MOST_JUMPS * JUMP_ROWS
-    + MOST_PAIRS * MOST_SIDES
+    + PAIRS_FOR_108 * MOST_SIDES
     + 1;
 
 // The bytes of a claim's header: a column takes `COLUMN_BYTES`, and a line one more.

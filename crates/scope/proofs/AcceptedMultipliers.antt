@@ -1,10 +1,10 @@
--- Accepted multipliers in printed terms: a sound mesh has 12, 20 or 36 sides, and for these the columns are the printed ones.
+-- Accepted multipliers in printed terms: a sound mesh has a listed number of sides, and for these the columns are the printed ones.
 use mathlib.Core.Path.{◌≡◌, ap₂}
-use mathlib.Core.Logic.{◌⊎◌}
 use mathlib.Core.List.{List}
 use lib.IntN.{ℤ}
 use Rattle.integer.specs.Fraction.{◌over◌}
 use Rattle.scope.specs.Mesh.{sides}
+use Rattle.scope.specs.Polygon.{SidesListed}
 use Rattle.scope.specs.Claim.{multiplier}
 use Rattle.scope.specs.Statements.{MeshSound}
 use Rattle.scope.specs.Parts.{allowed}
@@ -13,7 +13,7 @@ use Rattle.scope.specs.AcceptedMultipliers.{MultipliersAsPrinted}
 use Rattle.scope.proofs.NumberRanges.{mesh_facts}
 use Rattle.scope.proofs.PrintedColumns.{columns-printed, multipliers_printed}
 
-listed : (m : List ℤ) → MeshSound m → (sides m ≡ 12) ⊎ ((sides m ≡ 20) ⊎ (sides m ≡ 36))
+listed : (m : List ℤ) → MeshSound m → SidesListed (sides m)
 listed m s = (mesh_facts m s.lines).counts.sides_listed
 
 pub sums_printed : (m c : List ℤ) → MeshSound m → ColumnsPrinted m (multiplier m c)

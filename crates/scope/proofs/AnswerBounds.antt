@@ -3,7 +3,7 @@ use mathlib.Core.Path.{◌≡◌, refl}
 use mathlib.Core.Logic.{◌⊎◌, inl, inr}
 use mathlib.Core.List.{List, ◌++◌}
 use Prim.Native.Nat.{ℕ, zero, suc, ◌+◌, ◌*◌, ◌<◌, ◌≤◌}
-use native.Mathlib.Nat.{mul-le-mul}
+use native.Mathlib.Nat.{mul-le-mul_right}
 use native.Mathlib.Decide.{dec_lt}
 use native.Mathlib.Omega.{arith}
 use lib.IntN.{ℤ}
@@ -12,7 +12,8 @@ use Rattle.scope.specs.declared.Place.{Place}
 use Rattle.scope.specs.Answer.{place_number}
 use Rattle.scope.specs.Columns.{has_field, has_multipliers, n, l}
 use Rattle.scope.specs.Layout.{Layout, group_at, numbers_at, groups, line_count, lines_before}
-use Rattle.scope.specs.Mesh.{most_pairs, most_sides, mesh_header, soil_lines, node_lines, element_lines, edge_lines, jump_lines, mesh_layout, mesh_groups, nodes, elements, soils, edges, sides, jumps, edge_line, jump_line}
+use Rattle.scope.specs.Bounds.{most_strength_rows}
+use Rattle.scope.specs.Mesh.{mesh_header, soil_lines, node_lines, element_lines, edge_lines, jump_lines, mesh_layout, mesh_groups, nodes, elements, soils, edges, sides, jumps, edge_line, jump_line}
 use Rattle.scope.specs.Claim.{claim_header, stress_lines, element_multipliers, edge_multipliers, jump_multipliers, strength_multipliers, claim_layout, stress, multiplier}
 use Rattle.scope.specs.Rows.{pair_count, equality_rows, strength_rows, rows_of}
 use Rattle.scope.specs.Statements.{LineSound, MeshSound}
@@ -24,6 +25,7 @@ use Rattle.scope.proofs.Phases.{EachIn, each_refusal, each_join, each_part, own_
 use Rattle.scope.proofs.Refusals.{line_sound, lines_sound, mesh_sound}
 use Rattle.scope.proofs.Exactly.{OfMesh, there_most, each_number}
 use Rattle.scope.proofs.Pairs.{few_pairs_lem}
+use Rattle.scope.proofs.SideLimits.{few_most}
 use Rattle.scope.proofs.PolygonRule.{listed_polygon}
 use Rattle.scope.proofs.RowCounts.{equality_count_lem, strength_count}
 
@@ -38,7 +40,7 @@ claim_lines_lem m c s =
     omega (
       arith,
       (mesh_facts m s.lines).counts,
-      few_pairs_lem m s,
+      few_most (sides m) (few_pairs_lem m s),
       there_most (has_field c) (nodes m),
       there_most (has_multipliers c) (pair_count m),
       there_most (has_multipliers c) (elements m),
@@ -69,25 +71,29 @@ jump_line_lem : (m : List ℤ) (j : ℕ) → jump_line m j ≡ 1 + soils m + nod
 unfolding jump_line mesh_groups mesh_layout groups mesh_header soil_lines node_lines element_lines edge_lines jump_lines lines_before
 jump_line_lem m j = omega arith
 
-pub few_strengths : (m : List ℤ) → MeshSound m → length (strength_rows m) ≤ most_pairs * most_sides
+pub few_strengths : (m : List ℤ) → MeshSound m → length (strength_rows m) ≤ most_strength_rows
 few_strengths m s =
     let listed = (mesh_facts m s.lines).counts.sides_listed in
-    let most = mul-le-mul (few_pairs_lem m s) (listed_polygon (sides m) listed).fits.few_sides in
-    omega (arith, strength_count m listed, most)
+    let most = mul-le-mul_right (sides m) (few_pairs_lem m s) in
+    omega (arith, strength_count m listed, most, (listed_polygon (sides m) listed).fits.rows_fit)
 
 -- ---- numbers
 
-mesh_most : {k : ℕ} → OfMesh k → k ≤ 44
+-- the largest number of a refusal: 44
+abbrev pub most_number : ℕ
+most_number = 44
+
+mesh_most : {k : ℕ} → OfMesh k → k ≤ most_number
 mesh_most {k} e = by e.1
   where
-    by : (k ≤ 13) ⊎ ((k ≡ 42) ⊎ (k ≡ 44)) → k ≤ 44
+    by : (k ≤ 13) ⊎ ((k ≡ 42) ⊎ (k ≡ 44)) → k ≤ most_number
     by (inl l) = omega arith
     by (inr (inl l)) = omega arith
     by (inr (inr l)) = omega arith
 
-numbers_most : (m c : List ℤ) → EachIn (λ k p. k ≤ 44) (mesh_phases m ++ claim_phases m c)
+numbers_most : (m c : List ℤ) → EachIn (λ k p. k ≤ most_number) (mesh_phases m ++ claim_phases m c)
 numbers_most m c =
-    each_number (λ k p. k ≤ 44) m c (λ k p e. mesh_most e)
+    each_number (λ k p. k ≤ most_number) m c (λ k p e. mesh_most e)
     (λ k n h l r. omega (arith, own_number {k = 21} refl r), λ e. (λ k n h l r. omega (arith, own_number {k = 22} refl r), λ i. tt))
     (λ a b d. (
       λ k n h l r. omega (arith, own_number {k = 31} refl r),
@@ -96,7 +102,11 @@ numbers_most m c =
 
 -- ---- places
 
-places_most : (m c : List ℤ) → EachIn (λ k p. place_number p ≤ 3601) (mesh_phases m ++ claim_phases m c)
+-- the largest place: the last strength row
+abbrev pub most_place : ℕ
+most_place = most_strength_rows
+
+places_most : (m c : List ℤ) → EachIn (λ k p. place_number p ≤ most_place) (mesh_phases m ++ claim_phases m c)
 places_most m c =
     each_join Q (mesh_phases m) (claim_phases m c)
     (each_join Q (line_phases mesh_layout m) (shape_phases m)
@@ -128,8 +138,7 @@ places_most m c =
     ))))
   where
     Q : ℕ → Place → Type 0
-    Q k p = place_number p ≤ 3601
+    Q k p = place_number p ≤ most_place
 
--- the number of a refusal is at most 44, its place at most 3,601
-pub refusal_bounds : {m c : List ℤ} {k : ℕ} {p : Place} → Refusal m c k p → (k ≤ 44) × (place_number p ≤ 3601)
-refusal_bounds {m} {c} r = (each_refusal (λ k p. k ≤ 44) (mesh_phases m ++ claim_phases m c) (numbers_most m c) r.by, each_refusal (λ k p. place_number p ≤ 3601) (mesh_phases m ++ claim_phases m c) (places_most m c) r.by)
+pub refusal_bounds : {m c : List ℤ} {k : ℕ} {p : Place} → Refusal m c k p → (k ≤ most_number) × (place_number p ≤ most_place)
+refusal_bounds {m} {c} r = (each_refusal (λ k p. k ≤ most_number) (mesh_phases m ++ claim_phases m c) (numbers_most m c) r.by, each_refusal (λ k p. place_number p ≤ most_place) (mesh_phases m ++ claim_phases m c) (places_most m c) r.by)

@@ -15,7 +15,7 @@ use Rattle.integer.specs.Tests.{eq_z}
 use Rattle.integer.proofs.TestLaws.{yes_eq_z, no_eq_z}
 use Rattle.scope.specs.Columns.{Limit, between, free, up_to, at, has_field, has_multipliers, n, l}
 use Rattle.scope.specs.Layout.{Group, Layout, width, groups, number_count, numbers_before, entry}
-use Rattle.scope.specs.Mesh.{nodes, elements, edges, sides, jumps, equality_count}
+use Rattle.scope.specs.Mesh.{strength_multiplier, nodes, elements, edges, sides, jumps, equality_count}
 use Rattle.scope.specs.Rows.{pair_count}
 use Rattle.scope.specs.Claim.{claim_header, if_there, stress_lines, element_multipliers, edge_multipliers, jump_multipliers, strength_multipliers, claim_layout, stress, multiplier}
 use Rattle.scope.specs.Statements.{Within, PartsFit, LinesSound}
@@ -84,12 +84,12 @@ module _ (m c : List ℤ) (s : LinesSound (claim_layout m) c) where
       let e : numbers_before (groups (claim_layout m) c) 4 + k ≡ numbers_before (groups (claim_layout m) c) 2 + (if_there (has_multipliers c) (elements m) * 2 + if_there (has_multipliers c) (edges m) * 4 + k) = omega arith in
       subst (λ (i : ℕ). Between (neg_ℤ (pos 100000)) (pos 100000) (at c i)) e (record { least = w.0; most = w.1 })
 
-  strength_part : 0 < sides m → (k : ℕ) → k < if_there (has_multipliers c) (pair_count m) * sides m → Between (pos 0) (pos 10000) (multiplier m c (if_there (has_multipliers c) (elements m) * 2 + if_there (has_multipliers c) (edges m) * 4 + if_there (has_multipliers c) (jumps m) * 4 + k))
+  strength_part : 0 < sides m → (k : ℕ) → k < if_there (has_multipliers c) (pair_count m) * sides m → Between (pos 0) (pos (strength_multiplier (sides m))) (multiplier m c (if_there (has_multipliers c) (elements m) * 2 + if_there (has_multipliers c) (edges m) * 4 + if_there (has_multipliers c) (jumps m) * 4 + k))
   unfolding claim_layout groups element_multipliers edge_multipliers jump_multipliers strength_multipliers up_to multiplier numbers_before
   strength_part p k h =
-      let w = flat_within (claim_layout m) c s 5 (sides m) k (between (pos 0) (pos 10000)) refl p h in
+      let w = flat_within (claim_layout m) c s 5 (sides m) k (between (pos 0) (pos (strength_multiplier (sides m)))) refl p h in
       let e : numbers_before (groups (claim_layout m) c) 5 + k ≡ numbers_before (groups (claim_layout m) c) 2 + (if_there (has_multipliers c) (elements m) * 2 + if_there (has_multipliers c) (edges m) * 4 + if_there (has_multipliers c) (jumps m) * 4 + k) = omega arith in
-      subst (λ (i : ℕ). Between (pos 0) (pos 10000) (at c i)) e (record { least = w.0; most = w.1 })
+      subst (λ (i : ℕ). Between (pos 0) (pos (strength_multiplier (sides m))) (at c i)) e (record { least = w.0; most = w.1 })
 
   field_is : at c 0 ≡ pos 1 → if_there (has_field c) (nodes m) ≡ nodes m
   unfolding if_there has_field
@@ -123,7 +123,7 @@ module _ (m c : List ℤ) (s : LinesSound (claim_layout m) c) where
   unfolding claim_layout groups claim_header stress_lines element_multipliers edge_multipliers jump_multipliers strength_multipliers numbers_before number_count
   size_with f e =
       let k : numbers_before (groups (claim_layout m) c) 5 + if_there (has_multipliers c) (pair_count m) * width (group (groups (claim_layout m) c) 5) ≤ length c =
-      group_there (claim_layout m) c s 5 (omega (arith, part_is e (pair_count m), some_pairs m f)) (omega (arith, length-replicate (sides m) (between (pos 0) (pos 10000)), some_sides_lem f.counts)) in
+      group_there (claim_layout m) c s 5 (omega (arith, part_is e (pair_count m), some_pairs m f)) (omega (arith, length-replicate (sides m) (between (pos 0) (pos (strength_multiplier (sides m)))), some_sides_lem f.counts)) in
       omega (arith, simp length-replicate at k, simp length-replicate at s.none_left)
 
   size_without : MeshFacts m → ¬ (at c 1 ≡ pos 1) → Size
@@ -177,7 +177,7 @@ module _ (m c : List ℤ) (s : LinesSound (claim_layout m) c) where
           subst (λ (i : ℕ). Between (neg_ℤ (pos 100000)) (pos 100000) (multiplier m c i)) (omega (arith, part_is e (elements m), part_is e (edges m)))
           (jump_part (k - (elements m * 2 + edges m * 4)) (omega (arith, part_is e (jumps m))))
 
-      strength : at c 1 ≡ pos 1 → (k : ℕ) → k < pair_count m * sides m → Between (pos 0) (pos 10000) (multiplier m c (equality_count m + k))
+      strength : at c 1 ≡ pos 1 → (k : ℕ) → k < pair_count m * sides m → Between (pos 0) (pos (strength_multiplier (sides m))) (multiplier m c (equality_count m + k))
       strength e k h =
-          subst (λ (i : ℕ). Between (pos 0) (pos 10000) (multiplier m c i)) (omega (arith, part_is e (elements m), part_is e (edges m), part_is e (jumps m)))
+          subst (λ (i : ℕ). Between (pos 0) (pos (strength_multiplier (sides m))) (multiplier m c i)) (omega (arith, part_is e (elements m), part_is e (edges m), part_is e (jumps m)))
           (strength_part (some_sides_lem f.counts) k (subst (λ (i : ℕ). k < i * sides m) (sym (part_is e (pair_count m))) h))

@@ -16,7 +16,7 @@ use Rattle.scope.specs.Cases.Verdict.{Verdict}
 use Rattle.scope.specs.Cases.Verdict.{Accepted, Refused}
 use Rattle.scope.specs.Answer.{number_of}
 use Rattle.scope.specs.Checks.{◌then◌}
-use Rattle.scope.specs.Columns.{Rule, right_angle, naming, parts, has_field, has_multipliers, n, l}
+use Rattle.scope.specs.Columns.{Rule, right_angle, naming, parts, at_most_where, has_field, has_multipliers, n, l}
 use Rattle.scope.specs.Layout.{Layout, numbers_at, group_at}
 use Rattle.scope.specs.Mesh.{mesh_layout, nodes}
 use Rattle.scope.specs.Claim.{claim_layout, if_there, stress, multiplier}
@@ -105,6 +105,7 @@ rule_number_lem : (rs : List Rule) (line : List ℤ) (c : ℕ) → FirstFails (r
 unfolding rule_number
 rule_number_lem [] line c h = absurd h
 rule_number_lem (right_angle ∷ rs) line c (inl h) = omega (arith, h.1)
+rule_number_lem (at_most_where a k d z ∷ rs) line c (inl h) = omega (arith, h.1)
 rule_number_lem (naming cs ∷ rs) line c (inl h) = omega (arith, h.1)
 rule_number_lem (parts ∷ rs) line c (inl h) = omega (arith, h.1)
 rule_number_lem (r ∷ rs) line c (inr h) = rule_number_lem rs line c h.1

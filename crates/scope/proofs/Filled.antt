@@ -1,6 +1,5 @@
 -- What stands in a mesh whose elements with soil 0 were given soils: at the place of such a soil the one that was given, and everywhere else what stood there. So all that sound lines say stays, and each element's height is in one layer.
 use mathlib.Core.Path.{◌≡◌, refl, sym, ◌∙◌, ap, ap₂, subst, subst₃}
-use mathlib.Core.Logic.{◌⊎◌}
 use mathlib.Core.Bool.{Bool, true, false, cond, ◌&&◌, and-false}
 use mathlib.Core.List.{List}
 use Prim.Native.Nat.{ℕ, ◌+◌, ◌*◌, ◌-◌, ◌≤◌, ◌<◌}
@@ -15,7 +14,8 @@ use borrow.Author.Tests.{lt-ltb, le-ltb}
 use Rattle.integer.specs.Tests.{eq_z}
 use Rattle.scope.specs.Columns.{at}
 use Rattle.scope.specs.Layout.{Group, width, groups, numbers_before, count, entry}
-use Rattle.scope.specs.Mesh.{most_sides, mesh_header_columns, soil_columns, element_columns, mesh_header, soil_lines, node_lines, element_lines, edge_lines, jump_lines, mesh_layout, mesh_groups, nodes, elements, soils, edges, sides, jumps, p, q, h, cohesion, soil_entry, x, y, corner, element_soil, edge_entry, from_node, to_node, jump_entry, jump_from, jump_to, facing_from, facing_to}
+use Rattle.scope.specs.Polygon.{SidesListed}
+use Rattle.scope.specs.Mesh.{nodes_with, mesh_header_columns, soil_columns, element_columns, mesh_header, soil_lines, node_lines, element_lines, edge_lines, jump_lines, mesh_layout, mesh_groups, nodes, elements, soils, edges, sides, jumps, p, q, h, cohesion, soil_entry, x, y, corner, element_soil, edge_entry, from_node, to_node, jump_entry, jump_from, jump_to, facing_from, facing_to}
 use Rattle.scope.specs.Rows.{count_from}
 use Rattle.scope.specs.NumberRanges.{Between, Counts, SoilFacts, NodeFacts, ElementFacts, EdgeFacts, JumpFacts, MeshFacts}
 use Rattle.scope.specs.Bounds.{most_coordinate}
@@ -344,7 +344,8 @@ module _ (f : ℕ → ℤ) (m : List ℤ) (k : MeshFacts (given f m)) where
           soils_most = omega (arith, c.soils_most, soils_kept f m, soils_kept g m);
           edges_least = subst (λ (z : ℤ). pos 0 ≤ℤ z) (header_kept f m 3 (omega arith) ∙ sym (header_kept g m 3 (omega arith))) c.edges_least;
           edges_most = omega (arith, c.edges_most, edges_kept f m, edges_kept g m);
-          sides_listed = subst (λ (n : ℕ). (n ≡ 12) ⊎ ((n ≡ 20) ⊎ (n ≡ most_sides))) (sides_kept f m ∙ sym (sides_kept g m)) c.sides_listed;
+          sides_listed = subst SidesListed (sides_kept f m ∙ sym (sides_kept g m)) c.sides_listed;
+          nodes_fit = subst (λ (n : ℕ). nodes (given g m) ≤ nodes_with n) (sides_kept f m ∙ sym (sides_kept g m)) (omega (arith, c.nodes_fit, nodes_kept f m, nodes_kept g m));
           jumps_least = subst (λ (z : ℤ). pos 0 ≤ℤ z) (header_kept f m 5 (omega arith) ∙ sym (header_kept g m 5 (omega arith))) c.jumps_least;
           jumps_most = omega (arith, c.jumps_most, jumps_kept f m, jumps_kept g m);
         }

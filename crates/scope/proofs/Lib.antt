@@ -15,6 +15,7 @@ pub mod PlaceKinds
 pub mod LineRefusals
 pub mod NumberRanges
 pub mod Pairs
+pub mod SideLimits
 pub mod ClaimNumberRanges
 pub mod PolygonRule
 pub mod Lists

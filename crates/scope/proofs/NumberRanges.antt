@@ -1,17 +1,20 @@
 -- Sound lines say what each number of a mesh is: each group's lines, by the law of a layout's lines.
-use mathlib.Core.Path.{◌≡◌, ap, subst, subst₃}
-use mathlib.Core.Logic.{◌⊎◌, inl, inr}
-use mathlib.Core.List.{List, [], ◌∷◌}
+use mathlib.Core.Path.{◌≡◌, ap, subst, subst₂, subst₃}
+use mathlib.Core.Logic.{inl, inr}
+use mathlib.Core.Bool.{Bool, true, false, cond}
+use mathlib.Core.List.{List}
 use Prim.Native.Nat.{ℕ, zero, suc, ◌+◌, ◌*◌, ◌-◌, ◌≤◌, ◌<◌}
 use native.Mathlib.Decide.{dec_lt}
 use native.Mathlib.Omega.{arith}
+use lib.Dec.{T, eqb, eqb→eq}
 use lib.IntN.{ℤ, pos, negsuc, ◌+ℤ◌, ◌*ℤ◌, neg_ℤ}
 use lib.Signed.{◌≤ℤ◌}
 use lib.ListN.{length, get_or}
 use Rattle.integer.proofs.Order.{≤ℤ_pos}
 use Rattle.scope.specs.Columns.{one_of, free, up_to, at}
 use Rattle.scope.specs.Layout.{width, groups, line_count, number_count, lines_before, numbers_before, count, entry}
-use Rattle.scope.specs.Mesh.{mesh_header, soil_lines, node_lines, element_lines, edge_lines, jump_lines, mesh_layout, mesh_groups, nodes, elements, soils, edges, sides, jumps, p, q, h, cohesion, soil_entry, x, y, corner, element_soil, edge_entry, from_node, to_node, jump_entry, jump_from, jump_to, facing_from, facing_to}
+use Rattle.scope.specs.Polygon.{SidesListed}
+use Rattle.scope.specs.Mesh.{most_nodes, most_sides, listed_sides, nodes_for_108, nodes_with, mesh_header, soil_lines, node_lines, element_lines, edge_lines, jump_lines, mesh_layout, mesh_groups, nodes, elements, soils, edges, sides, jumps, p, q, h, cohesion, soil_entry, x, y, corner, element_soil, edge_entry, from_node, to_node, jump_entry, jump_from, jump_to, facing_from, facing_to}
 use Rattle.scope.specs.Statements.{Within, LineSound, LinesSound}
 use Rattle.scope.specs.NumberRanges.{Between, Counts, SoilFacts, NodeFacts, ElementFacts, EdgeFacts, JumpFacts, MeshFacts}
 use Rattle.scope.proofs.PolygonRule.{listed_polygon}
@@ -28,11 +31,30 @@ count_range (negsuc k) l h = absurd l.le
 named : (z : ℤ) (k : ℕ) → pos 1 ≤ℤ z → z ≤ℤ pos k → count z - 1 < k
 named z k l h = let r : (1 ≤ count z) × (count z ≤ k) = count_range z l h in omega (arith, r.0, r.1)
 
+-- a count above 0 is the number itself
+pub count_is : (z : ℤ) {k : ℕ} → count z ≡ suc k → z ≡ pos (suc k)
+unfolding count
+count_is (pos n) e = ap pos e
+count_is (negsuc n) e = absurd (omega arith)
+
+-- v nodes with z sides
+nodes_fit : (v z : ℤ) → pos 4 ≤ℤ v → v ≤ℤ pos most_nodes → (z ≡ pos most_sides → v ≤ℤ pos nodes_for_108) → count v ≤ nodes_with (count z)
+unfolding nodes_with
+nodes_fit v z least most few = by (eqb (count z) most_sides) (eqb→eq (count z) most_sides)
+  where
+    by : (b : Bool) → (T b → count z ≡ most_sides) → count v ≤ cond b nodes_for_108 most_nodes
+    by true e = (count_range v least (few (count_is z (e tt)))).1
+    by false e = (count_range v least most).1
+
 -- a sound header is enough for the counts
 pub header_counts : (m : List ℤ) → LineSound mesh_layout m 0 → Counts m
 unfolding mesh_layout groups mesh_header entry lines_before numbers_before nodes elements soils edges sides jumps count
 header_counts m s =
-    let w = (line_facts_of mesh_layout m 0 0 s (omega arith) (omega arith)).within in
+    let facts = line_facts_of mesh_layout m 0 0 s (omega arith) (omega arith) in
+    let w = facts.within in
+    let few : at m 4 ≡ pos most_sides → at m 0 ≤ℤ pos nodes_for_108 =
+    subst₂ (λ (z v : ℤ). z ≡ pos most_sides → v ≤ℤ pos nodes_for_108)
+    (at_line_in (groups mesh_layout m) m 0 0 4 (omega arith)) (at_line_in (groups mesh_layout m) m 0 0 0 (omega arith)) facts.rules.0 in
     let ns : (4 ≤ nodes m) × (nodes m ≤ 100) = count_range (at m 0) (w 0 (omega arith)).0 (w 0 (omega arith)).1 in
     let es : (1 ≤ elements m) × (elements m ≤ 100) = count_range (at m 1) (w 1 (omega arith)).0 (w 1 (omega arith)).1 in
     let ss : (1 ≤ soils m) × (soils m ≤ 16) = count_range (at m 2) (w 2 (omega arith)).0 (w 2 (omega arith)).1 in
@@ -48,15 +70,17 @@ header_counts m s =
       edges_least = (w 3 (omega arith)).0;
       edges_most = gs.1;
       sides_listed = listed (at m 4) (w 4 (omega arith));
+      nodes_fit = nodes_fit (at m 0) (at m 4) (w 0 (omega arith)).0 (w 0 (omega arith)).1 few;
       jumps_least = (w 5 (omega arith)).0;
       jumps_most = js.1;
     }
   where
-    listed : (z : ℤ) → Within (one_of (pos 12 ∷ pos 20 ∷ pos 36 ∷ [])) z → (count z ≡ 12) ⊎ ((count z ≡ 20) ⊎ (count z ≡ 36))
+    listed : (z : ℤ) → Within (one_of listed_sides) z → SidesListed (count z)
     listed z (inl e) = inl (ap count e)
     listed z (inr (inl e)) = inr (inl (ap count e))
-    listed z (inr (inr (inl e))) = inr (inr (ap count e))
-    listed z (inr (inr (inr e))) = absurd e
+    listed z (inr (inr (inl e))) = inr (inr (inl (ap count e)))
+    listed z (inr (inr (inr (inl e)))) = inr (inr (inr (ap count e)))
+    listed z (inr (inr (inr (inr e)))) = absurd e
 
 -- a polygon has sides
 pub some_sides_lem : {m : List ℤ} → Counts m → 0 < sides m

@@ -15,7 +15,7 @@ use lib.IntN.{ℤ}
 use lib.ListN.{length, get_or, length-append, get_or-append}
 use lib.Seq.{get_or-append-add}
 use Rattle.scope.specs.Members.{◌∈◌}
-use Rattle.scope.specs.Mesh.{most_pairs, nodes, elements, soils, sides, element_soil}
+use Rattle.scope.specs.Mesh.{pairs_with, nodes, elements, soils, sides, element_soil}
 use Rattle.scope.specs.Polygon.{polygon_of}
 use Rattle.scope.specs.Rows.{Pair, joined, count_from, first_where, has_corner, has_soil, passing, node_pairs, pairs_below, pair_rows, strength_pairs, pair_count, pair_at, strength_rows}
 use Rattle.scope.specs.Statements.{InElement, MeshSound, PairsFit}
@@ -223,36 +223,39 @@ module _ (m : List ℤ) where
       by g (yes f) = f
       by g (no f) = absurd (omega (arith, place_from (nodes m) k a (pair_of 0 0) h (omega arith) l))
 
+  abbrev most : ℕ
+  most = pairs_with (sides m)
+
   -- the nodes below v fit where each of them does
-  before_fits : (v : ℕ) → ((j : ℕ) → j < v → PairsFit m j) → length (pairs_below m v) ≤ most_pairs
+  before_fits : (v : ℕ) → ((j : ℕ) → j < v → PairsFit m j) → length (pairs_below m v) ≤ most
   unfolding pairs_below
   before_fits zero h = omega arith
   before_fits (suc u) h = h u (omega arith)
 
-  brings : (v : ℕ) → LowestFails (nodes m) (PairsFit m) v ↔ ((100 < pair_count m) × ((pair_at m 100).at ≡ v))
+  brings : (v : ℕ) → LowestFails (nodes m) (PairsFit m) v ↔ ((most < pair_count m) × ((pair_at m most).at ≡ v))
   unfolding pair_count strength_pairs
   brings v = (to, from)
     where
-      to : LowestFails (nodes m) (PairsFit m) v → (100 < pair_count m) × ((pair_at m 100).at ≡ v)
+      to : LowestFails (nodes m) (PairsFit m) v → (most < pair_count m) × ((pair_at m most).at ≡ v)
       to h =
           let there = h.there in
-          let here : ¬ (length (pairs_below m (suc v)) ≤ 100) = h.fails in
-          let many : 100 < pair_count m = omega (arith, pairs_more (nodes m) (suc v) (omega arith)) in
-          let small = (node_of_pair (suc v) 100 (omega arith) many).1 (omega arith) in
-          let large : ¬ ((pair_at m 100).at < v) = λ g. omega (arith, (node_of_pair v 100 (omega arith) many).0 g, before_fits v h.lower) in
+          let here : ¬ (length (pairs_below m (suc v)) ≤ most) = h.fails in
+          let many : most < pair_count m = omega (arith, pairs_more (nodes m) (suc v) (omega arith)) in
+          let small = (node_of_pair (suc v) most (omega arith) many).1 (omega arith) in
+          let large : ¬ ((pair_at m most).at < v) = λ g. omega (arith, (node_of_pair v most (omega arith) many).0 g, before_fits v h.lower) in
           (many, omega arith)
 
-      from : (100 < pair_count m) × ((pair_at m 100).at ≡ v) → LowestFails (nodes m) (PairsFit m) v
+      from : (most < pair_count m) × ((pair_at m most).at ≡ v) → LowestFails (nodes m) (PairsFit m) v
       from (many, e) =
-          let there : v < nodes m = omega (arith, (pair_there 100 many).0) in
+          let there : v < nodes m = omega (arith, (pair_there most many).0) in
           record {
             there = there;
-            lower = λ j l. fits j l (dec_lt 100 (length (pairs_below m (suc j))));
-            fails = λ k. omega (arith, (node_of_pair (suc v) 100 (omega arith) many).0 (omega arith));
+            lower = λ j l. fits j l (dec_lt most (length (pairs_below m (suc j))));
+            fails = λ k. omega (arith, (node_of_pair (suc v) most (omega arith) many).0 (omega arith));
           }
         where
-          fits : (j : ℕ) → j < v → Dec (100 < length (pairs_below m (suc j))) → PairsFit m j
-          fits j l (yes k) = absurd (omega (arith, (pair_there 100 many).0, (node_of_pair (suc j) 100 (omega (arith, (pair_there 100 many).0)) many).1 k))
+          fits : (j : ℕ) → j < v → Dec (most < length (pairs_below m (suc j))) → PairsFit m j
+          fits j l (yes k) = absurd (omega (arith, (pair_there most many).0, (node_of_pair (suc j) most (omega (arith, (pair_there most many).0)) many).1 k))
           fits j l (no k) = omega arith
 
   pub pairs : Pairs m
@@ -260,7 +263,7 @@ module _ (m : List ℤ) where
   pairs = record {
     exactly = λ a. (λ k. let h = of_below (nodes m) k in (h.0, h.1.0, h.1.1), λ h. in_below (nodes m) h.0 (h.1, h.2));
     ascending = λ i j h l. sorted_at Before (strength_pairs m) _ i j h l (below_sorted (nodes m));
-    brings_101st = brings;
+    brings_one_more = brings;
   }
 
   -- ---- a mesh whose lines are sound
@@ -287,7 +290,7 @@ module _ (m : List ℤ) where
 
 -- ---- a mesh that passes
 
-pub few_pairs_lem : (m : List ℤ) → MeshSound m → pair_count m ≤ most_pairs
+pub few_pairs_lem : (m : List ℤ) → MeshSound m → pair_count m ≤ pairs_with (sides m)
 unfolding pair_count strength_pairs
 few_pairs_lem m s = before_fits m (nodes m) s.pairs_fit
 

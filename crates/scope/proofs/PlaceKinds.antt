@@ -12,7 +12,7 @@ use Rattle.scope.specs.declared.Place.TheVariants.{Line, Row, Column, Node, Elem
 use Rattle.scope.specs.Cases.Outcome.{Outcome}
 use Rattle.scope.specs.Cases.Outcome.{Passed, Refused}
 use Rattle.scope.specs.Answer.{place_number, place_for, mesh_number_of, mesh_place_of}
-use Rattle.scope.specs.Columns.{Rule, right_angle, naming, parts, has_field, has_multipliers, n, l}
+use Rattle.scope.specs.Columns.{Rule, right_angle, naming, parts, at_most_where, has_field, has_multipliers, n, l}
 use Rattle.scope.specs.Layout.{Layout, numbers_at, group_at}
 use Rattle.scope.specs.Mesh.{mesh_layout, nodes}
 use Rattle.scope.specs.Claim.{claim_layout, stress, multiplier}
@@ -38,6 +38,7 @@ rule_of_line : (rs : List Rule) (line : List ℤ) (c : ℕ) → FirstFails (rule
 unfolding rule_number place_for
 rule_of_line [] line c h = absurd h
 rule_of_line (right_angle ∷ rs) line c (inl h) = subst OfLine h.1 (λ j. refl)
+rule_of_line (at_most_where a k d z ∷ rs) line c (inl h) = subst OfLine h.1 (λ j. refl)
 rule_of_line (naming cs ∷ rs) line c (inl h) = subst OfLine h.1 (λ j. refl)
 rule_of_line (parts ∷ rs) line c (inl h) = subst OfLine h.1 (λ j. refl)
 rule_of_line (r ∷ rs) line c (inr h) = rule_of_line rs line c h.1

@@ -1,4 +1,4 @@
--- The three polygons satisfy the rule: one computed test of a table, and one lemma that turns the test into the rule.
+-- The four polygons satisfy the rule: one computed test of a table, and one lemma that turns the test into the rule.
 -- That no point is left out is a walk along the circle's first quadrant: from (0, r) one step right while inside or on the circle, one step down where outside.
 use mathlib.Core.Path.{◌≡◌, refl, sym, ◌∙◌, ap, ap₂, subst}
 use mathlib.Core.Bool.{Bool, true, false, not, ◌&&◌, ◌||◌}
@@ -20,10 +20,11 @@ use Rattle.integer.proofs.TestLaws.{eq_z_yes}
 use Rattle.integer.proofs.RingLaws.{pos_injective}
 use Rattle.scope.proofs.Lists.{each_nil, each_cons}
 use Rattle.scope.specs.Members.{◌∈◌}
-use Rattle.scope.specs.Polygon.{Point, point, Polygon, Side, sides_to, polygon_sides, quarter_turn, four_quadrants, twelve, twenty, thirty_six, polygon_of}
+use Rattle.scope.specs.Polygon.{Point, point, Polygon, Side, sides_to, polygon_sides, quarter_turn, four_quadrants, twelve, twenty, thirty_six, one_hundred_eight, polygon_of, SidesListed}
 use Rattle.scope.specs.Rows.{cross}
-use Rattle.scope.specs.Mesh.{most_sides}
-use Rattle.scope.specs.Bounds.{most_radius, most_step, most_cross, weighted_step, weighted_cross, most_strength_rows, strength_multiplier, pairs_with}
+use Rattle.scope.specs.Mesh.{most_sides, nodes_for_108, nodes_with, pairs_with, strength_multiplier}
+use Rattle.scope.specs.Claim.{stress_columns}
+use Rattle.scope.specs.Bounds.{most_radius, most_step, most_cross, weighted_step, weighted_cross, most_strength_rows}
 use Rattle.scope.specs.PolygonRule.{OnCircle, OnceAround, step_size, cross_size, Largest, PolygonRule, PolygonFits, ListedPolygon}
 
 -- ---- tests
@@ -242,11 +243,11 @@ tested g sides step product t = record {
   largest_cross = largest_yes cross_size (polygon_sides g.corners) product (search (and_l, and_r) depth 10);
 }
 
--- ---- the three polygons
+-- ---- the four polygons
 
 -- every definition that a table's test computes with
 shown : Unit {0}
-unfolding polygon_test on_circle turns_left largest once_around from_upper walk has_signed is_point some every twelve twenty thirty_six four_quadrants quarter_turn polygon_sides sides_to cross polygon_of
+unfolding polygon_test on_circle turns_left largest once_around from_upper walk has_signed is_point some every twelve twenty thirty_six one_hundred_eight four_quadrants quarter_turn polygon_sides sides_to cross polygon_of
 shown = tt
 
 pub twelve-sides : PolygonRule (polygon_of 12) 12 3 15
@@ -261,15 +262,20 @@ pub thirty_six_sides : PolygonRule (polygon_of 36) 36 16 1183
 unfolding shown
 thirty_six_sides = tested thirty_six 36 16 1183 tt
 
+pub one_hundred_eight_sides : PolygonRule (polygon_of 108) 108 153 177735
+unfolding shown
+one_hundred_eight_sides = tested one_hundred_eight 108 153 177735 tt
+
 -- whatever the number of sides
 pub polygon_rule : (k : ℕ) → (sides step product : ℕ) × PolygonRule (polygon_of k) sides step product
 unfolding polygon_of
-polygon_rule k = go (eqb k 12) (eqb k 20)
+polygon_rule k = go (eqb k 12) (eqb k 20) (eqb k 36)
   where
-    go : (a b : Bool) → (sides step product : ℕ) × PolygonRule (elim a [ true ↦ twelve | false ↦ elim b [ true ↦ twenty | false ↦ thirty_six ] ]) sides step product
-    go true b = (12, 3, 15, twelve-sides)
-    go false true = (20, 8, 220, twenty-sides)
-    go false false = (36, 16, 1183, thirty_six_sides)
+    go : (a b c : Bool) → (sides step product : ℕ) × PolygonRule (elim a [ true ↦ twelve | false ↦ elim b [ true ↦ twenty | false ↦ elim c [ true ↦ thirty_six | false ↦ one_hundred_eight ] ] ]) sides step product
+    go true b c = (12, 3, 15, twelve-sides)
+    go false true c = (20, 8, 220, twenty-sides)
+    go false false true = (36, 16, 1183, thirty_six_sides)
+    go false false false = (108, 153, 177735, one_hundred_eight_sides)
 
 -- ---- a listed number of sides, by cases once: all that rows and sums read of it
 
@@ -283,6 +289,7 @@ bounds_test sides radius step product =
     && leb (strength_multiplier sides * step) weighted_step
     && leb (strength_multiplier sides * product) weighted_cross
     && leb (pairs_with sides * sides) most_strength_rows
+    && leb (nodes_with sides * stress_columns + pairs_with sides * sides) (nodes_for_108 * stress_columns + most_strength_rows)
 
 bounded : {g : Polygon} {sides step product : ℕ} (radius : ℕ) → PolygonRule g sides step product → g.radius ≡ pos radius
     → T (bounds_test sides radius step product) → PolygonFits g sides radius step product
@@ -298,10 +305,12 @@ bounded {sides = sides} {step = step} {product = product} radius rule e t = reco
   step_weighted = leb→le (strength_multiplier sides * step) weighted_step (search (and_l, and_r) depth 10);
   product_weighted = leb→le (strength_multiplier sides * product) weighted_cross (search (and_l, and_r) depth 10);
   rows_fit = leb→le (pairs_with sides * sides) most_strength_rows (search (and_l, and_r) depth 10);
+  numbers_fit = leb→le (nodes_with sides * stress_columns + pairs_with sides * sides) (nodes_for_108 * stress_columns + most_strength_rows) (search (and_l, and_r) depth 10);
 }
 
-pub listed_polygon : (k : ℕ) → (k ≡ 12) ⊎ ((k ≡ 20) ⊎ (k ≡ 36)) → ListedPolygon k
-unfolding shown bounds_test
+pub listed_polygon : (k : ℕ) → SidesListed k → ListedPolygon k
+unfolding shown bounds_test nodes_with pairs_with strength_multiplier
 listed_polygon k (inl e) = subst ListedPolygon (sym e) (record { radius = 5; step = 3; product = 15; fits = bounded 5 twelve-sides refl tt })
 listed_polygon k (inr (inl e)) = subst ListedPolygon (sym e) (record { radius = 25; step = 8; product = 220; fits = bounded 25 twenty-sides refl tt })
-listed_polygon k (inr (inr e)) = subst ListedPolygon (sym e) (record { radius = 65; step = 16; product = 1183; fits = bounded 65 thirty_six_sides refl tt })
+listed_polygon k (inr (inr (inl e))) = subst ListedPolygon (sym e) (record { radius = 65; step = 16; product = 1183; fits = bounded 65 thirty_six_sides refl tt })
+listed_polygon k (inr (inr (inr e))) = subst ListedPolygon (sym e) (record { radius = 1105; step = 153; product = 177735; fits = bounded 1105 one_hundred_eight_sides refl tt })

@@ -12,7 +12,7 @@ use lib.ListN.{length}
 use Rattle.integer.proofs.Ring.{ring, terms}
 use Rattle.integer.specs.Tests.{eq_z}
 use Rattle.scope.specs.Mesh.{nodes, elements, edges, sides, jumps, edge_entry, from_node, to_node, jump_from, jump_to, facing_from, facing_to}
-use Rattle.scope.specs.Polygon.{polygon_of}
+use Rattle.scope.specs.Polygon.{polygon_of, SidesListed}
 use Rattle.scope.specs.Rows.{asked, unfixed, strength, Row, sx, sy, t, pair_count, pair_at, balance_x, balance_y, normal_row, shear_row, fixed_if, agree_row, jump_normal, jump_shear, equality_rows, rows_of}
 use Rattle.scope.specs.Sums.{weighted_sum, left_side, right_side, weighed, unit, coefficient, column_sum, live_sum, limit_sum}
 use Rattle.scope.specs.Statements.{NoneOnUnfixed}
@@ -71,7 +71,7 @@ by_number f w (r ∷ rs) =
 
 -- ---- the rows of a mesh
 
-module _ (m : List ℤ) (listed : (sides m ≡ 12) ⊎ ((sides m ≡ 20) ⊎ (sides m ≡ 36))) (w : ℕ → ℤ) (s : ℕ → ℤ) (l n : ℤ) where
+module _ (m : List ℤ) (listed : SidesListed (sides m)) (w : ℕ → ℤ) (s : ℕ → ℤ) (l n : ℤ) where
   less : Row → ℤ
   less r = left_side s l r -ℤ right_side n r
 
@@ -143,7 +143,7 @@ module _ (m : List ℤ) (listed : (sides m ≡ 12) ⊎ ((sides m ≡ 20) ⊎ (si
 
 -- ---- the three sums
 
-module _ (m : List ℤ) (listed : (sides m ≡ 12) ⊎ ((sides m ≡ 20) ⊎ (sides m ≡ 36))) (w : ℕ → ℤ) where
+module _ (m : List ℤ) (listed : SidesListed (sides m)) (w : ℕ → ℤ) where
   pub columns-printed : ColumnsPrinted m w
   unfolding column_sum coefficient live_sum limit_sum left_side right_side
   columns-printed = record {
@@ -257,7 +257,7 @@ module _ (m : List ℤ) (w : ℕ → ℤ) where
 
 -- ---- accepted multipliers
 
-module _ (m : List ℤ) (listed : (sides m ≡ 12) ⊎ ((sides m ≡ 20) ⊎ (sides m ≡ 36))) (w : ℕ → ℤ) where
+module _ (m : List ℤ) (listed : SidesListed (sides m)) (w : ℕ → ℤ) where
   sums : ColumnsPrinted m w
   sums = columns-printed m listed w
 

@@ -9,7 +9,7 @@ use lib.IntN.{ℤ}
 use Rattle.scope.specs.declared.Place.{Place}
 use Rattle.scope.specs.declared.Place.TheVariants.{Row, Node}
 use Rattle.scope.specs.Answer.{place_number}
-use Rattle.scope.specs.Columns.{Rule, right_angle, naming, parts, n, l}
+use Rattle.scope.specs.Columns.{Rule, right_angle, naming, parts, at_most_where, n, l}
 use Rattle.scope.specs.Mesh.{mesh_layout, elements, edges, sides, from_node, to_node, jump_from, jump_to, facing_from, facing_to}
 use Rattle.scope.specs.Polygon.{polygon_of}
 use Rattle.scope.specs.Claim.{claim_layout, stress}
@@ -65,7 +65,7 @@ module _ (m c : List ℤ) where
   row_fails rs place i f e d h = f (subst (λ j. met (row_numbered rs j)) (sym d) (subst met (sym e) h))
 
   module _ (place : ℕ) where
-    -- a mesh whose claim's rows are looked at has 12, 20 or 36 sides
+    -- a mesh whose claim's rows are looked at has a listed number of sides
     numbers : {k : ℕ} → Refusal m c k (Row place) → OfParts k → RowNumbers m
     numbers r h = row_numbers m (mesh_facts m (refused_on_mesh r h).lines).counts.sides_listed
 
@@ -104,6 +104,7 @@ unfolding rule_number
 no_rule right_angle e = omega arith
 no_rule (naming cs) e = omega arith
 no_rule parts e = omega arith
+no_rule (at_most_where c k d z) e = omega arith
 
 module _ (m c : List ℤ) where
   of_mesh_row : {k : ℕ} {p : Place} → MeshRow m k p → k ≡ 42 → PairsFail m (place_number p)
@@ -114,7 +115,7 @@ module _ (m c : List ℤ) where
   of_mesh_row (seven v l a b h) e = absurd (omega arith)
   of_mesh_row (eight g l a b d h) e = absurd (omega arith)
   of_mesh_row (forty_four j l a b d g h) e = absurd (omega arith)
-  of_mesh_row (forty_two v l a b d g i h) e = let (many, at) = ((pairs m).brings_101st v).0 h in record { many = many; node = ap suc (sym at) }
+  of_mesh_row (forty_two v l a b d g i h) e = let (many, at) = ((pairs m).brings_one_more v).0 h in record { many = many; node = ap suc (sym at) }
 
   of_table_row : {k : ℕ} {p : Place} → TableRow m c k p → k ≡ 42 → PairsFail m (place_number p)
   unfolding claim_layout

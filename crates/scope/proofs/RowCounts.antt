@@ -1,6 +1,5 @@
 -- How many rows there are and of which kind: a joined list has as many as its pieces have, by induction on the pieces.
 use mathlib.Core.Path.{◌≡◌, refl, sym, ◌∙◌, ap}
-use mathlib.Core.Logic.{◌⊎◌}
 use mathlib.Core.Bool.{Bool, true, false, cond, ◌||◌}
 use mathlib.Core.List.Memᴰ
 use mathlib.Core.List.{List, [], ◌∷◌, ◌++◌}
@@ -12,7 +11,7 @@ use lib.ListN.{length, length-append, length-map}
 use Rattle.integer.specs.Tests.{eq_z}
 use Rattle.scope.specs.Members.{◌∈◌}
 use Rattle.scope.specs.Mesh.{elements, edges, sides, jumps, edge_entry, equality_count}
-use Rattle.scope.specs.Polygon.{Point, sides_to, polygon_sides, polygon_of}
+use Rattle.scope.specs.Polygon.{Point, sides_to, polygon_sides, polygon_of, SidesListed}
 use Rattle.scope.specs.Rows.{Kind, asked, unfixed, strength, Row, count_from, joined, balance_x, balance_y, balance_rows, fixed_if, normal_row, shear_row, side_rows, agree_row, jump_normal, jump_shear, jump_rows, strength_pairs, pair_count, strength_row, pair_rows, strength_rows, equality_rows}
 use Rattle.scope.proofs.Lists.{count-length, each_nil, each_cons, each_++, each_map, each_joined}
 use Rattle.scope.proofs.PolygonRule.{listed_polygon}
@@ -96,10 +95,10 @@ side_of_each [] = refl
 side_of_each (v ∷ vs) = sides_to_lem v v vs
 
 -- a listed polygon has as many sides as it says
-pub polygon_sides_lem : (k : ℕ) → (k ≡ 12) ⊎ ((k ≡ 20) ⊎ (k ≡ 36)) → length (polygon_sides (polygon_of k).corners) ≡ k
+pub polygon_sides_lem : (k : ℕ) → SidesListed k → length (polygon_sides (polygon_of k).corners) ≡ k
 polygon_sides_lem k h = side_of_each (polygon_of k).corners ∙ (listed_polygon k h).fits.rule.count
 
-pub strength_count : (m : List ℤ) → (sides m ≡ 12) ⊎ ((sides m ≡ 20) ⊎ (sides m ≡ 36)) → length (strength_rows m) ≡ pair_count m * sides m
+pub strength_count : (m : List ℤ) → SidesListed (sides m) → length (strength_rows m) ≡ pair_count m * sides m
 unfolding strength_rows pair_rows pair_count
 strength_count m h =
     length-joined (pair_rows (polygon_of (sides m)) m) (sides m) (strength_pairs m) (λ a i. length-map (polygon_sides (polygon_of (sides m)).corners) _ ∙ polygon_sides_lem (sides m) h)

@@ -1,6 +1,5 @@
 -- The rows by their number: pieces of equal length joined, row j of piece i has the place i times that length plus j.
 use mathlib.Core.Path.{◌≡◌, refl, sym, ◌∙◌, ap, ap₂}
-use mathlib.Core.Logic.{◌⊎◌}
 use mathlib.Core.List.{List, [], ◌∷◌, ◌++◌}
 use Prim.Native.Nat.{ℕ, zero, suc, ◌+◌, ◌*◌, ◌-◌, ◌<◌}
 use native.Mathlib.Nat.{zero-add, zero-mul, suc-mul}
@@ -9,7 +8,7 @@ use lib.IntN.{ℤ}
 use lib.ListN.{length, get_or, length-append, length-map, get_or-append}
 use lib.Seq.{get_or-append-add}
 use Rattle.scope.specs.Mesh.{elements, edges, sides, jumps, from_node, to_node, jump_from, jump_to, facing_from, facing_to}
-use Rattle.scope.specs.Polygon.{polygon_sides, polygon_of}
+use Rattle.scope.specs.Polygon.{polygon_sides, polygon_of, SidesListed}
 use Rattle.scope.specs.Rows.{Row, Pair, count_from, joined, balance_x, balance_y, balance_rows, normal_row, shear_row, side_rows, jump_normal, jump_shear, jump_rows, strength_pairs, pair_count, pair_at, pair_rows, strength_rows, equality_rows, rows_of}
 use Rattle.scope.specs.RowNumbers.{side_at, pair_row, RowNumbers}
 use Rattle.scope.proofs.RowCounts.{balance_count, side_count, equality_count_lem, polygon_sides_lem, strength_count}
@@ -97,7 +96,7 @@ module _ (m : List ℤ) where
 
 -- ---- strength rows
 
-module _ (m : List ℤ) (listed : (sides m ≡ 12) ⊎ ((sides m ≡ 20) ⊎ (sides m ≡ 36))) where
+module _ (m : List ℤ) (listed : SidesListed (sides m)) where
   length_pair : (a : Pair) → length (pair_rows (polygon_of (sides m)) m a) ≡ sides m
   unfolding pair_rows
   length_pair a = length-map (polygon_sides (polygon_of (sides m)).corners) _ ∙ polygon_sides_lem (sides m) listed

@@ -8,7 +8,7 @@ use native.Mathlib.Omega.{arith}
 use lib.IntN.{ℤ, pos, ◌+ℤ◌, ◌*ℤ◌}
 use Rattle.integer.specs.Tests.{eq_z}
 use Rattle.scope.specs.Checks.{some_below}
-use Rattle.scope.specs.Columns.{Limit, between, one_of, free, is_one_of, within, all_within, Rule, right_angle, naming, parts, names, all_named, at, has_field, has_multipliers, n, l, rule_test}
+use Rattle.scope.specs.Columns.{Limit, between, one_of, free, is_one_of, within, all_within, Rule, right_angle, naming, parts, at_most_where, names, all_named, at, has_field, has_multipliers, n, l, rule_test}
 use Rattle.scope.specs.Mesh.{elements, edges, x, y, corner, corner_count, around, element_soil, from_node, to_node, jump_from, jump_to, facing_from, facing_to}
 use Rattle.scope.specs.Rows as R
 use Rattle.scope.specs.Rows.{has_corner, has_soil}
@@ -67,6 +67,8 @@ unfolding rule_test
 rule_says right_angle line = equalℤ (at line 0 *ℤ at line 0 +ℤ at line 1 *ℤ at line 1) (at line 2 *ℤ at line 2)
 rule_says (naming cs) line = all_named_lem cs line
 rule_says parts line = parts_fit_lem line
+rule_says (at_most_where c k d z) line =
+    said_as (choice (equalℤ (at line d) (pos z)) (at_mostℤ (at line c) (pos k)) always) (λ h. h.0) (λ h. (h, λ g. tt))
 
 -- ---- the mesh
 

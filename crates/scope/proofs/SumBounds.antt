@@ -14,10 +14,10 @@ use Rattle.integer.proofs.Ring.{ring, terms}
 use Rattle.integer.specs.Sum.{sum_of}
 use Rattle.integer.proofs.SumLaws.{sum_of_++}
 use Rattle.scope.specs.Members.{◌∈◌}
-use Rattle.scope.specs.Mesh.{nodes, elements, edges, sides, jumps, dead_x, dead_y, soil_entry, x, y, corner, element_soil, edge_entry, from_node, to_node, equality_count}
+use Rattle.scope.specs.Mesh.{strength_multiplier, nodes, elements, edges, sides, jumps, dead_x, dead_y, soil_entry, x, y, corner, element_soil, edge_entry, from_node, to_node, equality_count}
 use Rattle.scope.specs.Polygon.{Side, polygon_sides, polygon_of}
 use Rattle.scope.specs.Rows.{Row, count_from, node, cross_at, rise_across, run_across, twice_area, balance_x, balance_y, balance_rows, step_x, step_y, step_square, normal_row, shear_row, side_rows, agree_row, jump_normal, jump_shear, jump_rows, strength_pairs, cross, strength_row, pair_rows, strength_rows, equality_rows, rows_of}
-use Rattle.scope.specs.Bounds.{most_coordinate, most_force, most_traction, most_multiplier, strength_multiplier, most_area, balance_right, most_balance_rows, most_square, side_right, most_side_rows, jump_right, most_jump_rows, weighted_cross, twice_strength, strength_sum, most_strength_rows}
+use Rattle.scope.specs.Bounds.{most_coordinate, most_force, most_traction, most_multiplier, most_area, balance_right, most_balance_rows, most_square, side_right, most_side_rows, jump_right, most_jump_rows, weighted_cross, twice_strength, strength_sum, most_strength_rows, most_slack, most_limit}
 use Rattle.scope.specs.PolygonRule.{ListedPolygon}
 use Rattle.scope.specs.Sums.{weighted_sum, weighed, limit_sum}
 use Rattle.scope.specs.Claim.{multiplier}
@@ -172,8 +172,12 @@ limit-++ w rs ss = ap (sum_of (λ p. p.0 *ℤ p.1.right)) (weighed-++ w rs ss) �
 weighted : (g n : ℕ) → g * n ≤ weighted_cross → g * (n * twice_strength) ≤ strength_sum
 weighted g n h = rw (← mul_assoc) (omega (arith, mul-le-mul_right twice_strength h))
 
+-- the right side of a strength row less its left, and W: both fit 64 bits
+pub sums_fit : (most_slack < 14 * 10 ^ 17) × (most_limit < 52 * 10 ^ 17)
+sums_fit = (omega arith, omega arith)
+
 -- W of multipliers that are there: each kind of row by its count, its largest multiplier and its largest right side
-pub limit_bound : (m c : List ℤ) → MeshSound m → ClaimFacts m c → HasMultipliers c → Within (2 ^ 63) (limit_sum (multiplier m c) (rows_of m))
+pub limit_bound : (m c : List ℤ) → MeshSound m → ClaimFacts m c → HasMultipliers c → Within most_limit (limit_sum (multiplier m c) (rows_of m))
 unfolding rows_of equality_rows
 limit_bound m c s k t =
     Within-le

@@ -1,6 +1,6 @@
 -- The numbers of document 01's table: a number of a line tells its step, since no two steps of a file have one number; and phase by phase each number is in the table.
 use mathlib.Core.Path.{◌≡◌, refl, sym, ◌∙◌, ap, subst}
-use mathlib.Core.Logic.{◌↔◌, ◌⊎◌, inl, inr}
+use mathlib.Core.Logic.{◌↔◌, ◌⊎◌, inl, inr, ⊎_elim}
 use mathlib.Core.Bool.{Bool, false, ◌||◌}
 use mathlib.Core.List.Memᴰ
 use mathlib.Core.List.{List, [], ◌∷◌, ◌++◌}
@@ -15,7 +15,7 @@ use Rattle.scope.specs.declared.Place.TheVariants.{Line}
 use Rattle.scope.specs.Answer.{place_number}
 use Rattle.scope.specs.Members.{◌∈◌}
 use Rattle.scope.specs.Phases.{Below, FirstFails, HoldsAt, Everywhere, RefusedBy}
-use Rattle.scope.specs.Columns.{Rule, right_angle, naming, parts, has_field, has_multipliers, n, l}
+use Rattle.scope.specs.Columns.{Rule, right_angle, naming, parts, at_most_where, has_field, has_multipliers, n, l}
 use Rattle.scope.specs.Layout.{Group, Layout, Placed, groups, line_count, number_count, line_of, group_at, numbers_at}
 use Rattle.scope.specs.Mesh.{mesh_layout, nodes}
 use Rattle.scope.specs.Claim.{claim_header, stress_lines, element_multipliers, edge_multipliers, jump_multipliers, strength_multipliers, claim_layout, stress, multiplier}
@@ -137,32 +137,43 @@ module _ (f : Layout) (ns : List ℤ) where
       of (inr (inl h)) = absurd (limit h.1)
       of (inr (inr h)) = h
 
-no_rule : (a : ℕ) → ¬ (3 ≡ a) → ¬ (4 ≡ a) → ¬ (13 ≡ a) → (r : Rule) → ¬ (rule_number r ≡ a)
+no_rule : (a : ℕ) → ¬ (2 ≡ a) → ¬ (3 ≡ a) → ¬ (4 ≡ a) → ¬ (13 ≡ a) → (r : Rule) → ¬ (rule_number r ≡ a)
 unfolding rule_number
-no_rule a x y z right_angle = x
-no_rule a x y z (naming cs) = y
-no_rule a x y z parts = z
+no_rule a w x y z right_angle = x
+no_rule a w x y z (naming cs) = y
+no_rule a w x y z parts = z
+no_rule a w x y z (at_most_where c k d e) = w
 
 -- ---- the two files
 
 pub mesh_line_numbers : (m : List ℤ) → MeshLineNumbers m
 unfolding mesh_layout rule_number
 mesh_line_numbers m = record {
-  one = form_is_lem mesh_layout m refl (λ e. omega arith) (no_rule 1 (λ e. omega arith) (λ e. omega arith) (λ e. omega arith));
-  two = limit_is mesh_layout m refl (λ e. omega arith) (no_rule 2 (λ e. omega arith) (λ e. omega arith) (λ e. omega arith));
+  one = form_is_lem mesh_layout m refl (λ e. omega arith) (no_rule 1 (λ e. omega arith) (λ e. omega arith) (λ e. omega arith) (λ e. omega arith));
+  two = λ k. (λ r. limits k (cause mesh_layout m k 2 r), ⊎_elim (limit_refused mesh_layout m k) (λ h. rule_refused mesh_layout m (at_most_where h.0 h.1 h.2 h.3) k h.4));
   three = λ k. (λ r. angle k (rule_is mesh_layout m (λ e. omega arith) (λ e. omega arith) k r), λ h. rule_refused mesh_layout m right_angle k h);
   four = λ k. (λ r. names k (rule_is mesh_layout m (λ e. omega arith) (λ e. omega arith) k r), λ h. rule_refused mesh_layout m (naming h.0) k h.1);
 }
   where
+    limits : (k : ℕ) → Cause mesh_layout m k 2 → LimitFails mesh_layout m k ⊎ ((c n d z : ℕ) × RuleFails mesh_layout m (at_most_where c n d z) k)
+    limits k (inl h) = absurd (omega (arith, h.1))
+    limits k (inr (inl h)) = inl h.0
+    limits k (inr (inr (right_angle, h))) = absurd (omega (arith, h.1))
+    limits k (inr (inr (naming cs, h))) = absurd (omega (arith, h.1))
+    limits k (inr (inr (parts, h))) = absurd (omega (arith, h.1))
+    limits k (inr (inr (at_most_where c n d z, h))) = inr (c, n, d, z, h.0)
+
     angle : (k : ℕ) → ((r : Rule) × (RuleFails mesh_layout m r k × (rule_number r ≡ 3))) → RuleFails mesh_layout m right_angle k
     angle k (right_angle, h) = h.0
     angle k (naming cs, h) = absurd (omega (arith, h.1))
     angle k (parts, h) = absurd (omega (arith, h.1))
+    angle k (at_most_where c n d z, h) = absurd (omega (arith, h.1))
 
     names : (k : ℕ) → ((r : Rule) × (RuleFails mesh_layout m r k × (rule_number r ≡ 4))) → (cs : List (ℕ × ℕ × ℕ)) × RuleFails mesh_layout m (naming cs) k
     names k (right_angle, h) = absurd (omega (arith, h.1))
     names k (naming cs, h) = (cs, h.0)
     names k (parts, h) = absurd (omega (arith, h.1))
+    names k (at_most_where c n d z, h) = absurd (omega (arith, h.1))
 
 -- only the header of a claim has a rule
 abbrev NoRules : List Group → Type 0
@@ -190,8 +201,8 @@ parts_first m c (suc k) h =
 pub claim_line_numbers : (m c : List ℤ) → ClaimLineNumbers m c
 unfolding claim_layout rule_number
 claim_line_numbers m c = record {
-  eleven = form_is_lem (claim_layout m) c refl (λ e. omega arith) (no_rule 11 (λ e. omega arith) (λ e. omega arith) (λ e. omega arith));
-  twelve = limit_is (claim_layout m) c refl (λ e. omega arith) (no_rule 12 (λ e. omega arith) (λ e. omega arith) (λ e. omega arith));
+  eleven = form_is_lem (claim_layout m) c refl (λ e. omega arith) (no_rule 11 (λ e. omega arith) (λ e. omega arith) (λ e. omega arith) (λ e. omega arith));
+  twelve = limit_is (claim_layout m) c refl (λ e. omega arith) (no_rule 12 (λ e. omega arith) (λ e. omega arith) (λ e. omega arith) (λ e. omega arith));
   thirteen = λ k. (λ r. fit k (rule_is (claim_layout m) c (λ e. omega arith) (λ e. omega arith) k r), λ h. rule_refused (claim_layout m) c parts k h);
   line_1_only = λ k r. parts_first m c k (fit k (rule_is (claim_layout m) c (λ e. omega arith) (λ e. omega arith) k r));
 }
@@ -200,6 +211,7 @@ claim_line_numbers m c = record {
     fit k (right_angle, h) = absurd (omega (arith, h.1))
     fit k (naming cs, h) = absurd (omega (arith, h.1))
     fit k (parts, h) = h.0
+    fit k (at_most_where a n d z, h) = absurd (omega (arith, h.1))
 
 -- ---- all numbers
 
@@ -227,6 +239,7 @@ unfolding rule_number is_in
 rule_listed right_angle = listed 3 tt
 rule_listed (naming cs) = listed 4 tt
 rule_listed parts = listed 13 tt
+rule_listed (at_most_where c k d z) = listed 2 tt
 
 step_listed : (f : Layout) (ns : List ℤ) (k c : ℕ) → f.form_number ∈ table_numbers → f.limit_number ∈ table_numbers → FirstFails (line_steps f (group_at f ns k) (numbers_at f ns k)) c → c ∈ table_numbers
 step_listed f ns k c a b (inl h) = subst (λ i. i ∈ table_numbers) h.1 a

@@ -218,7 +218,7 @@ four = (omega arith, omega arith)
 
 tabled_small : (m : List ℤ) → AllSmall (groups (layout_with true) m)
 unfolding layout_with groups mesh_header soil_lines node_lines element_lines edge_lines jump_lines rule_number
-tabled_small m = (tt, (((omega arith, omega arith), tt), (tt, ((four, tt), ((four, tt), ((four, tt), tt))))))
+tabled_small m = (((omega arith, omega arith), tt), (((omega arith, omega arith), tt), (tt, ((four, tt), ((four, tt), ((four, tt), tt))))))
 
 table_small : (t m : List ℤ) → AllSmall (groups (table_layout m) t)
 unfolding table_layout groups layer_lines rule_number

@@ -1,9 +1,8 @@
 -- How large the numbers of rows and of sums can be: one name for each limit of the two files, and each bound as an
 -- expression over them, by kind of row.
--- The largest radius, step and cross product leave room for document 02, N9: "all whole-number points on the circle of
--- radius 1105", "at most 40 nodes and 40 node-and-soil pairs", "its strength multipliers are at most 300".
+-- The largest radius, step and cross product are those of 108 sides (document 02, N9).
 use Rattle.std.specs.Prelude.{ℕ, ◌+◌, ◌*◌, ◌^◌}
-use Rattle.scope.specs.Mesh.{most_pairs, most_elements, most_edges, most_sides, most_jumps, element_rows, edge_rows, rows_per_jump, most_equality_rows}
+use Rattle.scope.specs.Mesh.{most_pairs, most_elements, most_edges, most_sides, most_jumps, most_strength, pairs_for_108, strength_for_108, element_rows, edge_rows, rows_per_jump, most_equality_rows}
 
 -- ---- limits (document 01, 'The two files')
 
@@ -35,16 +34,9 @@ most_load = 100000000
 abbrev pub most_stress : ℕ
 most_stress = 1000000000
 
--- of an equality row, and of a strength row of a mesh with so many sides
+-- of an equality row
 abbrev pub most_multiplier : ℕ
 most_multiplier = 100000
-
-abbrev pub strength_multiplier : ℕ → ℕ
-strength_multiplier sides = 10000
-
--- the most pairs of a node and a soil of a mesh with so many sides
-abbrev pub pairs_with : ℕ → ℕ
-pairs_with sides = most_pairs
 
 -- ---- polygons: the largest radius, step (c - a or d - b) and cross product (ad - bc)
 
@@ -60,14 +52,14 @@ most_cross = 177735
 -- a step and a cross product times the multiplier of its row, which is smaller where they are larger: the largest step
 -- of 36 sides is 16
 abbrev pub weighted_step : ℕ
-weighted_step = 10000 * 16
+weighted_step = most_strength * 16
 
 abbrev pub weighted_cross : ℕ
-weighted_cross = 300 * most_cross
+weighted_cross = strength_for_108 * most_cross
 
 -- strength rows: 36 for each of 100 pairs, or 108 for each of 40
 abbrev pub most_strength_rows : ℕ
-most_strength_rows = 40 * 108
+most_strength_rows = pairs_for_108 * most_sides
 
 -- ---- balance rows: differences of coordinates, twice an area, and that times a body force
 
@@ -168,6 +160,14 @@ most_column = equality_columns + most_pairs * (3 * pair_column)
 
 abbrev pub most_sum : ℕ
 most_sum = equality_sums + most_strength_rows * strength_sum
+
+-- W by kind of row
+abbrev pub most_limit : ℕ
+most_limit =
+    most_balance_rows * (most_multiplier * balance_right)
+    + most_side_rows * (most_multiplier * side_right)
+    + most_jump_rows * (most_multiplier * jump_right)
+    + most_strength_rows * strength_sum
 
 -- a number that is added to a sum, and the sum: two of them fit 64 bits
 abbrev pub most_addend : ℕ

@@ -2,7 +2,7 @@
 use Rattle.std.specs.Prelude.{Bool, cond, List, [], ◌∷◌, ℕ, ◌+◌, ℤ, pos, replicate}
 use Rattle.scope.specs.Columns.{between, up_to, parts, at, has_field, has_multipliers}
 use Rattle.scope.specs.Layout.{Group, Layout, groups, numbers_before}
-use Rattle.scope.specs.Mesh.{nodes, elements, edges, sides, jumps, element_rows, edge_rows, rows_per_jump}
+use Rattle.scope.specs.Mesh.{strength_multiplier, nodes, elements, edges, sides, jumps, element_rows, edge_rows, rows_per_jump}
 use Rattle.scope.specs.Rows.{pair_count}
 
 -- "Header: field there (0 or 1), multipliers there (0 or 1), n 0 to 100,000, l within ±100,000,000"
@@ -34,7 +34,7 @@ unfoldable pub stress_lines : ℕ → Group
 stress_lines k = record { lines = k; limits = replicate stress_columns (up_to 1000000000); rules = [] }
 
 -- "With multipliers: for each element 2, for each edge 4, within ±100,000; then for each node a line of as many as
--- there are sides, 0 to 10,000"
+-- there are sides, 0 to 10,000"; with 108 sides "at most 300" (document 02, N9)
 -- "multiplier lines are numbered by node-and-soil pairs" (document 02, N2): a line for each pair
 -- "for each jump a line of four multipliers, within ±100,000, after the edge lines" (document 02, N6)
 unfoldable pub element_multipliers : ℕ → Group
@@ -47,7 +47,8 @@ unfoldable pub jump_multipliers : ℕ → Group
 jump_multipliers k = record { lines = k; limits = replicate rows_per_jump (up_to 100000); rules = [] }
 
 unfoldable pub strength_multipliers : ℕ → ℕ → Group
-strength_multipliers k s = record { lines = k; limits = replicate s (between (pos 0) (pos 10000)); rules = [] }
+strength_multipliers k s =
+    record { lines = k; limits = replicate s (between (pos 0) (pos (strength_multiplier s))); rules = [] }
 
 -- the lines after the header, on a mesh of so many things, by the parts that are there
 abbrev pub claim_lines : ℕ → ℕ → ℕ → ℕ → ℕ → ℕ → Bool → Bool → List Group

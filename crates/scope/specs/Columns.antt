@@ -38,12 +38,14 @@ up_to k = between (neg_ℤ (pos k)) (pos k)
 
 -- ---- rules
 
--- p² + q² = h² in the first three columns (3); each listed column c names one of k things, numbered from 1, or, where it
--- may name none, from 0 (4): c, the least number and k; a claim's parts are there and fit n and l (13)
+-- p² + q² = h² in the first three columns (3); each listed column c names one of k things, numbered from 1, or, where
+-- it may name none, from 0 (4): c, the least number and k; a claim's parts are there and fit n and l (13); where column
+-- d is z, column c is at most k (2, a limit that looks at another column)
 pub data Rule : Type 0 where
   right_angle : Rule
   naming : List (ℕ × ℕ × ℕ) → Rule
   parts : Rule
+  at_most_where : (c k d z : ℕ) → Rule
 
 -- "Things are numbered from 1": z names one of k things, from the least number on
 unfoldable pub names : ℕ → ℕ → ℤ → Bool
@@ -73,3 +75,4 @@ rule_test (naming cs) line = all_named cs line
 rule_test parts line =
     (has_field line || has_multipliers line)
     && cond (has_field line) (not (eq_z (n line) (pos 0))) (eq_z (n line) (pos 0) && eq_z (l line) (pos 0))
+rule_test (at_most_where c k d z) line = cond (eq_z (at line d) (pos z)) (le_z (at line c) (pos k)) true

@@ -2,8 +2,8 @@
 -- answered, the layout, rows, sums, the verdict; then what the theorems say of them.
 -- All of it a reader must believe, and nothing here is a contract between functions: the definitions down to Verdict;
 -- then the statements, which say the same a second time and share no helper with them where a slip could hide
--- (Printed, PrintedColumns, Criterion, Meaning, Jumps, Pairs, PolygonRule, RowNumbers). Members only names a thing; Worked
--- has the numbers of document 01's sheet.
+-- (Printed, PrintedColumns, Criterion, Meaning, Jumps, Pairs, SideLimits, PolygonRule, RowNumbers). Members only names a
+-- thing; Worked has the numbers of document 01's sheet.
 -- 001 and 003, where a comment names them, are sources that document 01 cites by these numbers.
 pub mod Cases
 pub mod Answer
@@ -40,6 +40,7 @@ pub mod PrintedColumns
 pub mod RefusedRows
 pub mod Triangles
 pub mod Pairs
+pub mod SideLimits
 pub mod Criterion
 pub mod Meaning
 pub mod Jumps

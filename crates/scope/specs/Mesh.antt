@@ -1,7 +1,7 @@
 -- A mesh (document 01, 'The two files', "Mesh, in this order"): its lines, and what its numbers are.
 -- Soils, nodes, elements, edges and jumps are counted from 0 here; the file counts from 1.
 use Rattle.std.specs.Prelude.{Bool, cond, List, [], ◌∷◌, ℕ, ◌+◌, ◌-◌, ◌*◌, ◌%◌, ℤ, pos, eqb, replicate}
-use Rattle.scope.specs.Columns.{between, one_of, free, up_to, right_angle, naming, at}
+use Rattle.scope.specs.Columns.{between, one_of, free, up_to, right_angle, naming, at_most_where, at}
 use Rattle.scope.specs.Layout.{Group, Layout, groups, lines_before, count, entry}
 
 -- the limits that bounds are made of: the most nodes, pairs of a node and a soil ("Pairs are at most 100", document
@@ -22,13 +22,42 @@ abbrev pub most_edges : ℕ
 most_edges = 60
 
 abbrev pub most_sides : ℕ
-most_sides = 36
+most_sides = 108
 
 abbrev pub most_jumps : ℕ
 most_jumps = 60
 
+-- "sides 12, 20 or 36"; "Sides may also be 108" (document 02, N9)
+abbrev pub listed_sides : List ℤ
+listed_sides = pos 12 ∷ pos 20 ∷ pos 36 ∷ pos most_sides ∷ []
+
+-- the largest multiplier of a strength row, "0 to 10,000"
+abbrev pub most_strength : ℕ
+most_strength = 10000
+
+-- "Such a mesh has at most 40 nodes and 40 node-and-soil pairs, and its strength multipliers are at most 300"
+-- (document 02, N9): with 108 sides
+abbrev pub nodes_for_108 : ℕ
+nodes_for_108 = 40
+
+abbrev pub pairs_for_108 : ℕ
+pairs_for_108 = 40
+
+abbrev pub strength_for_108 : ℕ
+strength_for_108 = 300
+
+-- the most nodes, the most pairs and the largest multiplier of a strength row, of a mesh with so many sides
+unfoldable pub nodes_with : ℕ → ℕ
+nodes_with k = cond (eqb k most_sides) nodes_for_108 most_nodes
+
+unfoldable pub pairs_with : ℕ → ℕ
+pairs_with k = cond (eqb k most_sides) pairs_for_108 most_pairs
+
+unfoldable pub strength_multiplier : ℕ → ℕ
+strength_multiplier k = cond (eqb k most_sides) strength_for_108 most_strength
+
 -- "Header: nodes 4 to 100, elements 1 to 100, soils 1 to 16, edges 0 to 60, sides 12, 20 or 36"; "The mesh header gains
--- a sixth column, jumps 0 to 60" (document 02, N6)
+-- a sixth column, jumps 0 to 60" (document 02, N6); with 108 sides "at most 40 nodes" (N9)
 unfoldable pub mesh_header : Group
 mesh_header = record {
   lines = 1;
@@ -37,10 +66,10 @@ mesh_header = record {
       ∷ between (pos 1) (pos most_elements)
       ∷ between (pos 1) (pos most_soils)
       ∷ between (pos 0) (pos most_edges)
-      ∷ one_of (pos 12 ∷ pos 20 ∷ pos most_sides ∷ [])
+      ∷ one_of listed_sides
       ∷ between (pos 0) (pos most_jumps)
       ∷ [];
-  rules = [];
+  rules = at_most_where 0 nodes_for_108 4 most_sides ∷ [];
 }
 
 -- how many columns each line has: of the header, of a soil, of a node, of an element, of an edge, of a jump

@@ -4,17 +4,18 @@ use Rattle.std.specs.Prelude.{◌≡◌, ◌⊎◌, List, ℕ, ◌+◌, ◌*◌,
 use Rattle.scope.specs.Columns.{at, has_field, has_multipliers, n, l}
 use Rattle.scope.specs.Layout.{entry}
 use Rattle.scope.specs.Claim.{claim_header_columns, stress_columns, if_there, stress, multiplier}
+use Rattle.scope.specs.Polygon.{SidesListed}
 use Rattle.scope.specs.Rows.{pair_count}
 use Rattle.scope.specs.Statements.{PartsFit}
-use Rattle.scope.specs.Mesh.{most_nodes, most_elements, most_soils, most_edges, most_sides, most_jumps, mesh_header_columns, soil_columns, node_columns, element_columns, edge_columns, jump_columns, element_rows, edge_rows, rows_per_jump, mesh_groups, nodes, elements, soils, edges, sides, jumps, p, q, h, cohesion, soil_entry, x, y, corner, element_soil, edge_entry, from_node, to_node, jump_entry, jump_from, jump_to, facing_from, facing_to, equality_count}
+use Rattle.scope.specs.Mesh.{most_nodes, most_elements, most_soils, most_edges, most_jumps, nodes_with, strength_multiplier, mesh_header_columns, soil_columns, node_columns, element_columns, edge_columns, jump_columns, element_rows, edge_rows, rows_per_jump, mesh_groups, nodes, elements, soils, edges, sides, jumps, p, q, h, cohesion, soil_entry, x, y, corner, element_soil, edge_entry, from_node, to_node, jump_entry, jump_from, jump_to, facing_from, facing_to, equality_count}
 
 -- z is from lo to hi
 pub record Between (lo hi z : ℤ) : Type 0 where
   pub least : lo ≤ℤ z
   pub most : z ≤ℤ hi
 
--- "nodes 4 to 100, elements 1 to 100, soils 1 to 16, edges 0 to 60, sides 12, 20 or 36", "jumps 0 to 60"; a count of
--- edges or of jumps below 0 would be read as 0, so the number itself is bounded
+-- "nodes 4 to 100, elements 1 to 100, soils 1 to 16, edges 0 to 60, sides 12, 20 or 36", or 108 (document 02, N9),
+-- "jumps 0 to 60"; a count of edges or of jumps below 0 would be read as 0, so the number itself is bounded
 pub record Counts (m : List ℤ) : Type 0 where
   pub nodes_least : 4 ≤ nodes m
   pub nodes_most : nodes m ≤ most_nodes
@@ -24,7 +25,8 @@ pub record Counts (m : List ℤ) : Type 0 where
   pub soils_most : soils m ≤ most_soils
   pub edges_least : pos 0 ≤ℤ at m 3
   pub edges_most : edges m ≤ most_edges
-  pub sides_listed : (sides m ≡ 12) ⊎ ((sides m ≡ 20) ⊎ (sides m ≡ most_sides))
+  pub sides_listed : SidesListed (sides m)
+  pub nodes_fit : nodes m ≤ nodes_with (sides m)
   pub jumps_least : pos 0 ≤ℤ at m 5
   pub jumps_most : jumps m ≤ most_jumps
 
@@ -96,4 +98,4 @@ pub record ClaimFacts (m c : List ℤ) : Type 0 where
   pub equality_range : at c 1 ≡ pos 1 → (k : ℕ) → k < equality_count m
       → Between (neg_ℤ (pos 100000)) (pos 100000) (multiplier m c k)
   pub strength_range : at c 1 ≡ pos 1 → (k : ℕ) → k < pair_count m * sides m
-      → Between (pos 0) (pos 10000) (multiplier m c (equality_count m + k))
+      → Between (pos 0) (pos (strength_multiplier (sides m))) (multiplier m c (equality_count m + k))

@@ -2,7 +2,7 @@
 -- are, their order, how many, and where they are document 01's.
 use Rattle.std.specs.Prelude.{◌≡◌, ◌↔◌, ◌⊎◌, List, map, ℕ, ◌<◌, ◌≤◌, ℤ}
 use Rattle.scope.specs.Members.{◌∈◌}
-use Rattle.scope.specs.Mesh.{nodes, elements, soils, sides, corner, element_soil}
+use Rattle.scope.specs.Mesh.{pairs_with, nodes, elements, soils, sides, corner, element_soil}
 use Rattle.scope.specs.Polygon.{polygon_of}
 use Rattle.scope.specs.Rows.{Row, Pair, joined, count_from, first_where, has_corner, pair_rows, strength_pairs, pair_count, pair_at, strength_rows}
 use Rattle.scope.specs.Statements.{PairsFit}
@@ -28,8 +28,10 @@ pub record Pairs (m : List ℤ) : Type 0 where
       → (a ∈ strength_pairs m) ↔ ((a.at < nodes m) × (a.soil < soils m) × SoilAround m a.at a.soil)
   -- "soils ascending", "in that order": strictly, so that no pair is listed twice
   pub ascending : (i j : ℕ) → i < j → j < pair_count m → Before (pair_at m i) (pair_at m j)
-  -- 42 is "with the node that brings the 101st pair"
-  pub brings_101st : (v : ℕ) → LowestFails (nodes m) (PairsFit m) v ↔ ((100 < pair_count m) × ((pair_at m 100).at ≡ v))
+  -- 42 is "with the node that brings the 101st pair", the 41st with 108 sides (document 02, N9): the first beyond the
+  -- most
+  pub brings_one_more : (v : ℕ) → LowestFails (nodes m) (PairsFit m) v
+      ↔ ((pairs_with (sides m) < pair_count m) × ((pair_at m (pairs_with (sides m))).at ≡ v))
 
 -- ---- document 01's strength rows
 
@@ -47,11 +49,12 @@ rows_before m =
 abbrev pub OneSoilEach : List ℤ → Type 0
 OneSoilEach m = (v s k : ℕ) → SoilAround m v s → SoilAround m v k → s ≡ k
 
--- ---- a mesh that passes: the pairs are the soils around nodes, each node has one, and there are at most 100
+-- ---- a mesh that passes: the pairs are the soils around nodes, each node has one, and there are at most 100, or 40
+-- with 108 sides
 
 pub record SoundPairs (m : List ℤ) : Type 0 where
   pub exactly : (a : Pair) → (a ∈ strength_pairs m) ↔ SoilAround m a.at a.soil
   pub each_node : (v : ℕ) → v < nodes m → (s : ℕ) × (record { at = v; soil = s } ∈ strength_pairs m)
-  pub most : pair_count m ≤ 100
+  pub most : pair_count m ≤ pairs_with (sides m)
   -- where each node has one soil, the rows are document 01's
   pub as_before : OneSoilEach m → strength_rows m ≡ rows_before m

@@ -1,6 +1,7 @@
 -- The polygons (document 01, 'Rows', Strength): "Polygon corners are all whole-number points on the circle of radius r
--- = 5, 25 or 65 (12, 20 or 36 sides), counterclockwise from (r, 0)".
-use Rattle.std.specs.Prelude.{true, false, List, [], ◌∷◌, ◌++◌, map, ℕ, ℤ, pos, neg_ℤ, eqb}
+-- = 5, 25 or 65 (12, 20 or 36 sides), counterclockwise from (r, 0)". "Sides may also be 108: all whole-number points
+-- on the circle of radius 1105, in the same turning order" (document 02, N9).
+use Rattle.std.specs.Prelude.{◌≡◌, ◌⊎◌, true, false, List, [], ◌∷◌, ◌++◌, map, ℕ, ℤ, pos, neg_ℤ, eqb}
 
 -- a point of the plane
 pub record Point : Type 0 where
@@ -31,7 +32,7 @@ unfoldable pub polygon_sides : List Point → List Side
 polygon_sides [] = []
 polygon_sides (v ∷ rest) = sides_to v (v ∷ rest)
 
--- ---- the three polygons
+-- ---- the four polygons
 
 -- a quarter turn counterclockwise
 unfoldable pub quarter_turn : Point → Point
@@ -81,6 +82,53 @@ thirty_six = record {
       ∷ []);
 }
 
--- the polygon of a mesh with this number of sides: 12, 20, or else 36
+unfoldable pub one_hundred_eight : Polygon
+one_hundred_eight = record {
+  radius = pos 1105;
+  corners =
+      four_quadrants
+      (point (pos 1105) (pos 0)
+      ∷ point (pos 1104) (pos 47)
+      ∷ point (pos 1100) (pos 105)
+      ∷ point (pos 1092) (pos 169)
+      ∷ point (pos 1073) (pos 264)
+      ∷ point (pos 1071) (pos 272)
+      ∷ point (pos 1020) (pos 425)
+      ∷ point (pos 1001) (pos 468)
+      ∷ point (pos 975) (pos 520)
+      ∷ point (pos 952) (pos 561)
+      ∷ point (pos 943) (pos 576)
+      ∷ point (pos 884) (pos 663)
+      ∷ point (pos 855) (pos 700)
+      ∷ point (pos 817) (pos 744)
+      ∷ point (pos 744) (pos 817)
+      ∷ point (pos 700) (pos 855)
+      ∷ point (pos 663) (pos 884)
+      ∷ point (pos 576) (pos 943)
+      ∷ point (pos 561) (pos 952)
+      ∷ point (pos 520) (pos 975)
+      ∷ point (pos 468) (pos 1001)
+      ∷ point (pos 425) (pos 1020)
+      ∷ point (pos 272) (pos 1071)
+      ∷ point (pos 264) (pos 1073)
+      ∷ point (pos 169) (pos 1092)
+      ∷ point (pos 105) (pos 1100)
+      ∷ point (pos 47) (pos 1104)
+      ∷ []);
+}
+
+-- the polygon of a mesh with this number of sides: 12, 20, 36, or else 108
 unfoldable pub polygon_of : ℕ → Polygon
-polygon_of k = elim (eqb k 12) [ true ↦ twelve | false ↦ elim (eqb k 20) [ true ↦ twenty | false ↦ thirty_six ] ]
+polygon_of k =
+    elim (eqb k 12) [
+      | true ↦ twelve
+      | false ↦
+          elim (eqb k 20) [
+            | true ↦ twenty
+            | false ↦ elim (eqb k 36) [ true ↦ thirty_six | false ↦ one_hundred_eight ]
+          ]
+    ]
+
+-- a listed number of sides
+abbrev pub SidesListed : ℕ → Type 0
+SidesListed k = (k ≡ 12) ⊎ ((k ≡ 20) ⊎ ((k ≡ 36) ⊎ (k ≡ 108)))

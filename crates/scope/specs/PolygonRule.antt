@@ -1,11 +1,12 @@
 -- The rule for a polygon (document 01, 'Rows', Strength): "Polygon corners are all whole-number points on the circle
 -- of radius r .., counterclockwise from (r, 0)".
-use Rattle.std.specs.Prelude.{◌≡◌, List, ◌∷◌, ◌++◌, ℕ, ◌*◌, ◌≤◌, ◌<◌, max, ℤ, pos, ◌+ℤ◌, ◌-ℤ◌, ◌*ℤ◌, neg_ℤ, nat_abs, ◌<ℤ◌, length}
+use Rattle.std.specs.Prelude.{◌≡◌, List, ◌∷◌, ◌++◌, ℕ, ◌+◌, ◌*◌, ◌≤◌, ◌<◌, max, ℤ, pos, ◌+ℤ◌, ◌-ℤ◌, ◌*ℤ◌, neg_ℤ, nat_abs, ◌<ℤ◌, length}
 use Rattle.scope.specs.Members.{◌∈◌}
 use Rattle.scope.specs.Polygon.{Point, point, Polygon, Side, polygon_sides, polygon_of}
 use Rattle.scope.specs.Rows.{cross}
-use Rattle.scope.specs.Mesh.{most_sides}
-use Rattle.scope.specs.Bounds.{most_radius, most_step, most_cross, weighted_step, weighted_cross, most_strength_rows, strength_multiplier, pairs_with}
+use Rattle.scope.specs.Mesh.{most_sides, nodes_for_108, nodes_with, pairs_with, strength_multiplier}
+use Rattle.scope.specs.Claim.{stress_columns}
+use Rattle.scope.specs.Bounds.{most_radius, most_step, most_cross, weighted_step, weighted_cross, most_strength_rows}
 
 abbrev pub OnCircle : ℤ → Point → Type 0
 OnCircle r v = v.px *ℤ v.px +ℤ v.py *ℤ v.py ≡ r *ℤ r
@@ -42,7 +43,8 @@ pub record PolygonRule (g : Polygon) (sides step product : ℕ) : Type 0 where
   pub largest_cross : Largest cross_size (polygon_sides g.corners) product
 
 -- a polygon whose numbers are within the bounds of all polygons: its step and its cross product also with the largest
--- multiplier of a row, and its rows with the most pairs
+-- multiplier of a row, its rows with the most pairs, and these with the stresses of the most nodes: with 108 sides a
+-- claim has the most numbers
 pub record PolygonFits (g : Polygon) (sides radius step product : ℕ) : Type 0 where
   pub rule : PolygonRule g sides step product
   pub radius_is : g.radius ≡ pos radius
@@ -54,6 +56,8 @@ pub record PolygonFits (g : Polygon) (sides radius step product : ℕ) : Type 0 
   pub step_weighted : strength_multiplier sides * step ≤ weighted_step
   pub product_weighted : strength_multiplier sides * product ≤ weighted_cross
   pub rows_fit : pairs_with sides * sides ≤ most_strength_rows
+  pub numbers_fit : nodes_with sides * stress_columns + pairs_with sides * sides
+      ≤ nodes_for_108 * stress_columns + most_strength_rows
 
 -- the polygon of a mesh with a listed number of sides
 pub record ListedPolygon (sides : ℕ) : Type 0 where

@@ -9,7 +9,7 @@ use Rattle.scope.specs.declared.Place.{Place}
 use Rattle.scope.specs.declared.Place.TheVariants.{Line, Row, Column, Node, Element}
 use Rattle.scope.specs.Members.{◌∈◌}
 use Rattle.scope.specs.Phases.{Step, Phase, step, phase, if_part, RefusedBy}
-use Rattle.scope.specs.Columns.{all_within, Rule, right_angle, naming, parts, rule_test, has_field, has_multipliers, n, l}
+use Rattle.scope.specs.Columns.{all_within, Rule, right_angle, naming, parts, at_most_where, rule_test, has_field, has_multipliers, n, l}
 use Rattle.scope.specs.Layout.{Group, Layout, width, groups, line_count, number_count, group_at, numbers_at}
 use Rattle.scope.specs.Mesh.{mesh_layout, nodes, elements, edges, jumps, edge_line, jump_line}
 use Rattle.scope.specs.Claim.{claim_layout, stress, multiplier}
@@ -23,11 +23,12 @@ use Rattle.scope.specs.Statements.{AllWithin, Says, AllSay, Complete, InLimits, 
 -- ---- lines: 1 to 4 of a mesh, 11 to 13 of a claim (which is which is said at the end, number by number)
 
 -- the number of the refusal where a rule fails: 3 "p² + q² is not h²", 4 "names a node or soil that isn't there",
--- 13 "both parts absent; field with n = 0; no field and n or l not 0"
+-- 13 "both parts absent; field with n = 0; no field and n or l not 0", 2 "mesh number outside its limits"
 unfoldable pub rule_number : Rule → ℕ
 rule_number right_angle = 3
 rule_number (naming cs) = 4
 rule_number parts = 13
+rule_number (at_most_where c k d z) = 2
 
 -- the rules of a line, in order
 abbrev pub rule_steps : List Rule → List ℤ → List Step
@@ -82,7 +83,7 @@ edges_phase m = phase 8 (edges m) (OuterEdge m) (outer_edge m) (λ g. Line (suc 
 abbrev pub joints_phase : List ℤ → Phase
 joints_phase m = phase 44 (jumps m) (Joint m) (is_joint m) (λ j. Line (suc (jump_line m j)))
 
--- 42 (document 02, N2): "with the node that brings the 101st pair"
+-- 42 (document 02, N2): "with the node that brings the 101st pair", the 41st with 108 sides (N9)
 abbrev pub pairs_phase : List ℤ → Phase
 pairs_phase m = phase 42 (nodes m) (PairsFit m) (pairs_fit m) (λ v. Node (suc v))
 
@@ -202,11 +203,12 @@ module _ (f : Layout) (ns : List ℤ) where
     pub hold : AllSay earlier (numbers_at f ns k)
     pub fails : ¬ Says r (numbers_at f ns k)
 
--- 1 "mesh form: .. bytes missing or left over", 2 "mesh number outside its limits", 3 "p² + q² is not h²", 4 "names a
--- node or soil that isn't there"
+-- 1 "mesh form: .. bytes missing or left over", 2 "mesh number outside its limits", one that looks at another column
+-- among them, 3 "p² + q² is not h²", 4 "names a node or soil that isn't there"
 pub record MeshLineNumbers (m : List ℤ) : Type 0 where
   pub one : (k : ℕ) → LineRefusal mesh_layout m 1 (Line (suc k)) ↔ CountFails mesh_layout m k
-  pub two : (k : ℕ) → LineRefusal mesh_layout m 2 (Line (suc k)) ↔ LimitFails mesh_layout m k
+  pub two : (k : ℕ) → LineRefusal mesh_layout m 2 (Line (suc k))
+      ↔ (LimitFails mesh_layout m k ⊎ ((c n d z : ℕ) × RuleFails mesh_layout m (at_most_where c n d z) k))
   pub three : (k : ℕ) → LineRefusal mesh_layout m 3 (Line (suc k)) ↔ RuleFails mesh_layout m right_angle k
   pub four : (k : ℕ)
       → LineRefusal mesh_layout m 4 (Line (suc k)) ↔ ((cs : List (ℕ × ℕ × ℕ)) × RuleFails mesh_layout m (naming cs) k)

@@ -2,7 +2,7 @@
 -- the field does not meet; and what that of 42 says (document 02, N2).
 use Rattle.std.specs.Prelude.{◌≡◌, List, ℕ, suc, ◌+◌, ◌*◌, ◌-◌, ◌<◌, ℤ}
 use Rattle.scope.specs.Columns.{n, l}
-use Rattle.scope.specs.Mesh.{elements, edges, sides, jumps, from_node, to_node, jump_from, jump_to, facing_from, facing_to}
+use Rattle.scope.specs.Mesh.{pairs_with, elements, edges, sides, jumps, from_node, to_node, jump_from, jump_to, facing_from, facing_to}
 use Rattle.scope.specs.Polygon.{polygon_of}
 use Rattle.scope.specs.Claim.{stress}
 use Rattle.scope.specs.Rows.{pair_count, pair_at}
@@ -38,7 +38,7 @@ module _ (m c : List ℤ) (place : ℕ) where
         → ¬ StrengthAt m (stress m c) (l c) (n c) (polygon_of (sides m)).radius (pair_at m a)
         (side_numbered (polygon_of (sides m)) (suc k))
 
--- refusal 42: "with the node that brings the 101st pair"
+-- refusal 42: "with the node that brings the 101st pair", the 41st with 108 sides
 pub record PairsFail (m : List ℤ) (place : ℕ) : Type 0 where
-  pub many : 100 < pair_count m
-  pub node : place ≡ suc (pair_at m 100).at
+  pub many : pairs_with (sides m) < pair_count m
+  pub node : place ≡ suc (pair_at m (pairs_with (sides m))).at

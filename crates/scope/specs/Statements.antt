@@ -1,9 +1,9 @@
 -- What document 01 asks of a mesh and of a claim, in plain statements about whole numbers: no test, no order of
 -- checks.
 use Rattle.std.specs.Prelude.{◌≡◌, ◌⊎◌, List, [], ◌∷◌, ℕ, suc, ◌+◌, ◌-◌, ◌*◌, ◌≤◌, ◌<◌, ℤ, pos, ◌+ℤ◌, ◌*ℤ◌, ◌≤ℤ◌, ◌<ℤ◌, length}
-use Rattle.scope.specs.Columns.{Limit, between, one_of, free, Rule, right_angle, naming, parts, at, n, l}
+use Rattle.scope.specs.Columns.{Limit, between, one_of, free, Rule, right_angle, naming, parts, at_most_where, at, n, l}
 use Rattle.scope.specs.Layout.{Layout, width, groups, line_count, number_count, group_at, numbers_at}
-use Rattle.scope.specs.Mesh.{most_pairs, mesh_layout, nodes, elements, edges, jumps, x, y, corner, corner_count, around, from_node, to_node, jump_from, jump_to, facing_from, facing_to}
+use Rattle.scope.specs.Mesh.{pairs_with, mesh_layout, nodes, elements, edges, sides, jumps, x, y, corner, corner_count, around, from_node, to_node, jump_from, jump_to, facing_from, facing_to}
 use Rattle.scope.specs.Rows as R
 use Rattle.scope.specs.Rows.{pairs_below, equality_rows, rows_of}
 use Rattle.scope.specs.Sums.{column_sum, live_sum}
@@ -45,6 +45,7 @@ abbrev pub Says : Rule → List ℤ → Type 0
 Says right_angle line = at line 0 *ℤ at line 0 +ℤ at line 1 *ℤ at line 1 ≡ at line 2 *ℤ at line 2
 Says (naming cs) line = AllNamed cs line
 Says parts line = PartsFit line
+Says (at_most_where c k d z) line = at line d ≡ pos z → at line c ≤ℤ pos k
 
 abbrev pub AllSay : List Rule → List ℤ → Type 0
 AllSay [] line = Unit {0}
@@ -138,9 +139,9 @@ pub record Joint (m : List ℤ) (j : ℕ) : Type 0 where
   pub at_from : SamePoint m (jump_from m j) (facing_from m j)
   pub at_to : SamePoint m (jump_to m j) (facing_to m j)
 
--- "Pairs are at most 100": the nodes up to v have no more
+-- "Pairs are at most 100", and 40 with 108 sides: the nodes up to v have no more
 abbrev pub PairsFit : List ℤ → ℕ → Type 0
-PairsFit m v = length (pairs_below m (suc v)) ≤ most_pairs
+PairsFit m v = length (pairs_below m (suc v)) ≤ pairs_with (sides m)
 
 -- a mesh that passes 1 to 8, 44 and 42
 pub record MeshSound (m : List ℤ) : Type 0 where

@@ -4,7 +4,7 @@ use Rattle.std.specs.Prelude.{Bool, not, ◌&&◌, ◌||◌, List, [], ℕ, suc,
 use Rattle.std.specs.Int.Signed.{lt_z}
 use Rattle.integer.specs.Tests.{eq_z}
 use Rattle.scope.specs.Checks.{some_below, all_below}
-use Rattle.scope.specs.Mesh.{most_pairs, elements, edges, x, y, corner_count, around, from_node, to_node, jump_from, jump_to, facing_from, facing_to}
+use Rattle.scope.specs.Mesh.{pairs_with, elements, edges, sides, x, y, corner_count, around, from_node, to_node, jump_from, jump_to, facing_from, facing_to}
 use Rattle.scope.specs.Rows as R
 use Rattle.scope.specs.Rows.{has_corner, pairs_below}
 
@@ -70,9 +70,9 @@ is_joint m j =
     && same_point m (jump_from m j) (facing_from m j)
     && same_point m (jump_to m j) (facing_to m j)
 
--- refusal 42 (document 02, N2): "Pairs are at most 100", counted to node v
+-- refusal 42 (document 02, N2): "Pairs are at most 100", and 40 with 108 sides (N9), counted to node v
 unfoldable pub pairs_fit : List ℤ → ℕ → Bool
-pairs_fit m v = leb (length (pairs_below m (suc v))) most_pairs
+pairs_fit m v = leb (length (pairs_below m (suc v))) (pairs_with (sides m))
 
 -- row k of a list of rows
 unfoldable pub row_at : List R.Row → ℕ → R.Row

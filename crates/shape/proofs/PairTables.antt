@@ -12,7 +12,7 @@ use lib.Dec.{leb}
 use lib.ListN.{length, length-append, length-map}
 use borrow.Author.Tests.{le-leb, lt-leb, leb-true}
 use Rattle.scope.specs.Checks.{all_below}
-use Rattle.scope.specs.Mesh.{most_pairs, soils}
+use Rattle.scope.specs.Mesh.{pairs_with, soils, sides}
 use Rattle.scope.specs.Rows as R
 use Rattle.scope.specs.Rows.{has_soil, passing, node_pairs, pairs_below}
 use Rattle.scope.specs.Tests.{pairs_fit}
@@ -54,31 +54,31 @@ module _ (m : List ℤ) (v : ℕ) where
       (λ j. omega (arith, more_soils s n (omega arith), ap length (next_soil n refl), length-append {A = R.Pair}))
       (eq-or-lt_of_le l)
 
-  -- its pairs with the soils below s are added to the list t, which is u then, and they fit
-  pub record Added (s : ℕ) (t u : List Pair) : Type 0 where
+  -- its pairs with the soils below s are added to the list t, which is u then, and there are no more than `most`
+  pub record Added (most s : ℕ) (t u : List Pair) : Type 0 where
     pub are : map pair_of u ≡ map pair_of t ++ soil_pairs s
-    pub few : length u ≤ most_pairs
+    pub few : length u ≤ most
 
-  pub none_added : (t : List Pair) → length t ≤ most_pairs → Added 0 t t
+  pub none_added : {most : ℕ} (t : List Pair) → length t ≤ most → Added most 0 t t
   unfolding passing
   none_added t l = record { are = sym (append-nil (map pair_of t)); few = l }
 
-  module _ {s : ℕ} {t u : List Pair} (h : Added s t u) where
+  module _ {most s : ℕ} {t u : List Pair} (h : Added most s t u) where
     -- how many there are then
     pub count : length u ≡ length t + length (soil_pairs s)
     count =
         sym (length-map u pair_of) ∙ ap length h.are ∙ length-append (map pair_of t) (soil_pairs s)
         ∙ ap (λ (k : ℕ). k + length (soil_pairs s)) (length-map t pair_of)
 
-    pub not_added : has_soil m v s ≡ false → Added (s + 1) t u
+    pub not_added : has_soil m v s ≡ false → Added most (s + 1) t u
     not_added e = record {
       are = h.are ∙ ap (λ (l : List R.Pair). map pair_of t ++ l) (sym (one_soil s e ∙ append-nil (soil_pairs s)));
       few = h.few;
     }
 
     module _ (e : has_soil m v s ≡ true) where
-      pub one_added : {w : List Pair} → length u < most_pairs → w ≡ u ++ record { node = v; soil = s } ∷ []
-          → Added (s + 1) t w
+      pub one_added : {w : List Pair} → length u < most → w ≡ u ++ record { node = v; soil = s } ∷ []
+          → Added most (s + 1) t w
       one_added {w} l d = record {
         are =
             ap (map pair_of) d ∙ map-append pair_of u (record { node = v; soil = s } ∷ [])
@@ -88,11 +88,11 @@ module _ (m : List ℤ) (v : ℕ) where
         few = omega (arith, ap length d, length-append u (record { node = v; soil = s } ∷ []));
       }
 
-      pub too_many : s < soils m → most_pairs ≤ length u
-          → leb (length t + length (node_pairs m v)) most_pairs ≡ false
+      pub too_many : s < soils m → most ≤ length u
+          → leb (length t + length (node_pairs m v)) most ≡ false
       unfolding node_pairs
       too_many l many =
-          lt-leb _ most_pairs
+          lt-leb _ most
           (omega (
             arith,
             count,
@@ -102,21 +102,25 @@ module _ (m : List ℤ) (v : ℕ) where
           ))
 
   -- once all soils are passed, its pairs are
-  module _ {t u : List Pair} (h : Added (soils m) t u) where
+  module _ {most : ℕ} {t u : List Pair} (h : Added most (soils m) t u) where
     pub all_added : map pair_of u ≡ map pair_of t ++ node_pairs m v
     unfolding node_pairs
     all_added = h.are
 
-    pub all_fitted : leb (length t + length (node_pairs m v)) most_pairs ≡ true
+    pub all_fitted : leb (length t + length (node_pairs m v)) most ≡ true
     unfolding node_pairs
-    all_fitted = le-leb _ most_pairs (omega (arith, count h, h.few))
+    all_fitted = le-leb _ most (omega (arith, count h, h.few))
 
 -- ---- the pairs of the nodes below v, all of which fit
 
 module _ (m : List ℤ) where
+  -- as many as its number of sides lets it have
+  abbrev most_of : ℕ
+  most_of = pairs_with (sides m)
+
   pub record Collected (v : ℕ) (t : List Pair) : Type 0 where
     pub are : map pair_of t ≡ pairs_below m v
-    pub few : length t ≤ most_pairs
+    pub few : length t ≤ most_of
 
   pub none_collected : Collected 0 []
   unfolding pairs_below
@@ -130,26 +134,26 @@ module _ (m : List ℤ) where
     unfolding pairs_fit
     all_fit =
         all_of_each (pairs_fit m) v
-        (λ k l. le-leb (length (pairs_below m (suc k))) most_pairs
+        (λ k l. le-leb (length (pairs_below m (suc k))) most_of
         (omega (arith, pairs_more m v (suc k) (omega arith), count_below, c.few)))
 
     -- they fit exactly where this is not the node of 42
-    pub fits_here : leb (length t + length (node_pairs m v)) most_pairs ≡ pairs_fit m v
+    pub fits_here : leb (length t + length (node_pairs m v)) most_of ≡ pairs_fit m v
     unfolding pairs_fit pairs_below
     fits_here =
-        ap (λ (k : ℕ). leb k most_pairs)
+        ap (λ (k : ℕ). leb k most_of)
         (ap (λ (k : ℕ). k + length (node_pairs m v)) count_below
         ∙ sym (length-append (pairs_below m v) (node_pairs m v)))
 
     pub more_collected : {u : List Pair} → map pair_of u ≡ map pair_of t ++ node_pairs m v
-        → leb (length t + length (node_pairs m v)) most_pairs ≡ true → Collected (v + 1) u
+        → leb (length t + length (node_pairs m v)) most_of ≡ true → Collected (v + 1) u
     unfolding pairs_below
     more_collected {u} d fit = record {
       are = d ∙ ap (λ (l : List R.Pair). l ++ node_pairs m v) c.are ∙ ap (pairs_below m) (sym (add-one v));
       few =
           omega (
             arith,
-            leb-true _ most_pairs fit,
+            leb-true _ most_of fit,
             length-map u pair_of,
             ap length d,
             length-append (map pair_of t) (node_pairs m v),

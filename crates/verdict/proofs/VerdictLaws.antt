@@ -10,7 +10,7 @@ use Rattle.scope.specs.Cases.Outcome.{Outcome, Passed}
 use Rattle.scope.specs.Cases.Verdict.{Verdict, Accepted}
 use Rattle.scope.specs.Checks.{◌then◌}
 use Rattle.scope.specs.Claim.{claim_layout}
-use Rattle.scope.specs.Mesh.{most_pairs, mesh_layout, layout_with}
+use Rattle.scope.specs.Mesh.{most_pairs, sides, mesh_layout, layout_with}
 use Rattle.scope.specs.NumberRanges.{MeshFacts, ClaimFacts}
 use Rattle.scope.specs.Phases.{check_phases}
 use Rattle.scope.specs.Refusals.{shape_phases, field_part, multiplier_part, part_phases}
@@ -20,6 +20,7 @@ use Rattle.scope.specs.Verdict.{verdict}
 use Rattle.scope.proofs.ClaimNumberRanges.{claim_facts}
 use Rattle.scope.proofs.NumberRanges.{mesh_facts}
 use Rattle.scope.proofs.Pairs.{few_pairs_lem}
+use Rattle.scope.proofs.SideLimits.{few_most}
 use Rattle.scope.proofs.Refusals.{lines_passed, mesh_checked, mesh_passed, claim_checked, parts_checked}
 use Rattle.mesh.specs.declared.pairs.Pair.{Pair}
 use Rattle.mesh.specs.PairContracts.{PairsAre}
@@ -47,7 +48,8 @@ mesh_known {m} e = let sound = (mesh_passed m).says e in record { facts = mesh_f
 
 -- its pairs are few: what a mesh with its pairs holds
 pub few_counted : (m : List ℤ) (t : List Pair) → mesh_check m ≡ Passed → PairsAre m t → length t ≤ most_pairs
-few_counted m t e p = omega (arith, pairs_counted m t p, few_pairs_lem m (mesh_known e).sound)
+few_counted m t e p =
+    omega (arith, pairs_counted m t p, few_most (sides m) (few_pairs_lem m (mesh_known e).sound))
 
 -- what is lent to a claim: what judging answers where it passes
 pub sound_mesh :

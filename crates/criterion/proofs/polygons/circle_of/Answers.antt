@@ -22,12 +22,20 @@ pub returns-in-20-clause-corners : goal.returns-in-20-clause-corners
 unfolding shown
 returns-in-20-clause-corners c = ap (λ k. pairs_of (polygon_of k).corners) (sym c.in-20.is)
 
+pub returns-in-36-clause-radius : goal.returns-in-36-clause-radius
+unfolding shown
+returns-in-36-clause-radius c = ap (λ k. (polygon_of k).radius) (sym c.in-36.is)
+
+pub returns-in-36-clause-corners : goal.returns-in-36-clause-corners
+unfolding shown
+returns-in-36-clause-corners c = ap (λ k. pairs_of (polygon_of k).corners) (sym c.in-36.is)
+
 pub returns-in_default-clause-radius : goal.returns-in_default-clause-radius
 unfolding shown
 returns-in_default-clause-radius c =
-    ap (λ k. (polygon_of k).radius) (sym (last_listed c.requires (λ e. omega arith) (λ e. omega arith)))
+    ap (λ k. (polygon_of k).radius) (sym (last_listed c.requires (λ e. omega arith) (λ e. omega arith) (λ e. omega arith)))
 
 pub returns-in_default-clause-corners : goal.returns-in_default-clause-corners
 unfolding shown
 returns-in_default-clause-corners c =
-    ap (λ k. pairs_of (polygon_of k).corners) (sym (last_listed c.requires (λ e. omega arith) (λ e. omega arith)))
+    ap (λ k. pairs_of (polygon_of k).corners) (sym (last_listed c.requires (λ e. omega arith) (λ e. omega arith) (λ e. omega arith)))

@@ -6,9 +6,15 @@ use Prim.Native.Nat.{ℕ, ◌<◌, ◌≤◌}
 use native.Mathlib.Omega.{arith}
 use lib.IntN.{ℤ, pos, negsuc}
 use lib.ListN.{length-replicate}
+use mir.Syntax.{w64}
+use mir.Val.{to_z, of_z}
+use mir.Facts.{to_z-of_z}
+use Rattle.integer.proofs.Machine.{Within-SFits}
+use Rattle.scope.specs.Mesh.{most_strength, strength_multiplier}
 use Rattle.scope.specs.Columns.{up_to}
 use Rattle.scope.specs.Claim.{if_there, stress_lines, element_multipliers, edge_multipliers, jump_multipliers}
 use Rattle.scope.specs.Claim.{strength_multipliers}
+use Rattle.scope.proofs.SideLimits.{strength_most}
 use Rattle.mesh.specs.declared.sizes.Sizes.{Sizes}
 use Rattle.lines.specs.declared.layout.Kind.TheVariants.{Even}
 use Rattle.lines.specs.declared.layout.Group as Code
@@ -29,13 +35,17 @@ part s lo hi w there n some few =
       few = record { few_lines = few_there there refl n; some_column = some; few_columns = few };
     }
 
+-- the largest multiplier, as the machine hands it on
+strength_read : (k : ℕ) → to_z w64 (of_z w64 (pos (strength_multiplier k))) ≡ pos (strength_multiplier k)
+strength_read k = to_z-of_z (Within-SFits {B = most_strength} (record { within = strength_most k }) (omega arith))
+
 abbrev listed : Sizes → ℕ → Bool → Bool → List Code.Group
 listed s pairs field multipliers =
     even (negsuc 999999999) (pos 1000000000) (if_there field s.nodes) 3
     ∷ even (negsuc 99999) (pos 100000) (if_there multipliers s.elements) 2
     ∷ even (negsuc 99999) (pos 100000) (if_there multipliers s.edges) 4
     ∷ even (negsuc 99999) (pos 100000) (if_there multipliers s.jumps) 4
-    ∷ even (pos 0) (pos 10000) (if_there multipliers pairs) s.sides
+    ∷ even (pos 0) (pos (strength_multiplier s.sides)) (if_there multipliers pairs) s.sides
     ∷ []
 
 all_good : (s : Sizes) (pairs : ℕ) → pairs ≤ most_lines → (f m : Bool)
@@ -83,6 +93,7 @@ invariant_of-result c =
 pub returns : goal.returns
 returns c =
     let a = c.args in
-    rw (c.even.ensures, c.even-2.ensures, c.even-3.ensures, c.even-4.ensures, c.even-5.ensures)
+    rw (c.even.ensures, c.even-2.ensures, c.even-3.ensures, c.even-4.ensures, c.even-5.ensures, c.strength_most.ensures,
+    strength_read a.s.sizes.sides)
     (rw (c.if_there.ensures, c.if_there-2.ensures, c.if_there-3.ensures, c.if_there-4.ensures, c.if_there-5.ensures)
     (all_good a.s.sizes a.s.pairs (omega (arith, a.s.few_pairs)) a.field a.multipliers))

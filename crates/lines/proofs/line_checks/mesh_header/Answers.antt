@@ -1,23 +1,21 @@
 -- `mesh_header` meets its contract: each return by the law of the check that it stands for.
 use mathlib.Core.Path.{◌≡◌, ◌∙◌, sym}
-use mathlib.Core.List.{List}
+use mathlib.Core.Bool.{Bool, true}
+use mathlib.Core.List.{List, [], ◌∷◌}
 use lib.Dec.{leb}
 use lib.IntN.{ℤ}
 use lib.ListN.{length, take}
 use lib.Seq.{length-take-le}
 use Rattle.scope.specs.declared.Place.TheVariants.{Line}
 use Rattle.scope.specs.Checks.{demand, ◌then◌}
-use Rattle.scope.specs.Columns.{all_within}
-use Rattle.scope.specs.Mesh.{mesh_header_columns, mesh_layout, mesh_header}
+use Rattle.scope.specs.Columns.{Rule, at_most_where, all_within}
+use Rattle.scope.specs.Mesh.{most_sides, nodes_for_108, mesh_header_columns, mesh_layout, mesh_header}
 use Rattle.scope.specs.Verdict.{line_check, line_at, rules_hold}
-use Rattle.scope.proofs.Answered as A
-use Rattle.scope.proofs.Answered.{first_refuses, test_held}
-use Rattle.scope.proofs.Checks.{then_Passed}
-use Rattle.lines.specs.LineContracts.{ranges}
+use Rattle.scope.specs.Refusals.{rule_number}
+use Rattle.scope.proofs.Answered.{first_refuses, second_decides, test_held}
 use Rattle.lines.proofs.LineLaws.{line_there, line_limits, past_end, not_past_end, mesh_header_line}
-use Rattle.lines.proofs.LineLaws.{mesh_header_limits, last_read, first_fails, second_decides, so, not_so}
+use Rattle.lines.proofs.LineLaws.{one_rule, nodes_read}
 use borrow.Author.Rules.{rules}
-use Rattle.lines.proofs.line_checks.mesh_header.Goals.{then-counts, else-counts}
 use Rattle.lines.proofs.line_checks.mesh_header.Goals as goal
 
 -- the line is there
@@ -34,21 +32,37 @@ returns-in_err-demand c =
     (line_check mesh_layout mesh_header (take mesh_header_columns m) (Line 1))
     c.from_residual.ensures.1 (rw c.at.ensures at c.in_err-demand.ensures) (header_there m)
 
+abbrev few : Rule
+few = at_most_where 0 nodes_for_108 4 most_sides
+
+-- its limits, and then its rule
+header_limits : (m : List ℤ) {b : Bool} → leb mesh_header_columns (length m) ≡ true
+    → all_within mesh_header.limits (take mesh_header_columns m) ≡ b
+    → demand b 2 (Line 1) then rules_hold (few ∷ []) (take mesh_header_columns m) (Line 1)
+    ≡ line_check mesh_layout mesh_header (take mesh_header_columns m) (Line 1)
+unfolding mesh_header mesh_layout
+header_limits m e w =
+    line_limits mesh_layout mesh_header (take mesh_header_columns m) (Line 1)
+    (length-take-le mesh_header_columns m (not_past_end _ _ e)) w
+
+
+pub returns-in_err-demand-2 : goal.returns-in_err-demand-2
+returns-in_err-demand-2 c =
+    let m = c.args.m.now in
+    let there = test_held _ _ _ c.in_ok-demand.ensures in
+    second_decides (rw c.at.ensures at c.in_ok-demand.ensures) (header_there m)
+    (first_refuses c.from_residual-in_err-demand-2.result c.in_err-demand-2.field-0.0
+    (rules_hold (few ∷ []) (take mesh_header_columns m) (Line 1)) c.from_residual-in_err-demand-2.ensures.1
+    (rw c.at-2.ensures at c.in_err-demand-2.ensures) (header_limits m there (sym c.header_within.ensures)))
+
 pub returns : goal.returns
-unfolding mesh_header mesh_layout ranges rules_hold
+unfolding rule_number
 returns c =
     let m = c.args.m.now in
-    let there = not_past_end _ _ (test_held _ _ _ c.in_ok-demand.ensures) in
-    let limits = mesh_header_limits m there in
-    let holds : all_within mesh_header.limits (take mesh_header_columns m) ≡ c.if-counts.in_limits =
-    elim c.if-counts.branch [
-      | then-counts w ↦ second_decides limits (so c.limits_hold-counts.ensures w.if-counts.true)
-          ∙ last_read (search rules) (search rules) ∙ sym w.sides_and_jumps-in_limits.ensures ∙ sym w.in_limits-is
-      | else-counts w ↦ first_fails _ limits (not_so c.limits_hold-counts.ensures w.if-counts.false)
-          ∙ sym (w.in_limits-is ∙ w.if-counts.false)
-    ] in
-    A.second_decides (rw c.at.ensures at c.in_ok-demand.ensures) (header_there m)
-    ((rw c.at-2.ensures at c.demand-2.ensures)
-    ∙ sym (then_Passed (demand c.if-counts.in_limits 2 (Line 1)))
-    ∙ line_limits mesh_layout mesh_header (take mesh_header_columns m) (Line 1)
-    (length-take-le mesh_header_columns m there) holds)
+    let there = test_held _ _ _ c.in_ok-demand.ensures in
+    second_decides (rw c.at.ensures at c.in_ok-demand.ensures) (header_there m)
+    (second_decides (rw c.at-2.ensures at c.in_ok-demand-2.ensures)
+    (header_limits m there (sym c.header_within.ensures))
+    ((rw c.at-3.ensures at c.demand-3.ensures)
+    ∙ one_rule few (take mesh_header_columns m) (Line 1)
+    (nodes_read m (not_past_end _ _ there) (search rules) (search rules) ∙ sym c.nodes_fit.ensures)))

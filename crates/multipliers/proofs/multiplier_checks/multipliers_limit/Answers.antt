@@ -28,7 +28,7 @@ row_sums-sums-requires c = no_sums refl
 pub sums_limit-requires-clause-sums_fit : goal.sums_limit-requires-clause-sums_fit
 sums_limit-requires-clause-sums_fit c =
     let mesh = c.args.rows.now.mesh in
-    first_room _ (whole_room _ _ mesh.mesh.sized.facts.counts mesh.few c.row_sums-sums.ensures)
+    first_room _ (whole_room _ _ mesh.mesh.sized.facts.counts mesh.few_with_sides c.row_sums-sums.ensures)
 
 pub returns : goal.returns
 unfolding multipliers_check check_phases

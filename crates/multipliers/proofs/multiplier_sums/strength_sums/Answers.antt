@@ -7,7 +7,7 @@ use Rattle.multipliers.proofs.multiplier_sums.strength_sums.Goals as goal
 pub loop-a-init : goal.loop-a-init
 loop-a-init c =
     let mesh = c.args.rows.now.mesh in
-    no_pairs_summed _ _ mesh.mesh.sized.facts.counts mesh.few c.requires
+    no_pairs_summed _ _ mesh.mesh.sized.facts.counts mesh.few_with_sides c.requires
 
 pub add_pair-sums-requires-clause-there : goal.add_pair-sums-requires-clause-there
 add_pair-sums-requires-clause-there c =

@@ -34,7 +34,7 @@ overflow_add-count c =
     let sides = its_sides _ rows.polygon.now rows.its_polygon c.sides.ensures in
     let as_many = pair_as_many there rows.of_each_row c.of_pair.ensures counts sides in
     let few = pair_few there rows.of_each_row c.of_pair.ensures counts sides in
-    let small = count_small _ _ _ _ _ counts rows.mesh.few c.loop-a.a (omega (arith, there)) c.loop-a.invariant in
+    let small = count_small _ _ _ _ _ counts rows.mesh.few_with_sides c.loop-a.a (omega (arith, there)) c.loop-a.invariant in
     record { fits = omega (arith, small, few_sides_open _ _ _ as_many few c.pair_open-count.ensures) }
 
 pub loop-a-preserved : goal.loop-a-preserved

@@ -3,4 +3,4 @@ use Rattle.shape.proofs.PairTables.{Added}
 use Rattle.shape.proofs.pairs.add_pairs.Given as goal
 
 abbrev pub invariant-loop-soil : goal.invariant-loop-soil
-invariant-loop-soil l = Added l.marked.mesh.numbers.now l.v l.soil l.initial.pairs.items l.pairs.items
+invariant-loop-soil l = Added l.marked.mesh.numbers.now l.v l.most l.soil l.initial.pairs.items l.pairs.items

@@ -4,7 +4,7 @@ use Prim.Native.Nat.{suc}
 use native.Mathlib.Numerals.{add-one}
 use native.Mathlib.Omega.{arith}
 use Rattle.scope.specs.declared.Place.TheVariants.{Node}
-use Rattle.scope.specs.Mesh.{nodes}
+use Rattle.scope.specs.Mesh.{pairs_with, nodes}
 use Rattle.scope.specs.Phases.{check_phase}
 use Rattle.scope.specs.Rows.{strength_pairs, pairs_below}
 use Rattle.scope.specs.Tests.{pairs_fit}
@@ -20,14 +20,16 @@ pub returns-in_err-add_pairs-clause-outcome : goal.returns-in_err-add_pairs-clau
 unfolding check_phase
 returns-in_err-add_pairs-clause-outcome c =
     let h = c.loop-v.invariant in
+    let few = c.most_pairs-most.ensures.with_sides ∙ ap pairs_with c.args.marked.now.mesh.sized.sides_are in
     asked_stops (pairs_fit _) (all_fit _ h) (fits_here _ h) c.from_residual.result c.in_err-add_pairs.field-0.0
-    c.from_residual.ensures.1 refl c.in_err-add_pairs.ensures.outcome (λ v. Node (suc v)) (ap Node (add-one _))
+    c.from_residual.ensures.1 refl (rw few at c.in_err-add_pairs.ensures.outcome) (λ v. Node (suc v)) (ap Node (add-one _))
     (nodes _) (omega (arith, c.args.marked.now.mesh.sized.nodes_are))
 
 pub loop-v-preserved : goal.loop-v-preserved
 loop-v-preserved c =
+    let few = c.most_pairs-most.ensures.with_sides ∙ ap pairs_with c.args.marked.now.mesh.sized.sides_are in
     more_collected _ c.loop-v.invariant c.in_ok-add_pairs.ensures.added
-    (test_held _ _ _ c.in_ok-add_pairs.ensures.outcome)
+    (test_held _ _ _ (rw few at c.in_ok-add_pairs.ensures.outcome))
 
 pub returns-clause-outcome : goal.returns-clause-outcome
 unfolding check_phase
