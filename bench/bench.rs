@@ -1,7 +1,7 @@
 //! Times of the proved program and of the independent implementation on the same sheets.
-//! bench time SHEET.. prints nanoseconds a check; bench runs SHEET.. the same for fifty claims on one
-//! mesh, in one call and in fifty; bench once SHEET makes one check of each, for a tool that counts
-//! instructions inside `archive_check` and `independent_check`.
+//! bench time SHEET.. prints nanoseconds a check, of a grid with 108 sides too; bench runs SHEET.. the
+//! same for fifty claims on one mesh, in one call and in fifty; bench once SHEET makes one check of
+//! each, for a tool that counts instructions inside `archive_check` and `independent_check`.
 
 use independent::Answer;
 use std::hint::black_box;
@@ -11,6 +11,13 @@ use std::time::{Duration, Instant};
 #[allow(dead_code)]
 #[path = "../tests/independent/programs/compare/archive.rs"]
 mod archive;
+// The grids of the comparison; one of them is timed.
+#[allow(dead_code)]
+#[path = "../tests/independent/programs/compare/grids.rs"]
+mod grids;
+#[allow(dead_code)]
+#[path = "../tests/independent/programs/compare/random.rs"]
+mod random;
 
 /// The bytes of a report, and the claims of a run.
 const LINE: usize = 113;
@@ -62,6 +69,19 @@ fn read(name: &str) -> Sheet {
         table: std::fs::read(format!("{name}.table")).unwrap_or_default(),
         claims: claim.repeat(CLAIMS),
         claim,
+    }
+}
+
+/// A grid of 40 nodes, the most that 108 sides may have.
+fn many_sides() -> Sheet {
+    let mut random = random::Random::new(0x9E37_79B9_7F4A_7C15);
+    let files = grids::accepted(&mut random, 7, 4, 108).files();
+    Sheet {
+        name: "40 nodes with 108 sides".to_string(),
+        mesh: files.mesh,
+        table: files.table,
+        claims: files.claim.repeat(CLAIMS),
+        claim: files.claim,
     }
 }
 
@@ -118,14 +138,16 @@ fn main() {
                 "{:<28} {:>12} {:>12} {:>12} {:>12} {:>7}",
                 "fifty claims, ns", "proved run", "calls", "indep. run", "calls", "ratio"
             );
-            sheets.for_each(|sheet| time_run(&sheet));
+            sheets
+                .chain([many_sides()])
+                .for_each(|sheet| time_run(&sheet));
         }
         _ => {
             println!(
                 "{:<28} {:>7} {:>12} {:>12} {:>7}",
                 "sheet", "bytes", "proved, ns", "indep., ns", "ratio"
             );
-            sheets.for_each(|sheet| time(&sheet));
+            sheets.chain([many_sides()]).for_each(|sheet| time(&sheet));
         }
     }
 }

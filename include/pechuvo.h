@@ -32,7 +32,8 @@
       8      line      edge is no element's side, or its reverse is one, or an earlier edge has it
      44      line      jump: its two sides are not outer sides that face each other, or one is used
                        by an edge or an earlier jump
-     42      node      brings the 101st pair of a node and a soil of the elements around it
+     42      node      brings the 101st pair of a node and a soil of the elements around it, or
+                       the 41st on a mesh with 108 sides
      11      line      claim form
      12      line      claim number outside its limits
      13      line 1    both parts absent; field with n = 0; no field and n or l not 0
@@ -53,6 +54,9 @@
    A node makes a pair with each soil of the elements around it. Pairs are numbered from 1, nodes
    ascending and at a node soils ascending; a mesh has at most 100. A claim's strength multipliers
    are a line for each pair, and the strength row of side k of pair a is (a - 1) * sides + k.
+
+   A mesh has 12, 20, 36 or 108 sides. With 108 it has at most 40 nodes (2, line 1) and 40 pairs
+   (42), and its strength multipliers are at most 300 (12), not 10,000.
 
    The mesh's header has six columns, the sixth its number of jumps, 0 to 60; a line for each
    follows the edges: from and to on one side of a joint, then the two facing nodes in the same

@@ -29,8 +29,9 @@ def make_field(mesh, rows, margin):
     raise SystemExit("no field within the limits: take a mesh with nicer numbers")
 
 
-def make_multipliers(mesh, rows, spread):
-    """Multipliers at the optimum, or a little above it where their fractions are too long."""
+def make_multipliers(mesh, rows, spread, tries=0):
+    """Multipliers at the optimum, or a little above it where their fractions are too long: the first that fit, or
+    the best of so many tries."""
     columns = 3 * len(mesh.nodes)
     friction = any(soil.p for soil in mesh.soils)
     *_, multipliers = linear_program.solve(rows, columns, spread=spread)
@@ -39,10 +40,16 @@ def make_multipliers(mesh, rows, spread):
         return whole, "the vertex itself"
     for wider in (s for s in SPREADS if s > spread) if friction else (spread,):
         *_, multipliers = linear_program.solve(rows, columns, spread=wider)
-        for filling in FILLINGS:
+        found = []
+        for filling in (1 - k / 1000 for k in range(tries)) if tries else FILLINGS:
             whole = whole_numbers.rounded_multipliers(mesh, rows, multipliers, filling)
             if whole:
-                return whole, f"rounded, filling {filling:g}, spread {wider:g}"
+                found.append((limit(rows, whole), filling, whole))
+                if not tries:
+                    break
+        if found:
+            _, filling, whole = min(found)
+            return whole, f"rounded, filling {filling:g}, spread {wider:g}"
     raise SystemExit("no multipliers within the limits: take a mesh with nicer numbers")
 
 
@@ -50,7 +57,7 @@ def limit(rows, multipliers):
     return Fraction(exact.right_sum(rows, multipliers), exact.load_sum(rows, multipliers))
 
 
-def make_claim(mesh_text, table, part="both", margin=0.0, spread=0.0):
+def make_claim(mesh_text, table, part="both", margin=0.0, spread=0.0, tries=0):
     """The lines of a claim for a mesh file's and a table's bytes, and a word on how each part was made."""
     try:
         mesh, rows = exact.judged_mesh(*exact.mesh_files(mesh_text, table))
@@ -61,7 +68,7 @@ def make_claim(mesh_text, table, part="both", margin=0.0, spread=0.0):
         (n, l, stresses), how = make_field(mesh, rows, margin)
         notes.append(f"field carries {l / n:.9g} ({how})")
     if part in ("multipliers", "both"):
-        multipliers, how = make_multipliers(mesh, rows, spread)
+        multipliers, how = make_multipliers(mesh, rows, spread, tries)
         notes.append(f"multipliers allow {float(limit(rows, multipliers)):.9g} ({how})")
     return exact.claim_lines(mesh, exact.Claim(n, l, stresses, multipliers)), "; ".join(notes)
 
@@ -74,9 +81,10 @@ def main():
     parser.add_argument("--part", choices=("field", "multipliers", "both"), default="both")
     parser.add_argument("--margin", type=float, default=0.0, help="tighten the field's strength rows by this fraction")
     parser.add_argument("--spread", type=float, default=0.0, help="add this much to every strength multiplier")
+    parser.add_argument("--tries", type=int, default=0, help="take the best multipliers of so many tries, up to 900")
     words = parser.parse_args()
     mesh, table = exact.read(words.mesh), exact.read(words.table)
-    lines, note = make_claim(mesh, table, words.part, words.margin, words.spread)
+    lines, note = make_claim(mesh, table, words.part, words.margin, words.spread, words.tries)
     with open(words.claim, "wb") as file:
         file.write(exact.text_of(lines))
     print(note)

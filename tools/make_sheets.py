@@ -23,7 +23,7 @@ def write_sheet(folder, sheet):
     mesh, table, note = rows.text_of(sheet.mesh), rows.text_of(sheet.table), "by hand"
     claim = sheet.claim
     if claim is None:
-        claim, note = claim_from_solver.make_claim(mesh, table, sheet.part, sheet.margin, sheet.spread)
+        claim, note = claim_from_solver.make_claim(mesh, table, *sheet.how)
     claim = rows.text_of(claim)
     verdict, line = rows.check(mesh, table, claim)
     line = line.decode("ascii")

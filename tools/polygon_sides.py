@@ -5,6 +5,7 @@ its columns only through the vector V = Σ y·S and the number Z = Σ y·K (docu
 
 import functools
 import heapq
+import itertools
 
 from rows import corners
 
@@ -39,8 +40,54 @@ def cross(v, w):
     return v[0] * w[1] - v[1] * w[0]
 
 
+@functools.cache
+def few_sides(sides):
+    """Sums of at most three steps, by the least Z: vector -> (Z, the sides)."""
+    table, best = side_table(sides), {}
+    for count in range(4):
+        for chosen in itertools.combinations_with_replacement(range(sides), count):
+            x, y, z = (sum(part) for part in zip((0, 0, 0), *((*table[k][0], table[k][1]) for k in chosen)))
+            if (x, y) not in best or z < best[x, y][0]:
+                best[x, y] = z, chosen
+    return best
+
+
+def next_to(sides, vector):
+    """The two sides on either side of a vector, and how many of each fit into it."""
+    table = side_table(sides)
+    for k in range(sides):
+        first, second = table[k][0], table[(k + 1) % sides][0]
+        if cross(first, vector) >= 0 and cross(vector, second) > 0:
+            area = cross(first, second)
+            return (k, cross(vector, second) // area), ((k + 1) % sides, cross(first, vector) // area)
+    return (0, 0), (1, 0)
+
+
+def nearby_multipliers(sides, vector):
+    """y not below 0 with Σ y·S = vector: two sides next to it take most of it, at most three others the rest."""
+    table, few, best = side_table(sides), few_sides(sides), None
+    (k, a), (j, b) = next_to(sides, vector)
+    for less_a, less_b in itertools.product(range(min(a, 40) + 1), range(min(b, 40) + 1)):
+        counts = a - less_a, b - less_b
+        rest = tuple(v - counts[0] * table[k][0][i] - counts[1] * table[j][0][i] for i, v in enumerate(vector))
+        if rest in few:
+            z = few[rest][0] + counts[0] * table[k][1] + counts[1] * table[j][1]
+            if best is None or z < best[0]:
+                best = z, counts, few[rest][1]
+    if best is None:
+        return None
+    y = [0] * sides
+    y[k], y[j] = best[1]
+    for side in best[2]:
+        y[side] += 1
+    return y
+
+
 def vector_multipliers(sides, vector):
-    """y not below 0 with Σ y·S = vector and Z near its least, or None."""
+    """y not below 0 with Σ y·S = vector and Z near its least, or None. With many sides a table of all small vectors
+    would be too large."""
+    if sides > 36:
+        return nearby_multipliers(sides, vector)
     table = side_table(sides)
     y = [0] * sides
     for k in range(sides):

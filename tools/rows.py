@@ -2,6 +2,8 @@
 report line. Written from the papers' words alone, for the tools and for sheets/expected; the check has no
 part in it. In here things are numbered from 0, in files and places from 1."""
 
+import functools
+import math
 import re
 from collections import namedtuple
 from fractions import Fraction
@@ -11,18 +13,14 @@ COLUMN = 28
 REPORT = 113
 DECIMALS = range(8)
 
-# The first quadrant of each polygon's corners, by its number of sides.
-QUADRANTS = {
-    12: [(5, 0), (4, 3), (3, 4), (0, 5)],
-    20: [(25, 0), (24, 7), (20, 15), (15, 20), (7, 24), (0, 25)],
-    36: [(65, 0), (63, 16), (60, 25), (56, 33), (52, 39), (39, 52), (33, 56), (25, 60), (16, 63), (0, 65)],
-}
+# Each polygon's radius by its number of sides; its corners are all whole-number points on that circle.
+RADII = {12: 5, 20: 25, 36: 65, 108: 1_105}
 
 # What a column may hold: a range, or the name of something in the mesh.
 NODE, SOIL = "node", "soil"
 FORCE, TRACTION = range(-1_000, 1_001), range(-10_000, 10_001)
 COORDINATE = range(1_001)
-HEADER = [range(4, 101), range(1, 101), range(1, 17), range(61), QUADRANTS.keys(), range(61)]
+HEADER = [range(4, 101), range(1, 101), range(1, 17), range(61), RADII.keys(), range(61)]
 SOIL_LINE = [range(1_001), range(1, 1_001), range(1, 1_001), range(10_001), *[FORCE] * 4]
 NODE_LINE = [COORDINATE] * 2
 ELEMENT_LINE = [*[NODE] * 4, SOIL]
@@ -37,6 +35,8 @@ STRESS = range(-1_000_000_000, 1_000_000_001)
 EQUALITY_MULTIPLIER = range(-100_000, 100_001)
 STRENGTH_MULTIPLIER = range(10_001)
 MOST_PAIRS = 100
+# With 108 sides (document 02, N9).
+MANY_SIDES, MOST_NODES_MANY, MOST_PAIRS_MANY, STRENGTH_MULTIPLIER_MANY = 108, 40, 40, range(301)
 
 Soil = namedtuple("Soil", "p q h cohesion dead live")
 Element = namedtuple("Element", "nodes soil")
@@ -161,6 +161,8 @@ def mesh_of(lines, table):
     """The mesh that lines hold, in document 01's order: 1 to 4 line by line; then the table, an empty one being
     none."""
     nodes, elements, soils, edges, sides, jumps = take_line(lines, HEADER, 2)
+    if sides == MANY_SIDES and nodes > MOST_NODES_MANY:
+        raise Refused(2, 1, "line")
     there = {NODE: range(1, nodes + 1), SOIL: range(1, soils + 1)}
     there_or_0 = {**there, SOIL: range(soils + 1)} if table.data else there
     all_soils = [soil_of(lines) for _ in range(soils)]
@@ -189,13 +191,17 @@ def edge_line(mesh, edge):
     return 2 + len(mesh.soils) + len(mesh.nodes) + len(mesh.elements) + edge
 
 
+def strength_multiplier(mesh):
+    return STRENGTH_MULTIPLIER_MANY if mesh.sides == MANY_SIDES else STRENGTH_MULTIPLIER
+
+
 def multiplier_groups(mesh):
     """(lines, columns, limits) of each group of a claim's multipliers."""
     return [
         (len(mesh.elements), 2, EQUALITY_MULTIPLIER),
         (len(mesh.edges), 4, EQUALITY_MULTIPLIER),
         (len(mesh.jumps), 4, EQUALITY_MULTIPLIER),
-        (len(strength_pairs(mesh)), mesh.sides, STRENGTH_MULTIPLIER),
+        (len(strength_pairs(mesh)), mesh.sides, strength_multiplier(mesh)),
     ]
 
 
@@ -321,9 +327,9 @@ def judge_jumps(mesh):
 
 def judge_pairs(mesh):
     """42, with the node that brings one pair too many."""
-    pairs = strength_pairs(mesh)
-    if len(pairs) > MOST_PAIRS:
-        raise Refused(42, pairs[MOST_PAIRS][0] + 1, "node")
+    pairs, most = strength_pairs(mesh), MOST_PAIRS_MANY if mesh.sides == MANY_SIDES else MOST_PAIRS
+    if len(pairs) > most:
+        raise Refused(42, pairs[most][0] + 1, "node")
 
 
 def judge_mesh(mesh):
@@ -335,17 +341,19 @@ def judge_mesh(mesh):
 # Rows
 
 
+def radius(sides):
+    return RADII[sides]
+
+
+@functools.cache
 def corners(sides):
-    """All corners of the polygon, counterclockwise from (r, 0)."""
-    quadrant = QUADRANTS[sides][:-1]
-    turned = [quadrant]
+    """All corners of the polygon, counterclockwise from (r, 0): a quadrant, then turned three times."""
+    r = radius(sides)
+    quadrant = [(a, math.isqrt(r * r - a * a)) for a in range(r, 0, -1)]
+    turned = [[(a, b) for a, b in quadrant if a * a + b * b == r * r]]
     for _ in range(3):
         turned.append([(-b, a) for a, b in turned[-1]])
     return [corner for part in turned for corner in part]
-
-
-def radius(sides):
-    return QUADRANTS[sides][0][0]
 
 
 def strength_pairs(mesh):
@@ -437,7 +445,7 @@ def strength_rows(mesh):
 def rows_of(mesh):
     """All rows, in the order of their multipliers in a claim: equalities, then strength."""
     equalities = [*balance_rows(mesh), *side_rows(mesh), *jump_rows(mesh)]
-    groups = (equalities, EQUALITY_MULTIPLIER), (strength_rows(mesh), STRENGTH_MULTIPLIER)
+    groups = (equalities, EQUALITY_MULTIPLIER), (strength_rows(mesh), strength_multiplier(mesh))
     return [Row(*row[:2], k + 1, *row[2:], limits) for group, limits in groups for k, row in enumerate(group)]
 
 

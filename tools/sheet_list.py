@@ -2,8 +2,9 @@
 
 from collections import namedtuple
 
-# claim: None, or the lines themselves; line: None, or the report's four columns.
-Sheet = namedtuple("Sheet", "name mesh part margin spread claim line table", defaults=("both", 0.0, 0.0, None, None, ()))
+# how: what claim_from_solver is asked for (part, margin, spread, tries); claim: None, or the lines themselves;
+# line: None, or the report's four columns; table: the lines of the borehole table.
+Sheet = namedtuple("Sheet", "name mesh how claim line table", defaults=((), None, None, ()))
 
 # Claims one after another: each a part and a margin for the solver, or the lines themselves; the report buffer
 # has `room` bytes, and the last claim ends `short` bytes too early.
@@ -441,22 +442,22 @@ def other_sheets():
         Sheet("slope_clay_20", slope(4, 3, 50, 50, [clay(500, live=weight)], 20)),
         Sheet("slope_clay_36", slope(4, 4, 65, 65, [clay(900, live=weight)], 36)),
         Sheet("slope_sand", slope(2, 2, 10, 10, [sand(3, 4, 5, 60, live=weight)], 12)),
-        Sheet("slope_steep", slope(3, 3, 10, 5, [clay(70, live=weight)], 12), "field", 0.02),
+        Sheet("slope_steep", slope(3, 3, 10, 5, [clay(70, live=weight)], 12), ("field", 0.02)),
         Sheet("bank_shaken", slope(3, 2, 10, 10, [clay(90, dead=weight, live=sideways)], 12)),
         Sheet("bank_face_normal", slope(3, 2, 10, 10, [clay(60, live=weight)], 12, 1)),
         Sheet("layers_footing", footing(5, 4, 10, 1, [clay(10), clay(25)], 12, layers)),
         Sheet("layers_footing_weight", footing(5, 4, 10, 1, [clay(30, dead=weight), clay(50, dead=weight)], 12, layers, 5)),
-        Sheet("layers_cut", cut(4, 4, 10, 2, 2, [clay(60, live=weight), clay(100, live=weight)], 20, layers), "field"),
+        Sheet("layers_cut", cut(4, 4, 10, 2, 2, [clay(60, live=weight), clay(100, live=weight)], 20, layers), ("field",)),
         Sheet("pieces_sixteen_soils", pieces([clay(30 + k * 7 % 16) for k in range(16)], 36, 15)),
         Sheet("soils_block", block(3, 2, 5, [clay(10), clay(14), clay(12)], 12, 2, columns)),
-        Sheet("soils_sand_block", block(3, 2, 5, [sand(3, 4, 5, 1), sand(4, 3, 5, 2), clay(90)], 12, 3, columns), "field"),
-        Sheet("footing_field", footing(8, 6, 50, 2, [clay(12)], 20), "field", 0.05),
-        Sheet("footing_multipliers", footing(8, 6, 50, 2, [clay(12)], 20), "multipliers"),
-        Sheet("footing_sand_field", footing(9, 4, 10, 1, [sand(7, 24, 25, 10)], 12), "field", 0.01),
-        Sheet("cut_below", cut(4, 4, 10, 2, 2, [clay(100, live=weight)], 12), "both", 0.1),
+        Sheet("soils_sand_block", block(3, 2, 5, [sand(3, 4, 5, 1), sand(4, 3, 5, 2), clay(90)], 12, 3, columns), ("field",)),
+        Sheet("footing_field", footing(8, 6, 50, 2, [clay(12)], 20), ("field", 0.05)),
+        Sheet("footing_multipliers", footing(8, 6, 50, 2, [clay(12)], 20), ("multipliers",)),
+        Sheet("footing_sand_field", footing(9, 4, 10, 1, [sand(7, 24, 25, 10)], 12), ("field", 0.01)),
+        Sheet("cut_below", cut(4, 4, 10, 2, 2, [clay(100, live=weight)], 12), ("both", 0.1)),
         Sheet("cut_surcharge", cut(4, 4, 10, 2, 2, [clay(100, live=weight)], 12, surcharge=20)),
         Sheet("cut_deep", cut(10, 9, 50, 5, 4, [clay(1000, live=weight)], 20)),
-        Sheet("cut_multipliers", cut(4, 4, 65, 2, 2, [clay(100, live=weight)], 36), "multipliers"),
+        Sheet("cut_multipliers", cut(4, 4, 65, 2, 2, [clay(100, live=weight)], 36), ("multipliers",)),
         Sheet("cut_sand_above", cut(4, 4, 10, 2, 2, [sand(7, 24, 25, 100, live=weight)], 12)),
     ]
 
@@ -572,13 +573,40 @@ def table_sheets():
     ]
 
 
+def widest_many_sides():
+    """The widest load with 108 sides: 40 nodes, every strength multiplier at its limit, and m = 1 by two shear rows
+    at a corner of a small square; so do the shear rows of nine others add up what their edges ask."""
+    places = [(330 * i, 330 * j, 300) for j in range(3) for i in range(3)] + [(999, 999, 1)]
+    corner = [[(x, y), (x + d, y), (x + d, y + d), (x, y + d)] for x, y, d in places]
+    nodes = [[*point] for square in corner for point in square]
+    numbers = [[4 * k + i for i in range(1, 5)] for k in range(10)]
+    edges = [[a, b, 3, 0, 10_000, 0, 0] for square in numbers[:9] for a, b in zip(square, square[1:] + square[:1])]
+    edges += [[37, 38, 3, 0, 0, 0, 0], [38, 39, 3, 0, 0, 0, -1]]
+    header = [40, 10, 1, len(edges), 108, 0]
+    mesh = [header, [0, 1000, 1000, 10_000, 0, 0, 0, 0], *nodes, *([*square, 1] for square in numbers), *edges]
+    claim = [[0, 1, 0, 0], *[[0, 0]] * 10, *[[0, 100_000, 0, 100_000]] * 36, [0, 0, 0, 1], [0, 1, 0, 0]]
+    return Sheet("widest_108", mesh, claim=claim + [[300] * 108] * 40)
+
+
+def side_sheets():
+    """One hundred and eight sides (document 02, N9)."""
+    leaning = [(0, 0), (-1, 1), (0, 0), (-1, 1)]
+    return [
+        Sheet("block_sand_108", block(1, 1, 13, [sand(3, 4, 5, 10)], 108, 10)),
+        Sheet("shear_leaning_108", sheared(1, 1, 65, 65, [clay(10)], 108, leaning)),
+        Sheet("footing_108", footing(6, 4, 65, 2, [clay(10)], 108), ("both", 0.0, 0.0, 400)),
+        Sheet("footing_largest_108", footing(7, 4, 85, 2, [clay(10)], 108), ("both", 0.0, 0.0, 300)),
+        widest_many_sides(),
+    ]
+
+
 SHEETS = paper_sheets() + known_sheets() + other_sheets() + load_sheets() + corner_sheets() + triangle_sheets()
-SHEETS += pair_sheets() + jump_sheets() + table_sheets()
+SHEETS += pair_sheets() + jump_sheets() + table_sheets() + side_sheets()
 
 
 def runs():
     """Solver runs handed over whole (document 02, N3)."""
-    steps = [("field", 0.2), ("field", 0.1), ("field", 0.05), ("field", 0.02), ("both", 0.0), ("multipliers", 0.0)]
+    steps = [("field", 0.2), ("field", 0.1), ("field", 0.05), (("field", 0.02)), ("both", 0.0), ("multipliers", 0.0)]
     good, above, tilted = worked_claim(1, 20, -20), worked_claim(1, 21, -21), worked_claim(1, 20, -20, -29)
     large_n = worked_claim(100_001, 20, -20)
     return [
@@ -593,7 +621,7 @@ RUNS = runs()
 
 # Sheets and decimals (document 02, N5): 43 for -1 and 8, a claim that is refused, the widest loads.
 DECIMALS = [(name, decimals) for name in ("third_below_zero", "two_thirds") for decimals in (0, 3, 7)]
-DECIMALS += [("widest_limit", 0), ("widest_limit", 7), ("lowest_limit", 7), ("one_in_three_million", 7)]
+DECIMALS += [("widest_limit", 0), ("widest_limit", 7), ("widest_108", 7), ("lowest_limit", 7), ("one_in_three_million", 7)]
 DECIMALS += [("worked_above", 3), ("worked", -1), ("worked", 8)]
 
 # Meshes whose sizes are told (document 02, N7): triangles, two soils, jumps, the largest, and soils from a table.

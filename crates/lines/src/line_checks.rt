@@ -28,8 +28,8 @@ ghost use Rattle.lines.specs.LineContracts.{
 
 use crate::layout::{
     CLAIM_FILE, CLAIM_HEADER, CLAIM_LEAST, CLAIM_MOST, COUNTS, FIRST_LAYER, FileNumbers, Group,
-    Groups, JUMPS_AT, JUMPS_MOST, Kind, MESH_FILE, MESH_LEAST, MESH_MOST, NODES_MOST, Rule, SIDES_MOST,
-    claim_groups, has_part, mesh_groups,
+    Groups, JUMPS_AT, JUMPS_MOST, Kind, MESH_FILE, MESH_LEAST, MESH_MOST, NODES_MOST, Rule,
+    SIDES_MOST, claim_groups, has_part, mesh_groups,
 };
 use crate::line_tests::{is_within, limits_hold, line_at, refused};
 use mesh::limits::{LAYER_COLUMNS, MESH_HEADER, MOST_LAYERS};
@@ -143,7 +143,10 @@ pub fn mesh_header(m: &[i64]) -> Outcome
 {
     demand(MESH_HEADER <= m.len(), Reason::MeshForm.at(HEADER_LINE))?;
     demand(header_within(m), Reason::MeshLimit.at(HEADER_LINE))?;
-    demand(nodes_fit(m[0], m[COUNTS]), Reason::MeshLimit.at(HEADER_LINE))
+    demand(
+        nodes_fit(m[0], m[COUNTS]),
+        Reason::MeshLimit.at(HEADER_LINE),
+    )
 }
 
 // A claim has a part; with a field n is not 0, and without one n and l are 0.

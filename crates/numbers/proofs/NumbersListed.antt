@@ -13,9 +13,9 @@ use Rattle.scope.specs.declared.Place.{Place}
 use Rattle.scope.specs.declared.Place.TheVariants.{Line, Row, Column, Node, Element}
 use Rattle.scope.specs.Members.{◌∈◌}
 use Rattle.scope.specs.Answer.{place_number}
-use Rattle.scope.specs.Columns.{Rule, right_angle, naming, has_field, has_multipliers}
+use Rattle.scope.specs.Columns.{Rule, right_angle, naming, at_most_where, has_field, has_multipliers}
 use Rattle.scope.specs.Layout.{Group, Layout, Placed, width, groups, line_count, line_of, numbers_at, group_at}
-use Rattle.scope.specs.Mesh.{edge_line, jump_line, mesh_header, mesh_layout, soil_lines, node_lines, element_lines, edge_lines, jump_lines}
+use Rattle.scope.specs.Mesh.{most_sides, nodes_for_108, edge_line, jump_line, mesh_header, mesh_layout, soil_lines, node_lines, element_lines, edge_lines, jump_lines}
 use Rattle.scope.specs.Claim.{claim_header, claim_layout, stress_lines, element_multipliers, edge_multipliers, jump_multipliers, strength_multipliers}
 use Rattle.scope.specs.Phases.{FirstFails}
 use Rattle.scope.specs.Refusals.{rule_number, rule_steps, line_steps, line_phases, shape_phases, mesh_phases, field_part, multiplier_part, part_phases, claim_phases, Refusal}
@@ -85,9 +85,10 @@ each_line P (g ∷ gs) none all from k = by (ltb k g.lines) (each_line P gs none
 mesh_rules : (m : List ℤ) (k : ℕ) → RulesInPlace (group_at mesh_layout m k).rules (Line (suc k))
 unfolding groups mesh_layout mesh_header soil_lines node_lines element_lines edge_lines jump_lines rule_number
 mesh_rules m k =
+    let two : RulesInPlace (at_most_where 0 nodes_for_108 4 most_sides ∷ []) (Line (suc k)) = (plain 2 (Line (suc k)) (λ e. omega arith) (λ e. omega arith), tt) in
     let three : RulesInPlace (right_angle ∷ []) (Line (suc k)) = (plain 3 (Line (suc k)) (λ e. omega arith) (λ e. omega arith), tt) in
     let four : (cs : List (ℕ × ℕ × ℕ)) → RulesInPlace (naming cs ∷ []) (Line (suc k)) = λ cs. (plain 4 (Line (suc k)) (λ e. omega arith) (λ e. omega arith), tt) in
-    each_line (λ rs. RulesInPlace rs (Line (suc k))) (groups mesh_layout m) tt (tt, (three, (tt, (four [], (four [], (four [], tt)))))) 0 k
+    each_line (λ rs. RulesInPlace rs (Line (suc k))) (groups mesh_layout m) tt (two, (three, (tt, (four [], (four [], (four [], tt)))))) 0 k
 
 claim_rules : (m c : List ℤ) (k : ℕ) → RulesInPlace (group_at (claim_layout m) c k).rules (Line (suc k))
 unfolding groups line_of claim_layout claim_header stress_lines element_multipliers edge_multipliers jump_multipliers strength_multipliers rule_number

@@ -14,6 +14,7 @@ use Rattle.integer.proofs.FractionLaws.{≤ᶠ_trans, ≈ᶠ→≤ᶠ, ≈ᶠ_sy
 use Rattle.integer.specs.Tests.{eq_z}
 use Rattle.integer.proofs.TestLaws.{eq_z_yes, eq_z_no}
 use Rattle.scope.specs.declared.Place.{Place}
+use Rattle.scope.specs.declared.Place.TheVariants.{Line}
 use Rattle.scope.specs.Cases.Load.{Load}
 use Rattle.scope.specs.Cases.Load.{Absent, Exact}
 use Rattle.scope.specs.Cases.OpenRows.{Absent as NoCount}
@@ -23,14 +24,14 @@ use Rattle.std.specs.Prelude.{Result}
 use Rattle.scope.specs.declared.Refusal as Answered
 use Rattle.scope.specs.Answer.{outcome_of, place_number, place_for, number_of, place_of}
 use Rattle.scope.specs.Columns.{at, has_field, has_multipliers, n, l}
-use Rattle.scope.specs.Mesh.{nodes}
+use Rattle.scope.specs.Mesh.{nodes, sides}
 use Rattle.scope.specs.Rows.{rows_of}
 use Rattle.scope.specs.Sums.{live_sum, limit_sum, open_rows}
 use Rattle.scope.specs.Claim.{stress, multiplier}
 use Rattle.scope.specs.Verdict.{verdict, lower_load, upper_load, open_count}
 use Rattle.scope.specs.Meets.{FieldMeets}
 use Rattle.scope.specs.Statements.{MeshSound, HasField, HasMultipliers}
-use Rattle.scope.specs.Refusals.{Refusal}
+use Rattle.scope.specs.Refusals.{mesh_phases, claim_phases, MeshRefusal, Refusal}
 use Rattle.scope.specs.Accepted.{FieldAccepted, MultipliersAccepted}
 use Rattle.scope.specs.Bracket.{Bracket}
 use Rattle.scope.specs.Parts.{carried, allowed, SameRows, PartsBracket}
@@ -42,6 +43,10 @@ use Rattle.scope.proofs.Printed.{field-printed}
 use Rattle.scope.proofs.AcceptedField.{accepted_criterion, criterion_around, tractions_agree}
 use Rattle.scope.proofs.Jumps.{sound_jumps, tip_asks_nothing, no_jumps}
 use Rattle.scope.proofs.Pairs.{pairs, sound_pairs}
+use Rattle.scope.proofs.Phases.{join_refused}
+use Rattle.scope.proofs.NumberRanges.{mesh_facts}
+use Rattle.scope.proofs.PolygonRule.{listed_polygon}
+use Rattle.scope.proofs.SideLimits.{limits_by_sides}
 use Rattle.scope.proofs.Columns.{mesh_columns}
 use Rattle.scope.proofs.Bracket.{bracket}
 use Rattle.scope.proofs.Parts.{nodes-named, multipliers_meet_lem, field-n, parts_bracket, open_rows_count}
@@ -55,7 +60,7 @@ use Rattle.numbers.specs.declared.numbers_answer.NumbersAnswer.{NumbersAnswer}
 use Rattle.numbers.specs.NumbersAnswer.{there, numerator, denominator, counted, answer_of}
 use Rattle.numbers.specs.Promises.{Answers, Returned, ReturnsZero, RefusesExactly, NumbersListed, RowsRefused}
 use Rattle.numbers.specs.Promises.{TellsField, FieldExactly, MultipliersExactly, FieldReported, MultipliersReported}
-use Rattle.numbers.specs.Promises.{CriterionForEachPair, PairsAsked, JumpsAsked, TractionsOnJoints, CallsBracket}
+use Rattle.numbers.specs.Promises.{CriterionForEachPair, PairsAsked, SidesAsked, JumpsAsked, TractionsOnJoints, CallsBracket}
 use Rattle.numbers.specs.Promises.{TwoAnswers, AnswerAndMultipliers, OpenRowsReported, FractionsBracket}
 use Rattle.numbers.specs.Promises.{FractionsAndAnswer, FieldInFractions, MeshAnsweredExactly, TrianglesAsked}
 
@@ -196,6 +201,17 @@ module _ (m c : List ℤ) (number place : ℕ) (h : Returned m c number place) w
     sound = sound_pairs m;
     refused = λ e. pairs_fail m c place ((refuses_exactly.exactly 42 place (λ z. omega arith)).0 (e, refl));
   }
+
+  pub sides_asked : SidesAsked m number place
+  unfolding place_for
+  sides_asked = record {
+    limits = limits_by_sides m;
+    many_nodes = λ l e h. (refuses_exactly.exactly 2 1 (λ z. omega arith)).1 (of_mesh (((limits_by_sides m).with_108 e).nodes_refused l h));
+    polygon = λ s. listed_polygon (sides m) (mesh_facts m s.lines).counts.sides_listed;
+  }
+    where
+      of_mesh : MeshRefusal m 2 (Line 1) → Refusal m c 2 (Line 1)
+      of_mesh r = record { by = join_refused (mesh_phases m) (claim_phases m c) 2 (Line 1) (inl r.by) }
 
 pub jumps_asked : (m : List ℤ) → JumpsAsked m
 jumps_asked m = record { sound = sound_jumps m; tip = tip_asks_nothing m; none = no_jumps m }

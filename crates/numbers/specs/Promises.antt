@@ -6,8 +6,8 @@
 use Rattle.std.specs.Prelude.{◌≡◌, ◌↔◌, ◌⊎◌, ◌≢◌, List, ◌∷◌, ℕ, ◌*◌, ◌≤◌, ◌<◌, ℤ, pos, ◌<ℤ◌, length, Result}
 use Rattle.integer.specs.Fraction.{Frac, ◌over◌, ◌≈ᶠ◌, ◌≤ᶠ◌}
 use Rattle.scope.specs.Members.{◌∈◌}
-use Rattle.scope.specs.Columns.{n, l}
-use Rattle.scope.specs.Mesh.{nodes, elements, corner}
+use Rattle.scope.specs.Columns.{at, n, l}
+use Rattle.scope.specs.Mesh.{mesh_header_columns, nodes, elements, sides, corner}
 use Rattle.scope.specs.Rows.{rows_of, twice_area}
 use Rattle.scope.specs.Sums.{live_sum, limit_sum}
 use Rattle.scope.specs.Claim.{claim_layout, stress, multiplier}
@@ -32,6 +32,8 @@ use Rattle.scope.specs.Tests.{row_at}
 use Rattle.scope.specs.Meaning.{Area, OutwardNormal}
 use Rattle.scope.specs.Triangles.{ReadAsTriangle, PassedBefore}
 use Rattle.scope.specs.Pairs.{Pairs, SoundPairs}
+use Rattle.scope.specs.SideLimits.{LimitsBySides}
+use Rattle.scope.specs.PolygonRule.{ListedPolygon}
 use Rattle.numbers.specs.declared.numbers_answer.NumbersAnswer.{NumbersAnswer}
 use Rattle.numbers.specs.NumbersAnswer.{answer_of}
 
@@ -134,6 +136,16 @@ pub record JumpsAsked (m : List ℤ) : Type 0 where
 -- and on each joint an accepted field has the same traction from both sides
 abbrev pub TractionsOnJoints : List ℤ → List ℤ → ℕ → Type 0
 TractionsOnJoints m c number = TellsField c number → TractionsAgree m c
+
+-- "Sides may also be 108: all whole-number points on the circle of radius 1105, in the same turning order. Such a mesh
+-- has at most 40 nodes and 40 node-and-soil pairs, and its strength multipliers are at most 300; over these, 2, 42 and
+-- 12 are given as for other limits. That every corner is on the circle, in order, with none left out is shown for the
+-- whole list together, and what holds for a polygon of any listed number of sides now includes this one" (document 02,
+-- N9)
+pub record SidesAsked (m : List ℤ) (number place : ℕ) : Type 0 where
+  pub limits : LimitsBySides m
+  pub many_nodes : mesh_header_columns ≤ length m → sides m ≡ 108 → pos 40 <ℤ at m 0 → (number ≡ 2) × (place ≡ 1)
+  pub polygon : MeshSound m → ListedPolygon (sides m)
 
 -- "An element whose third and fourth nodes are the same is to be read as a triangle: its balance rows are the same
 -- sums, .. and three left turns are asked. The repeat makes no side .. Every other repeat still gets 5. A file that

@@ -4,7 +4,7 @@ use mathlib.Core.Bool.{Bool, true, false, cond, true≢false}
 use mathlib.Core.Logic.{◌⊎◌, inl, inr, ◌≢◌}
 use mathlib.Core.List.{List, [], ◌∷◌}
 use Prim.Native.Nat.{ℕ, ◌+◌, ◌*◌, ◌≤◌, ◌<◌}
-use native.Mathlib.Nat.{mul-le-mul}
+use native.Mathlib.Nat.{mul-add, mul_assoc, mul-one, mul-le-mul_right}
 use native.Mathlib.Omega.{arith}
 use lib.IntN.{ℤ, pos, negsuc}
 use lib.Signed.{◌≤ℤ◌}
@@ -16,7 +16,7 @@ use Rattle.scope.specs.Cases.Outcome.{Passed, Refused as Fails}
 use Rattle.scope.specs.Columns.{free, at, has_field, has_multipliers}
 use Rattle.integer.proofs.Order.{≤ℤ_pos}
 use Rattle.scope.specs.Layout.{width, count}
-use Rattle.scope.specs.Mesh.{most_pairs, mesh_layout, layout_with, mesh_header, soil_lines, node_lines, element_lines, edge_lines, jump_lines, nodes, elements, soils, edges, sides, jumps}
+use Rattle.scope.specs.Mesh.{pairs_with, mesh_layout, layout_with, mesh_header, soil_lines, node_lines, element_lines, edge_lines, jump_lines, nodes, elements, soils, edges, sides, jumps}
 use Rattle.scope.specs.Rows.{pair_count}
 use Rattle.scope.specs.Claim.{claim_layout, if_there}
 use Rattle.scope.specs.Statements.{Within, LinesSound, MeshSound}
@@ -34,6 +34,8 @@ use Rattle.scope.proofs.TableVerdict.{read_passes, tabled_zero}
 use Rattle.scope.proofs.NumberRanges.{counts}
 use Rattle.scope.proofs.Lines.{within-at}
 use Rattle.scope.proofs.Pairs.{few_pairs_lem}
+use Rattle.scope.proofs.PolygonRule.{listed_polygon}
+use Rattle.scope.proofs.SideLimits.{few_most}
 use Rattle.reader.specs.File.{line_bytes, widths, numbers_of, table_numbers_of, write_lines, table_of}
 use Rattle.reader.specs.WellFormed.{bytes_of}
 use Rattle.reader.proofs.Regular.{layout_regular, same_numbers, claim_regular}
@@ -86,23 +88,19 @@ unfolding claim_bytes
 claim_short m c sound =
     let k = counts m sound.lines in
     let ns = k.nodes_most in
-    let ps = few_pairs_lem m sound in
+    let ps = few_most (sides m) (few_pairs_lem m sound) in
     let es = k.elements_most in
     let gs = k.edges_most in
     let js = k.jumps_most in
-    let ss = sides_most k.sides_listed in
     let a = there_most (has_field c) (nodes m) in
     let b = there_most (has_multipliers c) (elements m) in
     let d = there_most (has_multipliers c) (edges m) in
     let g = there_most (has_multipliers c) (jumps m) in
     let e = there_most (has_multipliers c) (pair_count m) in
-    let p : if_there (has_multipliers c) (pair_count m) * (sides m * 12 + 1) ≤ most_pairs * 433 = mul-le-mul {n₂ = most_pairs} {m₂ = 433} (omega arith) (omega arith) in
-    omega (arith, claim_bytes_lem m c)
-  where
-    sides_most : (sides m ≡ 12) ⊎ ((sides m ≡ 20) ⊎ (sides m ≡ 36)) → sides m ≤ 36
-    sides_most (inl h) = omega arith
-    sides_most (inr (inl h)) = omega arith
-    sides_most (inr (inr h)) = omega arith
+    let x : ℕ = if_there (has_multipliers c) (pair_count m) in
+    let rows : x * sides m ≤ pairs_with (sides m) * sides m = mul-le-mul_right (sides m) (omega (arith, few_pairs_lem m sound)) in
+    let p : x * (sides m * 12 + 1) ≡ x * sides m * 12 + x = mul-add x (sides m * 12) 1 ∙ ap₂ ◌+◌ (sym (mul_assoc x (sides m) 12)) (mul-one x) in
+    omega (arith, claim_bytes_lem m c, (listed_polygon (sides m) k.sides_listed).fits.rows_fit)
 
 -- ---- three files, or their first 65,536 bytes
 

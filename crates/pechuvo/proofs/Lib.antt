@@ -1,5 +1,6 @@
 -- The theorems about the whole check.
 pub mod Sheets
+pub mod Sheets108
 pub mod TableFile
 pub mod Check
 pub mod Answers
@@ -10,6 +11,7 @@ pub mod Promises
 pub mod TablePromises
 pub mod FilePromises
 pub mod PromisesApplied
+pub mod PromisesApplied108
 pub mod TableApplied
 pub mod RunPromises
 pub mod RunApplied

@@ -86,7 +86,7 @@ module _ (m c : List ℤ) (a : ClaimAccepted m c) where
   unfolding upper_load has_multipliers
   upper_held =
       if_load (has_multipliers c) (limit_sum (multiplier m c) (rows_of m)) (live_sum (multiplier m c) (rows_of m))
-      (λ t. (limit_bound m c a.mesh claim (eq_z_yes t)).within)
+      (λ t. omega (arith, (limit_bound m c a.mesh claim (eq_z_yes t)).within))
 
 pub held : (m c : List ℤ) → Held (verdict m c)
 held m c = by (verdict_cases m c)

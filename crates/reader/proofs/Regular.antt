@@ -7,7 +7,7 @@ use Prim.Native.Nat.{ℕ, ◌<◌}
 use native.Mathlib.Omega.{arith}
 use lib.IntN.{ℤ, pos}
 use lib.ListN.{length, length-replicate, get_or-append}
-use Rattle.scope.specs.Columns.{Rule, right_angle, naming, parts, at, has_field, has_multipliers}
+use Rattle.scope.specs.Columns.{Rule, right_angle, naming, parts, at_most_where, at, has_field, has_multipliers}
 use Rattle.scope.specs.Layout.{groups}
 use Rattle.scope.specs.Mesh.{mesh_layout, layout_with, mesh_header, soil_lines, node_lines, element_lines, edge_lines, jump_lines, nodes, elements, soils, edges, sides, jumps}
 use Rattle.scope.specs.Claim.{claim_layout, claim_header, stress_lines, element_multipliers, edge_multipliers, jump_multipliers, strength_multipliers}
@@ -25,12 +25,14 @@ unfolding rule_number
 mesh_number right_angle = omega arith
 mesh_number (naming cs) = omega arith
 mesh_number parts = omega arith
+mesh_number (at_most_where c k d z) = omega arith
 
 pub claim_number : (r : Rule) → 11 ≢ rule_number r
 unfolding rule_number
 claim_number right_angle = omega arith
 claim_number (naming cs) = omega arith
 claim_number parts = omega arith
+claim_number (at_most_where c k d z) = omega arith
 
 -- with a table or without
 pub layout_regular : (tabled : Bool) → Regular (layout_with tabled)

@@ -2,6 +2,7 @@
 
 use crate::lines::Lines;
 use crate::mesh::Mesh;
+use crate::polygon::Polygon;
 use crate::{refuse, Refusal};
 
 pub struct Field {
@@ -61,7 +62,7 @@ impl<L: Lines> Reader<'_, L> {
             let balance = self.group(mesh.elements.len(), 100_000)?;
             let sides = self.group(mesh.edges.len(), 100_000)?;
             let jumps = self.group(mesh.jumps.len(), 100_000)?;
-            let strength = self.strength(mesh.pairs.len(), mesh.polygon.sides.len())?;
+            let strength = self.strength(mesh.pairs.len(), &mesh.polygon)?;
             multipliers = Some(Multipliers {
                 balance,
                 sides,
@@ -114,10 +115,11 @@ impl<L: Lines> Reader<'_, L> {
         Ok(all)
     }
 
-    fn strength(&mut self, pairs: usize, sides: usize) -> Result<Vec<i64>, Refusal> {
+    fn strength(&mut self, pairs: usize, polygon: &Polygon) -> Result<Vec<i64>, Refusal> {
+        let sides = polygon.sides.len();
         let mut all = vec![0; pairs * sides];
         for numbers in all.chunks_exact_mut(sides) {
-            self.line(numbers, 0, 10_000)?;
+            self.line(numbers, 0, polygon.most_multiplier)?;
         }
         Ok(all)
     }

@@ -179,16 +179,12 @@ impl Mesh {
 
 fn header_polygon(header: &[i64; 6]) -> Option<Polygon> {
     let [nodes, elements, soils, edges, sides, jumps] = *header;
-    let counts = within(nodes, 4, 100)
-        && within(elements, 1, 100)
+    let counts = within(elements, 1, 100)
         && within(soils, 1, 16)
         && within(edges, 0, 60)
         && within(jumps, 0, 60);
-    if counts {
-        Polygon::of(sides)
-    } else {
-        None
-    }
+    let polygon = Polygon::of(sides)?;
+    (counts && within(nodes, 4, polygon.most_nodes as i64)).then_some(polygon)
 }
 
 /// Reads lines and knows which one it has read.

@@ -1,4 +1,5 @@
-//! The three polygons inside the circle ("Strength").
+//! The polygons inside the circle ("Strength"; document 02, N9): all whole-number points on a circle,
+//! counterclockwise from (r, 0), found by walking along its first quadrant.
 
 /// A side from corner (a, b) to the next, (c, d).
 #[derive(Clone, Copy)]
@@ -12,33 +13,48 @@ pub struct Side {
 pub struct Polygon {
     pub radius: i64,
     pub sides: &'static [Side],
+    /// The most nodes, and the most pairs of node and soil, of a mesh with this polygon.
+    pub most_nodes: usize,
+    /// The largest strength multiplier.
+    pub most_multiplier: i64,
 }
 
-static TWELVE: [Side; 12] = sides(&[(5, 0), (4, 3), (3, 4), (0, 5)]);
-static TWENTY: [Side; 20] = sides(&[(25, 0), (24, 7), (20, 15), (15, 20), (7, 24), (0, 25)]);
-static THIRTY_SIX: [Side; 36] = sides(&[
-    (65, 0),
-    (63, 16),
-    (60, 25),
-    (56, 33),
-    (52, 39),
-    (39, 52),
-    (33, 56),
-    (25, 60),
-    (16, 63),
-    (0, 65),
-]);
+static TWELVE: [Side; 12] = sides(5);
+static TWENTY: [Side; 20] = sides(25);
+static THIRTY_SIX: [Side; 36] = sides(65);
+static HUNDRED_AND_EIGHT: [Side; 108] = sides(1105);
 
-/// All sides from the corners of the first quadrant; each quadrant is the one before, turned.
-const fn sides<const N: usize>(quadrant: &[(i64, i64)]) -> [Side; N] {
+/// The corners from (r, 0) to (0, r), and how many they are.
+const fn quadrant(radius: i64) -> ([(i64, i64); 28], usize) {
+    let mut corners = [(0, 0); 28];
+    let mut count = 0;
+    let (mut x, mut y) = (radius, 0);
+    while x >= 0 {
+        let rest = radius * radius - x * x;
+        while y * y < rest {
+            y += 1;
+        }
+        if y * y == rest {
+            corners[count] = (x, y);
+            count += 1;
+        }
+        x -= 1;
+    }
+    (corners, count)
+}
+
+/// All sides; each quadrant is the one before, turned.
+const fn sides<const N: usize>(radius: i64) -> [Side; N] {
+    let (corners, count) = quadrant(radius);
+    assert!(N == 4 * (count - 1));
     let mut all = [Side {
         step: [0, 0],
         cross: 0,
     }; N];
     let mut k = 0;
     while k < N {
-        let (a, b) = quadrant[k % (N / 4)];
-        let (c, d) = quadrant[k % (N / 4) + 1];
+        let (a, b) = corners[k % (N / 4)];
+        let (c, d) = corners[k % (N / 4) + 1];
         let step = match k / (N / 4) {
             0 => [c - a, d - b],
             1 => [b - d, c - a],
@@ -56,18 +72,21 @@ const fn sides<const N: usize>(quadrant: &[(i64, i64)]) -> [Side; N] {
 
 impl Polygon {
     pub fn of(sides: i64) -> Option<Polygon> {
+        let plain = |radius, sides| Polygon {
+            radius,
+            sides,
+            most_nodes: 100,
+            most_multiplier: 10_000,
+        };
         match sides {
-            12 => Some(Polygon {
-                radius: 5,
-                sides: &TWELVE,
-            }),
-            20 => Some(Polygon {
-                radius: 25,
-                sides: &TWENTY,
-            }),
-            36 => Some(Polygon {
-                radius: 65,
-                sides: &THIRTY_SIX,
+            12 => Some(plain(5, &TWELVE)),
+            20 => Some(plain(25, &TWENTY)),
+            36 => Some(plain(65, &THIRTY_SIX)),
+            108 => Some(Polygon {
+                radius: 1105,
+                sides: &HUNDRED_AND_EIGHT,
+                most_nodes: 40,
+                most_multiplier: 300,
             }),
             _ => None,
         }

@@ -5,7 +5,6 @@ use crate::mesh::{Edge, Element, Jump, Mesh, Pair};
 use crate::{refuse, Refusal};
 
 const MOST_SOILS: usize = 16;
-const MOST_PAIRS: usize = 100;
 
 /// The pairs of node and soil, where nothing is refused.
 pub fn check(mesh: &Mesh) -> Result<Vec<Pair>, Refusal> {
@@ -14,7 +13,7 @@ pub fn check(mesh: &Mesh) -> Result<Vec<Pair>, Refusal> {
     let around = soils_around(mesh)?;
     let used = check_edges(mesh, &sides)?;
     check_jumps(mesh, &sides, used)?;
-    pairs_of(&around)
+    pairs_of(&around, mesh.polygon.most_nodes)
 }
 
 /// A set of directed sides: bit `to` of entry `from`.
@@ -114,12 +113,12 @@ fn check_jumps(mesh: &Mesh, sides: &Sides, mut used: Sides) -> Result<(), Refusa
 }
 
 /// Refusal 42, and the pairs: nodes ascending, and for each its soils ascending.
-fn pairs_of(around: &[u16]) -> Result<Vec<Pair>, Refusal> {
+fn pairs_of(around: &[u16], most: usize) -> Result<Vec<Pair>, Refusal> {
     let mut pairs = Vec::new();
     for (node, soils) in around.iter().enumerate() {
         let has = |soil: &usize| soils >> soil & 1 == 1;
         pairs.extend((0..MOST_SOILS).filter(has).map(|soil| Pair { node, soil }));
-        if pairs.len() > MOST_PAIRS {
+        if pairs.len() > most {
             return refuse(42, node + 1);
         }
     }

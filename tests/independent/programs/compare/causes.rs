@@ -5,6 +5,7 @@ mod base;
 mod jumps;
 mod layers;
 mod pairs;
+mod sides;
 mod triangles;
 
 use independent::sheet::Sheet;
@@ -44,6 +45,7 @@ pub fn tables() -> Vec<Table> {
     all.extend(pairs::tables());
     all.push(jumps::table());
     all.extend(layers::tables());
+    all.extend(sides::tables());
     all
 }
 

@@ -4,7 +4,7 @@ use crate::random::Random;
 use independent::sheet::{Lines, Sheet};
 
 /// The limits of document 01, and what stands next to them.
-const LIMITS: [i64; 23] = [
+const LIMITS: [i64; 26] = [
     0,
     1,
     2,
@@ -14,8 +14,11 @@ const LIMITS: [i64; 23] = [
     16,
     20,
     36,
+    40,
     60,
     100,
+    108,
+    300,
     1000,
     -1000,
     10_000,

@@ -23,7 +23,8 @@ fn radius_and_rise(sides: i64) -> (i64, i64) {
     match sides {
         12 => (5, 3),
         20 => (25, 7),
-        _ => (65, 16),
+        36 => (65, 16),
+        _ => (1105, 47),
     }
 }
 
@@ -84,17 +85,18 @@ fn whole_from(number: i64, by: i64) -> i64 {
     by / common_divisor(by, number)
 }
 
-fn coordinates(random: &mut Random, cells: usize) -> Vec<i64> {
+/// Grid lines in units; with 108 sides in tens, so that multipliers that undo strength rows are small.
+fn coordinates(random: &mut Random, cells: usize, sides: i64) -> Vec<i64> {
     let mut at = random.between(0, 2);
     let mut all = vec![at];
     for _ in 0..cells {
         at += random.pick(&[1, 1, 2, 2, 4]);
         all.push(at);
     }
-    let unit = if at > 10 {
-        1
-    } else {
-        random.pick(&[1, 1, 10, 100])
+    let unit = match (sides, at) {
+        (108, _) => 10,
+        (_, 11..) => 1,
+        _ => random.pick(&[1, 1, 10, 100]),
     };
     all.iter().map(|step| step * unit).collect()
 }
@@ -196,11 +198,20 @@ impl Joint {
 
 impl Grid {
     fn new(random: &mut Random) -> Grid {
-        let largest = if random.one_in(4) { 9 } else { 3 };
+        let sides = random.pick(&[12, 20, 36, 108]);
+        let largest = match (random.one_in(4), sides) {
+            (true, 108) => 5,
+            (true, _) => 9,
+            _ => 3,
+        };
         let columns = 1 + random.below(largest);
         let rows = 1 + random.below(largest);
-        let xs = coordinates(random, columns);
-        let ys = coordinates(random, rows);
+        Grid::of(random, columns, rows, sides)
+    }
+
+    fn of(random: &mut Random, columns: usize, rows: usize, sides: i64) -> Grid {
+        let xs = coordinates(random, columns, sides);
+        let ys = coordinates(random, rows, sides);
         let soils = soils(random);
         let layer_soil: Vec<usize> = (0..rows).map(|_| random.below(soils.len())).collect();
         let forces = |k: usize| -> Vec<[i64; 2]> {
@@ -219,7 +230,7 @@ impl Grid {
             rows,
             xs,
             ys,
-            sides: random.pick(&[12, 20, 36]),
+            sides,
             soils,
             layer_soil,
             joint,
@@ -567,6 +578,21 @@ pub fn sheet(random: &mut Random) -> Sheet {
     let (mesh, table, mut claims) = family(random, 1);
     let claim = claims.pop().expect("a claim");
     Sheet { mesh, table, claim }
+}
+
+/// An accepted sheet of a grid of this size, with both parts.
+pub fn accepted(random: &mut Random, columns: usize, rows: usize, sides: i64) -> Sheet {
+    loop {
+        let grid = Grid::of(random, columns, rows, sides);
+        let (mesh, claim) = (grid.mesh(), grid.claim(random));
+        let table = grid.table;
+        let sheet = Sheet { mesh, table, claim };
+        let files = sheet.files();
+        let verdict = independent::judge_files(&files.mesh, &files.table, &files.claim);
+        if verdict.is_ok_and(|accepted| accepted.open_rows.is_some()) {
+            return sheet;
+        }
+    }
 }
 
 /// A mesh, its table if it has one, and claims for it.

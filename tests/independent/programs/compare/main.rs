@@ -7,6 +7,8 @@ mod archive;
 mod causes;
 mod columns;
 mod damage;
+// The bench takes an accepted grid of a given size.
+#[allow(dead_code)]
 mod grids;
 mod random;
 mod runs;

@@ -93,7 +93,14 @@ invariant_of-result c =
 pub returns : goal.returns
 returns c =
     let a = c.args in
-    rw (c.even.ensures, c.even-2.ensures, c.even-3.ensures, c.even-4.ensures, c.even-5.ensures, c.strength_most.ensures,
-    strength_read a.s.sizes.sides)
+    rw (
+      c.even.ensures,
+      c.even-2.ensures,
+      c.even-3.ensures,
+      c.even-4.ensures,
+      c.even-5.ensures,
+      c.strength_most.ensures,
+      strength_read a.s.sizes.sides,
+    )
     (rw (c.if_there.ensures, c.if_there-2.ensures, c.if_there-3.ensures, c.if_there-4.ensures, c.if_there-5.ensures)
     (all_good a.s.sizes a.s.pairs (omega (arith, a.s.few_pairs)) a.field a.multipliers))

@@ -45,7 +45,6 @@ header_limits m e w =
     line_limits mesh_layout mesh_header (take mesh_header_columns m) (Line 1)
     (length-take-le mesh_header_columns m (not_past_end _ _ e)) w
 
-
 pub returns-in_err-demand-2 : goal.returns-in_err-demand-2
 returns-in_err-demand-2 c =
     let m = c.args.m.now in

@@ -46,10 +46,10 @@ const MEETING: &[Listed] = &[
 ];
 
 /// A grid of nodes, its columns of elements in soils as listed, with an empty claim.
-fn strips(soils: &[i64], rows: i64) -> Sheet {
+pub fn strips(soils: &[i64], rows: i64, sides: i64) -> Sheet {
     let (columns, most) = (soils.len() as i64, *soils.iter().max().expect("a column"));
     let across = columns + 1;
-    let mut mesh: Lines = vec![vec![across * (rows + 1), columns * rows, most, 0, 12, 0]];
+    let mut mesh: Lines = vec![vec![across * (rows + 1), columns * rows, most, 0, sides, 0]];
     mesh.extend((0..most).map(|_| vec![0, 1, 1, 10, 0, 0, 0, 0]));
     mesh.extend((0..across * (rows + 1)).map(|k| vec![k % across, k / across]));
     for e in 0..columns * rows {
@@ -71,8 +71,9 @@ fn strips(soils: &[i64], rows: i64) -> Sheet {
 }
 
 pub fn tables() -> Vec<Table> {
-    let pairs_of =
-        |soils: &[i64], rows, number, place| (strips(soils, rows), vec![(vec![], number, place)]);
+    let pairs_of = |soils: &[i64], rows, number, place| {
+        (strips(soils, rows, 12), vec![(vec![], number, place)])
+    };
     vec![
         (meeting(), all(Mesh, 2, &[], MEETING)),
         // 90 nodes and ten of them with two soils; 100 nodes and ten; 18 pairs in each row.
