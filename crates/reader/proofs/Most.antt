@@ -5,7 +5,7 @@ use mathlib.Core.Bool.{Bool, true, false}
 use mathlib.Core.List.{List, [], ◌∷◌, ◌++◌}
 use mathlib.Core.Option.{Option, none, some}
 use Prim.Native.Nat.{ℕ, zero, suc, ◌+◌, ◌*◌, ◌/◌, ◌≤◌, ◌<◌}
-use native.Mathlib.Nat.{zero-mul, suc-mul, add-mul, mul-le-mul, mul-le-mul_right, le-div_iff_mul-le}
+use native.Mathlib.Nat.{zero-mul, suc-mul, add-mul, mul-le-mul_right, le-div_iff_mul-le}
 use native.Mathlib.Omega.{arith}
 use lib.IntN.{ℤ}
 use lib.ListN.{length, take, drop, replicate, length-append, length-drop, length-replicate}
@@ -16,7 +16,7 @@ use Rattle.scope.specs.Cases.Outcome.{Passed}
 use Rattle.scope.specs.Columns.{has_field, has_multipliers}
 use Rattle.scope.specs.Layout.{Group, Layout, width, number_count}
 use Rattle.scope.specs.Verdict.{line_check}
-use Rattle.scope.specs.Mesh.{most_sides, pairs_with, mesh_header_columns, mesh_layout, mesh_header, soil_lines}
+use Rattle.scope.specs.Mesh.{pairs_with, mesh_header_columns, mesh_layout, mesh_header, soil_lines}
 use Rattle.scope.specs.Mesh.{node_lines, element_lines, edge_lines, jump_lines, nodes, elements, soils, edges, sides}
 use Rattle.scope.specs.Mesh.{jumps, element_rows, edge_rows, rows_per_jump}
 use Rattle.scope.specs.Claim.{claim_header_columns, stress_columns, claim_layout, claim_header, if_there, stress_lines}
