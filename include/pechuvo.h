@@ -29,6 +29,7 @@
       5      element   not a left turn at all corners: four, or three of a triangle
       6      element   a directed side that a lower element has
       7      node      in no element
+     47      element   shares a point inside both with a lower element; touching is fine
       8      line      edge is no element's side, or its reverse is one, or an earlier edge has it
      44      line      jump: its two sides are not outer sides that face each other, or one is used
                        by an edge or an earlier jump
@@ -47,9 +48,9 @@
 
    The first that applies is returned, in this order: 43; 41; the mesh's lines front to back, in
    each line 1, 2, 3, 4; the table's lines front to back, in each line 1, 2, 4; then 46 and 45; then
-   5, 6, 7, 8, 44 and 42, each over the whole mesh; the claim's lines front to back, in each line 11,
-   12, and 13 straight after line 1; then 21, 22, 31, 32 and 33. Of one number the lowest place comes
-   first. Lines, elements, nodes, rows and columns are counted from 1, the table's lines from 1,001.
+   5, 6, 7, 47, 8, 44 and 42, each over the whole mesh; the claim's lines front to back, in each line
+   11, 12, and 13 straight after line 1; then 21, 22, 31, 32 and 33. Of one number the lowest place
+   comes first. Lines, elements, nodes, rows and columns are counted from 1, the table's lines from 1,001.
 
    A node makes a pair with each soil of the elements around it. Pairs are numbered from 1, nodes
    ascending and at a node soils ascending; a mesh has at most 100. A claim's strength multipliers

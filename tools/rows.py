@@ -305,6 +305,22 @@ def judge_nodes(mesh):
             raise Refused(7, node + 1, "node")
 
 
+def parted(a, b):
+    """Whether a line along one of a's sides has all of b's corners on it or to its right."""
+    return any(all(turn(p, q, corner) <= 0 for corner in b) for p, q in zip(a, a[1:] + a[:1]))
+
+
+def judge_overlaps(mesh):
+    """47, where two elements share a point inside both. They are convex, so a line along a side of one of them
+    parts them where there is none."""
+    lower = []
+    for number, element in enumerate(mesh.elements):
+        here = [mesh.nodes[node] for node in corners_of(element)]
+        if any(not parted(here, there) and not parted(there, here) for there in lower):
+            raise Refused(47, number + 1, "element")
+        lower.append(here)
+
+
 def judge_edges(mesh):
     free = outer_sides(mesh)
     for number, edge in enumerate(mesh.edges):
@@ -333,8 +349,8 @@ def judge_pairs(mesh):
 
 
 def judge_mesh(mesh):
-    """5, 6, 7, 8, 44, 42, each over the whole mesh."""
-    for judge in (judge_turns, judge_sides, judge_nodes, judge_edges, judge_jumps, judge_pairs):
+    """5, 6, 7, 47, 8, 44, 42, each over the whole mesh."""
+    for judge in (judge_turns, judge_sides, judge_nodes, judge_overlaps, judge_edges, judge_jumps, judge_pairs):
         judge(mesh)
 
 

@@ -342,6 +342,14 @@ def jointed_fan(size, right, deep, soils, sides):
     return polygon_mesh(fan + mesh[8:], scaled(size), edge, soils, sides)
 
 
+def bars(size, others, soils, sides):
+    """A bar between smooth plates, and other bars that carry nothing."""
+    a, b, c, d = upright = [(1, 0), (2, 0), (2, 3), (1, 3)]
+    loads = {(a, b): SMOOTH, (b, c): FREE, (c, d): (3, 0, 0, -1, 0), (d, a): SMOOTH}
+    polygons = [(upright, 1)] + [(other, 1) for other in others]
+    return polygon_mesh(polygons, scaled(size), lambda a, b: loads.get((a, b), FREE), soils, sides)
+
+
 def by_soil(mesh):
     """The mesh with its elements in the order of their soils."""
     nodes, elements, soils = mesh[0][:3]
@@ -484,7 +492,8 @@ def load_sheets():
 
 
 def corner_sheets():
-    """Numbers at the limits, by hand: stresses, n and l, and the widest loads either way.
+    """Numbers at the limits, by hand: stresses, n and l, and wide loads either way. The large square leaves a corner
+    of the field to the small one, which makes m = 1.
 
     Level and upright edges both fix t at a corner they share, so equal multipliers on their
     shear rows leave every column 0 and add up what the two edges ask."""
@@ -492,8 +501,8 @@ def corner_sheets():
     small += "3 4 3 0 0 -10 0 / 2 3 3 0 0 0 0 / 4 1 3 0 0 0 0"
     field = "1 1 50000 100000000" + " / 0 -1000000000 0" * 4 + " / 0 0 / 30 0 0 0 / 0 0 -30 0 / 0 0 0 0"
     full = " / 10000 0 0 0 0 0 0 0 0 0 0 10000"
-    two = "8 2 1 6 36 0 / 0 1000 1000 10000 0 0 0 0 / 0 0 / 1000 0 / 1000 1000 / 0 1000 / "
-    two += "0 0 / 1 0 / 1 1 / 0 1 / 1 2 3 4 1 / 5 6 7 8 1 / "
+    two = "8 2 1 6 36 0 / 0 1000 1000 10000 0 0 0 0 / 0 0 / 999 0 / 999 999 / 0 999 / "
+    two += "999 999 / 1000 999 / 1000 1000 / 999 1000 / 1 2 3 4 1 / 5 6 7 8 1 / "
     two += "1 2 3 0 {d} 0 0 / 2 3 3 0 {d} 0 0 / 3 4 3 0 {d} 0 0 / 4 1 3 0 {d} 0 0 / 5 6 3 0 0 0 0 / 6 7 3 0 0 0 -1"
     pair = "0 1 0 0 / 0 0 / 0 0" + " / 0 {y} 0 {y}" * 4 + " / 0 0 0 1 / 0 1 0 0"
     lines = lambda y: (" / " + " ".join([str(y)] * 36)) * 8
@@ -600,8 +609,25 @@ def side_sheets():
     ]
 
 
+def overlap_sheets():
+    """Elements that lie on each other, or touch (document 02, N10). Before, both refused meshes passed."""
+    crossing = bars(10, [[(0, 1), (3, 1), (3, 2), (0, 2)]], [clay(10)], 12)
+    beside, corner = [(2, 1), (5, 1), (5, 2), (2, 2)], [(2, 3, 1), (4, 3), (4, 4), (2, 4)]
+    across = [stress for x, y in crossing[2:10] for stress in ([[0, -20, 0]] if x in (10, 20) else [[0, 0, 0]])]
+    fan = [list(line) for line in fan_footing(10, 1, 1, [clay(10)], 12)]
+    fifth = fan[2 + fan[0][0] + 4]
+    fifth[1] = 4  # the node below the one meant
+    still = [[1, 0, 1, 0], *[[0, 0, 0]] * fan[0][0]]
+    refused = lambda element: ["47", str(element), "none", "none"]
+    return [
+        Sheet("bars_crossing", crossing, claim=[[1, 0, 1, 20], *across], line=refused(2)),
+        Sheet("bars_touching", bars(10, [beside, corner], [clay(10)], 12)),
+        Sheet("fan_folded", fan, claim=still, line=refused(11)),
+    ]
+
+
 SHEETS = paper_sheets() + known_sheets() + other_sheets() + load_sheets() + corner_sheets() + triangle_sheets()
-SHEETS += pair_sheets() + jump_sheets() + table_sheets() + side_sheets()
+SHEETS += pair_sheets() + jump_sheets() + table_sheets() + side_sheets() + overlap_sheets()
 
 
 def runs():

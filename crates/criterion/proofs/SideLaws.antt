@@ -14,7 +14,7 @@ use lib.Seq.{get_or-append_seam}
 use Rattle.std.proofs.lemmas.List.{get_or_past, get_or-map, ext_get_or}
 use Rattle.integer.specs.Bounds.{Within}
 use Rattle.integer.proofs.BoundLaws.{Within-le}
-use Rattle.scope.specs.Members.{◌∈◌}
+use Rattle.integer.specs.Members.{◌∈◌}
 use Rattle.scope.specs.Polygon.{
   Point,
   point,

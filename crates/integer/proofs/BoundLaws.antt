@@ -9,8 +9,7 @@ use Prim.Native.Nat.{ℕ, suc, ◌+◌, ◌*◌, ◌/◌, ◌%◌, ◌≤◌, �
 use native.Mathlib.Nat.{le_trans, mul-le-mul, le_refl, div-le_self, mod-le}
 use native.Mathlib.Decide.{dec_lt}
 use native.Mathlib.Omega.{arith}
-use lib.ListN.{length, get_or, drop, get_or-eq_default}
-use lib.Seq.{get_or-drop}
+use lib.ListN.{length, get_or, get_or-eq_default}
 use lib.IntN.{ℤ, pos, negsuc, ◌+ℤ◌, ◌-ℤ◌, ◌*ℤ◌, neg_ℤ, nat_abs, +ℤ_idl, +ℤ_idr}
 use lib.Signed.{quot_z, rem_z, ◌≤ℤ◌, ◌<ℤ◌}
 use Rattle.integer.specs.Bounds.{Within, AllWithin}
@@ -104,9 +103,6 @@ all_within_lem {B} l h = record { each = λ i. go i (dec_lt i (length l)) }
 
 pub AllWithin-le : {A B : ℕ} {l : List ℤ} → AllWithin A l → A ≤ B → AllWithin B l
 AllWithin-le h k = record { each = λ i. Within-le (h.each i) k }
-
-pub AllWithin-drop : {B : ℕ} {l : List ℤ} (k : ℕ) → AllWithin B l → AllWithin B (drop k l)
-AllWithin-drop {l = l} k h = record { each = λ i. rw (get_or-drop k l i (pos 0)) (h.each (k + i)) }
 
 -- the sum over a list
 pub sum_of_Within : {A : Type 0} {B : ℕ} (f : A → ℤ) (l : List A) → ((a : A) → Memᴰ a l → Within B (f a)) → Within (length l * B) (sum_of f l)

@@ -6,6 +6,7 @@ use mathlib.Core.Path.{◌≡◌, refl, sym, ◌∙◌, ap, ap₂}
 use Prim.Native.Nat.{ℕ, zero, suc, ◌+◌, ◌*◌, ◌-◌, ◌≤◌, ◌<◌}
 use native.Mathlib.Omega.{arith}
 use mathlib.Core.Bool.{Bool, true, false, cond}
+use mathlib.Core.Logic.{◌⊎◌, inl, inr}
 use lib.Dec.{T, ltb, ltb→lt, leb-suc-zero}
 use lib.IntN.{ℤ, pos, negsuc, ◌+ℤ◌, ◌-ℤ◌, ◌*ℤ◌, neg_ℤ, suc_ℤ, pred_ℤ, nat_abs, sub_ℕ, +ℤ_assoc, +ℤ_comm, +ℤ_idl, +ℤ_idr, +ℤ_invl, neg_ℤ-+ℤ, neg_ℤ-neg_ℤ, neg_ℤ-suc_ℤ, neg_ℤ-pred_ℤ, *ℤ_comm, zero-*ℤ, suc_ℤ-*ℤ, pred_ℤ-*ℤ, suc_ℤ-+ℤ, pred_ℤ-+ℤ}
 
@@ -108,3 +109,12 @@ pos_injective e = ap nat_abs e
 pub nat_abs_zero : (a : ℤ) → nat_abs a ≡ 0 → a ≡ pos 0
 nat_abs_zero (pos n) e = ap pos e
 nat_abs_zero (negsuc n) e = absurd (let f : suc n ≡ 0 = e in omega arith)
+
+-- a product is 0 only where a factor is
+pub zero_product : (a b : ℤ) → a *ℤ b ≡ pos 0 → (a ≡ pos 0) ⊎ (b ≡ pos 0)
+zero_product a b e = sides (nat_abs a) (nat_abs b) (sym (nat_abs_*ℤ a b) ∙ ap nat_abs e) (nat_abs_zero a) (nat_abs_zero b)
+  where
+    sides : (m n : ℕ) → m * n ≡ 0 → (m ≡ 0 → a ≡ pos 0) → (n ≡ 0 → b ≡ pos 0) → (a ≡ pos 0) ⊎ (b ≡ pos 0)
+    sides zero n h f g = inl (f refl)
+    sides (suc m) zero h f g = inr (g refl)
+    sides (suc m) (suc n) h f g = absurd (omega arith)

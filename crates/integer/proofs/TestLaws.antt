@@ -54,6 +54,3 @@ le_z_no {a} {b} t = record { lt = le_z_no' a b t }
 
 pub no_le_z : {a b : ℤ} → b <ℤ a → T (not (le_z a b))
 no_le_z {a} {b} h = not_T (le_z a b) (λ t. <ℤ_irrefl (<ℤ-≤ℤ_trans h (record { le = t })))
-
-pub no_lt_z : {a b : ℤ} → b ≤ℤ a → T (not (lt_z a b))
-no_lt_z {a} {b} h = not_T (lt_z a b) (λ t. <ℤ_irrefl (<ℤ-≤ℤ_trans (record { lt = t }) h))

@@ -37,9 +37,6 @@ all_fails f (suc n) {i} l k = by (λ j. all_fails f n j k) (below_suc l)
     by lower (inl j) = ap (λ (b : Bool). b && f n) (lower j)
     by lower (inr e) = ap (λ (b : Bool). all_below f n && b) (ap f (sym e) ∙ k) ∙ and-false (all_below f n)
 
-pub all_done : (f : ℕ → Bool) (n : ℕ) {i : ℕ} → all_below f i ≡ true → i ≤ n → n ≤ i → true ≡ all_below f n
-all_done f n h l k = sym (ap (all_below f) (omega arith) ∙ h)
-
 pub each_below : (f : ℕ → Bool) (n : ℕ) → all_below f n ≡ true → (i : ℕ) → i < n → f i ≡ true
 each_below f n h i l = by (f i) refl
   where
@@ -141,11 +138,3 @@ module _ (holds : ℕ → Bool) (c : ℕ) (p : ℕ → Place) (n : ℕ) where
 
   pub phase_all : ((k : ℕ) → k < n → holds k ≡ true) → Passed ≡ Phase holds c p n
   phase_all each = sym (all_lowest step n (λ k l. ap (λ (t : Bool). demand t c (p k)) (each k l)))
-
-  -- the search went through as many places
-  module _ {r count : ℕ} (e : r ≡ first_failing holds count) (all : count ≡ n) where
-    pub phase_fails : {q : Place} → r < count → q ≡ p r → Refused c q ≡ Phase holds c p n
-    phase_fails l d = phase-at (holds_before holds count e) (omega arith) (fails_there holds count e l) d
-
-    pub phase_done : count ≤ r → Passed ≡ Phase holds c p n
-    phase_done l = phase_all (λ k j. holds_before holds count e k (omega arith))

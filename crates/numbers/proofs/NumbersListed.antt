@@ -11,7 +11,7 @@ use lib.IntN.{ℤ}
 use borrow.Author.Tests.{ltb-true}
 use Rattle.scope.specs.declared.Place.{Place}
 use Rattle.scope.specs.declared.Place.TheVariants.{Line, Row, Column, Node, Element}
-use Rattle.scope.specs.Members.{◌∈◌}
+use Rattle.integer.specs.Members.{◌∈◌}
 use Rattle.scope.specs.Answer.{place_number}
 use Rattle.scope.specs.Columns.{Rule, right_angle, naming, at_most_where, has_field, has_multipliers}
 use Rattle.scope.specs.Layout.{Group, Layout, Placed, width, groups, line_count, line_of, numbers_at, group_at}
@@ -114,10 +114,13 @@ mesh_placed m =
         λ e. (
           λ k c h l r. own (Node (suc k)) (plain 7 (Node (suc k)) (λ e. omega arith) (λ e. omega arith)) r,
           λ e. (
-            λ k c h l r. own (Line (suc (edge_line m k))) (plain 8 (Line (suc (edge_line m k))) (λ e. omega arith) (λ e. omega arith)) r,
+            λ k c h l r. own (Element (suc k)) (plain 47 (Element (suc k)) (λ e. omega arith) (λ e. omega arith)) r,
             λ e. (
-              λ k c h l r. own (Line (suc (jump_line m k))) (plain 44 (Line (suc (jump_line m k))) (λ e. omega arith) (λ e. omega arith)) r,
-              λ e. (λ k c h l r. own (Node (suc k)) (plain 42 (Node (suc k)) (λ e. omega arith) (λ e. omega arith)) r, λ i. tt),
+              λ k c h l r. own (Line (suc (edge_line m k))) (plain 8 (Line (suc (edge_line m k))) (λ e. omega arith) (λ e. omega arith)) r,
+              λ e. (
+                λ k c h l r. own (Line (suc (jump_line m k))) (plain 44 (Line (suc (jump_line m k))) (λ e. omega arith) (λ e. omega arith)) r,
+                λ e. (λ k c h l r. own (Node (suc k)) (plain 42 (Node (suc k)) (λ e. omega arith) (λ e. omega arith)) r, λ i. tt),
+              ),
             ),
           ),
         ),

@@ -14,7 +14,7 @@ use Rattle.integer.proofs.FractionLaws.{≤ᶠ_trans, ≈ᶠ→≤ᶠ, ≈ᶠ_sy
 use Rattle.integer.specs.Tests.{eq_z}
 use Rattle.integer.proofs.TestLaws.{eq_z_yes, eq_z_no}
 use Rattle.scope.specs.declared.Place.{Place}
-use Rattle.scope.specs.declared.Place.TheVariants.{Line}
+use Rattle.scope.specs.declared.Place.TheVariants.{Line, Element}
 use Rattle.scope.specs.Cases.Load.{Load}
 use Rattle.scope.specs.Cases.Load.{Absent, Exact}
 use Rattle.scope.specs.Cases.OpenRows.{Absent as NoCount}
@@ -47,6 +47,8 @@ use Rattle.scope.proofs.Phases.{join_refused}
 use Rattle.scope.proofs.NumberRanges.{mesh_facts}
 use Rattle.scope.proofs.PolygonRule.{listed_polygon}
 use Rattle.scope.proofs.SideLimits.{limits_by_sides}
+use Rattle.scope.proofs.Overlaps.{sound_mesh_apart}
+use Rattle.scope.proofs.OverlapRefused.{overlap_named, never_for_this}
 use Rattle.scope.proofs.Columns.{mesh_columns}
 use Rattle.scope.proofs.Bracket.{bracket}
 use Rattle.scope.proofs.Parts.{nodes-named, multipliers_meet_lem, field-n, parts_bracket, open_rows_count}
@@ -60,7 +62,7 @@ use Rattle.numbers.specs.declared.numbers_answer.NumbersAnswer.{NumbersAnswer}
 use Rattle.numbers.specs.NumbersAnswer.{there, numerator, denominator, counted, answer_of}
 use Rattle.numbers.specs.Promises.{Answers, Returned, ReturnsZero, RefusesExactly, NumbersListed, RowsRefused}
 use Rattle.numbers.specs.Promises.{TellsField, FieldExactly, MultipliersExactly, FieldReported, MultipliersReported}
-use Rattle.numbers.specs.Promises.{CriterionForEachPair, PairsAsked, SidesAsked, JumpsAsked, TractionsOnJoints, CallsBracket}
+use Rattle.numbers.specs.Promises.{CriterionForEachPair, PairsAsked, SidesAsked, OverlapsAsked, JumpsAsked, TractionsOnJoints, CallsBracket}
 use Rattle.numbers.specs.Promises.{TwoAnswers, AnswerAndMultipliers, OpenRowsReported, FractionsBracket}
 use Rattle.numbers.specs.Promises.{FractionsAndAnswer, FieldInFractions, MeshAnsweredExactly, TrianglesAsked}
 
@@ -212,6 +214,17 @@ module _ (m c : List ℤ) (number place : ℕ) (h : Returned m c number place) w
     where
       of_mesh : MeshRefusal m 2 (Line 1) → Refusal m c 2 (Line 1)
       of_mesh r = record { by = join_refused (mesh_phases m) (claim_phases m c) 2 (Line 1) (inl r.by) }
+
+  pub overlaps_asked : OverlapsAsked m number place
+  unfolding place_for
+  overlaps_asked = record {
+    sound = sound_mesh_apart m;
+    refused = λ e. overlap_named m c (Element place) (named e);
+    never = λ none e. never_for_this m c none (Element place) (named e);
+  }
+    where
+      named : number ≡ 47 → Refusal m c 47 (Element place)
+      named e = (refuses_exactly.exactly 47 place (λ z. omega arith)).0 (e, refl)
 
 pub jumps_asked : (m : List ℤ) → JumpsAsked m
 jumps_asked m = record { sound = sound_jumps m; tip = tip_asks_nothing m; none = no_jumps m }

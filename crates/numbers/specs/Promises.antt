@@ -5,7 +5,7 @@
 -- (`proofs/PromisesApplied.antt`). Those about the number and the place alone serve the check of two files too.
 use Rattle.std.specs.Prelude.{◌≡◌, ◌↔◌, ◌⊎◌, ◌≢◌, List, ◌∷◌, ℕ, ◌*◌, ◌≤◌, ◌<◌, ℤ, pos, ◌<ℤ◌, length, Result}
 use Rattle.integer.specs.Fraction.{Frac, ◌over◌, ◌≈ᶠ◌, ◌≤ᶠ◌}
-use Rattle.scope.specs.Members.{◌∈◌}
+use Rattle.integer.specs.Members.{◌∈◌}
 use Rattle.scope.specs.Columns.{at, n, l}
 use Rattle.scope.specs.Mesh.{mesh_header_columns, nodes, elements, sides, corner}
 use Rattle.scope.specs.Rows.{rows_of, twice_area}
@@ -32,6 +32,7 @@ use Rattle.scope.specs.Tests.{row_at}
 use Rattle.scope.specs.Meaning.{Area, OutwardNormal}
 use Rattle.scope.specs.Triangles.{ReadAsTriangle, PassedBefore}
 use Rattle.scope.specs.Pairs.{Pairs, SoundPairs}
+use Rattle.scope.specs.Overlaps.{NoneOnEachOther, OnEachOther}
 use Rattle.scope.specs.SideLimits.{LimitsBySides}
 use Rattle.scope.specs.PolygonRule.{ListedPolygon}
 use Rattle.numbers.specs.declared.numbers_answer.NumbersAnswer.{NumbersAnswer}
@@ -48,7 +49,7 @@ pub record Returned (m c : List ℤ) (number place : ℕ) : Type 0 where
 
 -- ==== Demand 2: what is accepted, and what is refused
 
--- "Accepted returns 0, place 0": 0 exactly when the mesh passes 1 to 8, 44 and 42, the claim passes 11 to 13, a field
+-- "Accepted returns 0, place 0": 0 exactly when the mesh passes 1 to 8, 47, 44 and 42, the claim passes 11 to 13, a field
 -- that is there meets every row, and multipliers that are there are zero on every unfixed row, make all 3·nodes columns
 -- 0 and have m above 0
 pub record ReturnsZero (m c : List ℤ) (number place : ℕ) : Type 0 where
@@ -124,6 +125,14 @@ pub record PairsAsked (m : List ℤ) (number place : ℕ) : Type 0 where
   pub listed : Pairs m
   pub sound : MeshSound m → SoundPairs m
   pub refused : number ≡ 42 → PairsFail m place
+
+-- "A mesh is refused if two elements share a point inside both, fractions included; .. Absent such a point the mesh is
+-- never refused for this. .. Refused: 47, with the higher element of the pair whose higher number is least" (document 02,
+-- N10)
+pub record OverlapsAsked (m : List ℤ) (number place : ℕ) : Type 0 where
+  pub sound : MeshSound m → NoneOnEachOther m
+  pub refused : number ≡ 47 → OnEachOther m place
+  pub never : NoneOnEachOther m → number ≢ 47
 
 -- "Source 001, 2.3, lets stress jump across a side while normal and shear agree" (document 02, N6): both sides of a
 -- joint are outer sides, used by no edge and by no other jump, and face each other; an end that isn't doubled asks

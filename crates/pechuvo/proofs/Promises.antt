@@ -34,7 +34,7 @@ use Rattle.scope.specs.Parts.{carried, allowed}
 use Rattle.scope.proofs.Exactly.{accepted_exactly, returns_zero, claim_by_parts}
 use Rattle.scope.proofs.Parts.{field-n, open_rows_count}
 use Rattle.numbers.specs.Promises.{Returned}
-use Rattle.numbers.proofs.Promises.{returns_zero_exactly, refuses_exactly, numbers_listed, rows_refused, field_exactly, multipliers_exactly, pairs_asked, sides_asked, criterion_for_each_pair, jumps_asked, tractions_on_joints}
+use Rattle.numbers.proofs.Promises.{returns_zero_exactly, refuses_exactly, numbers_listed, rows_refused, field_exactly, multipliers_exactly, pairs_asked, sides_asked, overlaps_asked, criterion_for_each_pair, jumps_asked, tractions_on_joints}
 use Rattle.report.specs.Text.{Said, number as shows, said}
 use Rattle.report.specs.Report.{report_bytes, report_line, most_decimals, Decimals, is_decimals}
 use Rattle.report.specs.Says.{LoadSays, no_load, rounded, Says, says_accepted, says_refused, LineSays}
@@ -276,6 +276,7 @@ module _ (m : List ℤ) (claim : List ℕ) (z : ℤ) (before : List ℕ) (number
         criterion = criterion_for_each_pair m c number place r;
         jumps = jumps_asked m;
         sides = sides_asked m c number place r;
+        overlaps = overlaps_asked m c number place r;
         tractions = tractions_on_joints m c number place r;
       }
 

@@ -12,7 +12,7 @@ use lib.ListN.{length, take, drop, replicate, get_or, length-replicate}
 use Rattle.integer.specs.Fraction.{◌over◌, ◌≈ᶠ◌, ◌≤ᶠ◌}
 use Rattle.scope.specs.declared.Place.TheVariants.{Column}
 use Rattle.scope.proofs.Computed.{computed}
-use Rattle.scope.specs.Members.{◌∈◌}
+use Rattle.integer.specs.Members.{◌∈◌}
 use Rattle.scope.specs.Columns.{n, l}
 use Rattle.scope.specs.Mesh.{mesh_layout, nodes, elements, edges, sides, corner, element_soil, from_node, jumps}
 use Rattle.scope.specs.Polygon.{polygon_of}

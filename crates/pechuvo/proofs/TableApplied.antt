@@ -11,7 +11,7 @@ use lib.ListN.{take, replicate, get_or, length-replicate}
 use Rattle.scope.specs.declared.Place.TheVariants.{Line, Height}
 use Rattle.scope.specs.Answer.{place_for}
 use Rattle.scope.specs.Accepted.{ClaimAccepted}
-use Rattle.scope.specs.Members.{◌∈◌}
+use Rattle.integer.specs.Members.{◌∈◌}
 use Rattle.scope.specs.Columns.{at as number_at}
 use Rattle.scope.specs.Mesh.{elements}
 use Rattle.scope.specs.Rows.{rows_of, judged}

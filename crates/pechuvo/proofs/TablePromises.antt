@@ -3,13 +3,13 @@ use mathlib.Core.Path.{◌≡◌, refl, sym, ◌∙◌, ap, ap₂, subst}
 use mathlib.Core.Logic.{◌⊎◌, inl, inr}
 use mathlib.Core.List.Memᴰ
 use mathlib.Core.List.{List, [], ◌∷◌, map, append-nil}
-use Prim.Native.Nat.{ℕ, zero, suc, ◌≤◌, ◌<◌}
+use Prim.Native.Nat.{ℕ, ◌≤◌, ◌<◌}
 use native.Mathlib.Omega.{arith}
 use lib.IntN.{ℤ, pos}
 use Rattle.scope.specs.Cases.Outcome.{Passed}
 use Rattle.scope.specs.Cases.Verdict.{Verdict}
 use Rattle.scope.specs.Answer.{number_of, place_of}
-use Rattle.scope.specs.Members.{◌∈◌}
+use Rattle.integer.specs.Members.{◌∈◌}
 use Rattle.scope.specs.Accepted.{FieldAccepted, MultipliersAccepted}
 use Rattle.scope.specs.Statements.{HasMultipliers}
 use Rattle.scope.specs.Phases.{check_phases}
@@ -22,7 +22,7 @@ use Rattle.scope.proofs.Refusals.{mesh_passed}
 use Rattle.scope.proofs.TableVerdict.{table_phases, OfTable, Came, early, late, came, table_exact, in_two, fits_late, early_number, no_table_verdict, read_as_it_was}
 use Rattle.numbers.specs.Promises.{returned_numbers, Returned, TellsField}
 use Rattle.numbers.specs.TablePromises.{TableReturned}
-use Rattle.numbers.proofs.Promises.{numbers_listed, field_exactly, multipliers_exactly, fractions_allowed}
+use Rattle.numbers.proofs.Promises.{field_exactly, multipliers_exactly, fractions_allowed}
 use Rattle.numbers.proofs.TablePromises.{table_returned, table_exactly, filled_mesh}
 use Rattle.report.specs.Report.{report_line, is_decimals, usual_decimals}
 use Rattle.report.proofs.BufferLaws.{these_decimals}
@@ -34,7 +34,7 @@ use Rattle.pechuvo.specs.Check.{answered, check}
 use Rattle.pechuvo.specs.Sheets.{Sheet, printed_with, printed, starred, tabled_sheets}
 use Rattle.pechuvo.specs.Answers.{AnswersFor, Answers, AnswersOn}
 use Rattle.pechuvo.specs.Promises.{mesh_in, table_in, mesh_with, claim_in, MeshAccepted, Room, AnyCall, AsRead, NoTable, OnTable, Call, on_files, on_numbers, TwoCalls, CallAndMultipliers, FractionsAndCall, Written}
-use Rattle.pechuvo.proofs.VerdictFits.{Sayable, tabled_sayable}
+use Rattle.pechuvo.proofs.VerdictFits.{Sayable, tabled_sayable, tabled_listed}
 use Rattle.pechuvo.proofs.Promises.{Cases, other, short, line, Untouched, by_cases, written, line_is, any_call}
 use Rattle.pechuvo.proofs.Sheets.{starred_sheets, tabled_sheets_lem}
 
@@ -125,29 +125,9 @@ module _ (mesh table claim : List ℕ) where
     unfolding mesh_from
     on_table b = record {
       exactly = table_exactly (t mesh table) (m mesh table) c number place (tabled b);
-      listed = subst (λ (k : ℕ). k ∈ 45 ∷ 46 ∷ returned_numbers) (sym (tabled b).number_is) (by (came (t mesh table) (m mesh table) c));
+      listed = subst (λ (k : ℕ). k ∈ 45 ∷ 46 ∷ returned_numbers) (sym (tabled b).number_is) (tabled_listed (t mesh table) (m mesh table) c);
       filled = filled_mesh (t mesh table) (m mesh table);
     }
-      where
-        first_four : (k : ℕ) → 0 < k → k ≤ 4 → k ∈ returned_numbers
-        first_four zero p l = absurd (omega arith)
-        first_four (suc zero) p l = Memᴰ.tail (Memᴰ.head refl)
-        first_four (suc (suc zero)) p l = Memᴰ.tail (Memᴰ.tail (Memᴰ.head refl))
-        first_four (suc (suc (suc zero))) p l = Memᴰ.tail (Memᴰ.tail (Memᴰ.tail (Memᴰ.head refl)))
-        first_four (suc (suc (suc (suc zero)))) p l = Memᴰ.tail (Memᴰ.tail (Memᴰ.tail (Memᴰ.tail (Memᴰ.head refl))))
-        first_four (suc (suc (suc (suc (suc k))))) p l = absurd (omega arith)
-
-        own : {k : ℕ} → OfTable k → k ∈ 45 ∷ 46 ∷ returned_numbers
-        own {k} (p, inl l) = Memᴰ.tail (Memᴰ.tail (first_four k p l))
-        own (p, inr (inl e)) = Memᴰ.head e
-        own (p, inr (inr e)) = Memᴰ.tail (Memᴰ.head e)
-
-        by : Came (t mesh table) (m mesh table) c → number_of (tabled_verdict (t mesh table) (m mesh table) c) ∈ 45 ∷ 46 ∷ returned_numbers
-        by (early k p r e) = subst (λ (v : Verdict). number_of v ∈ 45 ∷ 46 ∷ returned_numbers) (sym e) (own (early_number (t mesh table) (m mesh table) k p r))
-        by (late f e) =
-            let v = verdict (mesh_read (t mesh table) (m mesh table)) c in
-            subst (λ (v : Verdict). number_of v ∈ 45 ∷ 46 ∷ returned_numbers) (sym e)
-            (Memᴰ.tail (Memᴰ.tail (numbers_listed (mesh_read (t mesh table) (m mesh table)) c (number_of v) (place_of v) (record { number_is = refl; place_is = refl })).listed))
 
 -- ==== Demand 3
 

@@ -1,11 +1,12 @@
 -- Every verdict is one that the line can hold: a refusal's number and place are small, l is within its limit, W fits 64 bits, and no more rows are open than there are.
-use mathlib.Core.Path.{◌≡◌, refl, sym, ◌∙◌, ap, subst}
-use mathlib.Core.Logic.{◌⊎◌, inl, inr, ◌≢◌}
-use mathlib.Core.Bool.{Bool, true, false, cond, ◌&&◌}
-use mathlib.Core.List.{List, [], ◌∷◌, ◌++◌}
-use Prim.Native.Nat.{ℕ, suc, ◌+◌, ◌^◌, ◌≤◌, ◌<◌}
+use mathlib.Core.Path.{◌≡◌, refl, sym, subst}
+use mathlib.Core.Logic.{◌⊎◌, inl, inr, ⊎_elim, ◌≢◌}
+use mathlib.Core.Bool.{Bool, true, false, cond, not, ◌&&◌}
+use mathlib.Core.List.Memᴰ
+use mathlib.Core.List.{List, [], ◌∷◌}
+use Prim.Native.Nat.{ℕ, zero, suc, ◌+◌, ◌^◌, ◌≤◌, ◌<◌}
 use native.Mathlib.Omega.{arith}
-use lib.Dec.{T}
+use lib.Dec.{T, eqb}
 use lib.IntN.{ℤ, nat_abs}
 use lib.ListN.{length, length-append}
 use Rattle.integer.proofs.TestLaws.{eq_z_yes}
@@ -14,25 +15,27 @@ use Rattle.scope.specs.Cases.Load.{Absent, Exact}
 use Rattle.scope.specs.Cases.OpenRows.{Absent as NoCount, Count}
 use Rattle.scope.specs.Cases.Verdict.{Verdict}
 use Rattle.scope.specs.Cases.Verdict.{Accepted, Refused}
-use Rattle.scope.specs.Answer.{number_of}
+use Rattle.integer.specs.Members.{◌∈◌}
+use Rattle.scope.specs.Answer.{number_of, place_of}
 use Rattle.scope.specs.Columns.{has_field, has_multipliers, n, l}
 use Rattle.scope.specs.Rows.{Row, equality_rows, strength_rows, rows_of}
 use Rattle.scope.specs.Sums.{weighed, limit_sum, live_sum, how_many, is_open, open_rows}
 use Rattle.scope.specs.Claim.{stress, multiplier}
 use Rattle.scope.specs.Verdict.{verdict, lower_load, upper_load, open_count}
-use Rattle.scope.specs.Refusals.{mesh_phases, claim_phases}
 use Rattle.scope.specs.Table.{mesh_read}
 use Rattle.scope.specs.TableVerdict.{tabled_verdict}
 use Rattle.scope.specs.Accepted.{ClaimAccepted}
 use Rattle.scope.specs.NumberRanges.{MeshFacts, ClaimFacts}
-use Rattle.scope.proofs.Exactly.{verdict_cases, accepted_exactly, refused_exactly, each_number}
-use Rattle.scope.proofs.Phases.{EachIn, each_refusal, own_number}
+use Rattle.scope.proofs.Exactly.{verdict_cases, accepted_exactly, refused_exactly}
+use Rattle.scope.proofs.Decides.{both, opposite, equal}
 use Rattle.scope.proofs.TableVerdict.{OfTable, Came, early, late, came, early_number, early_small}
 use Rattle.scope.proofs.NumberRanges.{mesh_facts}
 use Rattle.scope.proofs.ClaimNumberRanges.{claim_facts}
 use Rattle.scope.proofs.RowCounts.{equality_count_lem}
 use Rattle.scope.proofs.SumBounds.{between, limit_bound}
 use Rattle.scope.proofs.AnswerBounds.{few_strengths, refusal_bounds}
+use Rattle.numbers.specs.Promises.{returned_numbers}
+use Rattle.numbers.proofs.Promises.{numbers_listed}
 use Rattle.report.specs.Says.{HeldLoad, HeldRows, Held}
 
 at_most_all : {A : Type 0} (f : A → Bool) (l : List A) → how_many f l ≤ length l
@@ -95,28 +98,6 @@ held m c = by (verdict_cases m c)
     by (inl (k, p, e)) = let b = refusal_bounds ((refused_exactly m c k p).0 e) in subst Held (sym e) (omega (arith, b.0), omega (arith, b.1))
     by (inr e) = let a = (accepted_exactly m c).0 e in subst Held (sym e) (rows_held m c a, lower_held m c a, upper_held m c a)
 
--- no verdict has a number above 33 but 42 and 44, so none has 41 or 43
-not_of_a_verdict : (x : ℕ) → 33 < x → x ≢ 42 → x ≢ 44 → (m c : List ℤ) → number_of (verdict m c) ≢ x
-not_of_a_verdict x above not_42 not_44 m c = by (verdict_cases m c)
-  where
-    of_mesh : {k : ℕ} → (k ≤ 13) ⊎ ((k ≡ 42) ⊎ (k ≡ 44)) → k ≢ x
-    of_mesh (inl h) e = omega (arith, above)
-    of_mesh (inr (inl h)) e = not_42 (sym e ∙ h)
-    of_mesh (inr (inr h)) e = not_44 (sym e ∙ h)
-
-    each : EachIn (λ k p. k ≢ x) (mesh_phases m ++ claim_phases m c)
-    each =
-        each_number (λ k p. k ≢ x) m c (λ k p h. of_mesh h.1)
-        (λ k n h l r e. omega (arith, above, own_number {k = 21} refl r), λ i. (λ k n h l r e. omega (arith, above, own_number {k = 22} refl r), λ i. tt))
-        (λ a b d. (
-          λ k n h l r e. omega (arith, above, own_number {k = 31} refl r),
-          λ i. (λ k n h l r e. omega (arith, above, own_number {k = 32} refl r), λ i. (λ k n h l r e. omega (arith, above, own_number {k = 33} refl r), λ i. tt)),
-        ))
-
-    by : ((k : ℕ) × (p : Place) × (verdict m c ≡ Refused k p)) ⊎ (verdict m c ≡ Accepted (open_count m c) (lower_load c) (upper_load m c)) → number_of (verdict m c) ≢ x
-    by (inl (k, p, e)) = rw e (each_refusal (λ k p. k ≢ x) (mesh_phases m ++ claim_phases m c) each ((refused_exactly m c k p).0 e).by)
-    by (inr e) = rw e (λ y. omega (arith, above))
-
 -- ---- with a table
 
 tabled_held : (t m c : List ℤ) → Held (tabled_verdict t m c)
@@ -131,18 +112,46 @@ tabled_held t m c = by (came t m c)
     by (early k p r e) = subst Held (sym e) (small (early_number t m k p r).1, omega (arith, early_small t m k p r))
     by (late f e) = subst Held (sym e) (held (mesh_read t m) c)
 
--- a table's own refusals have other numbers too
-tabled_other : (x : ℕ) → 33 < x → x ≢ 42 → x ≢ 44 → x ≢ 45 → x ≢ 46 → (t m c : List ℤ) → number_of (tabled_verdict t m c) ≢ x
-tabled_other x above not_42 not_44 not_45 not_46 t m c e = by (came t m c)
-  where
-    own : {k : ℕ} → OfTable k → k ≡ x → ⊥
-    own (p, inl l) d = omega (arith, above)
-    own (p, inr (inl l)) d = not_45 (sym d ∙ l)
-    own (p, inr (inr l)) d = not_46 (sym d ∙ l)
+-- ---- the numbers that a verdict can have
 
-    by : Came t m c → ⊥
-    by (early k p r d) = own (early_number t m k p r) (sym (ap number_of d) ∙ e)
-    by (late f d) = not_of_a_verdict x above not_42 not_44 (mesh_read t m) c (sym (ap number_of d) ∙ e)
+abbrev all_numbers : List ℕ
+all_numbers = 45 ∷ 46 ∷ returned_numbers
+
+verdict_listed : (m c : List ℤ) → number_of (verdict m c) ∈ all_numbers
+verdict_listed m c =
+    let v = verdict m c in
+    Memᴰ.tail (Memᴰ.tail (numbers_listed m c (number_of v) (place_of v) (record { number_is = refl; place_is = refl })).listed)
+
+pub tabled_listed : (t m c : List ℤ) → number_of (tabled_verdict t m c) ∈ all_numbers
+tabled_listed t m c = by (came t m c)
+  where
+    first_four : (k : ℕ) → 0 < k → k ≤ 4 → k ∈ returned_numbers
+    first_four zero p l = absurd (omega arith)
+    first_four (suc zero) p l = Memᴰ.tail (Memᴰ.head refl)
+    first_four (suc (suc zero)) p l = Memᴰ.tail (Memᴰ.tail (Memᴰ.head refl))
+    first_four (suc (suc (suc zero))) p l = Memᴰ.tail (Memᴰ.tail (Memᴰ.tail (Memᴰ.head refl)))
+    first_four (suc (suc (suc (suc zero)))) p l = Memᴰ.tail (Memᴰ.tail (Memᴰ.tail (Memᴰ.tail (Memᴰ.head refl))))
+    first_four (suc (suc (suc (suc (suc k))))) p l = absurd (omega arith)
+
+    own : {k : ℕ} → OfTable k → k ∈ all_numbers
+    own {k} (p, inl l) = Memᴰ.tail (Memᴰ.tail (first_four k p l))
+    own (p, inr (inl e)) = Memᴰ.head e
+    own (p, inr (inr e)) = Memᴰ.tail (Memᴰ.head e)
+
+    by : Came t m c → number_of (tabled_verdict t m c) ∈ all_numbers
+    by (early k p r e) = subst (λ (v : Verdict). number_of v ∈ all_numbers) (sym e) (own (early_number t m k p r))
+    by (late f e) = subst (λ (v : Verdict). number_of v ∈ all_numbers) (sym e) (verdict_listed (mesh_read t m) c)
+
+unlike : ℕ → List ℕ → Bool
+unlike x [] = true
+unlike x (k ∷ rest) = not (eqb x k) && unlike x rest
+
+not_listed : (x : ℕ) (ks : List ℕ) → T (unlike x ks) → ¬ (x ∈ ks)
+unfolding unlike
+not_listed x [] t h = absurd (Memᴰ.not-nil h)
+not_listed x (k ∷ rest) t h =
+    let (differs, later) = (both (opposite (equal x k)) (record { holds = λ t. t; passes = λ t. t })).holds t in
+    ⊎_elim differs (not_listed x rest later) (Memᴰ.cases_cons h)
 
 -- ---- what the answer and the line ask of a verdict
 
@@ -151,16 +160,17 @@ pub record Sayable (v : Verdict) : Type 0 where
   pub not_41 : number_of v ≢ 41
   pub not_43 : number_of v ≢ 43
 
-pub sayable : (m c : List ℤ) → Sayable (verdict m c)
-sayable m c = record {
-  held = held m c;
-  not_41 = not_of_a_verdict 41 (omega arith) (λ e. omega arith) (λ e. omega arith) m c;
-  not_43 = not_of_a_verdict 43 (omega arith) (λ e. omega arith) (λ e. omega arith) m c;
+-- neither 41 nor 43 is listed
+say : {v : Verdict} → Held v → number_of v ∈ all_numbers → Sayable v
+unfolding unlike
+say {v} h there = record {
+  held = h;
+  not_41 = λ e. not_listed 41 all_numbers tt (subst (λ (k : ℕ). k ∈ all_numbers) e there);
+  not_43 = λ e. not_listed 43 all_numbers tt (subst (λ (k : ℕ). k ∈ all_numbers) e there);
 }
 
+pub sayable : (m c : List ℤ) → Sayable (verdict m c)
+sayable m c = say (held m c) (verdict_listed m c)
+
 pub tabled_sayable : (t m c : List ℤ) → Sayable (tabled_verdict t m c)
-tabled_sayable t m c = record {
-  held = tabled_held t m c;
-  not_41 = tabled_other 41 (omega arith) (λ e. omega arith) (λ e. omega arith) (λ e. omega arith) (λ e. omega arith) t m c;
-  not_43 = tabled_other 43 (omega arith) (λ e. omega arith) (λ e. omega arith) (λ e. omega arith) (λ e. omega arith) t m c;
-}
+tabled_sayable t m c = say (tabled_held t m c) (tabled_listed t m c)

@@ -12,7 +12,7 @@ use Rattle.std.proofs.Math.Option.{some}
 use Rattle.integer.specs.Fraction.{◌over◌, ◌≈ᶠ◌, ◌≤ᶠ◌, ◌<ᶠ◌}
 use Rattle.scope.specs.Columns.{at, n, l}
 use Rattle.scope.specs.Cases.Verdict.{Verdict}
-use Rattle.scope.specs.Members.{◌∈◌}
+use Rattle.integer.specs.Members.{◌∈◌}
 use Rattle.scope.specs.Mesh.{mesh_layout, nodes, elements, edges, sides, jumps}
 use Rattle.scope.specs.Answer.{place_for, number_of, place_of}
 use Rattle.scope.specs.Rows.{Row, pair_count, balance_rows, side_rows, jump_rows, strength_rows, rows_of}
@@ -27,7 +27,7 @@ use Rattle.scope.specs.Parts.{carried, allowed, SameRows, NumberOf}
 use Rattle.scope.specs.Tests.{row_at}
 use Rattle.scope.specs.Verdict.{mesh_check, verdict, lower_load, upper_load}
 use Rattle.numbers.specs.declared.numbers_answer.NumbersAnswer.{NumbersAnswer}
-use Rattle.numbers.specs.Promises.{returned_numbers, ReturnsZero, RefusesExactly, NumbersListed, TellsField, RowsRefused, FieldExactly, MultipliersExactly, CriterionForEachPair, PairsAsked, SidesAsked, JumpsAsked, TractionsOnJoints, FractionsBracket}
+use Rattle.numbers.specs.Promises.{returned_numbers, ReturnsZero, RefusesExactly, NumbersListed, TellsField, RowsRefused, FieldExactly, MultipliersExactly, CriterionForEachPair, PairsAsked, SidesAsked, OverlapsAsked, JumpsAsked, TractionsOnJoints, FractionsBracket}
 use Rattle.numbers.specs.NumbersAnswer.{answer_of}
 use Rattle.numbers.specs.TablePromises.{TableAnswers, TableExactly, FilledMesh}
 use Rattle.reader.specs.File.{file_of, table_of, table_numbers_of, file_width, line_bytes}
@@ -130,8 +130,8 @@ pub record OnTable (mesh table claim : List ℕ) (number place : ℕ) : Type 0 w
 -- ==== Demand 2: what is accepted, what is refused, what is printed; where a line is written (`Room`)
 
 -- 0 exactly when, each refusal with its place exactly when, no number but those of the table, each part accepted
--- exactly when, the pairs with the criterion for each, the jumps with the tractions on their joints, and what goes by
--- the number of sides
+-- exactly when, the pairs with the criterion for each, the elements that lie on each other, the jumps with the tractions
+-- on their joints, and what goes by the number of sides
 pub record OnMesh (m c : List ℤ) (number place : ℕ) : Type 0 where
   pub returns_zero : ReturnsZero m c number place
   pub refuses : RefusesExactly m c number place
@@ -143,6 +143,7 @@ pub record OnMesh (m c : List ℤ) (number place : ℕ) : Type 0 where
   pub criterion : TellsField c number → CriterionForEachPair m c
   pub jumps : JumpsAsked m
   pub sides : SidesAsked m number place
+  pub overlaps : OverlapsAsked m number place
   pub tractions : TractionsOnJoints m c number
 
 -- "mesh form: length, character, spelling, bytes missing or left over", and "claim form", said of the bytes; the

@@ -79,17 +79,16 @@ few_strengths m s =
 
 -- ---- numbers
 
--- the largest number of a refusal: 44
+-- the largest number of a refusal: 47
 abbrev pub most_number : ℕ
-most_number = 44
+most_number = 47
 
 mesh_most : {k : ℕ} → OfMesh k → k ≤ most_number
 mesh_most {k} e = by e.1
   where
-    by : (k ≤ 13) ⊎ ((k ≡ 42) ⊎ (k ≡ 44)) → k ≤ most_number
+    by : (k ≤ 13) ⊎ ((42 ≤ k) × (k ≤ 47)) → k ≤ most_number
     by (inl l) = omega arith
-    by (inr (inl l)) = omega arith
-    by (inr (inr l)) = omega arith
+    by (inr l) = l.1
 
 numbers_most : (m c : List ℤ) → EachIn (λ k p. k ≤ most_number) (mesh_phases m ++ claim_phases m c)
 numbers_most m c =
@@ -117,7 +116,10 @@ places_most m c =
         λ k n h b r. omega (arith, counts),
         λ e. (
           λ k n h b r. omega (arith, counts),
-          λ e. (λ g n h b r. omega (arith, counts, edge_line_lem m g), λ e. (λ j n h b r. omega (arith, counts, jump_line_lem m j), λ e. (λ k n h b r. omega (arith, counts), λ i. tt))),
+          λ e. (
+            λ k n h b r. omega (arith, counts),
+            λ e. (λ g n h b r. omega (arith, counts, edge_line_lem m g), λ e. (λ j n h b r. omega (arith, counts, jump_line_lem m j), λ e. (λ k n h b r. omega (arith, counts), λ i. tt))),
+          ),
         ),
       ),
     )))

@@ -8,7 +8,7 @@ use lib.Dec.{lt→ltb}
 use lib.IntN.{ℤ, pos, neg_ℤ, ◌*ℤ◌, ◌-ℤ◌}
 use lib.Signed.{lt_z_yes}
 use Rattle.integer.specs.Fraction.{◌over◌, ◌≈ᶠ◌, ◌≤ᶠ◌, Positive}
-use Rattle.scope.specs.declared.Place.TheVariants.{Line, Column, Row as PlaceRow}
+use Rattle.scope.specs.declared.Place.TheVariants.{Line, Column, Element, Row as PlaceRow}
 use Rattle.scope.specs.Cases.Outcome.{Passed, Refused as Fails}
 use Rattle.scope.specs.Cases.Verdict.{Refused}
 use Rattle.scope.specs.Columns.{n, l}
@@ -25,7 +25,7 @@ use Rattle.scope.specs.AcceptedField.{TractionsAgree}
 use Rattle.scope.proofs.AcceptedField.{tractions_agree}
 use Rattle.scope.specs.Bracket.{to_spare}
 use Rattle.scope.specs.Parts.{carried, allowed, SameRows, PartsBracket}
-use Rattle.scope.specs.Worked.{zeros, worked_mesh, worked_stresses, worked_multipliers, worked_claim, multipliers_alone, sheet, sheet19, sheet29, nineteen_fractions, nineteen_sixths, one_edge, free_shear, fill_over_clay, over_clay, blocks, block_edges, joint, two_blocks, on_joint, shared_blocks, on_shared, cut_with_tip, on_cut, against_its_side, facing_turned, side_with_edge, facing_with_edge, jump_twice, sides_apart, facing_used}
+use Rattle.scope.specs.Worked.{zeros, worked_mesh, worked_stresses, worked_multipliers, worked_claim, multipliers_alone, sheet, sheet19, sheet29, nineteen_fractions, nineteen_sixths, one_edge, free_shear, fill_over_clay, over_clay, blocks, block_edges, joint, two_blocks, on_joint, shared_blocks, on_shared, cut_with_tip, on_cut, against_its_side, facing_turned, side_with_edge, facing_with_edge, jump_twice, sides_apart, joint_from_behind, crossing_bars}
 use Rattle.scope.specs.Fractions.{FractionField, WrittenOver}
 use Rattle.scope.specs.AcceptedFractions.{MeetsMesh}
 use Rattle.integer.specs.Tests.{eq_z}
@@ -264,6 +264,12 @@ cut_field = field_accepted cut_with_tip on_cut refl refl refl refl
 
 pub refused_44 : (mesh_check against_its_side ≡ Fails 44 (Line 15)) × (mesh_check facing_turned ≡ Fails 44 (Line 15))
     × (mesh_check side_with_edge ≡ Fails 44 (Line 14)) × (mesh_check facing_with_edge ≡ Fails 44 (Line 14))
-    × (mesh_check sides_apart ≡ Fails 44 (Line 13)) × (mesh_check jump_twice ≡ Fails 44 (Line 14)) × (mesh_check facing_used ≡ Fails 44 (Line 19))
-unfolding computed zeros blocks block_edges joint against_its_side facing_turned side_with_edge facing_with_edge jump_twice sides_apart facing_used
+    × (mesh_check sides_apart ≡ Fails 44 (Line 13)) × (mesh_check jump_twice ≡ Fails 44 (Line 14)) × (mesh_check joint_from_behind ≡ Fails 44 (Line 14))
+unfolding computed zeros blocks block_edges joint against_its_side facing_turned side_with_edge facing_with_edge jump_twice sides_apart joint_from_behind
 refused_44 = (refl, refl, refl, refl, refl, refl, refl)
+
+-- ---- 47: no corner of a bar is inside the other, and the block touches both
+
+pub refused_47 : mesh_check crossing_bars ≡ Fails 47 (Element 3)
+unfolding computed zeros crossing_bars
+refused_47 = refl

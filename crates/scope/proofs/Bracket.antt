@@ -23,7 +23,7 @@ use Rattle.integer.proofs.SumLaws.{sum_of_same, sum_of_mono, sum_of_zero}
 use Rattle.scope.proofs.Lists.{of_count}
 use Rattle.scope.proofs.Decides.{Decides, decides, said_as, both, belowℤ}
 use Rattle.scope.proofs.Weighted.{weighted_linear, weighted_difference, weighted_same, by_columns}
-use Rattle.scope.specs.Members.{◌∈◌}
+use Rattle.integer.specs.Members.{◌∈◌}
 use Rattle.scope.specs.Rows.{Kind, asked, unfixed, strength, Row, count_from}
 use Rattle.scope.specs.Sums.{weighted_sum, left_side, right_side, weighed, unit, coefficient, column_sum, live_sum, limit_sum, is_open, how_many, open_rows}
 use Rattle.scope.specs.Meets.{Asks, FieldMeets}

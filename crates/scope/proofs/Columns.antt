@@ -7,7 +7,7 @@ use lib.Dec.{lit<}
 use lib.IntN.{ℤ}
 use Rattle.scope.proofs.Lists.{of_count, each_nil, each_cons, each_++, each_map, each_joined}
 use Rattle.scope.proofs.Pairs.{pairs}
-use Rattle.scope.specs.Members.{◌∈◌}
+use Rattle.integer.specs.Members.{◌∈◌}
 use Rattle.scope.specs.Mesh.{nodes, elements, edges, sides, jumps, corner, from_node, to_node, jump_from, jump_to, facing_from, facing_to}
 use Rattle.scope.specs.Polygon.{Side, polygon_sides, polygon_of}
 use Rattle.scope.specs.Rows.{Row, sx, sy, t, count_from, node, balance_x, balance_y, balance_rows, normal_row, shear_row, side_rows, agree_row, jump_normal, jump_shear, jump_rows, strength_pairs, strength_row, pair_rows, strength_rows, equality_rows, rows_of}

@@ -12,7 +12,7 @@ use lib.Signed.{◌≤ℤ◌, ◌<ℤ◌}
 use Rattle.integer.proofs.Ring.{ring, ring_from, terms}
 use Rattle.integer.proofs.Order.{by_nn, nn_diff, ≤ℤ_trans, ≤ℤ_total, <ℤ→≤ℤ, +ℤ_mono, *ℤ_nonneg, square_nonneg, *ℤ_pos, *ℤ_cancel_≤}
 use Rattle.scope.proofs.PolygonRule.{polygon_rule}
-use Rattle.scope.specs.Members.{◌∈◌}
+use Rattle.integer.specs.Members.{◌∈◌}
 use Rattle.scope.specs.Mesh.{sides, p, q, h, cohesion}
 use Rattle.scope.specs.Polygon.{Point, point, Polygon, Side, sides_to, polygon_sides, polygon_of}
 use Rattle.scope.specs.Rows.{sx, sy, t, Pair, strength_pairs, cross}

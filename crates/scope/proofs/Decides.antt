@@ -92,14 +92,22 @@ some_below_lem {f} {P} d (suc n) = said_as (either (some_below_lem d n) (d n)) u
     down {k} (inl l) h = inl (k, l, h)
     down {k} (inr l) h = inr (rw l at h)
 
-pub all_below_lem : {f : ℕ → Bool} {P : ℕ → Type 0} → ((k : ℕ) → Decides (f k) (P k)) → (n : ℕ) → Decides (all_below f n) ((k : ℕ) → k < n → P k)
+-- where each test below n decides its statement
+pub all_below_where : {f : ℕ → Bool} {P : ℕ → Type 0} (n : ℕ) → ((k : ℕ) → k < n → Decides (f k) (P k))
+    → Decides (all_below f n) ((k : ℕ) → k < n → P k)
 unfolding all_below
-all_below_lem d zero = record { holds = λ t k h. absurd (omega arith); passes = λ h. tt }
-all_below_lem {f} {P} d (suc n) = said_as (both (all_below_lem d n) (d n)) (λ h k l. up h (below_suc l)) (λ h. (λ k l. h k (omega arith), h n (omega arith)))
+all_below_where zero d = record { holds = λ t k h. absurd (omega arith); passes = λ h. tt }
+all_below_where {f} {P} (suc n) d =
+    said_as (both (all_below_where n (λ k h. d k (omega arith))) (d n (omega arith))) (λ h k l. up h (below_suc l))
+    (λ h. (λ k l. h k (omega arith), h n (omega arith)))
   where
     up : {k : ℕ} → (((k : ℕ) → k < n → P k) × P n) → (k < n) ⊎ (k ≡ n) → P k
     up {k} h (inl l) = h.0 k l
     up {k} h (inr l) = rw l h.1
+
+pub all_below_lem : {f : ℕ → Bool} {P : ℕ → Type 0} → ((k : ℕ) → Decides (f k) (P k)) → (n : ℕ)
+    → Decides (all_below f n) ((k : ℕ) → k < n → P k)
+all_below_lem d n = all_below_where n (λ k h. d k)
 
 -- ---- the lowest
 

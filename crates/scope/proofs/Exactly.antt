@@ -80,12 +80,12 @@ module _ (m c : List ℤ) where
 
 -- ---- what is returned
 
--- the numbers of lines, 1 to 13; of a mesh and of lines, with 42 and 44 besides; of a claim's parts; of its multipliers
+-- the numbers of lines, 1 to 13; of a mesh and of lines, with those from 42 to 47 besides; of a claim's parts; of its multipliers
 abbrev pub OfLines : ℕ → Type 0
 OfLines c = (0 < c) × (c ≤ 13)
 
 abbrev pub OfMesh : ℕ → Type 0
-OfMesh c = (0 < c) × ((c ≤ 13) ⊎ ((c ≡ 42) ⊎ (c ≡ 44)))
+OfMesh c = (0 < c) × ((c ≤ 13) ⊎ ((42 ≤ c) × (c ≤ 47)))
 
 abbrev pub OfParts : ℕ → Type 0
 OfParts c = (21 ≤ c) × (c ≤ 33)
@@ -96,10 +96,9 @@ OfMultipliers c = (31 ≤ c) × (c ≤ 33)
 pub not_of_parts : {X : Type 0} {c : ℕ} → OfMesh c → OfParts c → X
 not_of_parts {X} {c} e h = by e.1
   where
-    by : (c ≤ 13) ⊎ ((c ≡ 42) ⊎ (c ≡ 44)) → X
+    by : (c ≤ 13) ⊎ ((42 ≤ c) × (c ≤ 47)) → X
     by (inl l) = absurd (omega arith)
-    by (inr (inl l)) = absurd (omega arith)
-    by (inr (inr l)) = absurd (omega arith)
+    by (inr l) = absurd (omega (arith, l.0))
 
 rule_number_lem : (rs : List Rule) (line : List ℤ) (c : ℕ) → FirstFails (rule_steps rs line) c → OfLines c
 unfolding rule_number
@@ -131,10 +130,13 @@ mesh_numbers_lem Q m q =
         λ s. (
           λ k c h l r. q c _ (subst OfMesh (own_number refl r) (omega arith, inl (omega arith))),
           λ v. (
-            λ k c h l r. q c _ (subst OfMesh (own_number refl r) (omega arith, inl (omega arith))),
-            λ g. (
-              λ k c h l r. q c _ (subst OfMesh (own_number refl r) (omega arith, inr (inr refl))),
-              λ j. (λ k c h l r. q c _ (subst OfMesh (own_number refl r) (omega arith, inr (inl refl))), λ i. tt),
+            λ k c h l r. q c _ (subst OfMesh (own_number refl r) (omega arith, inr (omega arith, omega arith))),
+            λ d. (
+              λ k c h l r. q c _ (subst OfMesh (own_number refl r) (omega arith, inl (omega arith))),
+              λ g. (
+                λ k c h l r. q c _ (subst OfMesh (own_number refl r) (omega arith, inr (omega arith, omega arith))),
+                λ j. (λ k c h l r. q c _ (subst OfMesh (own_number refl r) (omega arith, inr (omega arith, omega arith))), λ i. tt),
+              ),
             ),
           ),
         ),

@@ -17,7 +17,7 @@ use Rattle.integer.specs.Fraction.{◌over◌, ◌≈ᶠ◌, ◌≤ᶠ◌}
 use Rattle.integer.proofs.FractionLaws.{≈ᶠ_sym, ≈ᶠ_trans}
 use Rattle.scope.proofs.Weighted.{weighted_multiple, weighted_same}
 use Rattle.scope.proofs.Bracket.{bracket}
-use Rattle.scope.specs.Members.{◌∈◌}
+use Rattle.integer.specs.Members.{◌∈◌}
 use Rattle.scope.specs.Rows.{Kind, asked, unfixed, strength, Row}
 use Rattle.scope.specs.Sums.{weighted_sum, left_side, right_side, live_sum, limit_sum}
 use Rattle.scope.specs.Meets.{Asks, FieldMeets}

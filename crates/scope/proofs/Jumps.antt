@@ -10,7 +10,7 @@ use lib.IntN.{ℤ, pos, negsuc, ◌+ℤ◌, ◌-ℤ◌, ◌*ℤ◌, neg_ℤ}
 use lib.Signed.{◌<ℤ◌, <ℤ_irrefl}
 use Rattle.integer.proofs.Ring.{ring, ring_from, sides as both_sides, terms}
 use Rattle.integer.proofs.Order.{by_pos, square_nonneg, +ℤ_mono_<, *ℤ_pos, *ℤ_cancel}
-use Rattle.scope.specs.Members.{◌∈◌}
+use Rattle.integer.specs.Members.{◌∈◌}
 use Rattle.scope.specs.Mesh.{jumps, x, y, corner_count, around, from_node, to_node, jump_from, jump_to}
 use Rattle.scope.specs.Rows.{sx, sy, t, count_from, joined, balance_rows, side_rows, jump_step_x, jump_step_y, agree_row, jump_normal, jump_shear, jump_rows, equality_rows}
 use Rattle.scope.specs.Sums.{weighted_sum, left_side}

@@ -7,6 +7,9 @@ pub mod Ranges
 pub mod Lines
 pub mod Statements
 pub mod Phases
+pub mod Lists
+pub mod Triangles
+pub mod Overlaps
 pub mod Refusals
 pub mod TableNumbers
 pub mod RefusalTable
@@ -18,10 +21,8 @@ pub mod Pairs
 pub mod SideLimits
 pub mod ClaimNumberRanges
 pub mod PolygonRule
-pub mod Lists
 pub mod Printed
 pub mod Meets
-pub mod Triangles
 pub mod Meaning
 pub mod Jumps
 pub mod Criterion
@@ -34,6 +35,7 @@ pub mod RowCounts
 pub mod RowNumbers
 pub mod PrintedColumns
 pub mod RefusedRows
+pub mod OverlapRefused
 pub mod OpenPlaces
 pub mod SameRows
 pub mod Parts

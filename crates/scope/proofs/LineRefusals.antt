@@ -42,10 +42,13 @@ shape_number m k p r = each_refusal (λ k p. NotOfLines k) (shape_phases m) all 
         λ e. (
           λ k c h l r. inl (omega (arith, own_number {k = 7} refl r)),
           λ e. (
-            λ k c h l r. inl (omega (arith, own_number {k = 8} refl r)),
+            λ k c h l r. inr (omega (arith, own_number {k = 47} refl r)),
             λ e. (
-              λ k c h l r. inr (omega (arith, own_number {k = 44} refl r)),
-              λ e. (λ k c h l r. inr (omega (arith, own_number {k = 42} refl r)), λ i. tt),
+              λ k c h l r. inl (omega (arith, own_number {k = 8} refl r)),
+              λ e. (
+                λ k c h l r. inr (omega (arith, own_number {k = 44} refl r)),
+                λ e. (λ k c h l r. inr (omega (arith, own_number {k = 42} refl r)), λ i. tt),
+              ),
             ),
           ),
         ),

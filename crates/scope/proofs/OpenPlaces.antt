@@ -8,7 +8,7 @@ use native.Mathlib.Omega.{arith}
 use lib.IntN.{ℤ}
 use lib.Dec.{T}
 use lib.ListN.{length, length-map}
-use Rattle.scope.specs.Members.{◌∈◌}
+use Rattle.integer.specs.Members.{◌∈◌}
 use Rattle.scope.specs.Rows.{Row}
 use Rattle.scope.specs.Sums.{weighed, how_many}
 use Rattle.scope.specs.Parts.{Ascending, NumberOf}

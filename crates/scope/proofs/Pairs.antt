@@ -14,7 +14,7 @@ use lib.Dec.{T, T_not}
 use lib.IntN.{ℤ}
 use lib.ListN.{length, get_or, length-append, get_or-append}
 use lib.Seq.{get_or-append-add}
-use Rattle.scope.specs.Members.{◌∈◌}
+use Rattle.integer.specs.Members.{◌∈◌}
 use Rattle.scope.specs.Mesh.{pairs_with, nodes, elements, soils, sides, element_soil}
 use Rattle.scope.specs.Polygon.{polygon_of}
 use Rattle.scope.specs.Rows.{Pair, joined, count_from, first_where, has_corner, has_soil, passing, node_pairs, pairs_below, pair_rows, strength_pairs, pair_count, pair_at, strength_rows}

@@ -63,7 +63,7 @@ unfolding place_for mesh_layout
 mesh_kinds m =
     each_join Kind (line_phases mesh_layout m) (shape_phases m) (line_kinds mesh_layout m (λ j. refl) (λ j. refl)) (λ a. (
       λ k c h l r. one_kind refl r,
-      λ e. (λ k c h l r. one_kind refl r, λ e. (λ k c h l r. one_kind refl r, λ e. (λ k c h l r. one_kind refl r, λ e. (λ k c h l r. one_kind refl r, λ e. (λ k c h l r. one_kind refl r, λ i. tt))))),
+      λ e. (λ k c h l r. one_kind refl r, λ e. (λ k c h l r. one_kind refl r, λ e. (λ k c h l r. one_kind refl r, λ e. (λ k c h l r. one_kind refl r, λ e. (λ k c h l r. one_kind refl r, λ e. (λ k c h l r. one_kind refl r, λ i. tt)))))),
     ))
 
 pub all_kinds : (m c : List ℤ) → EachIn Kind (mesh_phases m ++ claim_phases m c)
@@ -89,7 +89,7 @@ mesh_place_kind {m} r = each_refusal Kind (mesh_phases m) (mesh_kinds m) r.by
 
 pub place_number_lem : (k j : ℕ) → place_number (place_for k j) ≡ j
 unfolding place_for
-place_number_lem k j = by (eqb k 5 || eqb k 6) (eqb k 7 || eqb k 42) (eqb k 21 || eqb k 22 || eqb k 31) (eqb k 32 || eqb k 33) (eqb k 45)
+place_number_lem k j = by (eqb k 5 || eqb k 6 || eqb k 47) (eqb k 7 || eqb k 42) (eqb k 21 || eqb k 22 || eqb k 31) (eqb k 32 || eqb k 33) (eqb k 45)
   where
     by : (a b c d e : Bool) → place_number (cond a (Element j) (cond b (Node j) (cond c (Row j) (cond d (Column j) (cond e (Height j) (Line j)))))) ≡ j
     by true b c d e = refl

@@ -19,7 +19,7 @@ use Rattle.integer.specs.Tests.{eq_z}
 use Rattle.integer.proofs.TestLaws.{eq_z_yes}
 use Rattle.integer.proofs.RingLaws.{pos_injective}
 use Rattle.scope.proofs.Lists.{each_nil, each_cons}
-use Rattle.scope.specs.Members.{◌∈◌}
+use Rattle.integer.specs.Members.{◌∈◌}
 use Rattle.scope.specs.Polygon.{Point, point, Polygon, Side, sides_to, polygon_sides, quarter_turn, four_quadrants, twelve, twenty, thirty_six, one_hundred_eight, polygon_of, SidesListed}
 use Rattle.scope.specs.Rows.{cross}
 use Rattle.scope.specs.Mesh.{most_sides, nodes_for_108, nodes_with, pairs_with, strength_multiplier}

@@ -17,7 +17,7 @@ use Rattle.scope.specs.Mesh.{elements, edges, sides, jumps, p, q, h, cohesion, d
 use Rattle.scope.specs.Polygon.{Polygon, Side, polygon_sides, polygon_of}
 use Rattle.scope.specs.Rows.{rows_of, equality_rows, balance_rows, side_rows, jump_rows, strength_pairs, strength_rows, pair_rows, asked, unfixed, Row, Pair, sx, sy, t, count_from, joined, node, rise_across, run_across, twice_area, balance_x, balance_y, step_x, step_y, step_square, normal_row, shear_row, fixed_if, jump_step_x, jump_step_y, agree_row, jump_normal, jump_shear, cross, strength_row}
 use Rattle.scope.specs.Sums.{weighted_sum, left_side, right_side}
-use Rattle.scope.specs.Members.{◌∈◌}
+use Rattle.integer.specs.Members.{◌∈◌}
 use Rattle.scope.specs.Meets.{Asks, RowMet, FieldMeets}
 use Rattle.scope.specs.PrintedColumns.{less_x, less_y, less_normal, less_shear, less_jump_normal, less_jump_shear, RowsPrinted}
 use Rattle.scope.specs.Printed.{force_x, force_y, deviator, resistance, BalanceXAt, BalanceYAt, NormalAt, ShearAt, NormalAgreesAt, ShearAgreesAt, StrengthAt, MeetsPrinted, FieldPrinted}

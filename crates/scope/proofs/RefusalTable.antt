@@ -14,7 +14,7 @@ use Rattle.scope.specs.Claim.{claim_layout, stress, multiplier}
 use Rattle.scope.specs.Rows.{equality_rows, strength_rows, rows_of}
 use Rattle.scope.specs.Statements.{LinesSound, MeshSound, HasField, HasMultipliers}
 use Rattle.scope.specs.Refusals.{line_phases, shape_phases, mesh_phases, field_phases, multiplier_phases, field_part, multiplier_part, part_phases, claim_phases, LineRefusal, MeshRefusal, Refusal}
-use Rattle.scope.specs.RefusalTable.{LowestFails, MeshRow, of_lines, five, six, seven, eight, forty_four, forty_two, Before21, Before31, TableRow, of_mesh, of_claim_lines, twenty_one, twenty_two, thirty_one, thirty_two, thirty_three}
+use Rattle.scope.specs.RefusalTable.{LowestFails, MeshRow, of_lines, five, six, seven, forty_seven, eight, forty_four, forty_two, Before21, Before31, TableRow, of_mesh, of_claim_lines, twenty_one, twenty_two, thirty_one, thirty_two, thirty_three}
 use Rattle.scope.proofs.Phases.{EachIn, each_refusal, each_join, each_as, each_there, join_refused, refused_there}
 use Rattle.scope.proofs.Refusals.{lines_sound, sound_lines, mesh_sound, sound_mesh, field-there, multipliers_there, field_part_sound, sound_field_part}
 
@@ -47,12 +47,15 @@ mesh_rows m =
         λ sides. (
           λ v c h l r. row (MeshRow m) r (λ x. seven v lines (alone turns) (alone sides) (lowest_fails h l x)),
           λ nodes. (
-            λ g c h l r. row (MeshRow m) r (λ x. eight g lines (alone turns) (alone sides) (alone nodes) (lowest_fails h l x)),
-            λ edges. (
-              λ j c h l r. row (MeshRow m) r (λ x. forty_four j lines (alone turns) (alone sides) (alone nodes) (alone edges) (lowest_fails h l x)),
-              λ joints. (
-                λ v c h l r. row (MeshRow m) r (λ x. forty_two v lines (alone turns) (alone sides) (alone nodes) (alone edges) (alone joints) (lowest_fails h l x)),
-                λ pairs. tt,
+            λ e c h l r. row (MeshRow m) r (λ x. forty_seven e lines (alone turns) (alone sides) (alone nodes) (lowest_fails h l x)),
+            λ apart. (
+              λ g c h l r. row (MeshRow m) r (λ x. eight g lines (alone turns) (alone sides) (alone nodes) (alone apart) (lowest_fails h l x)),
+              λ edges. (
+                λ j c h l r. row (MeshRow m) r (λ x. forty_four j lines (alone turns) (alone sides) (alone nodes) (alone apart) (alone edges) (lowest_fails h l x)),
+                λ joints. (
+                  λ v c h l r. row (MeshRow m) r (λ x. forty_two v lines (alone turns) (alone sides) (alone nodes) (alone apart) (alone edges) (alone joints) (lowest_fails h l x)),
+                  λ pairs. tt,
+                ),
               ),
             ),
           ),
@@ -114,9 +117,10 @@ row_mesh m {k} {p} (of_lines r) = join_refused (line_phases mesh_layout m) (shap
 row_mesh m (five e lines h) = shape_refusal m lines (inl (record { here = e; there = h.there; lower = held h.lower; fails = inl (h.fails, refl); called = refl }))
 row_mesh m (six e lines turns h) = shape_refusal m lines (inr (held turns, inl (record { here = e; there = h.there; lower = held h.lower; fails = inl (h.fails, refl); called = refl })))
 row_mesh m (seven v lines turns sides h) = shape_refusal m lines (inr (held turns, inr (held sides, inl (record { here = v; there = h.there; lower = held h.lower; fails = inl (h.fails, refl); called = refl }))))
-row_mesh m (eight g lines turns sides nodes h) = shape_refusal m lines (inr (held turns, inr (held sides, inr (held nodes, inl (record { here = g; there = h.there; lower = held h.lower; fails = inl (h.fails, refl); called = refl })))))
-row_mesh m (forty_four j lines turns sides nodes edges h) = shape_refusal m lines (inr (held turns, inr (held sides, inr (held nodes, inr (held edges, inl (record { here = j; there = h.there; lower = held h.lower; fails = inl (h.fails, refl); called = refl }))))))
-row_mesh m (forty_two v lines turns sides nodes edges joints h) = shape_refusal m lines (inr (held turns, inr (held sides, inr (held nodes, inr (held edges, inr (held joints, inl (record { here = v; there = h.there; lower = held h.lower; fails = inl (h.fails, refl); called = refl })))))))
+row_mesh m (forty_seven e lines turns sides nodes h) = shape_refusal m lines (inr (held turns, inr (held sides, inr (held nodes, inl (record { here = e; there = h.there; lower = held h.lower; fails = inl (h.fails, refl); called = refl })))))
+row_mesh m (eight g lines turns sides nodes apart h) = shape_refusal m lines (inr (held turns, inr (held sides, inr (held nodes, inr (held apart, inl (record { here = g; there = h.there; lower = held h.lower; fails = inl (h.fails, refl); called = refl }))))))
+row_mesh m (forty_four j lines turns sides nodes apart edges h) = shape_refusal m lines (inr (held turns, inr (held sides, inr (held nodes, inr (held apart, inr (held edges, inl (record { here = j; there = h.there; lower = held h.lower; fails = inl (h.fails, refl); called = refl })))))))
+row_mesh m (forty_two v lines turns sides nodes apart edges joints h) = shape_refusal m lines (inr (held turns, inr (held sides, inr (held nodes, inr (held apart, inr (held edges, inr (held joints, inl (record { here = v; there = h.there; lower = held h.lower; fails = inl (h.fails, refl); called = refl }))))))))
 
 module _ (m c : List ℤ) where
   claim_refusal : {k : ℕ} {p : Place} → MeshSound m → RefusedBy (claim_phases m c) k p → RefusedBy (mesh_phases m ++ claim_phases m c) k p

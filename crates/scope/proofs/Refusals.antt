@@ -26,6 +26,7 @@ use Rattle.scope.specs.Refusals.{rule_number, rule_steps, line_steps, line_phase
 use Rattle.scope.specs.Verdict.{line_check, line_at, lines_check, mesh_check, claim_check, field_check, multipliers_check}
 use Rattle.scope.proofs.Decides.{Decides, equal, at_most, equalℤ, belowℤ, Passes, put_as, Refuses}
 use Rattle.scope.proofs.Statements.{all_within_lem, rule_says, left_turns_lem, own_sides_lem, in_element_lem, outer_edge_lem, is_joint_lem, pairs_fit_lem, row_meets, none_on_unfixed}
+use Rattle.scope.proofs.Overlaps.{lies_apart_lem}
 use Rattle.scope.proofs.Lists.{each_++, row_in, by_place}
 use Rattle.scope.proofs.Phases.{Exact, exact_as, DecidedSteps, Decided, one_step, steps_exact, phases_exact, check_join, pass_join, pass_parts, decided_join, decided_part, part_passes, passes_part}
 
@@ -116,10 +117,13 @@ module _ (m : List ℤ) where
       λ sides. (
         λ v h b. one_step (in_element_lem m v),
         λ nodes. (
-          λ g h b. one_step (outer_edge_lem m g),
-          λ edges. (
-            λ j h b. one_step (is_joint_lem m j),
-            λ jumps. (λ v h b. one_step (pairs_fit_lem m v), λ pairs. tt),
+          λ e h b. one_step (lies_apart_lem m (λ d k. (turns d k).0) e h),
+          λ apart. (
+            λ g h b. one_step (outer_edge_lem m g),
+            λ edges. (
+              λ j h b. one_step (is_joint_lem m j),
+              λ jumps. (λ v h b. one_step (pairs_fit_lem m v), λ pairs. tt),
+            ),
           ),
         ),
       ),
@@ -135,6 +139,7 @@ module _ (m : List ℤ) where
       let (turns, shape) = shape in
       let (sides, shape) = shape in
       let (nodes, shape) = shape in
+      let (apart, shape) = shape in
       let (edges, shape) = shape in
       let (joints, shape) = shape in
       let (pairs, shape) = shape in
@@ -143,6 +148,7 @@ module _ (m : List ℤ) where
         left_turns = λ e h. (turns e h).0;
         own_sides = λ e h. (sides e h).0;
         in_element = λ v h. (nodes v h).0;
+        none_shared = λ e h. (apart e h).0;
         outer_edges = λ g h. (edges g h).0;
         joints = λ j h. (joints j h).0;
         pairs_fit = λ v h. (pairs v h).0;
@@ -152,7 +158,13 @@ module _ (m : List ℤ) where
   sound_mesh s =
       pass_join (line_phases mesh_layout m) (shape_phases m) (sound_lines mesh_layout m s.lines) (
         λ e h. (s.left_turns e h, tt),
-        (λ e h. (s.own_sides e h, tt), (λ v h. (s.in_element v h, tt), (λ g h. (s.outer_edges g h, tt), (λ j h. (s.joints j h, tt), (λ v h. (s.pairs_fit v h, tt), tt))))),
+        (
+          λ e h. (s.own_sides e h, tt),
+          (
+            λ v h. (s.in_element v h, tt),
+            (λ e h. (s.none_shared e h, tt), (λ g h. (s.outer_edges g h, tt), (λ j h. (s.joints j h, tt), (λ v h. (s.pairs_fit v h, tt), tt)))),
+          ),
+        ),
       )
 
   pub mesh_exact : Exact (mesh_check m) (MeshSound m) (MeshRefusal m)
@@ -164,7 +176,7 @@ module _ (m : List ℤ) where
   unfolding mesh_check lines_check
   mesh_checked = check_join (line_phases mesh_layout m) (shape_phases m)
 
-  -- a mesh passes 1 to 8, 44 and 42 exactly when it is sound
+  -- a mesh passes 1 to 8, 47, 44 and 42 exactly when it is sound
   pub mesh_passed : Passes (mesh_check m) (MeshSound m)
   mesh_passed = mesh_exact.passes
 

@@ -18,7 +18,7 @@ use Rattle.scope.specs.Rows.{pair_at, equality_rows, strength_rows}
 use Rattle.scope.specs.Meets.{RowMet}
 use Rattle.scope.specs.Refusals.{rule_number, mesh_phases, claim_phases, Refusal}
 use Rattle.scope.specs.RowNumbers.{row_numbered, side_numbered, RowNumbers}
-use Rattle.scope.specs.RefusalTable.{MeshRow, of_lines, five, six, seven, eight, forty_four, forty_two, TableRow, of_mesh, of_claim_lines, twenty_one, twenty_two, thirty_one, thirty_two, thirty_three}
+use Rattle.scope.specs.RefusalTable.{MeshRow, of_lines, five, six, seven, forty_seven, eight, forty_four, forty_two, TableRow, of_mesh, of_claim_lines, twenty_one, twenty_two, thirty_one, thirty_two, thirty_three}
 use Rattle.scope.specs.RefusedRows.{EqualityFails, StrengthFails, PairsFail}
 use Rattle.scope.proofs.Phases.{EachIn, each_refusal, own_number}
 use Rattle.scope.proofs.Exactly.{OfParts, not_of_parts, each_number, refused_on_mesh}
@@ -113,9 +113,10 @@ module _ (m c : List ℤ) where
   of_mesh_row (five k l h) e = absurd (omega arith)
   of_mesh_row (six k l a h) e = absurd (omega arith)
   of_mesh_row (seven v l a b h) e = absurd (omega arith)
-  of_mesh_row (eight g l a b d h) e = absurd (omega arith)
-  of_mesh_row (forty_four j l a b d g h) e = absurd (omega arith)
-  of_mesh_row (forty_two v l a b d g i h) e = let (many, at) = ((pairs m).brings_one_more v).0 h in record { many = many; node = ap suc (sym at) }
+  of_mesh_row (forty_seven k l a b d h) e = absurd (omega arith)
+  of_mesh_row (eight g l a b d k h) e = absurd (omega arith)
+  of_mesh_row (forty_four j l a b d k g h) e = absurd (omega arith)
+  of_mesh_row (forty_two v l a b d k g i h) e = let (many, at) = ((pairs m).brings_one_more v).0 h in record { many = many; node = ap suc (sym at) }
 
   of_table_row : {k : ℕ} {p : Place} → TableRow m c k p → k ≡ 42 → PairsFail m (place_number p)
   unfolding claim_layout

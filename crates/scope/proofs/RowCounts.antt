@@ -9,7 +9,7 @@ use native.Mathlib.Omega.{arith}
 use lib.IntN.{ℤ, pos}
 use lib.ListN.{length, length-append, length-map}
 use Rattle.integer.specs.Tests.{eq_z}
-use Rattle.scope.specs.Members.{◌∈◌}
+use Rattle.integer.specs.Members.{◌∈◌}
 use Rattle.scope.specs.Mesh.{elements, edges, sides, jumps, edge_entry, equality_count}
 use Rattle.scope.specs.Polygon.{Point, sides_to, polygon_sides, polygon_of, SidesListed}
 use Rattle.scope.specs.Rows.{Kind, asked, unfixed, strength, Row, count_from, joined, balance_x, balance_y, balance_rows, fixed_if, normal_row, shear_row, side_rows, agree_row, jump_normal, jump_shear, jump_rows, strength_pairs, pair_count, strength_row, pair_rows, strength_rows, equality_rows}

@@ -13,7 +13,7 @@ use Rattle.integer.proofs.Linear.{linear, facts, ◌&◌}
 use Rattle.integer.proofs.Ring.{ring, terms}
 use Rattle.integer.specs.Sum.{sum_of}
 use Rattle.integer.proofs.SumLaws.{sum_of_++}
-use Rattle.scope.specs.Members.{◌∈◌}
+use Rattle.integer.specs.Members.{◌∈◌}
 use Rattle.scope.specs.Mesh.{strength_multiplier, nodes, elements, edges, sides, jumps, dead_x, dead_y, soil_entry, x, y, corner, element_soil, edge_entry, from_node, to_node, equality_count}
 use Rattle.scope.specs.Polygon.{Side, polygon_sides, polygon_of}
 use Rattle.scope.specs.Rows.{Row, count_from, node, cross_at, rise_across, run_across, twice_area, balance_x, balance_y, balance_rows, step_x, step_y, step_square, normal_row, shear_row, side_rows, agree_row, jump_normal, jump_shear, jump_rows, strength_pairs, cross, strength_row, pair_rows, strength_rows, equality_rows, rows_of}

@@ -13,7 +13,7 @@ use borrow.Table.Steps.{cases}
 use Rattle.scope.specs.declared.Place.{Place}
 use Rattle.scope.specs.declared.Place.TheVariants.{Line}
 use Rattle.scope.specs.Answer.{place_number}
-use Rattle.scope.specs.Members.{◌∈◌}
+use Rattle.integer.specs.Members.{◌∈◌}
 use Rattle.scope.specs.Phases.{Below, FirstFails, HoldsAt, Everywhere, RefusedBy}
 use Rattle.scope.specs.Columns.{Rule, right_angle, naming, parts, at_most_where, has_field, has_multipliers, n, l}
 use Rattle.scope.specs.Layout.{Group, Layout, Placed, groups, line_count, number_count, line_of, group_at, numbers_at}
@@ -261,7 +261,7 @@ in_table m c k p r = each_refusal InTableNumbers (mesh_phases m ++ claim_phases 
         each_join InTableNumbers (mesh_phases m) (claim_phases m c)
         (each_join InTableNumbers (line_phases mesh_layout m) (shape_phases m) (lines_listed mesh_layout m (listed 1 tt) (listed 2 tt)) (λ a. (
           λ k c h l r. own_listed (listed 5 tt) r,
-          λ e. (λ k c h l r. own_listed (listed 6 tt) r, λ e. (λ k c h l r. own_listed (listed 7 tt) r, λ e. (λ k c h l r. own_listed (listed 8 tt) r, λ e. (λ k c h l r. own_listed (listed 44 tt) r, λ e. (λ k c h l r. own_listed (listed 42 tt) r, λ i. tt))))),
+          λ e. (λ k c h l r. own_listed (listed 6 tt) r, λ e. (λ k c h l r. own_listed (listed 7 tt) r, λ e. (λ k c h l r. own_listed (listed 47 tt) r, λ e. (λ k c h l r. own_listed (listed 8 tt) r, λ e. (λ k c h l r. own_listed (listed 44 tt) r, λ e. (λ k c h l r. own_listed (listed 42 tt) r, λ i. tt)))))),
         )))
         (λ mesh.
         each_join InTableNumbers (line_phases (claim_layout m) c) (part_phases m c) (lines_listed (claim_layout m) c (listed 11 tt) (listed 12 tt)) (λ lines.

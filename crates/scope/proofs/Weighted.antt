@@ -6,7 +6,7 @@ use lib.IntN.{ℤ, pos, ◌+ℤ◌, ◌-ℤ◌, ◌*ℤ◌, *ℤ-zero}
 use Rattle.integer.proofs.Ring.{ring, terms}
 use Rattle.integer.specs.Sum.{sum_of}
 use Rattle.integer.proofs.SumLaws.{sum_of_same, sum_of_zero}
-use Rattle.scope.specs.Members.{◌∈◌}
+use Rattle.integer.specs.Members.{◌∈◌}
 use Rattle.scope.specs.Sums.{weighted_sum}
 
 module _ {A : Type 0} where

@@ -1,7 +1,7 @@
 -- What an accepted field promises at each strength pair of its mesh: the criterion (001, eq. 12) for a friction angle
 -- whose sine is p/h and whose cosine is q/h, with true stresses over n; and at each jump the same traction.
 use Rattle.std.specs.Prelude.{◌≡◌, List, ℕ, ◌<◌, ℤ, pos, ◌+ℤ◌, ◌*ℤ◌, ◌≤ℤ◌, ◌<ℤ◌}
-use Rattle.scope.specs.Members.{◌∈◌}
+use Rattle.integer.specs.Members.{◌∈◌}
 use Rattle.scope.specs.Columns.{n}
 use Rattle.scope.specs.Mesh.{elements, jumps, element_soil, p, q, h}
 use Rattle.scope.specs.Rows.{Pair, strength_pairs}

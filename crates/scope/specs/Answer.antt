@@ -4,7 +4,7 @@ use Rattle.std.specs.Prelude.{cond, ◌||◌, ℕ, eqb, Result, Ok, Err, Option,
 use Rattle.scope.specs.declared.Place.{Place}
 use Rattle.scope.specs.declared.Place.TheVariants.{Line, Row, Column, Node, Element, Height}
 use Rattle.scope.specs.declared.Reason.{Reason}
-use Rattle.scope.specs.declared.Reason.TheVariants.{MeshForm, MeshLimit, RightAngle, Name, LeftTurn, OwnSide, NoElement, Edge, ClaimForm, ClaimLimit, Parts, Equality, Strength, Unfixed, Live, Pairs, Joint, Gap, Layer}
+use Rattle.scope.specs.declared.Reason.TheVariants.{MeshForm, MeshLimit, RightAngle, Name, LeftTurn, OwnSide, NoElement, Edge, ClaimForm, ClaimLimit, Parts, Equality, Strength, Unfixed, Live, Pairs, Joint, Gap, Layer, Overlap}
 use Rattle.scope.specs.declared.Reason.TheVariants as R
 use Rattle.scope.specs.declared.Refusal.{Refusal}
 use Rattle.scope.specs.declared.Load.{Load}
@@ -25,11 +25,12 @@ place_number (Node k) = k
 place_number (Element k) = k
 place_number (Height k) = k
 
--- the table's "What is returned", "1, line" to "33, column 0", and document 02's 42, "with the node", 44, "with the line",
--- 46, "with the first line", and 45, "with the lowest such height": what the place j of a refusal with the number k is
+-- the table's "What is returned", "1, line" to "33, column 0", and document 02's 42, "with the node", 44, "with the
+-- line", 46, "with the first line", 45, "with the lowest such height", and 47, "with the higher element": what the place
+-- j of a refusal with the number k is
 unfoldable pub place_for : ℕ → ℕ → Place
 place_for k j =
-    cond (eqb k 5 || eqb k 6) (Element j)
+    cond (eqb k 5 || eqb k 6 || eqb k 47) (Element j)
     (cond (eqb k 7 || eqb k 42) (Node j)
     (cond (eqb k 21 || eqb k 22 || eqb k 31) (Row j)
     (cond (eqb k 32 || eqb k 33) (Column j)
@@ -58,6 +59,7 @@ reason_number Pairs = 42
 reason_number Joint = 44
 reason_number Gap = 45
 reason_number Layer = 46
+reason_number Overlap = 47
 
 -- what the code answers, as the definitions speak of it: of a check, of a load, of the open rows, of a verdict
 abbrev pub outcome_of : {A : Type 0} → Result A Refusal → Outcome

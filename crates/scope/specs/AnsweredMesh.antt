@@ -1,5 +1,5 @@
 -- What judging a mesh alone answers (document 01, 'Verdict and report'), by the number and the place of its outcome: 0
--- exactly when the mesh passes 1 to 8, 44 and 42, and each of these with its place exactly when the table has it.
+-- exactly when the mesh passes 1 to 8, 47, 44 and 42, and each of these with its place exactly when the table has it.
 use Rattle.std.specs.Prelude.{◌≡◌, ◌↔◌, ◌≢◌, List, ℕ, ℤ}
 use Rattle.scope.specs.Cases.Outcome.{Outcome}
 use Rattle.scope.specs.Answer.{place_for, mesh_number_of, mesh_place_of}

@@ -4,7 +4,7 @@
 -- Times (h·n)², the left side is h²·((sx - sy)² + (2t)²) and the right side is the square of 2·q·C·n - p·(sx + sy).
 -- The square hides a sign: the criterion's circle has the radius 2·c·cos φ - (σx + σy)·sin φ, which is not below 0.
 use Rattle.std.specs.Prelude.{List, ℕ, ℤ, pos, ◌+ℤ◌, ◌-ℤ◌, ◌*ℤ◌, ◌≤ℤ◌}
-use Rattle.scope.specs.Members.{◌∈◌}
+use Rattle.integer.specs.Members.{◌∈◌}
 use Rattle.scope.specs.Mesh.{p, q, h, cohesion}
 use Rattle.scope.specs.Polygon.{Polygon, Side, polygon_sides}
 use Rattle.scope.specs.Rows.{sx, sy, t, Pair}

@@ -2,7 +2,7 @@
 -- rows ask of the traction on a joint and leave free, which sides a joint has, and that a mesh without jumps has
 -- document 01's rows.
 use Rattle.std.specs.Prelude.{◌≡◌, ◌↔◌, List, [], ◌∷◌, ◌++◌, ℕ, ◌<◌, ℤ, pos, ◌+ℤ◌, ◌-ℤ◌, ◌*ℤ◌, neg_ℤ, ◌<ℤ◌}
-use Rattle.scope.specs.Members.{◌∈◌}
+use Rattle.integer.specs.Members.{◌∈◌}
 use Rattle.scope.specs.Mesh.{edges, jumps, x, y, from_node, to_node, jump_from, jump_to, facing_from, facing_to}
 use Rattle.scope.specs.Rows.{sx, sy, t, balance_rows, side_rows, jump_step_x, jump_step_y, jump_normal, jump_shear, equality_rows}
 use Rattle.scope.specs.Sums.{left_side}

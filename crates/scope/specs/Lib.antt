@@ -2,8 +2,8 @@
 -- answered, the layout, rows, sums, the verdict; then what the theorems say of them.
 -- All of it a reader must believe, and nothing here is a contract between functions: the definitions down to Verdict;
 -- then the statements, which say the same a second time and share no helper with them where a slip could hide
--- (Printed, PrintedColumns, Criterion, Meaning, Jumps, Pairs, SideLimits, PolygonRule, RowNumbers). Members only names a
--- thing; Worked has the numbers of document 01's sheet.
+-- (Printed, PrintedColumns, Criterion, Meaning, Jumps, Overlaps, Pairs, SideLimits, PolygonRule, RowNumbers).
+-- Worked has the numbers of document 01's sheet.
 -- 001 and 003, where a comment names them, are sources that document 01 cites by these numbers.
 pub mod Cases
 pub mod Answer
@@ -16,8 +16,8 @@ pub mod Polygon
 pub mod Rows
 pub mod Sums
 pub mod Claim
+pub mod Outline
 pub mod Tests
-pub mod Members
 pub mod Meets
 pub mod Statements
 pub mod Refusals
@@ -41,6 +41,7 @@ pub mod RefusedRows
 pub mod Triangles
 pub mod Pairs
 pub mod SideLimits
+pub mod Overlaps
 pub mod Criterion
 pub mod Meaning
 pub mod Jumps

@@ -1,7 +1,7 @@
 -- A field meets rows (document 01, 'Rows' and "Loads compared"), as a statement and for any list of rows.
 -- A field is its stresses s by column, with l and n.
 use Rattle.std.specs.Prelude.{◌≡◌, List, ℕ, ℤ, ◌≤ℤ◌}
-use Rattle.scope.specs.Members.{◌∈◌}
+use Rattle.integer.specs.Members.{◌∈◌}
 use Rattle.scope.specs.Rows.{Kind, asked, unfixed, strength, Row}
 use Rattle.scope.specs.Sums.{left_side, right_side}
 

@@ -1,7 +1,7 @@
 -- The pairs of a node and a soil (document 02, N2), said without the search for soils or the test of 42: which they
 -- are, their order, how many, and where they are document 01's.
 use Rattle.std.specs.Prelude.{◌≡◌, ◌↔◌, ◌⊎◌, List, map, ℕ, ◌<◌, ◌≤◌, ℤ}
-use Rattle.scope.specs.Members.{◌∈◌}
+use Rattle.integer.specs.Members.{◌∈◌}
 use Rattle.scope.specs.Mesh.{pairs_with, nodes, elements, soils, sides, corner, element_soil}
 use Rattle.scope.specs.Polygon.{polygon_of}
 use Rattle.scope.specs.Rows.{Row, Pair, joined, count_from, first_where, has_corner, pair_rows, strength_pairs, pair_count, pair_at, strength_rows}

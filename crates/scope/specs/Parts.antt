@@ -3,7 +3,7 @@
 use Rattle.std.specs.Prelude.{◌≡◌, ◌↔◌, ◌⊎◌, List, [], ◌∷◌, map, ℕ, ◌<◌, ℤ, pos, ◌<ℤ◌, length}
 use Rattle.integer.specs.Fraction.{Frac, ◌over◌, ◌≈ᶠ◌, ◌≤ᶠ◌}
 use Rattle.scope.specs.Cases.OpenRows.{Count}
-use Rattle.scope.specs.Members.{◌∈◌}
+use Rattle.integer.specs.Members.{◌∈◌}
 use Rattle.scope.specs.Columns.{n, l}
 use Rattle.scope.specs.Rows as R
 use Rattle.scope.specs.Rows.{rows_of, judged}

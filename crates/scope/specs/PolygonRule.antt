@@ -1,7 +1,7 @@
 -- The rule for a polygon (document 01, 'Rows', Strength): "Polygon corners are all whole-number points on the circle
 -- of radius r .., counterclockwise from (r, 0)".
 use Rattle.std.specs.Prelude.{◌≡◌, List, ◌∷◌, ◌++◌, ℕ, ◌+◌, ◌*◌, ◌≤◌, ◌<◌, max, ℤ, pos, ◌+ℤ◌, ◌-ℤ◌, ◌*ℤ◌, neg_ℤ, nat_abs, ◌<ℤ◌, length}
-use Rattle.scope.specs.Members.{◌∈◌}
+use Rattle.integer.specs.Members.{◌∈◌}
 use Rattle.scope.specs.Polygon.{Point, point, Polygon, Side, polygon_sides, polygon_of}
 use Rattle.scope.specs.Rows.{cross}
 use Rattle.scope.specs.Mesh.{most_sides, nodes_for_108, nodes_with, pairs_with, strength_multiplier}

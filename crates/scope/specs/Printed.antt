@@ -1,7 +1,7 @@
 -- The rows as document 01 prints them ('Rows'), and those of jumps as document 02 says them (N6), over whole numbers,
 -- with l and n on the side where they have them; and what a field that meets the rows of a mesh meets.
 use Rattle.std.specs.Prelude.{◌≡◌, ◌↔◌, ◌⊎◌, List, ℕ, ◌+◌, ◌%◌, ◌<◌, ℤ, pos, ◌+ℤ◌, ◌-ℤ◌, ◌*ℤ◌, neg_ℤ, ◌≤ℤ◌}
-use Rattle.scope.specs.Members.{◌∈◌}
+use Rattle.integer.specs.Members.{◌∈◌}
 use Rattle.scope.specs.Mesh.{elements, edges, sides, jumps, p, q, h, cohesion, dead_x, dead_y, live_x, live_y, x, y, corner, element_soil, edge_entry, from_node, to_node, jump_from, jump_to, facing_from, facing_to}
 use Rattle.scope.specs.Polygon.{Side, polygon_sides, polygon_of}
 use Rattle.scope.specs.Rows.{sx, sy, t, twice_area, step_x, step_y, jump_step_x, jump_step_y, Pair, strength_pairs, rows_of}

@@ -1,6 +1,6 @@
--- Document 01's table of refusals row by row ('Verdict and report'), with document 02's 44 and 42: a number, a place,
--- and what is so where they are returned, all before it in the order among it. Elements, nodes, edges, jumps, rows and
--- columns are counted from 0 here. The rows of lines are said one by one at the end of `Refusals`.
+-- Document 01's table of refusals row by row ('Verdict and report'), with document 02's 47, 44 and 42: a number, a
+-- place, and what is so where they are returned, all before it in the order among it. Elements, nodes, edges, jumps, rows
+-- and columns are counted from 0 here. The rows of lines are said one by one at the end of `Refusals`.
 use Rattle.std.specs.Prelude.{◌≡◌, List, ℕ, suc, ◌*◌, ◌<◌, ℤ, pos, ◌<ℤ◌, length}
 use Rattle.scope.specs.declared.Place.{Place}
 use Rattle.scope.specs.declared.Place.TheVariants.{Line, Row, Column, Node, Element}
@@ -11,7 +11,7 @@ use Rattle.scope.specs.Rows.{equality_rows, strength_rows, rows_of}
 use Rattle.scope.specs.Sums.{column_sum, live_sum}
 use Rattle.scope.specs.Tests.{row_at}
 use Rattle.scope.specs.Meets.{RowMet}
-use Rattle.scope.specs.Statements.{LinesSound, LeftTurns, OwnSides, InElement, OuterEdge, Joint, PairsFit, MeshSound, NoneOnUnfixed, HasField, HasMultipliers, RowsMet}
+use Rattle.scope.specs.Statements.{LinesSound, LeftTurns, OwnSides, InElement, NoneShared, OuterEdge, Joint, PairsFit, MeshSound, NoneOnUnfixed, HasField, HasMultipliers, RowsMet}
 use Rattle.scope.specs.Refusals.{LineRefusal}
 
 -- "lowest place first": P fails at place k of count, and at no lower one
@@ -32,13 +32,17 @@ pub data MeshRow (m : List ℤ) : ℕ → Place → Type 0 where
       → MeshRow m 6 (Element (suc e))
   seven : (v : ℕ) → LinesSound mesh_layout m → AtAll (elements m) (LeftTurns m) → AtAll (elements m) (OwnSides m)
       → LowestFails (nodes m) (InElement m) v → MeshRow m 7 (Node (suc v))
+  forty_seven : (e : ℕ) → LinesSound mesh_layout m → AtAll (elements m) (LeftTurns m) → AtAll (elements m) (OwnSides m)
+      → AtAll (nodes m) (InElement m) → LowestFails (elements m) (NoneShared m) e → MeshRow m 47 (Element (suc e))
   eight : (g : ℕ) → LinesSound mesh_layout m → AtAll (elements m) (LeftTurns m) → AtAll (elements m) (OwnSides m)
-      → AtAll (nodes m) (InElement m) → LowestFails (edges m) (OuterEdge m) g → MeshRow m 8 (Line (suc (edge_line m g)))
+      → AtAll (nodes m) (InElement m) → AtAll (elements m) (NoneShared m)
+      → LowestFails (edges m) (OuterEdge m) g → MeshRow m 8 (Line (suc (edge_line m g)))
   forty_four : (j : ℕ) → LinesSound mesh_layout m → AtAll (elements m) (LeftTurns m) → AtAll (elements m) (OwnSides m)
-      → AtAll (nodes m) (InElement m) → AtAll (edges m) (OuterEdge m)
+      → AtAll (nodes m) (InElement m) → AtAll (elements m) (NoneShared m) → AtAll (edges m) (OuterEdge m)
       → LowestFails (jumps m) (Joint m) j → MeshRow m 44 (Line (suc (jump_line m j)))
   forty_two : (v : ℕ) → LinesSound mesh_layout m → AtAll (elements m) (LeftTurns m) → AtAll (elements m) (OwnSides m)
-      → AtAll (nodes m) (InElement m) → AtAll (edges m) (OuterEdge m) → AtAll (jumps m) (Joint m)
+      → AtAll (nodes m) (InElement m) → AtAll (elements m) (NoneShared m) → AtAll (edges m) (OuterEdge m)
+      → AtAll (jumps m) (Joint m)
       → LowestFails (nodes m) (PairsFit m) v → MeshRow m 42 (Node (suc v))
 
 -- all before 21: the mesh passes, and the claim's lines

@@ -7,7 +7,7 @@ use Rattle.std.specs.Int.Signed.{lt_z}
 use Rattle.integer.specs.Tests.{eq_z}
 use Rattle.scope.specs.declared.Place.{Place}
 use Rattle.scope.specs.declared.Place.TheVariants.{Line, Row, Column, Node, Element}
-use Rattle.scope.specs.Members.{◌∈◌}
+use Rattle.integer.specs.Members.{◌∈◌}
 use Rattle.scope.specs.Phases.{Step, Phase, step, phase, if_part, RefusedBy}
 use Rattle.scope.specs.Columns.{all_within, Rule, right_angle, naming, parts, at_most_where, rule_test, has_field, has_multipliers, n, l}
 use Rattle.scope.specs.Layout.{Group, Layout, width, groups, line_count, number_count, group_at, numbers_at}
@@ -16,9 +16,9 @@ use Rattle.scope.specs.Claim.{claim_layout, stress, multiplier}
 use Rattle.scope.specs.Rows as R
 use Rattle.scope.specs.Rows.{equality_rows, strength_rows, rows_of}
 use Rattle.scope.specs.Sums.{row_holds, zero_if_unfixed, column_sum, live_sum}
-use Rattle.scope.specs.Tests.{left_turns, own_sides, in_element, outer_edge, is_joint, pairs_fit, row_at}
+use Rattle.scope.specs.Tests.{left_turns, own_sides, in_element, lies_apart, outer_edge, is_joint, pairs_fit, row_at}
 use Rattle.scope.specs.Meets.{RowMet}
-use Rattle.scope.specs.Statements.{AllWithin, Says, AllSay, Complete, InLimits, LineSound, LeftTurns, OwnSides, InElement, OuterEdge, Joint, PairsFit, NoneOnUnfixed}
+use Rattle.scope.specs.Statements.{AllWithin, Says, AllSay, Complete, InLimits, LineSound, LeftTurns, OwnSides, InElement, NoneShared, OuterEdge, Joint, PairsFit, NoneOnUnfixed}
 
 -- ---- lines: 1 to 4 of a mesh, 11 to 13 of a claim (which is which is said at the end, number by number)
 
@@ -75,6 +75,10 @@ own_sides_phase m = phase 6 (elements m) (OwnSides m) (own_sides m) (λ e. Eleme
 abbrev pub nodes_phase : List ℤ → Phase
 nodes_phase m = phase 7 (nodes m) (InElement m) (in_element m) (λ v. Node (suc v))
 
+-- 47 (document 02, N10): "with the higher element of the pair whose higher number is least"
+abbrev pub apart_phase : List ℤ → Phase
+apart_phase m = phase 47 (elements m) (NoneShared m) (lies_apart m) (λ e. Element (suc e))
+
 -- 8: "edge is no element's side, or its reverse is one, or an earlier edge has it"
 abbrev pub edges_phase : List ℤ → Phase
 edges_phase m = phase 8 (edges m) (OuterEdge m) (outer_edge m) (λ g. Line (suc (edge_line m g)))
@@ -87,12 +91,14 @@ joints_phase m = phase 44 (jumps m) (Joint m) (is_joint m) (λ j. Line (suc (jum
 abbrev pub pairs_phase : List ℤ → Phase
 pairs_phase m = phase 42 (nodes m) (PairsFit m) (pairs_fit m) (λ v. Node (suc v))
 
--- "then 5, 6, 7, 8, each over the whole mesh, lowest place first"; 42 "after 8"; 44 "after 8 and before 42"
+-- "then 5, 6, 7, 8, each over the whole mesh, lowest place first"; 47 "after 7 and before 8"; 42 "after 8"; 44 "after 8
+-- and before 42"
 abbrev pub shape_phases : List ℤ → List Phase
 shape_phases m =
     turns_phase m
     ∷ own_sides_phase m
     ∷ nodes_phase m
+    ∷ apart_phase m
     ∷ edges_phase m
     ∷ joints_phase m
     ∷ pairs_phase m
@@ -224,7 +230,7 @@ pub record ClaimLineNumbers (m c : List ℤ) : Type 0 where
 -- ---- all numbers of document 01's table and of document 02's requests, and no other
 
 abbrev pub table_numbers : List ℕ
-table_numbers = 1 ∷ 2 ∷ 3 ∷ 4 ∷ 5 ∷ 6 ∷ 7 ∷ 8 ∷ 11 ∷ 12 ∷ 13 ∷ 21 ∷ 22 ∷ 31 ∷ 32 ∷ 33 ∷ 42 ∷ 44 ∷ []
+table_numbers = 1 ∷ 2 ∷ 3 ∷ 4 ∷ 5 ∷ 6 ∷ 7 ∷ 8 ∷ 11 ∷ 12 ∷ 13 ∷ 21 ∷ 22 ∷ 31 ∷ 32 ∷ 33 ∷ 42 ∷ 44 ∷ 47 ∷ []
 
 abbrev pub InTable : List ℤ → List ℤ → Type 0
 InTable m c = (k : ℕ) (p : Place) → Refusal m c k p → k ∈ table_numbers

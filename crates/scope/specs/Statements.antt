@@ -1,11 +1,13 @@
 -- What document 01 asks of a mesh and of a claim, in plain statements about whole numbers: no test, no order of
 -- checks.
 use Rattle.std.specs.Prelude.{◌≡◌, ◌⊎◌, List, [], ◌∷◌, ℕ, suc, ◌+◌, ◌-◌, ◌*◌, ◌≤◌, ◌<◌, ℤ, pos, ◌+ℤ◌, ◌*ℤ◌, ◌≤ℤ◌, ◌<ℤ◌, length}
+use Rattle.plane.specs.Polygon.{Shared}
 use Rattle.scope.specs.Columns.{Limit, between, one_of, free, Rule, right_angle, naming, parts, at_most_where, at, n, l}
 use Rattle.scope.specs.Layout.{Layout, width, groups, line_count, number_count, group_at, numbers_at}
 use Rattle.scope.specs.Mesh.{pairs_with, mesh_layout, nodes, elements, edges, sides, jumps, x, y, corner, corner_count, around, from_node, to_node, jump_from, jump_to, facing_from, facing_to}
 use Rattle.scope.specs.Rows as R
 use Rattle.scope.specs.Rows.{pairs_below, equality_rows, rows_of}
+use Rattle.scope.specs.Outline.{outline}
 use Rattle.scope.specs.Sums.{column_sum, live_sum}
 use Rattle.scope.specs.Tests.{turn, row_at}
 use Rattle.scope.specs.Claim.{stress, multiplier}
@@ -116,6 +118,12 @@ pub record OuterEdge (m : List ℤ) (g : ℕ) : Type 0 where
   pub outer : OuterSide m (from_node m g) (to_node m g)
   pub is_first : (k : ℕ) → k < g → ¬ ((from_node m k ≡ from_node m g) × (to_node m k ≡ to_node m g))
 
+-- "A mesh is refused if two elements share a point inside both, fractions included; touching along sides or at corners is
+-- fine" (document 02, N10): element e shares none with an element below it, that is, no point in fractions lies strictly
+-- left of every side of both
+abbrev pub NoneShared : List ℤ → ℕ → Type 0
+NoneShared m e = (d : ℕ) → d < e → ¬ Shared (outline m d) (outline m e)
+
 -- the side from a to b is one of the two that jump k uses
 abbrev pub UsedByJump : List ℤ → ℕ → ℕ → ℕ → Type 0
 UsedByJump m a b k =
@@ -143,12 +151,13 @@ pub record Joint (m : List ℤ) (j : ℕ) : Type 0 where
 abbrev pub PairsFit : List ℤ → ℕ → Type 0
 PairsFit m v = length (pairs_below m (suc v)) ≤ pairs_with (sides m)
 
--- a mesh that passes 1 to 8, 44 and 42
+-- a mesh that passes 1 to 8, 47, 44 and 42
 pub record MeshSound (m : List ℤ) : Type 0 where
   pub lines : LinesSound mesh_layout m
   pub left_turns : (e : ℕ) → e < elements m → LeftTurns m e
   pub own_sides : (e : ℕ) → e < elements m → OwnSides m e
   pub in_element : (v : ℕ) → v < nodes m → InElement m v
+  pub none_shared : (e : ℕ) → e < elements m → NoneShared m e
   pub outer_edges : (g : ℕ) → g < edges m → OuterEdge m g
   pub joints : (j : ℕ) → j < jumps m → Joint m j
   pub pairs_fit : (v : ℕ) → v < nodes m → PairsFit m v

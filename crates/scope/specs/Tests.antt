@@ -1,7 +1,7 @@
--- What is tested of a mesh after its lines (document 01, 'Verdict and report', refusals 5 to 8; document 02, 44 and
+-- What is tested of a mesh after its lines (document 01, 'Verdict and report', refusals 5 to 8; document 02, 47, 44 and
 -- 42), and the row that 21, 22 and 31 test.
 use Rattle.std.specs.Prelude.{Bool, not, ◌&&◌, ◌||◌, List, [], ℕ, suc, ◌+◌, ◌-◌, ℤ, pos, ◌-ℤ◌, ◌*ℤ◌, eqb, leb, length, get_or}
-use Rattle.std.specs.Int.Signed.{lt_z}
+use Rattle.std.specs.Int.Signed.{le_z, lt_z}
 use Rattle.integer.specs.Tests.{eq_z}
 use Rattle.scope.specs.Checks.{some_below, all_below}
 use Rattle.scope.specs.Mesh.{pairs_with, elements, edges, sides, x, y, corner_count, around, from_node, to_node, jump_from, jump_to, facing_from, facing_to}
@@ -34,6 +34,23 @@ own_sides m e = all_below (own_side_at m e) (corner_count m e)
 -- refusal 7: "in no element"
 unfoldable pub in_element : List ℤ → ℕ → Bool
 in_element m v = some_below (has_corner m v) (elements m)
+
+-- refusal 47 (document 02, N10), "A line along one of the two elements' sides decides it": each corner of element d is
+-- on the line from node a to node b or right of it
+unfoldable pub none_left : List ℤ → ℕ → ℕ → ℕ → Bool
+none_left m a b d = all_below (λ j. le_z (turn m a b (around m d j)) (pos 0)) (corner_count m d)
+
+-- the line along a side of element e has all of element d on it or to its right
+unfoldable pub parted_by : List ℤ → ℕ → ℕ → Bool
+parted_by m e d = some_below (λ i. none_left m (around m e i) (around m e (i + 1)) d) (corner_count m e)
+
+-- a side of one of the two does
+unfoldable pub apart_from : List ℤ → ℕ → ℕ → Bool
+apart_from m d e = parted_by m d e || parted_by m e d
+
+-- element e is apart from each element below it
+unfoldable pub lies_apart : List ℤ → ℕ → Bool
+lies_apart m e = all_below (λ d. apart_from m d e) e
 
 -- "An outer side (an element's directed side whose reverse is no element's)", from a to b: what 8 and 44 ask for
 unfoldable pub outer_side : List ℤ → ℕ → ℕ → Bool

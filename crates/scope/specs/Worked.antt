@@ -235,17 +235,21 @@ jump_twice = blocks 0 2 (joint ++ joint)
 unfoldable pub sides_apart : List ℤ
 sides_apart = blocks 0 1 (pos 4 ∷ pos 1 ∷ pos 7 ∷ pos 6 ∷ [])
 
--- a third block in the place of the left one, "9 10 11 12", whose jump faces the right block's side as the first does:
--- that side is used though no jump goes from it
-unfoldable pub facing_used : List ℤ
-facing_used =
-    (pos 12 ∷ pos 3 ∷ pos 1 ∷ pos 0 ∷ pos 12 ∷ pos 2 ∷ [])
+-- the joint a second time, from its other side: "8 5 3 2"
+unfoldable pub joint_from_behind : List ℤ
+joint_from_behind = blocks 0 2 (joint ++ (pos 8 ∷ pos 5 ∷ pos 3 ∷ pos 2 ∷ []))
+
+-- ---- a mesh that is refused with 47
+
+-- "12 3 1 0 12 0 / .. / 0 2 / 6 2 / 6 4 / 0 4 / 4 4 / 6 4 / 6 6 / 4 6 / 2 0 / 4 0 / 4 6 / 2 6 / 1 2 3 4 1 / 5 6 7 8 1 /
+-- 9 10 11 12 1": a lying bar, a block that touches both bars, a standing bar that crosses the lying one
+unfoldable pub crossing_bars : List ℤ
+crossing_bars =
+    (pos 12 ∷ pos 3 ∷ pos 1 ∷ pos 0 ∷ pos 12 ∷ pos 0 ∷ [])
     ++ (pos 0 ∷ pos 1 ∷ pos 1 ∷ pos 10 ∷ zeros 4)
-    ++ (pos 0 ∷ pos 0 ∷ pos 1 ∷ pos 0 ∷ pos 1 ∷ pos 1 ∷ pos 0 ∷ pos 1 ∷ [])
-    ++ (pos 1 ∷ pos 0 ∷ pos 2 ∷ pos 0 ∷ pos 2 ∷ pos 1 ∷ pos 1 ∷ pos 1 ∷ [])
-    ++ (pos 0 ∷ pos 0 ∷ pos 1 ∷ pos 0 ∷ pos 1 ∷ pos 1 ∷ pos 0 ∷ pos 1 ∷ [])
+    ++ (pos 0 ∷ pos 2 ∷ pos 6 ∷ pos 2 ∷ pos 6 ∷ pos 4 ∷ pos 0 ∷ pos 4 ∷ [])
+    ++ (pos 4 ∷ pos 4 ∷ pos 6 ∷ pos 4 ∷ pos 6 ∷ pos 6 ∷ pos 4 ∷ pos 6 ∷ [])
+    ++ (pos 2 ∷ pos 0 ∷ pos 4 ∷ pos 0 ∷ pos 4 ∷ pos 6 ∷ pos 2 ∷ pos 6 ∷ [])
     ++ (pos 1 ∷ pos 2 ∷ pos 3 ∷ pos 4 ∷ pos 1 ∷ [])
     ++ (pos 5 ∷ pos 6 ∷ pos 7 ∷ pos 8 ∷ pos 1 ∷ [])
     ++ (pos 9 ∷ pos 10 ∷ pos 11 ∷ pos 12 ∷ pos 1 ∷ [])
-    ++ joint
-    ++ (pos 10 ∷ pos 11 ∷ pos 5 ∷ pos 8 ∷ [])

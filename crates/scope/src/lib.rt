@@ -58,6 +58,7 @@ pub enum Reason {
     Joint = 44,
     Gap = 45,
     Layer = 46,
+    Overlap = 47,
 }
 
 impl Reason {

@@ -20,7 +20,7 @@ use Rattle.scope.specs.Tests.{own_side_at, has_ends, has_side, own_sides, outer_
 use Rattle.mesh.specs.MeshContracts.{Sized}
 use Rattle.shape.specs.ShapeContracts.{no_byte, Holds, is_none, put, keep_first, byte_below, byte_at}
 use Rattle.shape.specs.ShapeContracts.{SideBytes, side_byte, SideTable, edge_byte, EdgeTable, is_untaken}
-use Rattle.shape.proofs.MeshLaws.{around-there}
+use Rattle.outlines.proofs.CornerLaws.{around_there}
 use Rattle.shape.proofs.Tables.{holds_as, holds_each, put_free, first_below, first_found, some_there}
 use Rattle.shape.proofs.Tables.{byte_found, free_below, cond_same, byte_more, given, none_given, one_given}
 use Rattle.shape.proofs.Tables.{all_given}
@@ -71,8 +71,8 @@ module _ (m : List ℤ) {s : Sizes} (k : Sized m s) {e : ℕ} (l : e < elements 
       → u ≡ keep_first t (around m e i) (around m e (i + 1)) e → SideBytes m (sides_so_far m e (i + 1)) u
   side_more i h d =
       bytes_to h
-      (one_given (side_is m e) (side_byte m e) e i h.bytes (omega (arith, h.room, around-there k l i))
-      (omega (arith, around-there k l (i + 1), k.facts.counts.nodes_most)) (λ a b. refl) d)
+      (one_given (side_is m e) (side_byte m e) e i h.bytes (omega (arith, h.room, around_there k l i))
+      (omega (arith, around_there k l (i + 1), k.facts.counts.nodes_most)) (λ a b. refl) d)
 
   pub all_sides : {i : ℕ} {t : List (List ℕ)} → SideBytes m (sides_so_far m e i) t → i ≤ corner_count m e
       → corner_count m e ≤ i → SideTable m (e + 1) t
@@ -96,7 +96,7 @@ module _ (m : List ℤ) {s : Sizes} (k : Sized m s) {e : ℕ} (l : e < elements 
       let has = has_side m (around m e i) (around m e (i + 1)) in
       ap (λ (x : ℕ). eqb x e)
       (ap₂ (byte_at t) c d
-      ∙ byte_of h k (around-there k l i) (around-there k l (i + 1))
+      ∙ byte_of h k (around_there k l i) (around_there k l (i + 1))
       ∙ byte_found no_byte has (λ k. k) (elements m) l (has_own j))
       ∙ (first_found has (elements m) l (has_own j)).1
 

@@ -4,7 +4,7 @@ use Rattle.std.specs.Prelude.{get_or, set}
 use Rattle.scope.specs.Checks.{some_below}
 use Rattle.scope.specs.Mesh.{most_nodes, most_elements, most_soils, nodes, elements, edges, element_soil}
 use Rattle.scope.specs.Phases.{Phase}
-use Rattle.scope.specs.Refusals.{own_sides_phase, nodes_phase, edges_phase, joints_phase}
+use Rattle.scope.specs.Refusals.{own_sides_phase, nodes_phase, apart_phase, edges_phase, joints_phase}
 use Rattle.scope.specs.Rows.{first_where, has_corner}
 use Rattle.scope.specs.Tests.{has_side, has_ends, used_by_jump}
 
@@ -100,6 +100,6 @@ JumpTable m j t = SideBytes m (jump_byte m j) t
 
 -- ---- phases
 
--- 6, 7, 8 and 44: what a table of sides decides, and marks
+-- 6, 7, 47, 8 and 44: what a table of sides decides, and marks, and lines along sides
 abbrev pub side_phases : List ℤ → List Phase
-side_phases m = own_sides_phase m ∷ nodes_phase m ∷ edges_phase m ∷ joints_phase m ∷ []
+side_phases m = own_sides_phase m ∷ nodes_phase m ∷ apart_phase m ∷ edges_phase m ∷ joints_phase m ∷ []

@@ -1,8 +1,7 @@
-// The shape of a mesh (document 01, refusals 5 to 8; document 02, 44 and 42), and its pairs of a node and a soil.
+// The shape of a mesh (document 01, refusals 5 to 8; document 02, 47, 44 and 42), and its pairs of a node and a soil.
 
 #![tactic(auto)]
 
-mod corners;
 mod edges;
 mod joints;
 pub mod marks;
@@ -10,4 +9,3 @@ pub mod mesh_checks;
 mod nodes;
 pub mod pairs;
 mod sides;
-mod turns;

@@ -1,4 +1,4 @@
-// The shape of a mesh whose lines have passed: refusals 5 to 8, 44 and 42 in their order, and the pairs of a mesh that
+// The shape of a mesh whose lines have passed: refusals 5 to 8, 47, 44 and 42 in their order, and the pairs of a mesh that
 // passes.
 ghost use Rattle.std.specs.Prelude.{◌≡◌, [], ◌∷◌, IfOk};
 ghost use Rattle.scope.specs.Answer.{outcome_of};
@@ -14,10 +14,11 @@ use crate::marks::{MarkedMesh, mark_table};
 use crate::nodes::nodes_check;
 use crate::pairs::pairs_check;
 use crate::sides::{ElementSides, NONE, SideRow, side_table, sides_check};
-use crate::turns::turns_check;
 use mesh::Mesh;
 use mesh::limits::MOST_NODES;
 use mesh::pairs::Pairs;
+use outlines::overlaps::overlaps_check;
+use outlines::turns::{TurnedMesh, turns_check};
 use scope::{Outcome, Refusal};
 
 // So many nodes has a small mesh at most.
@@ -37,7 +38,7 @@ fn edges_and_joints(m: &Mesh, sides: &mut [SideRow]) -> Outcome
     joints_check(m, sides)
 }
 
-// Refusals 6 to 8 and 44, by a table in which no byte is given yet.
+// Refusals 6 to 8, 47 before 8, and 44, by a table in which no byte is given yet.
 fn checks_by_table(marked: &MarkedMesh, sides: &mut [SideRow]) -> Outcome
     requires { SideTable marked.now.mesh.numbers.now 0 sides.old }
     ensures { outcome_of result ≡ check_phases (side_phases marked.now.mesh.numbers.now) }
@@ -48,10 +49,11 @@ fn checks_by_table(marked: &MarkedMesh, sides: &mut [SideRow]) -> Outcome
         rows: sides,
     })?;
     nodes_check(marked)?;
+    overlaps_check(&TurnedMesh { mesh: marked.mesh })?;
     edges_and_joints(&marked.mesh, sides)
 }
 
-// Refusals 6 to 8 and 44. For speed a small mesh has a small table: the bytes that need no filling were 6 % of the time
+// The same. For speed a small mesh has a small table: the bytes that need no filling were 6 % of the time
 // of the worked sheet.
 fn sides_to_joints(marked: &MarkedMesh) -> Outcome
     ensures { outcome_of result ≡ check_phases (side_phases marked.now.mesh.numbers.now) }
@@ -63,15 +65,15 @@ fn sides_to_joints(marked: &MarkedMesh) -> Outcome
     }
 }
 
-// Refusals 5 to 8, 44 and 42, in their order, and the pairs.
+// Refusals 5 to 8, 47, 44 and 42, in their order, and the pairs.
 pub fn mesh_shape(m: &Mesh) -> Result<Pairs, Refusal>
     ensures outcome { outcome_of result ≡ check_phases (shape_phases m.now.numbers.now) }
     ensures pairs { IfOk result (λ p. PairsAre m.now.numbers.now p.items) }
 {
-    turns_check(m)?;
+    let turned = turns_check(m)?;
     let marks = mark_table(m);
     let marked = MarkedMesh {
-        mesh: *m,
+        mesh: turned.mesh,
         marks: &marks,
     };
     sides_to_joints(&marked)?;

@@ -10,9 +10,9 @@ ghost use Rattle.scope.specs.Refusals.{own_sides_phase};
 ghost use Rattle.scope.specs.Tests.{own_side_at, own_sides};
 ghost use Rattle.shape.specs.ShapeContracts.{keep_first, SideTable};
 
-use crate::corners::{corner_around, corner_count};
 use mesh::Mesh;
 use mesh::limits::MOST_NODES;
+use outlines::corners::{corner_around, corner_count};
 use scope::{Outcome, Place, Reason, demand};
 
 // The row of a node: a byte for each node that a side may go to from it.

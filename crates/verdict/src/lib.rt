@@ -25,8 +25,8 @@ use mesh::sizes::Sizes;
 use scope::{Refusal, Verdict};
 use shape::mesh_checks::mesh_shape;
 
-// The numbers of a mesh that has no table, judged: what they are refused for, 1 to 8, 42 and 44, or the mesh's pairs of
-// a node and a soil. These are made once a mesh, and lent to the judging of each claim on it.
+// The numbers of a mesh that has no table, judged: what they are refused for, 1 to 8, 42, 44 and 47, or the mesh's pairs
+// of a node and a soil. These are made once a mesh, and lent to the judging of each claim on it.
 pub fn judge_mesh(m: &[i64]) -> Result<Pairs, Refusal>
     ensures outcome { outcome_of result ≡ mesh_check m.now }
     ensures pairs { IfOk result (λ p. PairsAre m.now p.items) }
@@ -35,7 +35,7 @@ pub fn judge_mesh(m: &[i64]) -> Result<Pairs, Refusal>
     mesh_shape(&Mesh::new(m))
 }
 
-// A mesh whose lines have passed, and a table, judged: 1, 2 and 4 of the table, 46 and 45, then 5 to 8, 44 and 42.
+// A mesh whose lines have passed, and a table, judged: 1, 2 and 4 of the table, 46 and 45, then 5 to 8, 47, 44 and 42.
 // `out` is a copy of the mesh's numbers, which is filled.
 pub fn judge_layers(m: &[i64], t: &[i64], out: &mut [i64]) -> Result<Pairs, Refusal>
     requires lines_passed { LinesPassed t.now m.now }

@@ -7,6 +7,7 @@ pub mod field;
 pub mod lines;
 pub mod mesh;
 pub mod multipliers;
+pub mod overlap;
 pub mod polygon;
 pub mod report;
 pub mod run;

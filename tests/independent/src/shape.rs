@@ -1,8 +1,8 @@
-//! The shape of a mesh whose lines have passed: refusals 5 to 8, 44 and 42, each over the
-//! whole mesh.
+//! The shape of a mesh whose lines have passed: refusals 5, 6, 7, 47, 8, 44 and 42, each over
+//! the whole mesh.
 
 use crate::mesh::{Edge, Element, Jump, Mesh, Pair};
-use crate::{refuse, Refusal};
+use crate::{overlap, refuse, Refusal};
 
 const MOST_SOILS: usize = 16;
 
@@ -11,6 +11,7 @@ pub fn check(mesh: &Mesh) -> Result<Vec<Pair>, Refusal> {
     check_turns(mesh)?;
     let sides = directed_sides(&mesh.elements)?;
     let around = soils_around(mesh)?;
+    overlap::check(mesh)?;
     let used = check_edges(mesh, &sides)?;
     check_jumps(mesh, &sides, used)?;
     pairs_of(&around, mesh.polygon.most_nodes)

@@ -4,6 +4,7 @@
 mod base;
 mod jumps;
 mod layers;
+mod overlaps;
 mod pairs;
 mod sides;
 mod triangles;
@@ -46,6 +47,7 @@ pub fn tables() -> Vec<Table> {
     all.push(jumps::table());
     all.extend(layers::tables());
     all.extend(sides::tables());
+    all.extend(overlaps::tables());
     all
 }
 

@@ -10,6 +10,7 @@ mod damage;
 // The bench takes an accepted grid of a given size.
 #[allow(dead_code)]
 mod grids;
+mod overlaps;
 mod random;
 mod runs;
 mod tally;
@@ -180,6 +181,7 @@ fn main() {
         damaged(&mut tally, &mut random, &grid);
     }
     columns::all(&mut tally, &mut random);
+    (0..20_000).for_each(|_| overlaps::at_random(&mut tally, &mut random));
     runs::by_hand(&mut tally);
     (0..6_000).for_each(|_| runs::at_random(&mut tally, &mut random));
     for _ in 0..500 {

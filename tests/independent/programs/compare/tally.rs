@@ -7,8 +7,8 @@ use independent::{Answer, Run};
 use std::collections::BTreeMap;
 
 /// Every number that a file can get, and those that have to do with the call.
-const NUMBERS: [u32; 21] = [
-    0, 1, 2, 3, 4, 46, 45, 5, 6, 7, 8, 44, 42, 11, 12, 13, 21, 22, 31, 32, 33,
+const NUMBERS: [u32; 22] = [
+    0, 1, 2, 3, 4, 46, 45, 5, 6, 7, 47, 8, 44, 42, 11, 12, 13, 21, 22, 31, 32, 33,
 ];
 const CALLS: [u32; 2] = [41, 43];
 

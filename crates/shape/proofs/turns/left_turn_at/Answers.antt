@@ -1,8 +1,0 @@
--- `left_turn_at` meets its contract: the corner with its neighbours around the element.
-use Rattle.shape.proofs.MeshLaws.{left-turn_from}
-use Rattle.shape.proofs.turns.left_turn_at.Goals as goal
-
-pub returns : goal.returns
-returns c =
-    left-turn_from _ _ _ c.corner_count.ensures.is c.corner_around-a.ensures.same
-    c.corner_around-b.ensures.same c.corner_around-c.ensures.same c.turns_left.ensures
