@@ -1,6 +1,7 @@
 -- What is handed over (document 01, "Loads compared"): "whether the claim is a file or numbers handed over". The
 -- bracket for accepted parts, each from a file or from numbers, mixed pairs included.
 use Rattle.std.specs.Prelude.{List, ℕ, ℤ}
+use Rattle.scope.specs.Blends.{BlendedClaims}
 use Rattle.scope.specs.Accepted.{FieldAccepted, MultipliersAccepted}
 use Rattle.scope.specs.Parts.{SameRows, PartsBracket}
 use Rattle.reader.specs.File.{file_width}
@@ -34,3 +35,7 @@ OnTheSameMesh a b = SameRows (mesh_of a) (mesh_of b)
 -- the field of a and the multipliers of b
 abbrev pub HandedBracket : Handed → Handed → Type 0
 HandedBracket a b = PartsBracket (mesh_of a) (claim_of a) (mesh_of b) (claim_of b)
+
+-- the fields of a and of b, weighted u and v
+abbrev pub HandedBlends : ℕ → ℕ → Handed → Handed → Type 0
+HandedBlends u v a b = BlendedClaims u v (mesh_of a) (claim_of a) (mesh_of b) (claim_of b)

@@ -3,3 +3,4 @@ pub mod NumbersListed
 pub mod Promises
 pub mod PromisesApplied
 pub mod TablePromises
+pub mod Blends

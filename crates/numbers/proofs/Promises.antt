@@ -4,13 +4,13 @@ use mathlib.Core.Path.{◌≡◌, refl, sym, ◌∙◌, ap, subst, subst₂}
 use mathlib.Core.Logic.{◌↔◌, ◌⊎◌, inl, inr, ◌≢◌}
 use mathlib.Core.List.Memᴰ
 use mathlib.Core.List.{List}
-use Prim.Native.Nat.{ℕ, ◌*◌, ◌≤◌}
+use Prim.Native.Nat.{ℕ, ◌≤◌}
 use native.Mathlib.Omega.{arith}
 use lib.Dec.{T}
 use lib.IntN.{ℤ, pos}
 use borrow.Table.Steps.{cases}
 use Rattle.integer.specs.Fraction.{◌over◌, Positive}
-use Rattle.integer.proofs.FractionLaws.{≤ᶠ_trans, ≈ᶠ→≤ᶠ, ≈ᶠ_sym, ≈ᶠ_trans}
+use Rattle.integer.proofs.FractionLaws.{≈ᶠ_sym, ≈ᶠ_trans}
 use Rattle.integer.specs.Tests.{eq_z}
 use Rattle.integer.proofs.TestLaws.{eq_z_yes, eq_z_no}
 use Rattle.scope.specs.declared.Place.{Place}
@@ -24,12 +24,11 @@ use Rattle.std.specs.Prelude.{Result}
 use Rattle.scope.specs.declared.Refusal as Answered
 use Rattle.scope.specs.Answer.{outcome_of, place_number, place_for, number_of, place_of}
 use Rattle.scope.specs.Columns.{at, has_field, has_multipliers, n, l}
-use Rattle.scope.specs.Mesh.{nodes, sides}
+use Rattle.scope.specs.Mesh.{sides}
 use Rattle.scope.specs.Rows.{rows_of}
 use Rattle.scope.specs.Sums.{live_sum, limit_sum, open_rows}
 use Rattle.scope.specs.Claim.{stress, multiplier}
 use Rattle.scope.specs.Verdict.{verdict, lower_load, upper_load, open_count}
-use Rattle.scope.specs.Meets.{FieldMeets}
 use Rattle.scope.specs.Statements.{MeshSound, HasField, HasMultipliers}
 use Rattle.scope.specs.Refusals.{mesh_phases, claim_phases, MeshRefusal, Refusal}
 use Rattle.scope.specs.Accepted.{FieldAccepted, MultipliersAccepted}
@@ -49,11 +48,8 @@ use Rattle.scope.proofs.PolygonRule.{listed_polygon}
 use Rattle.scope.proofs.SideLimits.{limits_by_sides}
 use Rattle.scope.proofs.Overlaps.{sound_mesh_apart}
 use Rattle.scope.proofs.OverlapRefused.{overlap_named, never_for_this}
-use Rattle.scope.proofs.Columns.{mesh_columns}
-use Rattle.scope.proofs.Bracket.{bracket}
-use Rattle.scope.proofs.Parts.{nodes-named, multipliers_meet_lem, field-n, parts_bracket, open_rows_count}
-use Rattle.scope.proofs.AcceptedFractions.{mesh_fractions}
-use Rattle.scope.proofs.SameRows.{same_met}
+use Rattle.scope.proofs.Parts.{field-n, whole_bracket, parts_bracket, open_rows_count}
+use Rattle.scope.proofs.AcceptedFractions.{mesh_fractions, fraction_at_most}
 use Rattle.scope.proofs.AcceptedMultipliers.{sums_printed, multipliers_as_printed}
 use Rattle.scope.proofs.Meaning.{area, outward_normal}
 use Rattle.scope.proofs.Triangles.{only_repeat, read_as_triangle, passed_before}
@@ -425,13 +421,6 @@ accepted_parts {m} {c} {d} {k} {r} h same t w = parts_bracket m c d k same
 
 -- ---- fractions
 
--- a field of whole numbers that meets the rows of m, against multipliers for the same rows
-whole_bracket : (m d k : List ℤ) → SameRows m d → MultipliersAccepted d k → (t : ℕ → ℤ) (j e : ℤ)
-    → FieldMeets t j e (rows_of m) → Bracket t j e (multiplier d k) (rows_of d)
-whole_bracket m d k same w t j e met =
-    bracket t j e (multiplier d k) (rows_of d) (3 * nodes d) (mesh_columns d (nodes-named d w.mesh))
-    (same_met m d same t j e met) (multipliers_meet_lem d k w)
-
 pub fractions_allowed : (m d k : List ℤ) → MeshSound m → SameRows m d → MultipliersAccepted d k
     → FractionsBracket m d k (allowed d k)
 unfolding allowed
@@ -439,12 +428,7 @@ fractions_allowed m d k sound same w =
     let proper : Positive (allowed d k) = record { positive = w.meet.live } in
     record {
       laws = (mesh_fractions m sound).laws;
-      at_most = λ f met.
-          ≤ᶠ_trans f.load.proper (record { positive = met.written.above_0 }) proper (≈ᶠ→≤ᶠ (≈ᶠ_sym met.written.load))
-          (record {
-            cross-≤ = (whole_bracket m d k same w met.numerators met.numerator met.denominator
-                met.meets).at_most;
-          });
+      at_most = fraction_at_most m d k same w;
       equal = λ f met b t a written.
           let whole : Bracket t a b (multiplier d k) (rows_of d) = whole_bracket m d k same w t a b
           (((mesh_fractions m sound).laws.same_for_each f).0 met b t a written) in

@@ -154,7 +154,7 @@ pub listed_32 : 32 ∈ returned_numbers
 listed_32 = (numbers_listed worked_mesh sheet29 32 7 (returned refused_answered)).listed
 
 -- the field of the refused claim
-tells_field : TellsField sheet29 32
+pub tells_field : TellsField sheet29 32
 unfolding computed zeros worked_stresses worked_multipliers worked_claim sheet29
 tells_field = (refl, inr (omega arith, omega arith))
 

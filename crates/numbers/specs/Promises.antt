@@ -3,7 +3,7 @@
 -- claim.
 -- Each is proved of every answer (`proofs/Promises.antt`) and applied to document 01's sheet
 -- (`proofs/PromisesApplied.antt`). Those about the number and the place alone serve the check of two files too.
-use Rattle.std.specs.Prelude.{◌≡◌, ◌↔◌, ◌⊎◌, ◌≢◌, List, ◌∷◌, ℕ, ◌*◌, ◌≤◌, ◌<◌, ℤ, pos, ◌<ℤ◌, length, Result}
+use Rattle.std.specs.Prelude.{◌≡◌, ◌↔◌, ◌⊎◌, ◌≢◌, List, ◌∷◌, ℕ, ◌+◌, ◌*◌, ◌≤◌, ◌<◌, ℤ, pos, ◌<ℤ◌, length, Result}
 use Rattle.integer.specs.Fraction.{Frac, ◌over◌, ◌≈ᶠ◌, ◌≤ᶠ◌}
 use Rattle.integer.specs.Members.{◌∈◌}
 use Rattle.scope.specs.Columns.{at, n, l}
@@ -27,6 +27,7 @@ use Rattle.scope.specs.Jumps.{SoundJumps, TipAsksNothing, NoJumps}
 use Rattle.scope.specs.Bracket.{Open, NoneOpen}
 use Rattle.scope.specs.Fractions.{FractionField, WrittenOver, FractionLaws, field_over}
 use Rattle.scope.specs.AcceptedFractions.{MeetsMesh}
+use Rattle.scope.specs.Blends.{BlendedClaims}
 use Rattle.scope.specs.Parts.{SameRows, PartsBracket, NumberOf}
 use Rattle.scope.specs.Tests.{row_at}
 use Rattle.scope.specs.Meaning.{Area, OutwardNormal}
@@ -222,6 +223,15 @@ FractionsAndAnswer d k s = Answers d k s → s.multipliers ≡ 1 → (m : List �
 pub record FieldInFractions (m c : List ℤ) (r : NumbersAnswer) : Type 0 where
   pub above_0 : pos 0 <ℤ r.n
   pub meets : MeetsMesh m (field_over r.n above_0 (stress m c) r.l)
+
+-- ==== Blended sheets
+
+-- "two accepted fields, weighted with whole numbers not below zero and not both zero, give a field in exact fractions
+-- that meets every row and carries the weighted load .. no such blend passes any accepted limit" (document 02, N11):
+-- of two calls, or of one twice, on meshes with the same rows, whose numbers tell that their fields are accepted
+abbrev pub BlendedAnswers : (m c d k : List ℤ) (r s : NumbersAnswer) → Type 0
+BlendedAnswers m c d k r s = Answers m c r → Answers d k s → SameRows m d → TellsField c r.number
+    → TellsField k s.number → (a b : ℕ) → 0 < a + b → BlendedClaims a b m c d k
 
 -- ==== A mesh alone
 

@@ -17,3 +17,4 @@ pub mod RunPromises
 pub mod RunApplied
 pub mod SizesPromises
 pub mod SizesApplied
+pub mod Blends

@@ -57,7 +57,7 @@ use Rattle.pechuvo.proofs.TablePromises.{no_table_file, any_files, calls_bracket
 use Rattle.pechuvo.proofs.FilePromises.{long_files, form_exactly, accepted_files, as_a_file}
 
 -- for proofs by computation: besides the definitions that make a line, those that read its columns and those that say what was handed over
-unfoldable opened : Unit {0}
+unfoldable pub opened : Unit {0}
 unfolding computed_line before_point after_point decimal said_number below_zero said_minus and_said signed_decimal is_none said column_of mesh_of claim_of two_thirds_mesh two_thirds_claim with_decimals
 opened = tt
 
@@ -415,28 +415,28 @@ third_closed = third_open.closed.0 (let a = third_open.reads in let b = third_co
 untabled : (m c : List ℤ) {r : NumbersAnswer} → Handed-over.Answers m c r → TableAnswers [] m c r
 untabled m c h = h ∙ ap answer_of (sym (no_table_verdict m c))
 
-refused_call : Call (files (at 4).mesh [] (at 4).claim) 32
+pub refused_call : Call (files (at 4).mesh [] (at 4).claim) 32
 refused_call = on_files (at 4).mesh [] (at 4).claim (pos 6) room 32 7 (at 4).line refused_answered
 
-sheet_call : Call (files (at 0).mesh [] (at 0).claim) 0
+pub sheet_call : Call (files (at 0).mesh [] (at 0).claim) 0
 sheet_call = on_files (at 0).mesh [] (at 0).claim (pos 6) room 0 0 (at 0).line sheet-answered
 
-numbers_call : Call (numbers Numbers.worked_mesh [] Numbers.sheet19) 0
+pub numbers_call : Call (numbers Numbers.worked_mesh [] Numbers.sheet19) 0
 numbers_call = on_numbers Numbers.worked_mesh [] Numbers.sheet19 answer19 (untabled Numbers.worked_mesh Numbers.sheet19 nineteen_answered)
 
 alone_call : Call (numbers second_soil [] Numbers.multipliers_alone) 0
 alone_call = on_numbers second_soil [] Numbers.multipliers_alone alone_answer (untabled second_soil Numbers.multipliers_alone alone_answered)
 
 -- equal numbers have the same rows
-same_mesh : {m d : List ℤ} → m ≡ d → SameRows m d
+pub same_mesh : {m d : List ℤ} → m ≡ d → SameRows m d
 same_mesh e = ap (λ (m : List ℤ). map judged (rows_of m)) e
 
 -- the meshes of the files are the numbers of document 01's sheet
-sheet_mesh : mesh_of (files (at 0).mesh [] (at 0).claim) ≡ Numbers.worked_mesh
+pub sheet_mesh : mesh_of (files (at 0).mesh [] (at 0).claim) ≡ Numbers.worked_mesh
 unfolding opened Numbers.zeros Numbers.worked_mesh
 sheet_mesh = refl
 
-refused_mesh_lem : mesh_of (files (at 4).mesh [] (at 4).claim) ≡ Numbers.worked_mesh
+pub refused_mesh_lem : mesh_of (files (at 4).mesh [] (at 4).claim) ≡ Numbers.worked_mesh
 unfolding opened Numbers.zeros Numbers.worked_mesh
 refused_mesh_lem = refl
 
@@ -444,11 +444,11 @@ sheet-has : HasMultipliers (claim_of (files (at 0).mesh [] (at 0).claim))
 unfolding opened
 sheet-has = refl
 
-sheet-field : HasField (claim_of (files (at 0).mesh [] (at 0).claim))
+pub sheet-field : HasField (claim_of (files (at 0).mesh [] (at 0).claim))
 unfolding opened
 sheet-field = refl
 
-refused_tells : TellsField (claim_of (files (at 4).mesh [] (at 4).claim)) 32
+pub refused_tells : TellsField (claim_of (files (at 4).mesh [] (at 4).claim)) 32
 unfolding opened
 refused_tells = (refl, inr (omega arith, omega arith))
 
@@ -483,7 +483,7 @@ beyond_strength =
       meet = (multipliers_passed (equality_rows m) (rows_of m) (3 * nodes m) (multiplier m c)).says refl;
     }
 
-beyond_mesh : mesh_of (files (at 2).mesh [] (at 2).claim) ≡ Numbers.worked_mesh
+pub beyond_mesh : mesh_of (files (at 2).mesh [] (at 2).claim) ≡ Numbers.worked_mesh
 unfolding opened Numbers.zeros Numbers.worked_mesh
 beyond_mesh = refl
 

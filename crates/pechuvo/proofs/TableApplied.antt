@@ -43,7 +43,7 @@ unfolding computed_line mesh_of claim_of soil_zero_mesh worked_claim seam_zero s
 opened = tt
 
 -- sheet k of those with a table, counted from 0
-abbrev with_table : ℕ → Sheet
+abbrev pub with_table : ℕ → Sheet
 with_table k = get_or tabled_sheets k (sheet "" "" "")
 
 -- ---- what is answered: the table that gives the soil; the gap; the overlap; the line that is cut short
@@ -143,17 +143,17 @@ long_table number place after h =
 
 -- ---- loads compared: the field of the filled mesh, the multipliers of the sheet without a table
 
-soil_call : Call (files (with_table 0).mesh (with_table 0).table (with_table 0).claim) 0
+pub soil_call : Call (files (with_table 0).mesh (with_table 0).table (with_table 0).claim) 0
 soil_call = on_files (with_table 0).mesh (with_table 0).table (with_table 0).claim (pos 6) room 0 0 (with_table 0).line soil-answered
 
 sheet_call : Call (files (at 0).mesh [] (at 0).claim) 0
 sheet_call = on_files (at 0).mesh [] (at 0).claim (pos 6) room 0 0 (at 0).line sheet-answered
 
-same_meshes : mesh_of (files (with_table 0).mesh (with_table 0).table (with_table 0).claim) ≡ mesh_of (files (at 0).mesh [] (at 0).claim)
+pub same_meshes : mesh_of (files (with_table 0).mesh (with_table 0).table (with_table 0).claim) ≡ mesh_of (files (at 0).mesh [] (at 0).claim)
 unfolding opened
 same_meshes = refl
 
-parts : HasField (claim_of (files (with_table 0).mesh (with_table 0).table (with_table 0).claim)) × HasMultipliers (claim_of (files (at 0).mesh [] (at 0).claim))
+pub parts : HasField (claim_of (files (with_table 0).mesh (with_table 0).table (with_table 0).claim)) × HasMultipliers (claim_of (files (at 0).mesh [] (at 0).claim))
 unfolding opened
 parts = (refl, refl)
 

@@ -168,7 +168,7 @@ call_read (on_files mesh table claim z before number place after h) t =
 call_read (on_numbers m t c r h) e = tells_read t m c (table_returned {t = t} {m = m} {c = c} h).number_is e
 
 -- an accepted field, and accepted multipliers, of a call
-call_field : {a : Handed} {i : ℕ} → Call a i → TellsField (claim_of a) i → FieldAccepted (mesh_of a) (claim_of a)
+pub call_field : {a : Handed} {i : ℕ} → Call a i → TellsField (claim_of a) i → FieldAccepted (mesh_of a) (claim_of a)
 call_field {a} {i} p t = (field_exactly (mesh_of a) (claim_of a) i (place_of (verdict (mesh_of a) (claim_of a))) (call_read p t.1)).told.1 t
 
 call_multipliers : {a : Handed} {i : ℕ} → Call a i → HasMultipliers (claim_of a) → i ≡ 0 → MultipliersAccepted (mesh_of a) (claim_of a)

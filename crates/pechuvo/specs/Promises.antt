@@ -39,7 +39,7 @@ use Rattle.judge.specs.Judge.{mesh_numbers, mesh_from, mesh_outcome, claim_numbe
 use Rattle.judge.specs.Form.{MeshFormFails}
 use Rattle.judge.specs.declared.room.MeshSizes.{MeshSizes}
 use Rattle.judge.specs.Room.{no_sizes, mesh_sizes}
-use Rattle.judge.specs.Handed.{Handed, files, numbers, mesh_of, claim_of, HasAcceptedMultipliers, OnTheSameMesh, HandedBracket}
+use Rattle.judge.specs.Handed.{Handed, files, numbers, mesh_of, claim_of, HasAcceptedMultipliers, OnTheSameMesh, HandedBracket, HandedBlends}
 use Rattle.run.specs.declared.RunAnswer.{RunAnswer}
 use Rattle.run.specs.Run.{claims_judged, RunAnswers}
 use Rattle.run.specs.InTurn.{claim_at, InTurn}
@@ -240,6 +240,13 @@ CallAndMultipliers a i = Call a i → (b : Handed) → OnTheSameMesh a b → Tel
 abbrev pub FractionsAndCall : (b : Handed) (j : ℕ) → Type 0
 FractionsAndCall b j = Call b j → HasMultipliers (claim_of b) → j ≡ 0 → (m : List ℤ) → MeshSound m
     → SameRows m (mesh_of b) → FractionsBracket m (mesh_of b) (claim_of b) (allowed (mesh_of b) (claim_of b))
+
+-- "two accepted fields, weighted with whole numbers not below zero and not both zero, give a field in exact fractions
+-- that meets every row and carries the weighted load .. no such blend passes any accepted limit" (document 02, N11):
+-- the fields of two calls, or of one twice, each on files or on numbers
+abbrev pub BlendedCalls : (a b : Handed) (i j : ℕ) → Type 0
+BlendedCalls a b i j = Call a i → Call b j → OnTheSameMesh a b → TellsField (claim_of a) i → TellsField (claim_of b) j
+    → (u v : ℕ) → 0 < u + v → HandedBlends u v a b
 
 -- "Numbers handed to it get the refusals that a file of them, with columns as wide as needed, would get"
 pub record AsAFile (t m c : List ℤ) (r : NumbersAnswer) : Type 0 where

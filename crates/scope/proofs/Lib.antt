@@ -41,6 +41,7 @@ pub mod SameRows
 pub mod Parts
 pub mod AcceptedMultipliers
 pub mod AcceptedFractions
+pub mod Blends
 pub mod InOrder
 pub mod SumBounds
 pub mod AnswerBounds

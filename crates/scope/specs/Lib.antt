@@ -51,5 +51,6 @@ pub mod Fractions
 pub mod Parts
 pub mod AcceptedMultipliers
 pub mod AcceptedFractions
+pub mod Blends
 pub mod Worked
 pub mod WorkedTable

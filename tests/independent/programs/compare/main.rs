@@ -4,6 +4,7 @@
 //! between; then the sheets, each as a .mesh, a .claim and perhaps a .table file of one name.
 
 mod archive;
+mod blends;
 mod causes;
 mod columns;
 mod damage;
@@ -182,6 +183,7 @@ fn main() {
     }
     columns::all(&mut tally, &mut random);
     (0..20_000).for_each(|_| overlaps::at_random(&mut tally, &mut random));
+    (0..2_000).for_each(|_| blends::at_random(&mut tally, &mut random));
     runs::by_hand(&mut tally);
     (0..6_000).for_each(|_| runs::at_random(&mut tally, &mut random));
     for _ in 0..500 {

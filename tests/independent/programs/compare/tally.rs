@@ -56,6 +56,8 @@ pub struct Tally {
     /// Meshes whose sizes were told, and claims whose lengths were held to them.
     sizes: u64,
     lengths: u64,
+    /// Blends of accepted fields.
+    pub blends: u64,
     disagreements: u64,
 }
 
@@ -176,6 +178,7 @@ impl Tally {
             "sizes: {}, claims of these lengths: {}",
             self.sizes, self.lengths
         );
+        println!("blends: {}", self.blends);
         println!("disagreements: {}", self.disagreements);
     }
 
