@@ -4,3 +4,4 @@ pub mod Promises
 pub mod PromisesApplied
 pub mod TablePromises
 pub mod Blends
+pub mod PromisesAppliedBeds
