@@ -2,5 +2,6 @@
 pub mod NumbersListed
 pub mod Promises
 pub mod PromisesApplied
+pub mod OverlapsApplied
 pub mod TablePromises
 pub mod Blends

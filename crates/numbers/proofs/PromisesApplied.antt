@@ -1,6 +1,6 @@
 -- Each promise of the call on numbers applied to document 01's sheet or a neighbour, that of N1 to two triangles, those
--- of N2 to fill over clay, those of N6 to two blocks on a joint, and that of N10 to bars that cross and to those blocks,
--- which touch, too: antt computes the answer, and the promise says the rest.
+-- of N2 to fill over clay, and those of N6 to two blocks on a joint: antt computes the answer, and the promise says the
+-- rest. That of N10 is applied in `OverlapsApplied`.
 use mathlib.Core.Path.{◌≡◌, refl, sym, ◌∙◌, ap, subst₂}
 use mathlib.Core.Logic.{inl, inr}
 use mathlib.Core.List.{List, [], ◌∷◌, ◌++◌}
@@ -33,8 +33,7 @@ use Rattle.scope.specs.AcceptedFractions.{MeetsMesh}
 use Rattle.scope.specs.Parts.{SameRows, NumberOf, PartsBracket}
 use Rattle.scope.specs.Worked.{zeros, worked_mesh, worked_stresses, worked_multipliers, worked_claim, multipliers_alone}
 use Rattle.scope.specs.Worked.{sheet, sheet19, sheet29, free_shear, two_triangles, field_alone, fill_over_clay}
-use Rattle.scope.specs.Worked.{over_clay, blocks, block_edges, joint, two_blocks, on_joint, crossing_bars}
-use Rattle.scope.specs.Overlaps.{NoneOnEachOther, OnEachOther}
+use Rattle.scope.specs.Worked.{over_clay, blocks, block_edges, joint, two_blocks, on_joint}
 use Rattle.scope.proofs.Printed.{field-printed}
 use Rattle.scope.proofs.Applied.{free_field, free_rows}
 use Rattle.scope.specs.Tests.{row_at}
@@ -47,7 +46,7 @@ use Rattle.numbers.specs.declared.numbers_answer.NumbersAnswer.{NumbersAnswer}
 use Rattle.numbers.specs.Promises.{Answers, returned_numbers, TellsField, FieldInFractions, MeshAnswered}
 use Rattle.numbers.proofs.Promises.{mesh_answered_exactly, returned, returns_zero_exactly, refuses_exactly}
 use Rattle.numbers.proofs.Promises.{numbers_listed, field_exactly, multipliers_exactly, criterion_for_each_pair}
-use Rattle.numbers.proofs.Promises.{pairs_asked, overlaps_asked, jumps_asked, tractions_on_joints, rows_refused, field-reported}
+use Rattle.numbers.proofs.Promises.{pairs_asked, jumps_asked, tractions_on_joints, rows_refused, field-reported}
 use Rattle.numbers.proofs.Promises.{multipliers_reported, open_rows_reported, field_in_fractions, calls_bracket}
 use Rattle.numbers.proofs.Promises.{call_bracket, accepted_parts, fractions_bracket, triangles_asked}
 
@@ -412,10 +411,10 @@ sheet_rows_stay =
 -- ---- jumps: two blocks on a joint, the left one loaded
 
 -- 40 carried, 1200/30 allowed, no row open
-abbrev joint_claim : List ℤ
+abbrev pub joint_claim : List ℤ
 joint_claim = on_joint (neg_ℤ (pos 20)) (neg_ℤ (pos 30))
 
-pub joint_answer : NumbersAnswer
+unfoldable pub joint_answer : NumbersAnswer
 joint_answer = record {
   number = 0;
   place = 0;
@@ -475,32 +474,3 @@ no_jump = refl
 
 pub sheet_equalities_stay : equality_rows worked_mesh ≡ balance_rows worked_mesh ++ side_rows worked_mesh
 sheet_equalities_stay = (jumps_asked worked_mesh).none no_jump
-
--- ---- elements that lie on each other: bars that cross, and the two blocks, which touch along a side
-
-pub crossing_answer : NumbersAnswer
-crossing_answer = record {
-  number = 47;
-  place = 3;
-  field = 0;
-  multipliers = 0;
-  l = pos 0;
-  n = pos 0;
-  w = pos 0;
-  m = pos 0;
-  open_rows = 0;
-}
-
-pub crossing_answered : Answers crossing_bars [] crossing_answer
-unfolding computed zeros crossing_bars crossing_answer
-crossing_answered = refl
-
-pub crossing_named : OnEachOther crossing_bars 3
-unfolding crossing_answer
-crossing_named = (overlaps_asked crossing_bars [] 47 3 (returned crossing_answered)).refused refl
-
-pub blocks_touch : NoneOnEachOther two_blocks
-unfolding joint_answer
-blocks_touch =
-    (overlaps_asked two_blocks joint_claim 0 0 (returned joint-answered)).sound
-    ((returns_zero_exactly two_blocks joint_claim 0 0 (returned joint-answered)).exactly.0 refl).mesh

@@ -1,5 +1,5 @@
 // Boxes around the elements, which for speed 47 asks before their sides (document 02, N10).
-ghost use Rattle.std.specs.Prelude.{◌≡◌, ◌||◌, ◌<◌, ◌≤ℤ◌};
+ghost use Rattle.std.specs.Prelude.{◌≡◌, ◌||◌, ◌<◌, ◌≤◌, ◌≤ℤ◌};
 ghost use Rattle.std.specs.Int.Signed.{le_z};
 ghost use Rattle.plane.specs.Points.{Corner};
 ghost use Rattle.plane.specs.Boxes.{InBox, Around};
@@ -9,7 +9,6 @@ ghost use Rattle.outlines.specs.OutlineContracts.{box_of, ends_before, boxes_apa
 
 use arrayvec::ArrayVec;
 use mesh::Mesh;
-use mesh::limits::MOST_ELEMENTS;
 
 // An upright box.
 #[derive(Clone, Copy, Default)]
@@ -28,8 +27,8 @@ pub struct Boxed {
     pub top: i64,
 }
 
-// The boxes of a mesh's elements, in their order.
-pub type Boxes = ArrayVec<Boxed, MOST_ELEMENTS>;
+// The boxes of a mesh's elements, in their order, in a room for N.
+pub type Boxes<const N: usize> = ArrayVec<Boxed, N>;
 
 // The lower of two numbers, and the higher.
 fn lower(a: i64, b: i64) -> i64
@@ -105,10 +104,11 @@ fn box_around(m: &Mesh, e: usize) -> ElementBox
 }
 
 // The boxes of all elements.
-pub fn boxes_around(m: &Mesh) -> Boxes
+pub fn boxes_around<const N: usize>(m: &Mesh) -> Boxes<N>
+    requires { elements m.now.numbers.now ≤ N }
     ensures { BoxedTo m.now.numbers.now (elements m.now.numbers.now) result.items }
 {
-    let mut boxes = Boxes::new();
+    let mut boxes: Boxes<N> = ArrayVec::new();
     let mut right = 0;
     let mut top = 0;
     for e in 0..m.sizes.elements {

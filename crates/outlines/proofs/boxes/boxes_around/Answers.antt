@@ -9,7 +9,7 @@ use borrow.Author.Rules.{rules}
 use Rattle.outlines.proofs.boxes.boxes_around.Goals as goal
 
 pub loop-e-preserved : goal.loop-e-preserved
-loop-e-preserved c =
+loop-e-preserved g c =
     let right = c.higher-right in
     let top = c.higher-top in
     let own = c.box_around-own.result in

@@ -3,4 +3,4 @@ use Rattle.outlines.proofs.BoxLaws.{Boxing}
 use Rattle.outlines.proofs.boxes.boxes_around.Given as goal
 
 abbrev pub invariant-loop-e : goal.invariant-loop-e
-invariant-loop-e l = Boxing l.m.numbers.now l.e l.right l.top l.boxes.items
+invariant-loop-e g l = Boxing l.m.numbers.now l.e l.right l.top l.boxes.items

@@ -1,9 +1,0 @@
--- `overlaps_check` meets its contract. The invariant: the elements passed lie apart from those below them.
-use mathlib.Core.Path.{◌≡◌}
-use mathlib.Core.Bool.{true}
-use Rattle.scope.specs.Checks.{all_below}
-use Rattle.scope.specs.Tests.{lies_apart}
-use Rattle.outlines.proofs.overlaps.overlaps_check.Given as goal
-
-abbrev pub invariant-loop-e : goal.invariant-loop-e
-invariant-loop-e l = all_below (lies_apart l.m.mesh.numbers.now) l.e ≡ true
