@@ -26,6 +26,17 @@ struct sizes {
   uint64_t field_bytes, multipliers_bytes, both_bytes;
 };
 
+struct book {
+  uint32_t lower_there, upper_there;
+  int64_t lower_numerator, lower_denominator, upper_numerator, upper_denominator;
+  uint64_t count;
+};
+
+struct book_answer {
+  uint32_t number, place;
+  struct book book;
+};
+
 /* A file or a list of numbers: where it begins and how long it is. */
 #define FILE_OF(name) const uint8_t *name, size_t name##_len
 #define LIST_OF(name) const int64_t *name, size_t name##_len
@@ -36,7 +47,11 @@ struct sizes {
                              BUFFER(report));                                                      \
   struct numbers make##_check_numbers(LIST_OF(mesh), LIST_OF(table), LIST_OF(claim));              \
   struct run make##_check_run(FILE_OF(mesh), FILE_OF(table), FILE_OF(claims), BUFFER(reports));    \
-  struct sizes make##_mesh_sizes(FILE_OF(mesh), FILE_OF(table));
+  struct sizes make##_mesh_sizes(FILE_OF(mesh), FILE_OF(table));                                   \
+  struct book_answer make##_book_ask(struct book book, FILE_OF(mesh), FILE_OF(table),              \
+                                     FILE_OF(claim));                                              \
+  struct book_answer make##_book_commit(struct book book, uint64_t count, FILE_OF(mesh),           \
+                                        FILE_OF(table), FILE_OF(claim));
 
 ENTRIES(pechuvo)
 ENTRIES(independent)

@@ -86,6 +86,28 @@ static void compare_sizes(struct input in) {
   give_all_back(on);
 }
 
+/* Books to begin with: an empty one, bounds to better, a full one, a bound that is no fraction. */
+static const struct book books[] = {
+    {0, 0, 0, 0, 0, 0, 0},
+    {1, 1, 41, 2, 39, 2, 7},
+    {1, 0, INT64_MIN, INT64_MAX, 0, 0, 999999},
+    {0, 1, 0, 0, INT64_MAX, 1, 1000000},
+    {1, 1, 1, 0, 1, 1, 0},
+};
+
+static void compare_books(struct input in, size_t seed) {
+  struct book book = books[seed % (sizeof books / sizeof books[0])];
+  uint64_t count = seed % 7 == 0 ? book.count + 1 : book.count;
+  struct lent on = lend_all(in, NULL, 0);
+  struct book_answer a = pechuvo_book_ask(book, GIVEN(on.mesh), GIVEN(on.table), GIVEN(on.claim));
+  struct book_answer b = independent_book_ask(book, GIVEN(in.mesh), GIVEN(in.table), GIVEN(in.claim));
+  must(memcmp(&a, &b, sizeof a) == 0, "the book that is asked");
+  a = pechuvo_book_commit(book, count, GIVEN(on.mesh), GIVEN(on.table), GIVEN(on.claim));
+  b = independent_book_commit(book, count, GIVEN(in.mesh), GIVEN(in.table), GIVEN(in.claim));
+  must(memcmp(&a, &b, sizeof a) == 0, "the book after a commit");
+  give_all_back(on);
+}
+
 /* The numbers of a file as far as its columns go; what is no number counts as strtoll says. */
 static size_t numbers_of(struct file file, int64_t *numbers) {
   size_t count = 0, at = 0;
@@ -151,6 +173,7 @@ int LLVMFuzzerTestOneInput(const uint8_t *data, size_t size) {
   compare_files(in, (int64_t)(size / 8 % 10) - 1, size % 16 == 0 ? size / 16 % LINE : LINE + size % 8);
   compare_run(in, size % 16 == 0 ? size / 16 % LINE : 3 * LINE + size % 8);
   compare_sizes(in);
+  compare_books(in, size);
   compare_numbers(in);
   return 0;
 }

@@ -1,6 +1,6 @@
 //! The independent implementation under C names, for the fuzzer's harness.
 
-use independent::{Answer, Numbers, Run, Sizes};
+use independent::{Answer, Book, BookAnswer, Numbers, Run, Sizes};
 
 /// A length of 0 goes with any pointer.
 unsafe fn slice<'a, T>(start: *const T, length: usize) -> &'a [T] {
@@ -88,4 +88,48 @@ unsafe extern "C" fn independent_mesh_sizes(
 ) -> Sizes {
     // SAFETY: as above.
     unsafe { independent::mesh_sizes(slice(mesh, mesh_len), slice(table, table_len)) }
+}
+
+#[no_mangle]
+unsafe extern "C" fn independent_book_ask(
+    book: Book,
+    mesh: *const u8,
+    mesh_len: usize,
+    table: *const u8,
+    table_len: usize,
+    claim: *const u8,
+    claim_len: usize,
+) -> BookAnswer {
+    // SAFETY: as above.
+    unsafe {
+        independent::book_ask(
+            book,
+            slice(mesh, mesh_len),
+            slice(table, table_len),
+            slice(claim, claim_len),
+        )
+    }
+}
+
+#[no_mangle]
+unsafe extern "C" fn independent_book_commit(
+    book: Book,
+    count: u64,
+    mesh: *const u8,
+    mesh_len: usize,
+    table: *const u8,
+    table_len: usize,
+    claim: *const u8,
+    claim_len: usize,
+) -> BookAnswer {
+    // SAFETY: as above.
+    unsafe {
+        independent::book_commit(
+            book,
+            count,
+            slice(mesh, mesh_len),
+            slice(table, table_len),
+            slice(claim, claim_len),
+        )
+    }
 }

@@ -45,6 +45,7 @@
      33      column 0  m is 0 or less
      41      0         report buffer under 113 bytes; pechuvo_check only
      43      0         number of decimals other than 0 to 7; pechuvo_check only
+     48      0         the book takes no such call; the two calls of a book only, before all else
 
    The first that applies is returned, in this order: 43; 41; the mesh's lines front to back, in
    each line 1, 2, 3, 4; the table's lines front to back, in each line 1, 2, 4; then 46 and 45; then
@@ -140,6 +141,43 @@ struct pechuvo_sizes {
    file that passes 11, 12 and 13 has exactly the length said for its kind. */
 struct pechuvo_sizes pechuvo_mesh_sizes(const uint8_t *mesh, size_t mesh_length,
                                         const uint8_t *table, size_t table_length);
+
+/* A book of the best bracket of the claims for one mesh: the highest carried load, the lowest limit,
+   each as an exact fraction and not reduced, and how many accepted claims were committed. A book of
+   zeros is empty. A bound is there unless its first field, lower_there or upper_there, is 0; a book
+   that follows an accepted claim has 1 there, and zeros for a bound that it has not. */
+struct pechuvo_book {
+  uint32_t lower_there;
+  uint32_t upper_there;
+  int64_t lower_numerator;
+  int64_t lower_denominator;
+  int64_t upper_numerator;
+  int64_t upper_denominator;
+  uint64_t count;
+};
+
+struct pechuvo_book_answer {
+  uint32_t number;
+  uint32_t place;
+  struct pechuvo_book book;
+};
+
+/* Judges a claim file on a mesh file and a table file and tells the book that would follow. An
+   accepted claim moves each bound only if its own is strictly better, any is better than none, and
+   adds one to the count; at a refused one the book comes back as it was. 48, place 0: the count is
+   1,000,000 or more, or a bound that is there has a denominator not above 0; then the claim is not
+   judged, and the book comes back as it was. No report is written. */
+struct pechuvo_book_answer pechuvo_book_ask(struct pechuvo_book book,
+                                            const uint8_t *mesh, size_t mesh_length,
+                                            const uint8_t *table, size_t table_length,
+                                            const uint8_t *claim, size_t claim_length);
+
+/* The same, and the book that comes back is the next one to hand over. The count is the one that the
+   ask saw; 48 also where it is not the book's. */
+struct pechuvo_book_answer pechuvo_book_commit(struct pechuvo_book book, uint64_t count,
+                                               const uint8_t *mesh, size_t mesh_length,
+                                               const uint8_t *table, size_t table_length,
+                                               const uint8_t *claim, size_t claim_length);
 
 /* The loads of an accepted claim as exact fractions, l/n and w/m, as they stand and not reduced. */
 struct pechuvo_numbers {

@@ -153,6 +153,43 @@ static void call_sizes(struct block mesh, struct block table, enum lending how) 
   give_back(t);
 }
 
+static int same_book(struct pechuvo_book a, struct pechuvo_book b) {
+  return a.lower_there == b.lower_there && a.upper_there == b.upper_there &&
+         a.lower_numerator == b.lower_numerator && a.lower_denominator == b.lower_denominator &&
+         a.upper_numerator == b.upper_numerator && a.upper_denominator == b.upper_denominator &&
+         a.count == b.count;
+}
+
+/* Asks and commits from memory lent in one way: the number and place of a check, an ask and its commit agree, a
+   refused claim and 48 hand the very book back. */
+static void call_book(struct block mesh, struct block table, struct block claim, enum lending how) {
+  unsigned char line[LINE];
+  struct pechuvo_answer one = pechuvo_check(GIVEN(mesh), GIVEN(table), GIVEN(claim), DECIMALS, line, LINE);
+  struct pechuvo_book before = {7, 0, -5, 3, 11, 0, 999999}, full = before, broken = before;
+  full.count = 1000000;
+  broken.lower_denominator = 0;
+  struct block m = lend(GIVEN(mesh), how), t = lend(GIVEN(table), how), c = lend(GIVEN(claim), how);
+  close_for_writing(m);
+  close_for_writing(t);
+  close_for_writing(c);
+  struct pechuvo_book_answer asked = pechuvo_book_ask(before, GIVEN(m), GIVEN(t), GIVEN(c));
+  struct pechuvo_book_answer got = pechuvo_book_commit(before, before.count, GIVEN(m), GIVEN(t), GIVEN(c));
+  expect(asked.number == one.number && asked.place == one.place, "the number and place of an ask");
+  expect(got.number == asked.number && got.place == asked.place, "an ask and its commit agree");
+  expect(same_book(got.book, asked.book), "an ask and its commit tell one book");
+  expect(got.number != 0 || got.book.count == before.count + 1, "an accepted claim counts");
+  expect(got.number == 0 || same_book(got.book, before), "a refused claim leaves the book");
+  got = pechuvo_book_commit(before, before.count + 1, GIVEN(m), GIVEN(t), GIVEN(c));
+  expect(got.number == 48 && got.place == 0 && same_book(got.book, before), "another count gets 48");
+  got = pechuvo_book_ask(full, GIVEN(m), GIVEN(t), GIVEN(c));
+  expect(got.number == 48 && got.place == 0 && same_book(got.book, full), "a full book gets 48");
+  got = pechuvo_book_ask(broken, GIVEN(m), GIVEN(t), GIVEN(c));
+  expect(got.number == 48 && got.place == 0 && same_book(got.book, broken), "a bound over 0 gets 48");
+  give_back(m);
+  give_back(t);
+  give_back(c);
+}
+
 /* A claim that passes 11, 12 and 13 has the length that is said for its parts. */
 static void claim_length(struct block mesh, struct block table, struct block claim) {
   struct pechuvo_sizes sizes = pechuvo_mesh_sizes(GIVEN(mesh), GIVEN(table));
@@ -178,6 +215,7 @@ static void cut_files(struct block mesh, struct block table, struct block claim,
   part = claim;
   for (part.length = 0; part.length < claim.length; part.length += step) {
     call_each_way(mesh, table, part, LINE, heap);
+    call_book(mesh, table, part, heap ? ON_HEAP : AT_END);
   }
 }
 
@@ -205,6 +243,9 @@ static void empty_slices(struct block mesh, struct block table, struct block cla
     expect(run.reports == 0 && run.bytes == 0, "a run into an empty buffer has no report");
     struct pechuvo_sizes sizes = pechuvo_mesh_sizes(any, 0, GIVEN(table));
     expect(sizes.number == 1 && sizes.place == 1, "the sizes of an empty mesh get 1, line 1");
+    struct pechuvo_book empty = {0};
+    struct pechuvo_book_answer told = pechuvo_book_ask(empty, any, 0, GIVEN(table), GIVEN(claim));
+    expect(told.number == 1 && told.place == 1, "a book on an empty mesh gets 1, line 1");
     struct pechuvo_numbers numbers = pechuvo_check_numbers((int64_t *)(void *)any, 0, NULL, 0, NULL, 0);
     expect(numbers.number == 1 && numbers.place == 1, "an empty list gets 1, line 1");
   }
@@ -285,6 +326,8 @@ static void sheet(const char *name, int heap) {
   call_run(mesh, table, claim, heap ? ON_HEAP : AT_START);
   call_sizes(mesh, table, heap ? ON_HEAP : AT_END);
   call_sizes(mesh, table, heap ? ON_HEAP : AT_START);
+  call_book(mesh, table, claim, heap ? ON_HEAP : AT_END);
+  call_book(mesh, table, claim, heap ? ON_HEAP : AT_START);
   claim_length(mesh, table, claim);
   cut_files(mesh, table, claim, step, heap);
   lists(mesh, table, claim, step / 8 + 1, heap);

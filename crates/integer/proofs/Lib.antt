@@ -3,7 +3,7 @@
 -- The example is a checked definition, `example-..`. A definition sees only what stands above it, so each stands directly after what the head names.
 -- RingLaws: ring laws of ℤ; Ring: identities by computing; TestLaws: Boolean tests; Order: ≤ and <; Linear: linear consequences by `omega`;
 -- RoundLaws: floor and ceiling; FractionLaws: fractions; SumLaws: sums over lists; BoundLaws: numbers within a bound;
--- Machine: 64-bit arithmetic in proofs of functions; DecimalLaws: whole numbers as text.
+-- Machine: 64-bit arithmetic in proofs of functions; Wide: products in 128 bits; DecimalLaws: whole numbers as text.
 pub mod RingLaws
 pub mod Ring
 pub mod TestLaws
@@ -14,4 +14,5 @@ pub mod FractionLaws
 pub mod SumLaws
 pub mod BoundLaws
 pub mod Machine
+pub mod Wide
 pub mod DecimalLaws

@@ -2,11 +2,13 @@
 -- bracket for accepted parts, each from a file or from numbers, mixed pairs included.
 use Rattle.std.specs.Prelude.{List, ℕ, ℤ}
 use Rattle.scope.specs.Blends.{BlendedClaims}
+use Rattle.scope.specs.Cases.Verdict.{Verdict}
 use Rattle.scope.specs.Accepted.{FieldAccepted, MultipliersAccepted}
 use Rattle.scope.specs.Parts.{SameRows, PartsBracket}
 use Rattle.reader.specs.File.{file_width}
 use Rattle.scope.specs.Table.{mesh_read}
-use Rattle.judge.specs.Judge.{mesh_from, claim_numbers}
+use Rattle.scope.specs.TableVerdict.{tabled_verdict}
+use Rattle.judge.specs.Judge.{mesh_from, claim_numbers, files_verdict}
 
 -- a mesh, a table and a claim: three files, or three lists of numbers; an empty table is none
 pub data Handed : Type 0 where
@@ -21,6 +23,11 @@ mesh_of (numbers m t c) = mesh_read t m
 unfoldable pub claim_of : Handed → List ℤ
 claim_of (files mesh table claim) = claim_numbers file_width (mesh_from file_width mesh table) claim
 claim_of (numbers m t c) = c
+
+-- the verdict on it
+unfoldable pub handed_verdict : Handed → Verdict
+handed_verdict (files mesh table claim) = files_verdict file_width mesh table claim
+handed_verdict (numbers m t c) = tabled_verdict t m c
 
 abbrev pub HasAcceptedField : Handed → Type 0
 HasAcceptedField a = FieldAccepted (mesh_of a) (claim_of a)

@@ -12,7 +12,7 @@ use borrow.Table.Steps.{cases}
 use Rattle.scope.specs.Cases.Verdict.{Verdict}
 use Rattle.report.specs.Report.{report_bytes, is_decimals}
 use Rattle.report.specs.Buffer.{Written, reported, after_answer, after_report, reported_number, reported_place, Reports}
-use Rattle.report.proofs.DivisionLaws.{read}
+use Rattle.integer.proofs.Wide.{read}
 use Rattle.pechuvo.specs.Check.{answered}
 use Rattle.pechuvo.specs.Answers.{AnswersFor}
 

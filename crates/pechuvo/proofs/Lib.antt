@@ -18,3 +18,5 @@ pub mod RunApplied
 pub mod SizesPromises
 pub mod SizesApplied
 pub mod Blends
+pub mod BookPromises
+pub mod BookApplied

@@ -38,7 +38,7 @@ use Rattle.pechuvo.proofs.FilePromises.{long_files, form_exactly, accepted_files
 use Rattle.pechuvo.proofs.PromisesApplied.{at, room, fits, sheet-answered}
 
 -- for proofs by computation: besides the definitions that make a line, those that say what was handed over, and the sheets
-unfoldable opened : Unit {0}
+unfoldable pub opened : Unit {0}
 unfolding computed_line mesh_of claim_of soil_zero_mesh worked_claim seam_zero seam_mixed seam_claim tabled_sheets
 opened = tt
 

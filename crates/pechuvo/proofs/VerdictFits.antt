@@ -153,6 +153,14 @@ not_listed x (k ∷ rest) t h =
     let (differs, later) = (both (opposite (equal x k)) (record { holds = λ t. t; passes = λ t. t })).holds t in
     ⊎_elim differs (not_listed x rest later) (Memᴰ.cases_cons h)
 
+other_than : (x : ℕ) → T (unlike x all_numbers) → {k : ℕ} → k ∈ all_numbers → k ≢ x
+other_than x t there e = not_listed x all_numbers t (subst (λ (k : ℕ). k ∈ all_numbers) e there)
+
+-- 48 is about a book, and no verdict has it
+pub not_48 : (t m c : List ℤ) → number_of (tabled_verdict t m c) ≢ 48
+unfolding unlike
+not_48 t m c = other_than 48 tt (tabled_listed t m c)
+
 -- ---- what the answer and the line ask of a verdict
 
 pub record Sayable (v : Verdict) : Type 0 where
@@ -165,8 +173,8 @@ say : {v : Verdict} → Held v → number_of v ∈ all_numbers → Sayable v
 unfolding unlike
 say {v} h there = record {
   held = h;
-  not_41 = λ e. not_listed 41 all_numbers tt (subst (λ (k : ℕ). k ∈ all_numbers) e there);
-  not_43 = λ e. not_listed 43 all_numbers tt (subst (λ (k : ℕ). k ∈ all_numbers) e there);
+  not_41 = other_than 41 tt there;
+  not_43 = other_than 43 tt there;
 }
 
 pub sayable : (m c : List ℤ) → Sayable (verdict m c)

@@ -1,6 +1,7 @@
 -- The whole check, from two byte strings to the answer and the buffer, what a call of it answers, the worked sheets,
 -- and what a caller may rely on.
--- A reader must believe Check, Answers, Promises and the tables of Sheets, Sheets108 and RunSheets; Bytes and Shipped
+-- A reader must believe Check, Answers, Promises, for a book BookInC and BookPromises, and the tables of Sheets,
+-- Sheets108 and RunSheets; Bytes and Shipped
 -- say how a table and a file of sheets/ are read. No file is a contract between functions.
 pub mod Check
 pub mod Answers
@@ -10,3 +11,5 @@ pub mod Sheets108
 pub mod RunSheets
 pub mod Shipped
 pub mod Promises
+pub mod BookInC
+pub mod BookPromises

@@ -1,8 +1,10 @@
 // Every call: the check of a mesh file, a table file and a claim file, three byte strings into a report line and the
-// verdict's numbers; the check of claims for one mesh, one after another; the check of the numbers themselves; and the
-// room that a mesh asks for. An empty table is none. `pechuvo_c` hands each to C.
+// verdict's numbers; the check of claims for one mesh, one after another; the check of the numbers themselves; the
+// room that a mesh asks for; and a book of the best bracket. An empty table is none. `pechuvo_c` hands each to C.
 
 #![tactic(auto)]
+
+pub mod books;
 
 ghost use Rattle.std.specs.Prelude.{◌≡◌};
 ghost use Rattle.scope.specs.Answer.{number_of, place_number, place_of, verdict_of};
@@ -11,7 +13,10 @@ ghost use Rattle.numbers.specs.NumbersAnswer.{answer_of};
 ghost use Rattle.report.specs.Buffer.{reported_number, reported_place};
 ghost use Rattle.pechuvo.specs.Answers.{Answers};
 ghost use Rattle.pechuvo.specs.Promises.{RunAsked, SizesAsked};
+ghost use Rattle.pechuvo.specs.BookPromises.{AskAnswers, CommitAnswers};
 
+use book::Book;
+use books::{BookAnswer, BookForC, book_answer};
 use judge::judge_files;
 use judge::room::{MeshSizes, mesh_sizes};
 use numbers::numbers_answer::NumbersAnswer;
@@ -108,4 +113,24 @@ pub fn pechuvo_mesh_sizes(mesh: &[u8], table: &[u8]) -> MeshSizes
     ensures { SizesAsked mesh.now table.now result }
 {
     mesh_sizes(mesh, table)
+}
+
+// The book that would follow a commit of a claim, from a mesh file, a table file and a claim file: nothing is changed.
+pub fn pechuvo_book_ask(book: BookForC, mesh: &[u8], table: &[u8], claim: &[u8]) -> BookAnswer
+    ensures { AskAnswers book mesh.now table.now claim.now result }
+{
+    book_answer(book, Book::from(book).ask(mesh, table, claim))
+}
+
+// The book that follows a commit of a claim, which names the count of the book.
+pub fn pechuvo_book_commit(
+    book: BookForC,
+    count: u64,
+    mesh: &[u8],
+    table: &[u8],
+    claim: &[u8],
+) -> BookAnswer
+    ensures { CommitAnswers book count mesh.now table.now claim.now result }
+{
+    book_answer(book, Book::from(book).commit(count, mesh, table, claim))
 }

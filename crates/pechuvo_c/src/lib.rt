@@ -7,10 +7,12 @@ ghost use Rattle.scope.specs.TableVerdict.{tabled_verdict};
 ghost use Rattle.numbers.specs.NumbersAnswer.{answer_of};
 ghost use Rattle.pechuvo.specs.Answers.{Answers};
 ghost use Rattle.pechuvo.specs.Promises.{RunAsked, SizesAsked};
+ghost use Rattle.pechuvo.specs.BookPromises.{AskAnswers, CommitAnswers};
 
 use judge::room::MeshSizes;
 use numbers::numbers_answer::NumbersAnswer;
 use pechuvo::Answer;
+use pechuvo::books::{BookAnswer, BookForC};
 use run::RunAnswer;
 
 // The report of a mesh file, a table file and a claim file, with so many decimals, at the front of the buffer that is
@@ -58,4 +60,31 @@ pub extern "C" fn pechuvo_mesh_sizes(mesh: &[u8], table: &[u8]) -> MeshSizes
     ensures { SizesAsked mesh.now table.now result }
 {
     pechuvo::pechuvo_mesh_sizes(mesh, table)
+}
+
+// The book that would follow a commit of a claim, from a mesh file, a table file and a claim file: nothing is changed.
+#[unsafe(no_mangle)]
+pub extern "C" fn pechuvo_book_ask(
+    book: BookForC,
+    mesh: &[u8],
+    table: &[u8],
+    claim: &[u8],
+) -> BookAnswer
+    ensures { AskAnswers book mesh.now table.now claim.now result }
+{
+    pechuvo::pechuvo_book_ask(book, mesh, table, claim)
+}
+
+// The book that follows a commit of a claim, which names the count of the book.
+#[unsafe(no_mangle)]
+pub extern "C" fn pechuvo_book_commit(
+    book: BookForC,
+    count: u64,
+    mesh: &[u8],
+    table: &[u8],
+    claim: &[u8],
+) -> BookAnswer
+    ensures { CommitAnswers book count mesh.now table.now claim.now result }
+{
+    pechuvo::pechuvo_book_commit(book, count, mesh, table, claim)
 }

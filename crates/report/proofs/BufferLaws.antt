@@ -24,7 +24,7 @@ use Rattle.report.specs.Report.{report_bytes, four_columns, report_line}
 use Rattle.report.specs.Report.{most_decimals, Decimals, is_decimals}
 use Rattle.report.specs.declared.ReportError.{ReportError}
 use Rattle.report.specs.declared.ReportError.TheVariants.{OtherDecimals, ShortBuffer}
-use Rattle.report.proofs.DivisionLaws.{read}
+use Rattle.integer.proofs.Wide.{read}
 use Rattle.report.specs.Buffer.{Written, reported, after_answer, after_report, Reports}
 
 -- ---- the line

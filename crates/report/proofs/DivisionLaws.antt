@@ -7,26 +7,13 @@ use native.Mathlib.Omega.{arith}
 use lib.IntN.{ℤ, pos, negsuc, neg_ℤ, nat_abs, ◌-ℤ◌, ◌*ℤ◌, +ℤ_idl}
 use lib.Signed.{mag, ◌<ℤ◌, nat_abs-le}
 use mir.Syntax.{w64, w128}
-use mir.Val.{SFits, to_z, of_z}
+use mir.Val.{SFits, of_z}
 use mir.Facts.{to_z-of_z}
 use Rattle.std.specs.Int.{int_div_euclid, NotMinOverMinusOne}
 use Rattle.integer.specs.Round.{floor_div, ceil_div}
 use Rattle.integer.proofs.RingLaws.{nat_abs_neg_ℤ, nat_abs_*ℤ}
+use Rattle.integer.proofs.Wide.{read, wide, fits_wide, is_wide}
 use Rattle.report.specs.Spelled.{round_to}
-
--- an i64 as the machine reads it back from its bits, and an i128
-abbrev pub read : ℤ → ℤ
-read z = to_z w64 (of_z w64 z)
-
-abbrev pub wide : ℤ → ℤ
-wide z = to_z w128 (of_z w128 z)
-
-fits_wide : (z : ℤ) → nat_abs z < 2 ^ 127 → SFits w128 z
-fits_wide (pos n) h = record { sfits = h }
-fits_wide (negsuc n) h = record { sfits = omega arith }
-
-pub is_wide : {v : ℤ} (z : ℤ) → nat_abs z < 2 ^ 127 → v ≡ z → wide v ≡ z
-is_wide z h e = ap wide e ∙ to_z-of_z (fits_wide z h)
 
 pub power_small : (d : ℕ) → d ≤ 7 → 10 ^ d ≤ 10000000
 power_small d h = pow-le-pow_right {n = 10} (omega arith) h

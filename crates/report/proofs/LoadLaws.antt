@@ -22,7 +22,8 @@ use Rattle.scope.specs.Cases.Load.{Exact}
 use Rattle.report.specs.Text.{pointed, fixed, none_text}
 use Rattle.report.specs.Report.{load_text}
 use Rattle.report.specs.Spelled.{decimals_text, round_to}
-use Rattle.report.proofs.DivisionLaws.{read, wide, is_wide, power_small, round_small, units_small}
+use Rattle.integer.proofs.Wide.{read, wide, is_wide}
+use Rattle.report.proofs.DivisionLaws.{power_small, round_small, units_small}
 use Rattle.report.proofs.ColumnLaws.{decimal_digits, decimal_short, spaces, put_before, byte_before, justified}
 
 -- ---- the decimals: after a one, each of the last d digits is written, and the point takes the one's place

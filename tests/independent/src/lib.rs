@@ -2,6 +2,7 @@
 //! It shares no line with the proved program: the comparison and the fuzzer hold the two against
 //! each other, and the bench takes it as the speed of ordinary Rust.
 
+pub mod book;
 pub mod claim;
 pub mod field;
 pub mod lines;
@@ -16,6 +17,7 @@ pub mod sheet;
 pub mod sizes;
 pub mod table;
 
+pub use book::{book_ask, book_commit, Book, BookAnswer};
 use claim::Claim;
 use lines::Lines;
 use mesh::Mesh;

@@ -4,11 +4,12 @@
 
 #[path = "../../independent/programs/compare/archive.rs"]
 mod archive;
+mod books;
 mod lists;
 mod runs;
 mod sizes;
 
-use independent::Answer;
+use independent::{Answer, Book, BookAnswer};
 use std::fs;
 
 /// The byte that a buffer is filled with before a call.
@@ -21,6 +22,8 @@ struct Make {
     check_numbers: fn(&[i64], &[i64], &[i64]) -> independent::Numbers,
     check_run: fn(&[u8], &[u8], &[u8], &mut [u8]) -> independent::Run,
     mesh_sizes: fn(&[u8], &[u8]) -> independent::Sizes,
+    book_ask: fn(Book, &[u8], &[u8], &[u8]) -> BookAnswer,
+    book_commit: fn(Book, u64, &[u8], &[u8], &[u8]) -> BookAnswer,
 }
 
 const MAKES: [Make; 2] = [
@@ -30,6 +33,8 @@ const MAKES: [Make; 2] = [
         check_numbers: archive::check_numbers,
         check_run: archive::check_run,
         mesh_sizes: archive::mesh_sizes,
+        book_ask: archive::book_ask,
+        book_commit: archive::book_commit,
     },
     Make {
         name: "independent",
@@ -37,6 +42,8 @@ const MAKES: [Make; 2] = [
         check_numbers: independent::check_numbers,
         check_run: independent::check_run,
         mesh_sizes: independent::mesh_sizes,
+        book_ask: independent::book_ask,
+        book_commit: independent::book_commit,
     },
 ];
 
@@ -113,6 +120,7 @@ fn main() {
     lists::all(&mut tally, &format!("{folder}/numbers"));
     runs::all(&mut tally, &format!("{folder}/runs"));
     sizes::all(&mut tally, &folder);
+    books::all(&mut tally, &format!("{folder}/book"));
     for sheets in std::env::args().skip(2) {
         runs::all(&mut tally, &format!("{sheets}/runs"));
         sizes::all(&mut tally, &sheets);

@@ -1,9 +1,9 @@
 //! The proved program's C entries.
 
-use independent::{Answer, Numbers, Run, Sizes};
+use independent::{Answer, Book, BookAnswer, Numbers, Run, Sizes};
 
 mod raw {
-    use independent::{Answer, Numbers, Run, Sizes};
+    use independent::{Answer, Book, BookAnswer, Numbers, Run, Sizes};
 
     extern "C" {
         pub fn pechuvo_check(
@@ -41,6 +41,25 @@ mod raw {
             table: *const u8,
             table_len: usize,
         ) -> Sizes;
+        pub fn pechuvo_book_ask(
+            book: Book,
+            mesh: *const u8,
+            mesh_len: usize,
+            table: *const u8,
+            table_len: usize,
+            claim: *const u8,
+            claim_len: usize,
+        ) -> BookAnswer;
+        pub fn pechuvo_book_commit(
+            book: Book,
+            count: u64,
+            mesh: *const u8,
+            mesh_len: usize,
+            table: *const u8,
+            table_len: usize,
+            claim: *const u8,
+            claim_len: usize,
+        ) -> BookAnswer;
     }
 }
 
@@ -94,4 +113,35 @@ pub fn check_run(mesh: &[u8], table: &[u8], claims: &[u8], reports: &mut [u8]) -
 pub fn mesh_sizes(mesh: &[u8], table: &[u8]) -> Sizes {
     // SAFETY: as above.
     unsafe { raw::pechuvo_mesh_sizes(mesh.as_ptr(), mesh.len(), table.as_ptr(), table.len()) }
+}
+
+pub fn book_ask(book: Book, mesh: &[u8], table: &[u8], claim: &[u8]) -> BookAnswer {
+    // SAFETY: as above.
+    unsafe {
+        raw::pechuvo_book_ask(
+            book,
+            mesh.as_ptr(),
+            mesh.len(),
+            table.as_ptr(),
+            table.len(),
+            claim.as_ptr(),
+            claim.len(),
+        )
+    }
+}
+
+pub fn book_commit(book: Book, count: u64, mesh: &[u8], table: &[u8], claim: &[u8]) -> BookAnswer {
+    // SAFETY: as above.
+    unsafe {
+        raw::pechuvo_book_commit(
+            book,
+            count,
+            mesh.as_ptr(),
+            mesh.len(),
+            table.as_ptr(),
+            table.len(),
+            claim.as_ptr(),
+            claim.len(),
+        )
+    }
 }

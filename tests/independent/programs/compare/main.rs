@@ -5,6 +5,7 @@
 
 mod archive;
 mod blends;
+mod books;
 mod causes;
 mod columns;
 mod damage;
@@ -184,6 +185,8 @@ fn main() {
     columns::all(&mut tally, &mut random);
     (0..20_000).for_each(|_| overlaps::at_random(&mut tally, &mut random));
     (0..2_000).for_each(|_| blends::at_random(&mut tally, &mut random));
+    books::by_hand(&mut tally);
+    (0..2_000).for_each(|_| books::at_random(&mut tally, &mut random));
     runs::by_hand(&mut tally);
     (0..6_000).for_each(|_| runs::at_random(&mut tally, &mut random));
     for _ in 0..500 {

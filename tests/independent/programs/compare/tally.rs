@@ -3,7 +3,7 @@
 use crate::archive;
 use crate::random::Random;
 use independent::sheet::{Files, Lists, Sheet};
-use independent::{Answer, Run};
+use independent::{Answer, Book, BookAnswer, Run};
 use std::collections::BTreeMap;
 
 /// Every number that a file can get, and those that have to do with the call.
@@ -58,6 +58,8 @@ pub struct Tally {
     lengths: u64,
     /// Blends of accepted fields.
     pub blends: u64,
+    /// Books by the number that a call on them gave.
+    books: BTreeMap<u32, u64>,
     disagreements: u64,
 }
 
@@ -155,6 +157,30 @@ impl Tally {
         }
     }
 
+    fn book(&mut self, theirs: BookAnswer, ours: BookAnswer, files: &Files) -> BookAnswer {
+        *self.books.entry(ours.number).or_default() += 1;
+        if theirs != ours {
+            self.disagree(&format!("{theirs:?} not {ours:?}"), files);
+        }
+        ours
+    }
+
+    /// Both books that an ask tells; the answer is the independent one.
+    pub fn ask(&mut self, book: Book, files: &Files) -> BookAnswer {
+        let Files { mesh, table, claim } = files;
+        let theirs = archive::book_ask(book, mesh, table, claim);
+        let ours = independent::book_ask(book, mesh, table, claim);
+        self.book(theirs, ours, files)
+    }
+
+    /// Both books after a commit.
+    pub fn commit(&mut self, book: Book, count: u64, files: &Files) -> BookAnswer {
+        let Files { mesh, table, claim } = files;
+        let theirs = archive::book_commit(book, count, mesh, table, claim);
+        let ours = independent::book_commit(book, count, mesh, table, claim);
+        self.book(theirs, ours, files)
+    }
+
     /// A sheet as files and as numbers, and its mesh's sizes.
     pub fn sheet(&mut self, random: &mut Random, sheet: &Sheet) {
         let files = sheet.files();
@@ -179,6 +205,7 @@ impl Tally {
             self.sizes, self.lengths
         );
         println!("blends: {}", self.blends);
+        println!("books by number: {:?}", self.books);
         println!("disagreements: {}", self.disagreements);
     }
 

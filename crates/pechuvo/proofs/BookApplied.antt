@@ -1,0 +1,129 @@
+-- The promises of a book applied to document 01's sheet and its neighbours, with a borehole table and without: antt computes what is answered, and the promise says the rest.
+use mathlib.Core.Path.{◌≡◌, refl}
+use mathlib.Core.Logic.{inl, inr}
+use mathlib.Core.List.{List, [], ◌∷◌}
+use Prim.Native.Nat.{ℕ}
+use native.Mathlib.Omega.{arith}
+use lib.IntN.{pos}
+use lib.Signed.{≤ℤ_refl}
+use Rattle.judge.specs.Judge.{files_verdict}
+use Rattle.judge.specs.Handed.{Handed, files}
+use Rattle.reader.specs.File.{file_width}
+use Rattle.book.specs.Book.{proper, takes_ask, takes_commit, better, moved, followed, unjudged, judged, asked, committed}
+use Rattle.book.specs.History.{Call, asks, commits}
+use Rattle.pechuvo.specs.declared.books.BookForC.{BookForC}
+use Rattle.pechuvo.specs.declared.books.BookAnswer.{BookAnswer}
+use Rattle.pechuvo.specs.BookInC.{bound_of, book_of, told_book}
+use Rattle.pechuvo.specs.BookPromises.{AskAnswers, CommitAnswers, Made, begun, then_ask, then_commit, KeepsTheBest}
+use Rattle.pechuvo.proofs.BookPromises.{book_asked, book_committed, ask_then_commit, after_any_calls}
+use Rattle.pechuvo.proofs.PromisesApplied.{at}
+use Rattle.pechuvo.proofs.TableApplied.{opened, with_table}
+
+abbrev empty_for_c : BookForC
+empty_for_c = record {
+  lower_there = 0;
+  upper_there = 0;
+  lower_numerator = pos 0;
+  lower_denominator = pos 0;
+  upper_numerator = pos 0;
+  upper_denominator = pos 0;
+  count = 0;
+}
+
+-- 20 on 600/30
+abbrev sheet_book : ℕ → BookForC
+sheet_book count = record {
+  lower_there = 1;
+  upper_there = 1;
+  lower_numerator = pos 20;
+  lower_denominator = pos 1;
+  upper_numerator = pos 600;
+  upper_denominator = pos 30;
+  count = count;
+}
+
+-- for proofs by computation: the definitions of a book too
+unfoldable with_book : Unit {0}
+unfolding opened proper takes_ask takes_commit better moved followed unjudged judged asked committed bound_of told_book
+with_book = tt
+
+-- from an empty book the sheet's bounds are told, and the ask counts
+pub sheet_asked : AskAnswers empty_for_c (at 0).mesh [] (at 0).claim (record { number = 0; place = 0; book = sheet_book 1 })
+unfolding with_book
+sheet_asked = refl
+
+-- its commit leaves the book that the ask told
+pub sheet_committed : {r : BookAnswer} → CommitAnswers empty_for_c 0 (at 0).mesh [] (at 0).claim r → ◌≡◌ {A = BookAnswer} (record { number = 0; place = 0; book = sheet_book 1 }) r
+sheet_committed h = ask_then_commit empty_for_c (at 0).mesh [] (at 0).claim sheet_asked h
+
+-- then l 19, with the same limit, moves neither bound and counts
+pub nineteen_committed : CommitAnswers (sheet_book 1) 1 (at 1).mesh [] (at 1).claim (record { number = 0; place = 0; book = sheet_book 2 })
+unfolding with_book
+nineteen_committed = refl
+
+pub nineteen_followed : book_of (sheet_book 2) ≡ followed (book_of (sheet_book 1)) (files_verdict file_width (at 1).mesh [] (at 1).claim)
+nineteen_followed = (book_committed (sheet_book 1) (at 1).mesh [] (at 1).claim 1 nineteen_committed).follows refl
+
+-- the -30 as -29 is refused and leaves the book
+pub refused_committed : CommitAnswers (sheet_book 2) 2 (at 4).mesh [] (at 4).claim (record { number = 32; place = 7; book = sheet_book 2 })
+unfolding with_book
+refused_committed = refl
+
+-- the sheet whose soil comes from a table ties with both bounds and counts; the table with a gap is refused
+pub tabled_committed : CommitAnswers (sheet_book 2) 2 (with_table 0).mesh (with_table 0).table (with_table 0).claim (record { number = 0; place = 0; book = sheet_book 3 })
+unfolding with_book
+tabled_committed = refl
+
+pub gap_asked : AskAnswers (sheet_book 3) (with_table 1).mesh (with_table 1).table (with_table 1).claim (record { number = 45; place = 4; book = sheet_book 3 })
+unfolding with_book
+gap_asked = refl
+
+-- these calls one after another
+unfoldable pub calls : List (Call Handed)
+calls =
+    asks (files (at 0).mesh [] (at 0).claim)
+    ∷ commits 0 (files (at 0).mesh [] (at 0).claim)
+    ∷ commits 1 (files (at 1).mesh [] (at 1).claim)
+    ∷ commits 2 (files (at 4).mesh [] (at 4).claim)
+    ∷ commits 2 (files (with_table 0).mesh (with_table 0).table (with_table 0).claim)
+    ∷ []
+
+empty_book : Made [] empty_for_c
+unfolding bound_of
+empty_book = begun empty_for_c refl
+
+sheet_first : CommitAnswers empty_for_c 0 (at 0).mesh [] (at 0).claim (record { number = 0; place = 0; book = sheet_book 1 })
+unfolding with_book
+sheet_first = refl
+
+pub week : KeepsTheBest calls (sheet_book 3)
+unfolding calls
+week =
+    let first = then_commit (then_ask empty_book (at 0).mesh [] (at 0).claim _ sheet_asked) 0 (at 0).mesh [] (at 0).claim _ sheet_first in
+    let second = then_commit first 1 (at 1).mesh [] (at 1).claim _ nineteen_committed in
+    let third = then_commit second 2 (at 4).mesh [] (at 4).claim _ refused_committed in
+    after_any_calls (then_commit third 2 (with_table 0).mesh (with_table 0).table (with_table 0).claim _ tabled_committed)
+
+-- a commit that names the count before: 48, since the named count differs
+pub stale : {r : BookAnswer} → CommitAnswers (sheet_book 1) 0 (at 1).mesh [] (at 1).claim r → r.number ≡ 48
+stale h = (book_committed (sheet_book 1) (at 1).mesh [] (at 1).claim 0 h).exactly.1 (inl (λ e. omega arith))
+
+-- a bound over 0: 48 of an ask
+abbrev over_zero : BookForC
+over_zero = record {
+  lower_there = 1;
+  upper_there = 0;
+  lower_numerator = pos 20;
+  lower_denominator = pos 0;
+  upper_numerator = pos 0;
+  upper_denominator = pos 0;
+  count = 1;
+}
+
+pub no_denominator : {r : BookAnswer} → AskAnswers over_zero (at 0).mesh [] (at 0).claim r → r.number ≡ 48
+unfolding bound_of
+no_denominator h = (book_asked over_zero (at 0).mesh [] (at 0).claim h).exactly.1 (inr (inl (≤ℤ_refl (pos 0))))
+
+-- a full book: 48 of an ask
+pub full_book : {r : BookAnswer} → AskAnswers (sheet_book 1000000) (at 0).mesh [] (at 0).claim r → r.number ≡ 48
+full_book h = (book_asked (sheet_book 1000000) (at 0).mesh [] (at 0).claim h).exactly.1 (inl (omega arith))
