@@ -37,6 +37,11 @@ struct book_answer {
   struct book book;
 };
 
+struct next_strength {
+  uint32_t number, place;
+  double strength;
+};
+
 /* A file or a list of numbers: where it begins and how long it is. */
 #define FILE_OF(name) const uint8_t *name, size_t name##_len
 #define LIST_OF(name) const int64_t *name, size_t name##_len
@@ -51,7 +56,8 @@ struct book_answer {
   struct book_answer make##_book_ask(struct book book, FILE_OF(mesh), FILE_OF(table),              \
                                      FILE_OF(claim));                                              \
   struct book_answer make##_book_commit(struct book book, uint64_t count, FILE_OF(mesh),           \
-                                        FILE_OF(table), FILE_OF(claim));
+                                        FILE_OF(table), FILE_OF(claim));                           \
+  struct next_strength make##_next_strength(double k1, double l1, double k2, double l2);
 
 ENTRIES(pechuvo)
 ENTRIES(independent)

@@ -108,6 +108,15 @@ static void compare_books(struct input in, size_t seed) {
   give_all_back(on);
 }
 
+/* The first bytes of an input as two trials. */
+static void compare_strengths(const uint8_t *data, size_t size) {
+  double n[4] = {1.0, 0.5, 2.0, 0.25};
+  memcpy(n, data, size < sizeof n ? size : sizeof n);
+  struct next_strength a = pechuvo_next_strength(n[0], n[1], n[2], n[3]);
+  struct next_strength b = independent_next_strength(n[0], n[1], n[2], n[3]);
+  must(memcmp(&a, &b, sizeof a) == 0, "the next strength");
+}
+
 /* The numbers of a file as far as its columns go; what is no number counts as strtoll says. */
 static size_t numbers_of(struct file file, int64_t *numbers) {
   size_t count = 0, at = 0;
@@ -174,6 +183,7 @@ int LLVMFuzzerTestOneInput(const uint8_t *data, size_t size) {
   compare_run(in, size % 16 == 0 ? size / 16 % LINE : 3 * LINE + size % 8);
   compare_sizes(in);
   compare_books(in, size);
+  compare_strengths(data, size);
   compare_numbers(in);
   return 0;
 }

@@ -1,6 +1,6 @@
 //! The independent implementation under C names, for the fuzzer's harness.
 
-use independent::{Answer, Book, BookAnswer, Numbers, Run, Sizes};
+use independent::{Answer, Book, BookAnswer, NextStrength, Numbers, Run, Sizes, Trial};
 
 /// A length of 0 goes with any pointer.
 unsafe fn slice<'a, T>(start: *const T, length: usize) -> &'a [T] {
@@ -132,4 +132,9 @@ unsafe extern "C" fn independent_book_commit(
             slice(claim, claim_len),
         )
     }
+}
+
+#[no_mangle]
+extern "C" fn independent_next_strength(k1: f64, l1: f64, k2: f64, l2: f64) -> NextStrength {
+    independent::next_strength(Trial { k: k1, l: l1 }, Trial { k: k2, l: l2 })
 }

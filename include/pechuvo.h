@@ -46,6 +46,7 @@
      41      0         report buffer under 113 bytes; pechuvo_check only
      43      0         number of decimals other than 0 to 7; pechuvo_check only
      48      0         the book takes no such call; the two calls of a book only, before all else
+     49      0         no next strength; pechuvo_next_strength only
 
    The first that applies is returned, in this order: 43; 41; the mesh's lines front to back, in
    each line 1, 2, 3, 4; the table's lines front to back, in each line 1, 2, 4; then 46 and 45; then
@@ -198,6 +199,21 @@ struct pechuvo_numbers {
 struct pechuvo_numbers pechuvo_check_numbers(const int64_t *mesh, size_t mesh_count,
                                              const int64_t *table, size_t table_count,
                                              const int64_t *claim, size_t claim_count);
+
+struct pechuvo_next {
+  uint32_t number; /* 0 or 49 */
+  uint32_t place;  /* 0 */
+  double strength; /* 0 unless number is 0 */
+};
+
+/* The next strength to try, by the hyperbola through two trials: strength k1 with the load factor
+   l1, and k2 with l2. From left to right (1-l2)*l1*k1, then (1-l1)*l2*k2, their difference, then
+   divided by (l1-l2), each operation rounded once, to nearest and at a tie to even, in binary64.
+   Where all four are whole 64ths above 0 and up to 16, the division is the only rounding. Refused:
+   49, place 0, when an input is not finite and above 0, when l1 = l2, or when the result is not
+   finite and above 0. It reads no mesh and no claim, and no check reads it. The processor rounds
+   to nearest and flushes no subnormal to zero, as C programs have it unless they change it. */
+struct pechuvo_next pechuvo_next_strength(double k1, double l1, double k2, double l2);
 
 #ifdef __cplusplus
 }

@@ -252,6 +252,16 @@ static void empty_slices(struct block mesh, struct block table, struct block cla
   give_back(closed);
 }
 
+/* The struct that the next strength comes back in, and numbers handed over in their order. */
+static void next_strengths(void) {
+  struct pechuvo_next got = pechuvo_next_strength(1.5, 2.0, 1.0, 0.5);
+  expect(got.number == 0 && got.place == 0 && got.strength == 4.0 / 3.0, "the next strength");
+  got = pechuvo_next_strength(4.0, 3.0, 1.0, 2.0);
+  expect(got.number == 49 && got.place == 0 && got.strength == 0.0, "a result below 0 gets 49");
+  got = pechuvo_next_strength(1.5, 2.0, 1.0, 2.0);
+  expect(got.number == 49 && got.place == 0 && got.strength == 0.0, "equal loads get 49");
+}
+
 /* The numbers of a well-formed file, in order. */
 static struct block numbers_of(struct block file) {
   struct block list = lend(NULL, file.length / 12 * sizeof(int64_t), ON_HEAP);
@@ -342,6 +352,7 @@ int main(int count, char **words) {
   for (int k = 1 + heap; k < count; k++) {
     sheet(words[k], heap);
   }
+  next_strengths();
   printf("%d sheets, %lu facts checked\n", count - 1 - heap, calls);
   return calls > 0 ? 0 : 1;
 }

@@ -1,4 +1,4 @@
--- The theorems about the whole check.
+-- The theorems about the whole check, and about the next strength to try.
 pub mod Sheets
 pub mod Sheets108
 pub mod TableFile
@@ -20,3 +20,4 @@ pub mod SizesApplied
 pub mod Blends
 pub mod BookPromises
 pub mod BookApplied
+pub mod NextStrength

@@ -1,6 +1,7 @@
 // Every call: the check of a mesh file, a table file and a claim file, three byte strings into a report line and the
 // verdict's numbers; the check of claims for one mesh, one after another; the check of the numbers themselves; the
-// room that a mesh asks for; and a book of the best bracket. An empty table is none. `pechuvo_c` hands each to C.
+// room that a mesh asks for; a book of the best bracket; and the next strength to try, which reads no mesh. An empty
+// table is none. `pechuvo_c` hands each to C.
 
 #![tactic(auto)]
 
@@ -12,6 +13,7 @@ ghost use Rattle.scope.specs.TableVerdict.{tabled_verdict};
 ghost use Rattle.numbers.specs.NumbersAnswer.{answer_of};
 ghost use Rattle.report.specs.Buffer.{reported_number, reported_place};
 ghost use Rattle.pechuvo.specs.Answers.{Answers};
+ghost use Rattle.pechuvo.specs.NextStrength.{NextAnswers};
 ghost use Rattle.pechuvo.specs.Promises.{RunAsked, SizesAsked};
 ghost use Rattle.pechuvo.specs.BookPromises.{AskAnswers, CommitAnswers};
 
@@ -23,6 +25,7 @@ use numbers::numbers_answer::NumbersAnswer;
 use report::{ReportError, write_report};
 use run::{RunAnswer, check_run};
 use scope::{Refusal, Verdict};
+use strength::{NextAnswer, Trial, next_strength};
 
 // What is returned: 0 and 0 for an accepted claim, else a refusal's number and its place.
 #[repr(C)]
@@ -133,4 +136,13 @@ pub fn pechuvo_book_commit(
     ensures { CommitAnswers book count mesh.now table.now claim.now result }
 {
     book_answer(book, Book::from(book).commit(count, mesh, table, claim))
+}
+
+// The next strength to try (document 02, N13), after the trials K1 with L1 and K2 with L2.
+pub fn pechuvo_next_strength(k1: f64, l1: f64, k2: f64, l2: f64) -> NextAnswer
+    ensures { NextAnswers k1 l1 k2 l2 result }
+{
+    let first = Trial { k: k1, l: l1 };
+    let second = Trial { k: k2, l: l2 };
+    NextAnswer::from(next_strength(first, second))
 }

@@ -6,6 +6,7 @@ ghost use Rattle.std.specs.Prelude.{◌≡◌};
 ghost use Rattle.scope.specs.TableVerdict.{tabled_verdict};
 ghost use Rattle.numbers.specs.NumbersAnswer.{answer_of};
 ghost use Rattle.pechuvo.specs.Answers.{Answers};
+ghost use Rattle.pechuvo.specs.NextStrength.{NextAnswers};
 ghost use Rattle.pechuvo.specs.Promises.{RunAsked, SizesAsked};
 ghost use Rattle.pechuvo.specs.BookPromises.{AskAnswers, CommitAnswers};
 
@@ -14,6 +15,7 @@ use numbers::numbers_answer::NumbersAnswer;
 use pechuvo::Answer;
 use pechuvo::books::{BookAnswer, BookForC};
 use run::RunAnswer;
+use strength::NextAnswer;
 
 // The report of a mesh file, a table file and a claim file, with so many decimals, at the front of the buffer that is
 // lent.
@@ -87,4 +89,12 @@ pub extern "C" fn pechuvo_book_commit(
     ensures { CommitAnswers book count mesh.now table.now claim.now result }
 {
     pechuvo::pechuvo_book_commit(book, count, mesh, table, claim)
+}
+
+// The next strength to try (document 02, N13), after the trials K1 with L1 and K2 with L2.
+#[unsafe(no_mangle)]
+pub extern "C" fn pechuvo_next_strength(k1: f64, l1: f64, k2: f64, l2: f64) -> NextAnswer
+    ensures { NextAnswers k1 l1 k2 l2 result }
+{
+    pechuvo::pechuvo_next_strength(k1, l1, k2, l2)
 }

@@ -15,6 +15,7 @@ pub mod run;
 pub mod shape;
 pub mod sheet;
 pub mod sizes;
+pub mod strength;
 pub mod table;
 
 pub use book::{book_ask, book_commit, Book, BookAnswer};
@@ -23,6 +24,7 @@ use lines::Lines;
 use mesh::Mesh;
 pub use run::{check_run, Run};
 pub use sizes::{mesh_sizes, Sizes};
+pub use strength::{next_strength, NextStrength, Trial};
 
 /// A refusal: its number in the table and its place.
 #[derive(Clone, Copy, Debug, PartialEq, Eq)]

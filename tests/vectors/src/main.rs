@@ -8,8 +8,9 @@ mod books;
 mod lists;
 mod runs;
 mod sizes;
+mod strengths;
 
-use independent::{Answer, Book, BookAnswer};
+use independent::{Answer, Book, BookAnswer, NextStrength, Trial};
 use std::fs;
 
 /// The byte that a buffer is filled with before a call.
@@ -24,6 +25,7 @@ struct Make {
     mesh_sizes: fn(&[u8], &[u8]) -> independent::Sizes,
     book_ask: fn(Book, &[u8], &[u8], &[u8]) -> BookAnswer,
     book_commit: fn(Book, u64, &[u8], &[u8], &[u8]) -> BookAnswer,
+    next_strength: fn(Trial, Trial) -> NextStrength,
 }
 
 const MAKES: [Make; 2] = [
@@ -35,6 +37,7 @@ const MAKES: [Make; 2] = [
         mesh_sizes: archive::mesh_sizes,
         book_ask: archive::book_ask,
         book_commit: archive::book_commit,
+        next_strength: archive::next_strength,
     },
     Make {
         name: "independent",
@@ -44,6 +47,7 @@ const MAKES: [Make; 2] = [
         mesh_sizes: independent::mesh_sizes,
         book_ask: independent::book_ask,
         book_commit: independent::book_commit,
+        next_strength: independent::next_strength,
     },
 ];
 
@@ -121,6 +125,7 @@ fn main() {
     runs::all(&mut tally, &format!("{folder}/runs"));
     sizes::all(&mut tally, &folder);
     books::all(&mut tally, &format!("{folder}/book"));
+    strengths::all(&mut tally, &format!("{folder}/strength"));
     for sheets in std::env::args().skip(2) {
         runs::all(&mut tally, &format!("{sheets}/runs"));
         sizes::all(&mut tally, &sheets);

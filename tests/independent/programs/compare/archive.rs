@@ -1,9 +1,9 @@
 //! The proved program's C entries.
 
-use independent::{Answer, Book, BookAnswer, Numbers, Run, Sizes};
+use independent::{Answer, Book, BookAnswer, NextStrength, Numbers, Run, Sizes, Trial};
 
 mod raw {
-    use independent::{Answer, Book, BookAnswer, Numbers, Run, Sizes};
+    use independent::{Answer, Book, BookAnswer, NextStrength, Numbers, Run, Sizes};
 
     extern "C" {
         pub fn pechuvo_check(
@@ -60,6 +60,7 @@ mod raw {
             claim: *const u8,
             claim_len: usize,
         ) -> BookAnswer;
+        pub fn pechuvo_next_strength(k1: f64, l1: f64, k2: f64, l2: f64) -> NextStrength;
     }
 }
 
@@ -144,4 +145,9 @@ pub fn book_commit(book: Book, count: u64, mesh: &[u8], table: &[u8], claim: &[u
             claim.len(),
         )
     }
+}
+
+pub fn next_strength(first: Trial, second: Trial) -> NextStrength {
+    // SAFETY: the numbers are handed over by value.
+    unsafe { raw::pechuvo_next_strength(first.k, first.l, second.k, second.l) }
 }

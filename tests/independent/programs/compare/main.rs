@@ -9,12 +9,14 @@ mod books;
 mod causes;
 mod columns;
 mod damage;
+mod exact;
 // The bench takes an accepted grid of a given size.
 #[allow(dead_code)]
 mod grids;
 mod overlaps;
 mod random;
 mod runs;
+mod strengths;
 mod tally;
 
 use independent::sheet::{self, Files, Sheet};
@@ -194,6 +196,7 @@ fn main() {
             .iter()
             .for_each(|sheet| damaged(&mut tally, &mut random, sheet));
     }
+    strengths::all(&mut tally, &mut random);
     tally.print();
     std::process::exit(if tally.good() { 0 } else { 1 });
 }

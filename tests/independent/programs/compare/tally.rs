@@ -3,7 +3,7 @@
 use crate::archive;
 use crate::random::Random;
 use independent::sheet::{Files, Lists, Sheet};
-use independent::{Answer, Book, BookAnswer, Run};
+use independent::{Answer, Book, BookAnswer, Run, Trial};
 use std::collections::BTreeMap;
 
 /// Every number that a file can get, and those that have to do with the call.
@@ -60,14 +60,22 @@ pub struct Tally {
     pub blends: u64,
     /// Books by the number that a call on them gave.
     books: BTreeMap<u32, u64>,
+    /// Next strengths by number.
+    strengths: BTreeMap<u32, u64>,
     disagreements: u64,
 }
 
 impl Tally {
-    pub fn disagree(&mut self, what: &str, files: &Files) {
+    pub fn disagree_on(&mut self, what: &str) {
         self.disagreements += 1;
         if self.disagreements <= 3 {
             println!("DISAGREEMENT: {what}");
+        }
+    }
+
+    pub fn disagree(&mut self, what: &str, files: &Files) {
+        self.disagree_on(what);
+        if self.disagreements <= 3 {
             println!("mesh:\n{}", String::from_utf8_lossy(&files.mesh));
             println!("table:\n{}", String::from_utf8_lossy(&files.table));
             println!("claim:\n{}", String::from_utf8_lossy(&files.claim));
@@ -181,6 +189,22 @@ impl Tally {
         self.book(theirs, ours, files)
     }
 
+    /// Both next strengths, and the one that is expected; none where the trials are refused.
+    pub fn strength(&mut self, first: Trial, second: Trial, expected: Option<f64>) {
+        let theirs = archive::next_strength(first, second);
+        let ours = independent::next_strength(first, second);
+        *self.strengths.entry(ours.number).or_default() += 1;
+        let number = if expected.is_some() { 0 } else { 49 };
+        let bits = expected.map_or(0, f64::to_bits);
+        for found in [theirs, ours] {
+            if (found.number, found.place, found.strength.to_bits()) != (number, 0, bits) {
+                self.disagree_on(&format!(
+                    "{found:?}, not {expected:?}, of {first:?}, {second:?}"
+                ));
+            }
+        }
+    }
+
     /// A sheet as files and as numbers, and its mesh's sizes.
     pub fn sheet(&mut self, random: &mut Random, sheet: &Sheet) {
         let files = sheet.files();
@@ -206,6 +230,7 @@ impl Tally {
         );
         println!("blends: {}", self.blends);
         println!("books by number: {:?}", self.books);
+        println!("next strengths by number: {:?}", self.strengths);
         println!("disagreements: {}", self.disagreements);
     }
 
@@ -217,5 +242,6 @@ impl Tally {
                 .iter()
                 .all(|n| in_files(n) && self.lists.contains_key(n))
             && CALLS.iter().all(in_files)
+            && [0, 49].iter().all(|n| self.strengths.contains_key(n))
     }
 }
