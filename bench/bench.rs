@@ -13,7 +13,7 @@ use std::time::{Duration, Instant};
 mod archive;
 // The grids of the comparison; one of them is timed.
 #[allow(dead_code)]
-#[path = "../tests/independent/programs/compare/grids.rs"]
+#[path = "../tests/independent/programs/compare/grids/mod.rs"]
 mod grids;
 #[allow(dead_code)]
 #[path = "../tests/independent/programs/compare/random.rs"]

@@ -20,7 +20,7 @@
      number  place     when
       0      0         accepted: each part that the claim has passes its checks
       1      line      mesh or table form: length, character, spelling, bytes missing or left over
-      2      line      mesh or table number outside its limits
+      2      line      mesh or table number outside its limits; a soil of kind 1 on a mesh with 108 sides
       3      line      p^2 + q^2 is not h^2
       4      line      names a node or soil that isn't there
      46      line      table: the first whose top isn't above its bottom; if there is none, the first
@@ -57,6 +57,17 @@
    A node makes a pair with each soil of the elements around it. Pairs are numbered from 1, nodes
    ascending and at a node soils ascending; a mesh has at most 100. A claim's strength multipliers
    are a line for each pair, and the strength row of side k of pair a is (a - 1) * sides + k.
+
+   A soil's line ends with a kind and cv, 0 to 10,000. Kind 0 has one cohesion, and cv is not read.
+   Kind 1 is ground that is stronger one way: its cohesion is ch along level beds (the line's fourth
+   number) and cv across them. A pair of such a soil has as many rows as any other. Corner j of the
+   polygon, from 1 to sides / 2, the first being (r, 0), is (a, b), and rows 2j - 1 and 2j of the pair
+   are p*N + q*T and p*N - q*T, each at most q*n*(r^2*ch + (cv - ch)*a^2), where
+   N = a^2*sx + 2ab*t + b^2*sy and T = ab*(sy - sx) + (a^2 - b^2)*t: the strength of the plane with the
+   normal (a, b)/r, in both senses of shear. No other plane is looked at, so a field that meets these
+   rows may lie outside the criterion. On a mesh that lists a soil of kind 1, whether an element has it
+   or not, no carried load is told: the report's lower load reads none, and a book takes none from it.
+   The limit and the open rows keep their meaning, against these rows.
 
    A mesh has 12, 20, 36 or 108 sides. With 108 it has at most 40 nodes (2, line 1) and 40 pairs
    (42), and its strength multipliers are at most 300 (12), not 10,000.
@@ -95,8 +106,9 @@ struct pechuvo_answer {
    four columns of 28 bytes, right-justified in spaces, and byte 10; no other byte of it is written.
    Accepted: 0, the open rows, the load l/n rounded down, the limit W/m rounded up, each with as
    many decimals as are asked for, 0 to 7, and no point at 0; each is off by less than one in its
-   last place; `none` for what the claim lacks. Refused: number, place, none, none. With another
-   number of decimals, or under 113 bytes, the buffer is left untouched. */
+   last place; `none` for what the claim lacks, and for l/n on a mesh that lists a soil of kind 1.
+   Refused: number, place, none, none. With another number of decimals, or under 113 bytes, the buffer
+   is left untouched. */
 struct pechuvo_answer pechuvo_check(const uint8_t *mesh, size_t mesh_length,
                                     const uint8_t *table, size_t table_length,
                                     const uint8_t *claim, size_t claim_length,
@@ -167,7 +179,8 @@ struct pechuvo_book_answer {
    accepted claim moves each bound only if its own is strictly better, any is better than none, and
    adds one to the count; at a refused one the book comes back as it was. 48, place 0: the count is
    1,000,000 or more, or a bound that is there has a denominator not above 0; then the claim is not
-   judged, and the book comes back as it was. No report is written. */
+   judged, and the book comes back as it was. On a mesh that lists a soil of kind 1 a claim moves no
+   lower bound. No report is written. */
 struct pechuvo_book_answer pechuvo_book_ask(struct pechuvo_book book,
                                             const uint8_t *mesh, size_t mesh_length,
                                             const uint8_t *table, size_t table_length,
@@ -186,7 +199,7 @@ struct pechuvo_numbers {
   uint32_t place;
   uint32_t field;       /* 1 where an accepted claim has a field, else 0 */
   uint32_t multipliers; /* 1 where an accepted claim has multipliers, else 0 */
-  int64_t l;            /* l and n: 0 unless field is 1 */
+  int64_t l;            /* l and n: 0 unless field is 1, and 0 on a mesh that lists a soil of kind 1 */
   int64_t n;
   int64_t w;            /* w and m: 0 unless multipliers is 1 */
   int64_t m;

@@ -66,7 +66,9 @@ def make_claim(mesh_text, table, part="both", margin=0.0, spread=0.0, tries=0):
     n, l, stresses, multipliers, notes = 0, 0, None, None, []
     if part in ("field", "both"):
         (n, l, stresses), how = make_field(mesh, rows, margin)
-        notes.append(f"field carries {l / n:.9g} ({how})")
+        # Where a soil is stronger one way, the report doesn't tell it (document 02, N14).
+        told = "" if all(soil.kind == 0 for soil in mesh.soils) else ", not told on this mesh"
+        notes.append(f"field carries {l / n:.9g}{told} ({how})")
     if part in ("multipliers", "both"):
         multipliers, how = make_multipliers(mesh, rows, spread, tries)
         notes.append(f"multipliers allow {float(limit(rows, multipliers)):.9g} ({how})")

@@ -21,7 +21,7 @@ NODE, SOIL = "node", "soil"
 FORCE, TRACTION = range(-1_000, 1_001), range(-10_000, 10_001)
 COORDINATE = range(1_001)
 HEADER = [range(4, 101), range(1, 101), range(1, 17), range(61), RADII.keys(), range(61)]
-SOIL_LINE = [range(1_001), range(1, 1_001), range(1, 1_001), range(10_001), *[FORCE] * 4]
+SOIL_LINE = [range(1_001), range(1, 1_001), range(1, 1_001), range(10_001), *[FORCE] * 4, range(2), range(10_001)]
 NODE_LINE = [COORDINATE] * 2
 ELEMENT_LINE = [*[NODE] * 4, SOIL]
 EDGE_LINE = [NODE, NODE, range(1, 4), *[TRACTION] * 4]
@@ -38,7 +38,8 @@ MOST_PAIRS = 100
 # With 108 sides (document 02, N9).
 MANY_SIDES, MOST_NODES_MANY, MOST_PAIRS_MANY, STRENGTH_MULTIPLIER_MANY = 108, 40, 40, range(301)
 
-Soil = namedtuple("Soil", "p q h cohesion dead live")
+# kind 1 is stronger one way: cohesion along and cv across; kind 0 doesn't read cv.
+Soil = namedtuple("Soil", "p q h cohesion dead live kind cv")
 Element = namedtuple("Element", "nodes soil")
 Edge = namedtuple("Edge", "start end fixed dead live")  # loads are (normal, shear)
 Jump = namedtuple("Jump", "start end facing_start facing_end")
@@ -112,12 +113,15 @@ def take_line(lines, columns, refusal, there=None):
     return numbers
 
 
-def soil_of(lines):
+def soil_of(lines, sides):
     numbers = take_line(lines, SOIL_LINE, 2)
     p, q, h = numbers[:3]
+    soil = Soil(*numbers[:4], tuple(numbers[4:6]), tuple(numbers[6:8]), *numbers[8:])
+    if soil.kind and sides == MANY_SIDES:
+        raise Refused(2, lines.line - 1, "line")
     if p * p + q * q != h * h:
         raise Refused(3, lines.line - 1, "line")
-    return Soil(*numbers[:4], tuple(numbers[4:6]), tuple(numbers[6:8]))
+    return soil
 
 
 def layers_of(lines, there):
@@ -165,7 +169,7 @@ def mesh_of(lines, table):
         raise Refused(2, 1, "line")
     there = {NODE: range(1, nodes + 1), SOIL: range(1, soils + 1)}
     there_or_0 = {**there, SOIL: range(soils + 1)} if table.data else there
-    all_soils = [soil_of(lines) for _ in range(soils)]
+    all_soils = [soil_of(lines, sides) for _ in range(soils)]
     all_nodes = [tuple(take_line(lines, NODE_LINE, 2)) for _ in range(nodes)]
     all_elements = []
     for _ in range(elements):
@@ -438,9 +442,9 @@ def jump_rows(mesh):
                 yield "jump", (number, end, part), True, entries, 0, 0
 
 
-def polygon_rows(mesh, node, soil):
+def polygon_rows(sides, node, soil):
     """(entries, right side) of a node's strength rows, side by side of the polygon."""
-    r, corner = radius(mesh.sides), corners(mesh.sides)
+    r, corner = radius(sides), corners(sides)
     for (a, b), (c, d) in zip(corner, corner[1:] + corner[:1]):
         across, along, cross = r * soil.h * (d - b), r * soil.h * (c - a), a * d - b * c
         entries = {
@@ -451,10 +455,26 @@ def polygon_rows(mesh, node, soil):
         yield entries, cross * 2 * soil.q * soil.cohesion
 
 
+def plane_rows(sides, node, soil):
+    """(entries, right side) of a node's rows in a soil that is stronger one way (document 02, N14): pN + qT, then
+    pN - qT, plane by plane of the first half turn."""
+    r, p, q = radius(sides), soil.p, soil.q
+    for a, b in corners(sides)[: sides // 2]:
+        right = q * (r * r * soil.cohesion + (soil.cv - soil.cohesion) * a * a)
+        normal, shear = (a * a, b * b, 2 * a * b), (-a * b, a * b, a * a - b * b)
+        for sign in (1, -1):
+            yield {3 * node + k: p * normal[k] + sign * q * shear[k] for k in range(3)}, right
+
+
+def soil_rows(sides, node, soil):
+    """(entries, right side) of the rows of a pair of node and soil."""
+    return (plane_rows if soil.kind else polygon_rows)(sides, node, soil)
+
+
 def strength_rows(mesh):
     """As many for each pair of node and soil as the polygon has sides."""
     for node, soil in strength_pairs(mesh):
-        for k, (entries, right) in enumerate(polygon_rows(mesh, node, mesh.soils[soil])):
+        for k, (entries, right) in enumerate(soil_rows(mesh.sides, node, mesh.soils[soil])):
             yield "strength", (node, soil, k), True, entries, 0, right
 
 
@@ -529,15 +549,17 @@ def judge_multipliers(rows, columns, multipliers):
 
 
 def judge_claim(mesh, rows, claim):
-    """The verdict on a claim whose lines have passed."""
+    """The verdict on a claim whose lines have passed. On a mesh that lists a soil of kind 1, used or not, the load
+    that the field carries isn't told."""
     told = {}
     if claim.stresses is not None:
         judge_field(rows, claim)
-        told |= {"l": claim.l, "n": claim.n}
+        if not any(soil.kind for soil in mesh.soils):
+            told |= {"l": claim.l, "n": claim.n}
     if claim.multipliers is not None:
         judge_multipliers(rows, 3 * len(mesh.nodes), claim.multipliers)
         told |= {"w": right_sum(rows, claim.multipliers), "m": load_sum(rows, claim.multipliers)}
-    if len(told) == 4:
+    if claim.stresses is not None and claim.multipliers is not None:
         told["open_rows"] = len(open_rows(rows, claim))
     return Verdict(0, 0, "none", **told)
 

@@ -14,12 +14,13 @@ FREE = (3, 0, 0, 0, 0)
 SMOOTH = (2, 0, 0, 0, 0)
 
 
-def clay(cohesion, dead=(0, 0), live=(0, 0)):
-    return [0, 1, 1, cohesion, *dead, *live]
+def clay(cohesion, dead=(0, 0), live=(0, 0), bedded=(0, 0)):
+    return sand(0, 1, 1, cohesion, dead, live, bedded)
 
 
-def sand(p, q, h, cohesion, dead=(0, 0), live=(0, 0)):
-    return [p, q, h, cohesion, *dead, *live]
+def sand(p, q, h, cohesion, dead=(0, 0), live=(0, 0), bedded=(0, 0)):
+    """bedded: kind and cv."""
+    return [p, q, h, cohesion, *dead, *live, *bedded]
 
 
 def outline(i, j, size=1):
@@ -374,7 +375,7 @@ def printed(text):
 
 
 WORKED_MESH = (
-    "4 1 1 3 12 0 / 0 1 1 10 0 0 0 0 / 0 0 / 1 0 / 1 1 / 0 1 / 1 2 3 4 1 / "
+    "4 1 1 3 12 0 / 0 1 1 10 0 0 0 0 0 0 / 0 0 / 1 0 / 1 1 / 0 1 / 1 2 3 4 1 / "
     "3 4 3 {dead} 0 {live} 0 / 2 3 3 0 0 0 0 / 4 1 3 0 0 0 0"
 )
 ZEROS = " / " + " ".join(["0"] * 12)
@@ -395,7 +396,7 @@ def paper_sheets():
     refused = lambda number, place: [str(number), str(place), "none", "none"]
     sheet = lambda name, mesh, claim, *line: Sheet(name, mesh, claim=claim, line=list(line))
     corner_mesh = printed(
-        "4 1 1 2 12 0 / 0 1 1 10000 0 0 0 0 / 0 0 / 169 0 / 288 120 / 0 120 / 1 2 3 4 1 / "
+        "4 1 1 2 12 0 / 0 1 1 10000 0 0 0 0 0 0 / 0 0 / 169 0 / 288 120 / 0 120 / 1 2 3 4 1 / "
         "1 2 3 -1 1 6000 6600 / 2 3 3 0 0 -6000 6500"
     )
     corner_claim = printed("0 1 0 0 / 0 0 / 0 0 -119 -120 / 119 -120 0 0" + 4 * ZEROS)
@@ -497,11 +498,11 @@ def corner_sheets():
 
     Level and upright edges both fix t at a corner they share, so equal multipliers on their
     shear rows leave every column 0 and add up what the two edges ask."""
-    small = "4 1 1 3 12 0 / 0 1 1 10000 0 0 0 0 / 900 900 / 1000 900 / 1000 1000 / 900 1000 / 1 2 3 4 1 / "
+    small = "4 1 1 3 12 0 / 0 1 1 10000 0 0 0 0 0 0 / 900 900 / 1000 900 / 1000 1000 / 900 1000 / 1 2 3 4 1 / "
     small += "3 4 3 0 0 -10 0 / 2 3 3 0 0 0 0 / 4 1 3 0 0 0 0"
     field = "1 1 50000 100000000" + " / 0 -1000000000 0" * 4 + " / 0 0 / 30 0 0 0 / 0 0 -30 0 / 0 0 0 0"
     full = " / 10000 0 0 0 0 0 0 0 0 0 0 10000"
-    two = "8 2 1 6 36 0 / 0 1000 1000 10000 0 0 0 0 / 0 0 / 999 0 / 999 999 / 0 999 / "
+    two = "8 2 1 6 36 0 / 0 1000 1000 10000 0 0 0 0 0 0 / 0 0 / 999 0 / 999 999 / 0 999 / "
     two += "999 999 / 1000 999 / 1000 1000 / 999 1000 / 1 2 3 4 1 / 5 6 7 8 1 / "
     two += "1 2 3 0 {d} 0 0 / 2 3 3 0 {d} 0 0 / 3 4 3 0 {d} 0 0 / 4 1 3 0 {d} 0 0 / 5 6 3 0 0 0 0 / 6 7 3 0 0 0 -1"
     pair = "0 1 0 0 / 0 0 / 0 0" + " / 0 {y} 0 {y}" * 4 + " / 0 0 0 1 / 0 1 0 0"
@@ -592,7 +593,7 @@ def widest_many_sides():
     edges = [[a, b, 3, 0, 10_000, 0, 0] for square in numbers[:9] for a, b in zip(square, square[1:] + square[:1])]
     edges += [[37, 38, 3, 0, 0, 0, 0], [38, 39, 3, 0, 0, 0, -1]]
     header = [40, 10, 1, len(edges), 108, 0]
-    mesh = [header, [0, 1000, 1000, 10_000, 0, 0, 0, 0], *nodes, *([*square, 1] for square in numbers), *edges]
+    mesh = [header, [0, 1000, 1000, 10_000, 0, 0, 0, 0, 0, 0], *nodes, *([*square, 1] for square in numbers), *edges]
     claim = [[0, 1, 0, 0], *[[0, 0]] * 10, *[[0, 100_000, 0, 100_000]] * 36, [0, 0, 0, 1], [0, 1, 0, 0]]
     return Sheet("widest_108", mesh, claim=claim + [[300] * 108] * 40)
 
@@ -626,8 +627,40 @@ def overlap_sheets():
     ]
 
 
+def bedded_sheets():
+    """Ground that is stronger one way (document 02, N14): cv as large as ch, and half of it."""
+    bedded = lambda ch, cv, **forces: clay(ch, bedded=(1, cv), **forces)
+    weight = {"live": (0, -1)}
+    sixteen = [bedded(60 + 14 * k % 32, 30 + 7 * k % 16) for k in range(16)]
+    unused = [list(line) for line in worked_mesh()]
+    unused[0][2] = 2
+    unused.insert(2, bedded(10, 5))
+    return [
+        Sheet("bedded_block", block(1, 1, 10, [bedded(10, 10)], 12)),
+        Sheet("bedded_block_half", block(1, 1, 10, [bedded(10, 5)], 12)),
+        Sheet("bedded_block_sand", block(1, 1, 10, [sand(3, 4, 5, 10, bedded=(1, 10))], 36, 10)),
+        Sheet("bedded_slope", slope(3, 2, 10, 10, [bedded(60, 60, **weight)], 12)),
+        Sheet("bedded_slope_half", slope(3, 2, 10, 10, [bedded(60, 30, **weight)], 12)),
+        Sheet("bedded_pieces", pieces(sixteen, 36, 15)),
+        Sheet("bedded_seam", seam(10, clay(30), bedded(10, 5), 12)),
+        Sheet("bedded_unused", unused, claim=worked_claim(1, 20, -20), line=["0", "0", "none", "20.000000"]),
+    ]
+
+
 SHEETS = paper_sheets() + known_sheets() + other_sheets() + load_sheets() + corner_sheets() + triangle_sheets()
-SHEETS += pair_sheets() + jump_sheets() + table_sheets() + side_sheets() + overlap_sheets()
+SHEETS += pair_sheets() + jump_sheets() + table_sheets() + side_sheets() + overlap_sheets() + bedded_sheets()
+
+
+def bedded_run():
+    """Document 01's square of bedded clay, ch 10 and cv 6 (document 02, N14). On the planes with normals (4, 3) and
+    (-4, 3) it carries 12·sy up to 250 - 4·16 = 186, so 15.5."""
+    mesh = [list(line) for line in worked_mesh()]
+    mesh[1] = clay(10, bedded=(1, 6))
+    equalities, zeros = printed("0 0 / 24 0 0 0 / 0 0 -24 0 / 0 0 0 0"), [0] * 12
+    multipliers = equalities + [zeros, zeros, [0, 0, 0, 1, 0, 0, 0, 0, 0, 0, 1, 0], zeros]
+    field = lambda there, n, l: [[1, there, n, l]] + [[0, -l, 0]] * 4
+    both = [field(1, n, l) + multipliers for n, l in ((2, 31), (1, 15), (2, 32))]
+    return Run("bedded_square", mesh, [*both, field(0, 2, 31), [[0, 1, 0, 0]] + multipliers], 50 * 113)
 
 
 def runs():
@@ -640,6 +673,7 @@ def runs():
         Run("worked_refused", worked_mesh(), [good, above, tilted, good, large_n, good], 50 * 113),
         Run("worked_little_room", worked_mesh(), [good] * 5, 400),
         Run("worked_cut_short", worked_mesh(), [good, good], 50 * 113, 13),
+        bedded_run(),
     ]
 
 
@@ -650,6 +684,7 @@ DECIMALS = [(name, decimals) for name in ("third_below_zero", "two_thirds") for 
 DECIMALS += [("widest_limit", 0), ("widest_limit", 7), ("widest_108", 7), ("lowest_limit", 7), ("one_in_three_million", 7)]
 DECIMALS += [("worked_above", 3), ("worked", -1), ("worked", 8)]
 
-# Meshes whose sizes are told (document 02, N7): triangles, two soils, jumps, the largest, and soils from a table.
+# Meshes whose sizes are told (document 02, N7): triangles, two soils, jumps, the largest, soils from a table, soils of
+# both kinds.
 SIZES = ["worked", "triangle_block", "seam", "joint_blocks", "joint_grid", "footing_36", "largest"]
-SIZES += ["table_slope", "table_seam", "table_gap"]
+SIZES += ["table_slope", "table_seam", "table_gap", "bedded_seam"]

@@ -186,12 +186,13 @@ def trace_equations(mesh, rows):
 
 
 def cheapest(mesh, pairs, sums):
-    """(pair, its strength multipliers) that undo a node's column sums at the least W, or None."""
+    """(pair, its strength multipliers) that undo a node's column sums at the least W, or None. A soil that is
+    stronger one way has other rows and is passed over."""
     found = []
     for number, soil in pairs:
-        y = node_multipliers(mesh.sides, exact.radius(mesh.sides), soil, sums)
+        y = None if soil.kind else node_multipliers(mesh.sides, exact.radius(mesh.sides), soil, sums)
         if y is not None:
-            rights = (right for _, right in exact.polygon_rows(mesh, 0, soil))
+            rights = (right for _, right in exact.polygon_rows(mesh.sides, 0, soil))
             found.append((sum(a * b for a, b in zip(y, rights)), number, y))
     return min(found)[1:] if found else None
 

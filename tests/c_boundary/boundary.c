@@ -12,7 +12,7 @@
 /* A block as a call's two arguments. */
 #define GIVEN(block) (block).bytes, (block).length
 
-enum { LINE = 113, ROOM = 160, RUN = 3 * LINE - 1, LARGEST = 70000, DECIMALS = 6 };
+enum { LINE = 113, WIDTH = 28, ROOM = 160, RUN = 3 * LINE - 1, LARGEST = 70000, DECIMALS = 6 };
 
 static unsigned long calls;
 
@@ -322,6 +322,29 @@ static void lists(struct block mesh_file, struct block table_file, struct block 
   give_back(claim);
 }
 
+/* Report, numbers and book tell a carried load of the same accepted claims: of none without a field, or on a mesh that
+   lists a soil of kind 1. */
+static void told_alike(struct block mesh_file, struct block table_file, struct block claim_file) {
+  unsigned char line[LINE];
+  struct pechuvo_book empty = {0};
+  struct pechuvo_answer one =
+      pechuvo_check(GIVEN(mesh_file), GIVEN(table_file), GIVEN(claim_file), DECIMALS, line, LINE);
+  if (one.number != 0) {
+    return;
+  }
+  int untold = memcmp(line + 3 * WIDTH - 4, "none", 4) == 0;
+  struct block mesh = numbers_of(mesh_file), table = numbers_of(table_file), claim = numbers_of(claim_file);
+  struct pechuvo_numbers numbers = check_lists(mesh, table, claim);
+  struct pechuvo_book book = pechuvo_book_ask(empty, GIVEN(mesh_file), GIVEN(table_file), GIVEN(claim_file)).book;
+  expect(numbers.field == (claim_file.bytes[11] == '1'), "the field of an accepted claim");
+  expect((numbers.n == 0) == untold, "numbers tell a carried load where the report does");
+  expect((book.lower_there == 0) == untold, "a book takes a carried load where the report tells one");
+  expect(!untold || (numbers.l == 0 && book.lower_denominator == 0), "zeros for what is not told");
+  give_back(mesh);
+  give_back(table);
+  give_back(claim);
+}
+
 static void sheet(const char *name, int heap) {
   struct block mesh = read_file(name, "mesh"), table = read_file(name, "table"), claim = read_file(name, "claim");
   size_t bytes = mesh.length + claim.length;
@@ -339,6 +362,7 @@ static void sheet(const char *name, int heap) {
   call_book(mesh, table, claim, heap ? ON_HEAP : AT_END);
   call_book(mesh, table, claim, heap ? ON_HEAP : AT_START);
   claim_length(mesh, table, claim);
+  told_alike(mesh, table, claim);
   cut_files(mesh, table, claim, step, heap);
   lists(mesh, table, claim, step / 8 + 1, heap);
   empty_slices(mesh, table, claim);

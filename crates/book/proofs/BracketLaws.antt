@@ -1,7 +1,7 @@
 -- On the same mesh the bounds of a book are a bracket: each is that of an accepted part of a claim that was committed, and the bracket of two such parts is known.
 use mathlib.Core.Path.{◌≡◌, refl, sym, ◌∙◌, subst, subst₂}
 use mathlib.Core.Logic.{◌⊎◌, inl, inr}
-use mathlib.Core.Bool.{Bool, true, false, ◌&&◌, cond}
+use mathlib.Core.Bool.{Bool, true, false, not, ◌&&◌, cond}
 use mathlib.Core.List.Memᴰ
 use mathlib.Core.List.{List, [], ◌∷◌, map}
 use Prim.Native.Nat.{ℕ, suc}
@@ -16,6 +16,7 @@ use Rattle.scope.specs.Cases.OpenRows.{OpenRows}
 use Rattle.scope.specs.Cases.Verdict.{Verdict, Accepted, Refused}
 use Rattle.integer.specs.Members.{◌∈◌}
 use Rattle.scope.specs.Columns.{n, l, has_field, has_multipliers}
+use Rattle.scope.specs.Mesh.{some_by_direction}
 use Rattle.scope.specs.Rows.{rows_of}
 use Rattle.scope.specs.Sums.{live_sum, limit_sum}
 use Rattle.scope.specs.Claim.{multiplier}
@@ -53,13 +54,14 @@ module _ (d : List ℤ) where
   -- ---- of an accepted claim
 
   module _ (m c : List ℤ) (same : SameRows m d) (a : ClaimAccepted m c) where
-    lower_from : FromField (lower_load c)
+    lower_from : FromField (lower_load m c)
     unfolding lower_load has_field carried FromField
-    lower_from = by (has_field c) (λ t. ((claim_by_parts m c).0 a).2 (eq_z_yes t))
+    lower_from = by (has_field c) (some_by_direction m) (λ t. ((claim_by_parts m c).0 a).2 (eq_z_yes t))
       where
-        by : (t : Bool) → (T t → FieldAccepted m c) → FromField (cond t (Exact (l c) (n c)) Absent)
-        by true h = (m, c, same, h tt, refl)
-        by false h = tt
+        by : (t d : Bool) → (T t → FieldAccepted m c) → FromField (cond (t && not d) (Exact (l c) (n c)) Absent)
+        by true true h = tt
+        by true false h = (m, c, same, h tt, refl)
+        by false d h = tt
 
     upper_from : FromMultipliers (upper_load m c)
     unfolding upper_load has_multipliers allowed FromMultipliers
@@ -73,11 +75,11 @@ module _ (d : List ℤ) where
   unfolding FromClaim
   from_verdict m c same o x y e = by (verdict_cases m c)
     where
-      by : ((k : ℕ) × (p : Place) × (verdict m c ≡ Refused k p)) ⊎ (verdict m c ≡ Accepted (open_count m c) (lower_load c) (upper_load m c)) → FromField x × FromMultipliers y
+      by : ((k : ℕ) × (p : Place) × (verdict m c ≡ Refused k p)) ⊎ (verdict m c ≡ Accepted (open_count m c) (lower_load m c) (upper_load m c)) → FromField x × FromMultipliers y
       by (inl (k, p, r)) = let z : ◌≡◌ {A = ℕ} 0 1 = cc in absurd (omega arith)
       by (inr r) =
           let a = (accepted_exactly m c).0 r in
-          let lower : lower_load c ≡ x = cc in
+          let lower : lower_load m c ≡ x = cc in
           let upper : upper_load m c ≡ y = cc in
           (subst FromField lower (lower_from m c same a), subst FromMultipliers upper (upper_from m c same a))
 

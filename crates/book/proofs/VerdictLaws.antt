@@ -1,12 +1,13 @@
 -- The loads of every verdict of the check have denominators above 0: n of an accepted field, m of accepted multipliers. With a table the verdict came early and has no loads, or is the one on the mesh that is read.
 use mathlib.Core.Path.{◌≡◌, refl, sym, ◌∙◌, ap, ap₂}
 use mathlib.Core.Logic.{inl, inr}
-use mathlib.Core.Bool.{Bool, true, false, ◌&&◌, cond}
+use mathlib.Core.Bool.{Bool, true, false, not, ◌&&◌, cond}
 use mathlib.Core.List.{List}
 use Prim.Native.Nat.{ℕ}
 use native.Mathlib.Omega.{arith}
 use lib.Dec.{T}
 use lib.Ieee.Bits.{is_true}
+use mir.Facts.{and_yes}
 use lib.IntN.{ℤ, pos}
 use lib.Signed.{lt_z, ◌<ℤ◌}
 use Rattle.integer.proofs.TestLaws.{yes_lt_z, eq_z_yes}
@@ -14,6 +15,7 @@ use Rattle.scope.specs.Cases.Load.{Load, Absent, Exact}
 use Rattle.scope.specs.Cases.OpenRows.{OpenRows}
 use Rattle.scope.specs.Cases.Verdict.{Verdict, Accepted, Refused}
 use Rattle.scope.specs.Columns.{n, l, has_field, has_multipliers}
+use Rattle.scope.specs.Mesh.{some_by_direction}
 use Rattle.scope.specs.Accepted.{ClaimAccepted}
 use Rattle.scope.specs.Table.{mesh_read}
 use Rattle.scope.specs.TableVerdict.{tabled_verdict}
@@ -36,9 +38,11 @@ if_there true a d h = is_true (lt_z (pos 0) d) (yes_lt_z (h tt))
 if_there false a d h = refl
 
 module _ (m c : List ℤ) (a : ClaimAccepted m c) where
-  lower_proper : proper (lower_load c) ≡ true
+  lower_proper : proper (lower_load m c) ≡ true
   unfolding lower_load has_field
-  lower_proper = if_there (has_field c) (l c) (n c) (λ t. field-n m c (((claim_by_parts m c).0 a).2 (eq_z_yes t)))
+  lower_proper =
+      if_there (has_field c && not (some_by_direction m)) (l c) (n c)
+      (λ t. field-n m c (((claim_by_parts m c).0 a).2 (eq_z_yes (and_yes (has_field c) (not (some_by_direction m)) t).0)))
 
   upper_proper : proper (upper_load m c) ≡ true
   unfolding upper_load has_multipliers

@@ -5,9 +5,10 @@ use Rattle.scope.specs.declared.Place.{Place}
 use Rattle.scope.specs.Cases.Load.{Load, Absent, Exact}
 use Rattle.scope.specs.Cases.Verdict.{Verdict, Accepted, Refused}
 use Rattle.integer.specs.Members.{◌∈◌}
+use Rattle.scope.specs.Mesh.{ListsDirection}
 use Rattle.scope.specs.Parts.{SameRows}
 use Rattle.judge.specs.Handed.{Handed, mesh_of, handed_verdict}
-use Rattle.book.specs.Book.{Kept, Unjudged, most_commits, asked, committed, empty_book}
+use Rattle.book.specs.Book.{Kept, Unjudged, most_commits, followed, asked, committed, empty_book}
 
 -- ---- calls, each given the book that the last one left
 
@@ -114,6 +115,12 @@ book_after ks = left_by_all empty_book (map judged_call ks)
 -- the accepted claims committed, compared as exact fractions."
 abbrev pub TheBookIsTheBest : Type 0
 TheBookIsTheBest = (ks : List (Call Handed)) → BestBook (book_after ks) (committed_after 0 (map judged_call ks))
+
+-- "A book takes no carried load from such a mesh" (document 02, N14): whatever is handed over with a mesh that lists a
+-- soil by direction leaves the lower bound
+abbrev pub NoLoadByDirection : Type 0
+NoLoadByDirection = (b : Kept) (a : Handed) → ListsDirection (mesh_of a)
+    → (followed b (handed_verdict a)).lower ≡ b.lower
 
 -- "any calls on the same mesh": each on rows that are those of d
 abbrev pub handed_of : Call Handed → Handed

@@ -3,3 +3,4 @@ pub mod RowLaws
 pub mod SideLaws
 pub mod ClaimLaws
 pub mod StrengthLaws
+pub mod PlaneLaws

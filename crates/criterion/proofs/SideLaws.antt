@@ -93,22 +93,22 @@ one_step_more t k r {step} h e = record {
 
 -- ---- the sides of a polygon by its corners
 
-origin : Point
+unfoldable pub origin : Point
 origin = point (pos 0) (pos 0)
 
-x_of_corner : (cs : List Point) (k : ℕ) → corner_x (pairs_of cs) k ≡ (get_or cs k origin).px
+pub x_of_corner : (cs : List Point) (k : ℕ) → corner_x (pairs_of cs) k ≡ (get_or cs k origin).px
 unfolding pairs_of origin
 x_of_corner [] k = refl
 x_of_corner (v ∷ cs) zero = refl
 x_of_corner (v ∷ cs) (suc k) = x_of_corner cs k
 
-y_of_corner : (cs : List Point) (k : ℕ) → corner_y (pairs_of cs) k ≡ (get_or cs k origin).py
+pub y_of_corner : (cs : List Point) (k : ℕ) → corner_y (pairs_of cs) k ≡ (get_or cs k origin).py
 unfolding pairs_of origin
 y_of_corner [] k = refl
 y_of_corner (v ∷ cs) zero = refl
 y_of_corner (v ∷ cs) (suc k) = y_of_corner cs k
 
-length-pairs_of : (cs : List Point) → length (pairs_of cs) ≡ length cs
+pub length-pairs_of : (cs : List Point) → length (pairs_of cs) ≡ length cs
 unfolding pairs_of
 length-pairs_of [] = refl
 length-pairs_of (v ∷ cs) = omega (arith, length-pairs_of cs)

@@ -1,7 +1,7 @@
 -- The strength rows of a pair of a node and a soil by its numbers: the identity of the printed inequality's sides with
 -- those of the row, and sums over the sides.
 use mathlib.Core.Path.{◌≡◌, refl, sym, ◌∙◌, ap, subst}
-use mathlib.Core.Bool.{Bool, true, ◌&&◌}
+use mathlib.Core.Bool.{Bool, true, false, ◌&&◌}
 use mathlib.Core.List.{List, [], ◌∷◌}
 use Prim.Native.Nat.{ℕ, suc, ◌+◌, ◌*◌, ◌-◌, ◌/◌, ◌%◌, ◌≤◌, ◌<◌}
 use native.Mathlib.Nat.{suc-mul, mul-le-mul_right, div-lt_iff_lt-mul, div-add-mod', mod-lt}
@@ -16,16 +16,18 @@ use Rattle.integer.proofs.Linear.{linear, facts, ◌&◌}
 use Rattle.integer.proofs.Ring.{ring, terms}
 use Rattle.integer.proofs.TestLaws.{same_test, yes_le_z, yes_lt_z}
 use Rattle.std.specs.List.{list_all}
+use Rattle.std.specs.Option.{IfSome, IfNone}
+use Rattle.std.proofs.Common.{Option, None, Some}
 use Rattle.std.proofs.lemmas.List.{get_or-map}
 use Rattle.scope.proofs.NumberRanges.{some_sides_lem}
 use Rattle.scope.proofs.PolygonRule.{listed_polygon}
 use Rattle.scope.proofs.Pairs.{pair_there}
 use Rattle.scope.proofs.RowCounts.{strength_count}
 use Rattle.scope.proofs.SumBounds.{from_0}
-use Rattle.criterion.proofs.RowLaws.{row_of_pair, strength_at}
+use Rattle.criterion.proofs.RowLaws.{row_of_pair, strength_at, direction_at}
 use Rattle.criterion.proofs.SideLaws.{side_count, side_step}
 use Rattle.integer.specs.Bounds.{Within, Is}
-use Rattle.scope.specs.Mesh.{nodes, soils, sides, p, q, h, cohesion}
+use Rattle.scope.specs.Mesh.{nodes, soils, sides, p, q, h, cohesion, by_direction}
 use Rattle.mesh.specs.declared.sizes.Sizes.{Sizes}
 use Rattle.scope.specs.Bounds.{most_friction, most_cohesion}
 use Rattle.scope.specs.Columns.{at, n, l}
@@ -34,7 +36,7 @@ use Rattle.scope.specs.Cases.Outcome.{Passed, Refused}
 use Rattle.scope.specs.Checks.{all_below}
 use Rattle.scope.specs.Polygon.{Side, polygon_of}
 use Rattle.scope.specs.Rows as R
-use Rattle.scope.specs.Rows.{pair_count, pair_at, sx, sy, t, strength_row, strength_rows}
+use Rattle.scope.specs.Rows.{pair_count, pair_at, sx, sy, t, strength_row, plane_row, strength_rows}
 use Rattle.scope.specs.Sums.{weighted_sum, left_side, right_side, row_holds, is_open}
 use Rattle.scope.specs.NumberRanges.{Counts, SoilFacts}
 use Rattle.scope.specs.Tests.{row_at}
@@ -42,7 +44,7 @@ use Rattle.mesh.specs.declared.pairs.Pair.{Pair}
 use Rattle.mesh.specs.MeshContracts.{Sized}
 use Rattle.mesh.specs.PairContracts.{pair_of, PairsAre}
 use Rattle.mesh.proofs.PairLaws.{pairs_counted}
-use Rattle.scope.specs.RowNumbers.{side_at}
+use Rattle.scope.specs.RowNumbers.{side_at, direction_row_at}
 use Rattle.criterion.specs.declared.steps.Step.{Step}
 use Rattle.criterion.specs.declared.polygons.Polygon.{Polygon}
 use Rattle.criterion.specs.declared.strength_numbers.SoilNumbers.{SoilNumbers}
@@ -61,13 +63,28 @@ use Rattle.criterion.specs.StrengthContracts.{
   rise_of,
   cross_of,
   side_slack,
+  pair_row_holds,
   pair_holds,
 }
+use Rattle.bedded.specs.declared.planes.PlaneRow.{PlaneRow}
+use Rattle.bedded.specs.declared.planes.Stresses.{Stresses}
+use Rattle.bedded.specs.PlaneContracts.{no_plane, plane_at, slack_of}
+use Rattle.bedded.proofs.PlaneLaws.{slack_is as plane_slack_is}
+use Rattle.criterion.specs.PlaneContracts.{PlanesAre, StressesAre}
 use Rattle.scope.specs.Phases.{check_phase}
 use Rattle.scope.specs.Refusals.{strengths_phase}
 use Rattle.lines.specs.SearchContracts.{first_failing}
-use Rattle.lines.proofs.Loops.{each_below, all_of_each, all_cong, all_elements}
+use Rattle.lines.proofs.Loops.{each_below, all_of_each, all_cong, all_elements, search_cong}
 use Rattle.lines.proofs.Loops.{holds_before, fails_there, phase-at, phase_all}
+
+-- what is said of a search that ended, or that found nothing
+some_as : (o : Option ℕ) {P Q : ℕ → Type 0} → ((k : ℕ) → P k → Q k) → IfSome o P → IfSome o Q
+some_as None f h = tt
+some_as (Some k) f h = f k h
+
+none_as : (o : Option ℕ) {A B : Type 0} → (A → B) → IfNone o A → IfNone o B
+none_as None f h = f h
+none_as (Some k) f h = tt
 
 pub being : {v z : ℤ} {B : ℕ} → v ≡ z → Within B z → Is v z B
 being e h = record { same = e; inside = h }
@@ -121,6 +138,11 @@ module _ (m : List ℤ) (a : ℕ) {d : PairNumbers} {k : SoilNumbers} {x : List 
     twist = h.twist ∙ rw ev;
     reserve = h.reserve ∙ rw (en, g.right, g.friction, es, ev);
   }
+
+-- the same node and the same n
+pub stresses_as : {d : Stresses} {s : ℕ → ℤ} {v v' : ℕ} {n n' : ℤ} → StressesAre d s v n → v ≡ v' → n ≡ n'
+    → StressesAre d s v' n'
+stresses_as {d} {s} {v} {v'} {n} h ev en = subst (StressesAre d s v') en (subst (λ v. StressesAre d s v n) ev h)
 
 -- ---- the polygon of a mesh
 
@@ -220,25 +242,90 @@ step_test d step = le_z (pos 0) (side_slack d step)
 abbrev side_test : PairNumbers → List Step → ℕ → Bool
 side_test d t k = step_test d (step_at t k)
 
+-- and that of a plane
+abbrev plane_test : Stresses → PlaneRow → Bool
+plane_test d row = le_z (pos 0) (slack_of row d)
+
 module _ (m : List ℤ) (s : ℕ → ℤ) (l n : ℤ) (counts : Counts m) where
+  -- a pair by its sides
   module _ {t : List Step} (steps : SidesAre (polygon_of (sides m)) t) {a : ℕ} {d : PairNumbers} (h : a < pair_count m)
-      (state : PairState d m s n a) where
-    row_test_lem : (k : ℕ) → k < sides m → strength_test m s l n (a * sides m + k) ≡ side_test d t k
+      (state : PairState d m s n a) (by_sides : by_direction m (pair_at m a).soil ≡ false) where
+    row_test_lem : (k : ℕ) → k < sides m → pair_row_holds m s l n a k ≡ side_test d t k
     row_test_lem k j =
         let there : k < length t = omega (arith, sides_counted counts steps) in
-        ap (row_holds s l n) (strength_at m (record { listed = counts.sides_listed }) a k h j)
+        ap (row_holds s l n) (strength_at m (record { listed = counts.sides_listed }) a k h j by_sides)
         ∙ strength_test_lem m s n a k (step_at t k) state (side_step steps k there) l
 
-    all_tests : all_below (side_test d t) (sides m) ≡ pair_holds m s l n a
-    unfolding pair_holds
-    all_tests = sym (all_cong (λ k. strength_test m s l n (a * sides m + k)) (side_test d t) (sides m) row_test_lem)
-
     pub pair_holds_is : {r : Bool} → r ≡ list_all (step_test d) t → r ≡ pair_holds m s l n a
+    unfolding pair_holds
     pair_holds_is g =
         g
         ∙ all_elements (step_test d) t no_step
         ∙ ap (all_below (side_test d t)) (sides_counted counts steps)
-        ∙ all_tests
+        ∙ sym (all_cong (pair_row_holds m s l n a) (side_test d t) (sides m) row_test_lem)
+
+    pub first_side_is : (o : Option ℕ) → IfSome o (λ k. k ≡ first_failing (side_test d t) (length t))
+        → IfSome o (λ k. k ≡ first_failing (pair_row_holds m s l n a) (sides m))
+    first_side_is o h =
+        some_as o
+        (λ k g.
+        g
+        ∙ ap (first_failing (side_test d t)) (sides_counted counts steps)
+        ∙ sym (search_cong (pair_row_holds m s l n a) (side_test d t) (sides m) row_test_lem))
+        h
+
+    pub no_side_is : (o : Option ℕ) → IfNone o (list_all (step_test d) t ≡ true)
+        → IfNone o (pair_holds m s l n a ≡ true)
+    no_side_is o h = none_as o (λ g. sym (pair_holds_is (sym g))) h
+
+  -- a pair by its planes
+  module _ {rows : List PlaneRow} {a : ℕ} {d : Stresses} (h : a < pair_count m) (planes : PlanesAre rows m a)
+      (state : StressesAre d s (pair_at m a).at n) (bedded : by_direction m (pair_at m a).soil ≡ true) where
+    plane_slack_lem : (k : ℕ) → k < sides m
+        → slack_of (plane_at rows k) d
+        ≡ right_side n (direction_row_at m (pair_at m a) k) -ℤ left_side s l (direction_row_at m (pair_at m a) k)
+    plane_slack_lem k j =
+        plane_slack_is (plane_at rows k) (pair_at m a).at d s l n state.sx state.sy state.t state.n
+        ∙ ap (λ r. right_side n r -ℤ left_side s l r) (planes.each k j)
+
+    plane_test_lem : (k : ℕ) → k < sides m → pair_row_holds m s l n a k ≡ plane_test d (plane_at rows k)
+    unfolding row_holds plane_row
+    plane_test_lem k j =
+        ap (row_holds s l n) (direction_at m (record { listed = counts.sides_listed }) a k h j bedded)
+        ∙ le_z_slack (left_side s l (direction_row_at m (pair_at m a) k))
+        (right_side n (direction_row_at m (pair_at m a) k)) (plane_slack_lem k j)
+
+    pub planes_hold_is : {r : Bool} → r ≡ list_all (plane_test d) rows → r ≡ pair_holds m s l n a
+    unfolding pair_holds
+    planes_hold_is g =
+        g
+        ∙ all_elements (plane_test d) rows no_plane
+        ∙ ap (all_below (λ k. plane_test d (plane_at rows k))) planes.size
+        ∙ sym (all_cong (pair_row_holds m s l n a) (λ k. plane_test d (plane_at rows k)) (sides m) plane_test_lem)
+
+    pub first_plane_is : (o : Option ℕ)
+        → IfSome o (λ k. k ≡ first_failing (λ k. plane_test d (plane_at rows k)) (length rows))
+        → IfSome o (λ k. k ≡ first_failing (pair_row_holds m s l n a) (sides m))
+    first_plane_is o h =
+        some_as o
+        (λ k g.
+        g
+        ∙ ap (first_failing (λ k. plane_test d (plane_at rows k))) planes.size
+        ∙ sym (search_cong (pair_row_holds m s l n a) (λ k. plane_test d (plane_at rows k)) (sides m) plane_test_lem))
+        h
+
+    pub no_plane_is : (o : Option ℕ) → IfNone o (list_all (plane_test d) rows ≡ true)
+        → IfNone o (pair_holds m s l n a ≡ true)
+    no_plane_is o h = none_as o (λ g. sym (planes_hold_is (sym g))) h
+
+    pub plane_open_lem : (k : ℕ) → k < sides m → (w : ℤ)
+        → is_open s l n (w, direction_row_at m (pair_at m a) k)
+        ≡ (lt_z (pos 0) w && lt_z (pos 0) (slack_of (plane_at rows k) d))
+    unfolding is_open plane_row
+    plane_open_lem k j w =
+        ap (λ b. lt_z (pos 0) w && b)
+        (lt_z_slack (left_side s l (direction_row_at m (pair_at m a) k))
+        (right_side n (direction_row_at m (pair_at m a) k)) (plane_slack_lem k j))
 
   -- the rows of the pairs that hold
   pair_rows_lem : {a : ℕ} → ((u : ℕ) → u < a → pair_holds m s l n u ≡ true) → (j : ℕ) → j < a * sides m
@@ -247,24 +334,23 @@ module _ (m : List ℤ) (s : ℕ → ℤ) (l n : ℤ) (counts : Counts m) where
   pair_rows_lem {a} holds j b =
       let u : ℕ = j / sides m in
       subst (λ i. strength_test m s l n i ≡ true) (div-add-mod' j (sides m))
-      (each_below (λ k. strength_test m s l n (u * sides m + k)) (sides m)
+      (each_below (pair_row_holds m s l n u) (sides m)
       (holds u ((div-lt_iff_lt-mul (some_sides_lem counts)).1 b)) (j % sides m) (mod-lt j (some_sides_lem counts)))
 
-  -- a is the lowest pair on which a row fails, and k the lowest of its sides
-  module _ {t : List Step} (steps : SidesAre (polygon_of (sides m)) t) {a k : ℕ} {d : PairNumbers}
-      (e : a ≡ first_failing (pair_holds m s l n) (pair_count m)) (h : a < pair_count m) (state : PairState d m s n a)
-      (f : k ≡ first_failing (side_test d t) (sides m)) where
-    side_there : k < sides m
-    side_there = by (dec_lt k (sides m))
+  -- a is the lowest pair on which a row fails, and k the lowest of its rows
+  module _ {a k : ℕ} (e : a ≡ first_failing (pair_holds m s l n) (pair_count m)) (h : a < pair_count m)
+      (f : k ≡ first_failing (pair_row_holds m s l n a) (sides m)) where
+    row_there : k < sides m
+    unfolding pair_holds
+    row_there = by (dec_lt k (sides m))
       where
         by : Dec (k < sides m) → k < sides m
         by (yes j) = j
         by (no j) =
             absurd
             (subst T
-            (sym (all_of_each (side_test d t) (sides m)
-            (λ i b. holds_before (side_test d t) (sides m) f i (omega arith)))
-            ∙ all_tests steps h state
+            (sym (all_of_each (pair_row_holds m s l n a) (sides m)
+            (λ i b. holds_before (pair_row_holds m s l n a) (sides m) f i (omega arith)))
             ∙ fails_there (pair_holds m s l n) (pair_count m) e h)
             tt)
 
@@ -278,8 +364,7 @@ module _ (m : List ℤ) (s : ℕ → ℤ) (l n : ℤ) (counts : Counts m) where
             let same : a * sides m + rest ≡ j = omega arith in
             let low : rest < k = omega arith in
             subst (λ i. strength_test m s l n i ≡ true) same
-            (row_test_lem steps h state rest (omega (arith, side_there))
-            ∙ holds_before (side_test d t) (sides m) f rest low)
+            (holds_before (pair_row_holds m s l n a) (sides m) f rest low)
 
     refused : Refused 22 (P.Row (suc (a * sides m + k)))
         ≡ check_phase (strengths_phase (strength_rows m) s l n)
@@ -291,22 +376,20 @@ module _ (m : List ℤ) (s : ℕ → ℤ) (l n : ℤ) (counts : Counts m) where
           strength_count m counts.sides_listed,
           mul-le-mul_right (sides m) h,
           suc-mul a (sides m),
-          side_there,
+          row_there,
         ))
-        (row_test_lem steps h state k side_there ∙ fails_there (side_test d t) (sides m) f side_there)
+        (fails_there (pair_row_holds m s l n a) (sides m) f row_there)
         refl
 
   -- the same by the counts of pairs and of sides that the code has
-  pub strengths_refused : {t : List Step} {d : PairNumbers} {a k count side_count : ℕ}
-      → SidesAre (polygon_of (sides m)) t → count ≡ pair_count m → side_count ≡ sides m
-      → a ≡ first_failing (pair_holds m s l n) count → a < count → PairState d m s n a
-      → k ≡ first_failing (side_test d t) side_count
+  pub strengths_refused : {a k count side_count : ℕ} → count ≡ pair_count m → side_count ≡ sides m
+      → a ≡ first_failing (pair_holds m s l n) count → a < count
+      → k ≡ first_failing (pair_row_holds m s l n a) (sides m)
       → Refused 22 (P.Row (a * side_count + k + 1))
       ≡ check_phase (strengths_phase (strength_rows m) s l n)
-  strengths_refused {t} {d} {a} {k} steps en es e h state f =
+  strengths_refused {a} {k} en es e h f =
       ap (λ i. Refused 22 (P.Row i)) (add-one _ ∙ ap (λ i. suc (a * i + k)) es)
-      ∙ refused steps (e ∙ ap (first_failing (pair_holds m s l n)) en) (omega arith) state
-      (f ∙ ap (first_failing (side_test d t)) es)
+      ∙ refused (e ∙ ap (first_failing (pair_holds m s l n)) en) (omega arith) f
 
   pub strengths_passed : {a count : ℕ} → count ≡ pair_count m → a ≡ first_failing (pair_holds m s l n) count
       → count ≤ a → Passed ≡ check_phase (strengths_phase (strength_rows m) s l n)

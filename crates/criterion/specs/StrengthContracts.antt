@@ -161,6 +161,9 @@ pub record PairState (d : PairNumbers) (m : List ℤ) (s : ℕ → ℤ) (n : ℤ
       ≡ pos 2 *ℤ q m (pair_at m a).soil *ℤ cohesion m (pair_at m a).soil *ℤ n
       -ℤ p m (pair_at m a).soil *ℤ (s (sx (pair_at m a).at) +ℤ s (sy (pair_at m a).at))
 
--- each strength row of pair a holds at the stresses s over n and the load l
+-- strength row k of pair a holds at the stresses s over n and the load l, and each of its rows does
+abbrev pub pair_row_holds : List ℤ → (ℕ → ℤ) → ℤ → ℤ → ℕ → ℕ → Bool
+pair_row_holds m s l n a k = row_holds s l n (row_at (strength_rows m) (a * sides m + k))
+
 unfoldable pub pair_holds : List ℤ → (ℕ → ℤ) → ℤ → ℤ → ℕ → Bool
-pair_holds m s l n a = all_below (λ k. row_holds s l n (row_at (strength_rows m) (a * sides m + k))) (sides m)
+pair_holds m s l n a = all_below (pair_row_holds m s l n a) (sides m)

@@ -1,15 +1,21 @@
 // A claim's field: the stresses of the nodes and the load, and the strength rows of a pair there.
-ghost use Rattle.std.specs.Prelude.{◌≡◌, ◌*◌, ◌<◌, ◌≤◌, length};
+ghost use Rattle.std.specs.Prelude.{◌≡◌, true, ◌*◌, ◌<◌, ◌≤◌, length, IfSome, IfNone};
 ghost use Rattle.integer.specs.Bounds.{Within, AllWithin};
 ghost use Rattle.scope.specs.Bounds.{most_scale, most_load, most_stress};
 ghost use Rattle.scope.specs.Columns.{at};
-ghost use Rattle.scope.specs.Mesh.{nodes, sides};
-ghost use Rattle.scope.specs.Rows.{pair_count};
-ghost use Rattle.criterion.specs.StrengthContracts.{PairState, pair_holds};
+ghost use Rattle.scope.specs.Mesh.{nodes, sides, by_direction};
+ghost use Rattle.scope.specs.Rows.{pair_count, pair_at};
+ghost use Rattle.lines.specs.SearchContracts.{first_failing};
+ghost use Rattle.criterion.specs.StrengthContracts.{PairState, pair_row_holds, pair_holds};
+ghost use Rattle.criterion.specs.PlaneContracts.{StressesAre};
 
+use crate::pair_planes::{first_plane, node_stresses, pair_kind, pair_planes};
 use crate::polygons::Polygon;
 use crate::strength_numbers::PairNumbers;
-use crate::strength_rows::{pair_numbers, sides_hold, soil_numbers};
+use crate::strength_rows::{first_side, pair_numbers, sides_hold, soil_numbers};
+use bedded::plane_rows::planes_hold;
+use bedded::planes::Stresses;
+use mesh::entries::SoilKind;
 use mesh::pairs::PairedMesh;
 
 // The stresses by column, three for each node, over n, and the load factor l/n. What follows the stresses in the claim
@@ -39,13 +45,54 @@ impl<'m, 'p> Field<'m, 'p> {
         pair_numbers(soil, self.stresses, usize::from(pair.node), self.n)
     }
 
+    // The stresses of the node of pair a.
+    pub fn stresses_at(&self, a: usize) -> Stresses
+        requires { a < pair_count self.now.mesh.mesh.numbers.now }
+        ensures { StressesAre result (at self.now.stresses.now)
+            (pair_at self.now.mesh.mesh.numbers.now a).at self.now.n }
+    {
+        let pair = self.mesh.pairs[a];
+        node_stresses(self.stresses, usize::from(pair.node), self.n)
+    }
+
+    // Each strength row of pair a, whose soil is by direction, holds. For speed it stands apart.
+    #[inline(never)]
+    fn pair_planes_hold(&self, a: usize) -> bool
+        requires there { a < pair_count self.now.mesh.mesh.numbers.now }
+        requires bedded { by_direction self.now.mesh.mesh.numbers.now
+            (pair_at self.now.mesh.mesh.numbers.now a).soil ≡ true }
+        ensures { result
+            ≡ pair_holds self.now.mesh.mesh.numbers.now (at self.now.stresses.now) self.now.l self.now.n a }
+    {
+        planes_hold(&pair_planes(&self.mesh, a), &self.stresses_at(a))
+    }
+
     // 22 at pair a: each of its strength rows holds.
     pub fn pair_holds(&self, a: usize) -> bool
         requires { a < pair_count self.now.mesh.mesh.numbers.now }
         ensures { result
             ≡ pair_holds self.now.mesh.mesh.numbers.now (at self.now.stresses.now) self.now.l self.now.n a }
     {
-        let pair = self.pair_numbers(a);
-        sides_hold(self.polygon.sides(), &pair)
+        match pair_kind(&self.mesh, a) {
+            SoilKind::AsBefore => sides_hold(self.polygon.sides(), &self.pair_numbers(a)),
+            SoilKind::ByDirection => self.pair_planes_hold(a),
+        }
+    }
+
+    // The first of the strength rows of pair a that fails. For speed it stands apart.
+    #[inline(never)]
+    pub fn first_row(&self, a: usize) -> Option<usize>
+        requires { a < pair_count self.now.mesh.mesh.numbers.now }
+        ensures found { IfSome result (λ k. k
+            ≡ first_failing
+            (pair_row_holds self.now.mesh.mesh.numbers.now (at self.now.stresses.now) self.now.l self.now.n a)
+            (sides self.now.mesh.mesh.numbers.now)) }
+        ensures none { IfNone result
+            (pair_holds self.now.mesh.mesh.numbers.now (at self.now.stresses.now) self.now.l self.now.n a ≡ true) }
+    {
+        match pair_kind(&self.mesh, a) {
+            SoilKind::AsBefore => first_side(self.polygon.sides(), &self.pair_numbers(a)),
+            SoilKind::ByDirection => first_plane(&pair_planes(&self.mesh, a), &self.stresses_at(a)),
+        }
     }
 }

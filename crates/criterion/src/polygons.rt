@@ -238,7 +238,7 @@ fn steps_from(corners: &[(i64, i64)]) -> Steps
 }
 
 // The radius of the circle around the polygon of a mesh with this many sides, and its corners.
-fn circle_of(sides: usize) -> (i64, &'static [(i64, i64)])
+pub(crate) fn circle_of(sides: usize) -> (i64, &'static [(i64, i64)])
     requires { Listed sides }
     ensures radius { result.0 ≡ (polygon_of sides).radius }
     ensures corners { result.1.now ≡ pairs_of (polygon_of sides).corners }

@@ -1,12 +1,13 @@
 // The strength rows of a pair of a node and a soil: what they read of the soil, of the node's stresses and of the
 // multipliers, and the sides one by one.
-ghost use Rattle.std.specs.Prelude.{◌≡◌, ◌+◌, ◌*◌, ◌<◌, length, pos};
+ghost use Rattle.std.specs.Prelude.{◌≡◌, true, ◌+◌, ◌*◌, ◌<◌, length, pos, IfSome, IfNone};
 ghost use Rattle.std.specs.List.{list_all};
 ghost use Rattle.std.specs.Int.Signed.{le_z};
 ghost use Rattle.integer.specs.Bounds.{Is, Within, AllWithin};
 ghost use Rattle.scope.specs.Mesh.{soils};
 ghost use Rattle.scope.specs.Bounds.{most_radius, most_scale, most_stress, most_slack};
-ghost use Rattle.criterion.specs.StrengthContracts.{SoilIs, PairIs, side_slack};
+ghost use Rattle.lines.specs.SearchContracts.{first_failing};
+ghost use Rattle.criterion.specs.StrengthContracts.{SoilIs, PairIs, step_at, side_slack};
 
 use crate::steps::Step;
 use crate::strength_numbers::{PairNumbers, SoilNumbers};
@@ -52,10 +53,20 @@ pub fn side_slack(step: &Step, pair: &PairNumbers) -> i64
 }
 
 // The strength row of a side holds: its right side is not below its left.
-pub fn side_holds(step: &Step, pair: &PairNumbers) -> bool
+fn side_holds(step: &Step, pair: &PairNumbers) -> bool
     ensures { result ≡ le_z (pos 0) (side_slack pair.now step.now) }
 {
     0 <= side_slack(step, pair)
+}
+
+// The first side whose strength row fails.
+pub(crate) fn first_side(steps: &[Step], pair: &PairNumbers) -> Option<usize>
+    ensures found { IfSome result (λ k. k
+        ≡ first_failing (λ k. le_z (pos 0) (side_slack pair.now (step_at steps.now k))) (length steps.now)) }
+    ensures none { IfNone result
+        (list_all (λ step. le_z (pos 0) (side_slack pair.now step)) steps.now ≡ true) }
+{
+    steps.iter().position(|step| !side_holds(step, pair))
 }
 
 // Each strength row of a pair holds. For speed this has nothing else in it; which row fails is for the search to say.

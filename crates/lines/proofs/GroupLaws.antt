@@ -203,7 +203,7 @@ few_there false e h = omega arith
 pub mesh_body_lem : {m : List ℤ} {s : Sizes} (tabled : Bool) → SizesAre m s
     → mesh_body s tabled ≡ (layout_with tabled).body m
 unfolding layout_with mesh_body
-mesh_body_lem tabled k = rw (k.nodes_are, k.elements_are, k.soils_are, k.edges_are, k.jumps_are)
+mesh_body_lem tabled k = rw (k.nodes_are, k.elements_are, k.soils_are, k.edges_are, k.sides_are, k.jumps_are)
 
 pub claim_body_lem : {m : List ℤ} {s : ClaimSizes} → Counted m s → (c : List ℤ)
     → claim_body s.sizes s.pairs (has_field c) (has_multipliers c) ≡ (claim_layout m).body c

@@ -170,12 +170,13 @@ pub record SmallAngle (s : List ℤ) : Type 0 where
   pub q : Within 1000 (get_or s 1 (pos 0))
   pub h : Within 1000 (get_or s 2 (pos 0))
 
-pub small_angle : (s : List ℤ) → soil_columns ≤ length s → all_within (soil_lines 0).limits s ≡ true → SmallAngle s
+pub small_angle : (k : ℕ) (s : List ℤ) → soil_columns ≤ length s → all_within (soil_lines 0 k).limits s ≡ true
+    → SmallAngle s
 unfolding soil_lines all_within
-small_angle [] l e = absurd (omega arith)
-small_angle (p ∷ []) l e = absurd (omega arith)
-small_angle (p ∷ q ∷ []) l e = absurd (omega arith)
-small_angle (p ∷ q ∷ h ∷ s) l e =
+small_angle k [] l e = absurd (omega arith)
+small_angle k (p ∷ []) l e = absurd (omega arith)
+small_angle k (p ∷ q ∷ []) l e = absurd (omega arith)
+small_angle k (p ∷ q ∷ h ∷ s) l e =
     let a = both_true _ _ e in
     let b = both_true _ _ a.1 in
     let d = both_true _ _ b.1 in

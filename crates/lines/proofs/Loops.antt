@@ -5,7 +5,9 @@ use mathlib.Core.Logic.{◌⊎◌, inl, inr}
 use mathlib.Core.Bool.{Bool, true, false, not, cond, ◌&&◌, and-false, and-true}
 use mathlib.Core.List.{List, [], ◌∷◌}
 use lib.ListN.{length, get_or}
-use Rattle.std.specs.List.{list_all}
+use Rattle.std.specs.List.{list_all, HoldsAt, AllWithin}
+use Rattle.std.specs.Option.{MatchOption, IfSome, IfNone}
+use Rattle.std.proofs.Common.{Option, None, Some}
 use Rattle.std.proofs.Math.Bool.{and_assoc}
 use Prim.Native.Nat.{ℕ, zero, suc, ◌+◌, ◌≤◌, ◌<◌}
 use native.Mathlib.Numerals.{add-one}
@@ -92,6 +94,14 @@ module _ (holds : ℕ → Bool) (n : ℕ) {r : ℕ} (e : r ≡ first_failing hol
   pub fails_there : r < n → holds r ≡ false
   fails_there l = failing (holds r) (found.passes l)
 
+-- the same tests have the same search
+pub search_cong : (f g : ℕ → Bool) (n : ℕ) → ((i : ℕ) → i < n → f i ≡ g i) → first_failing f n ≡ first_failing g n
+unfolding first_where
+search_cong f g zero h = refl
+search_cong f g (suc n) h =
+    ap₂ (λ (k : ℕ) (b : Bool). elim (eqb k n) [ true ↦ cond (not b) n (suc n) | false ↦ k ])
+    (search_cong f g n (λ i l. h i (omega arith))) (h n (omega arith))
+
 -- and such a place is the lowest
 pub first_is : (holds : ℕ → Bool) (n : ℕ) {i : ℕ} → i ≤ n → ((k : ℕ) → k < i → holds k ≡ true)
     → (i < n → holds i ≡ false) → i ≡ first_failing holds n
@@ -104,6 +114,21 @@ first_is holds n {i} within before here = by (dec_lt (first_failing holds n) i) 
     by (yes j) d = absurd (clash (before _ j) (fails_there holds n refl (omega arith)))
     by (no j) (yes d) = absurd (clash (holds_before holds n refl i d) (here (omega (arith, found_within holds n refl))))
     by (no j) (no d) = omega arith
+
+-- the first of a list that fails a test, and that none does
+pub first_found :
+    {A : Type 0} (f : A → Bool) (s : List A) (d : A) (o : Option ℕ) →
+    MatchOption o (AllWithin (λ x. f x ≡ true) s 0 (length s))
+    (λ i. (i < length s) × HoldsAt (λ x. f x ≡ false) s i × AllWithin (λ x. f x ≡ true) s 0 i) →
+    IfSome o (λ k. k ≡ first_failing (λ k. f (get_or s k d)) (length s)) × IfNone o (list_all f s ≡ true)
+first_found f s d None r = (
+  tt,
+  all_elements f s d ∙ all_of_each (λ k. f (get_or s k d)) (length s) (λ k b. r k d (omega arith) b),
+)
+first_found f s d (Some i) r = (
+  first_is (λ k. f (get_or s k d)) (length s) (omega (arith, r.0)) (λ k b. r.2 k d (omega arith) b) (λ b. r.1 d),
+  tt,
+)
 
 -- all places before i have been passed, one law for each turn and way out
 module _ (holds : ℕ → Bool) {i : ℕ} (h : first_failing holds i ≡ i) where

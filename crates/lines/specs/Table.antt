@@ -1,5 +1,5 @@
 -- The table of a file's groups as the code keeps it, and the groups of the definitions that it stands for.
-use Rattle.std.specs.Prelude.{◌≡◌, Bool, cond, List, [], ◌∷◌, ◌++◌, map, ℕ, ◌≤◌, ◌<◌, length, replicate, All}
+use Rattle.std.specs.Prelude.{◌≡◌, Bool, cond, List, [], ◌∷◌, ◌++◌, map, ℕ, ◌≤◌, ◌<◌, length, replicate, All, ℤ, pos}
 use Rattle.mesh.specs.declared.sizes.Sizes.{Sizes}
 use Rattle.lines.specs.declared.layout.Rule.{Rule}
 use Rattle.lines.specs.declared.layout.Rule.TheVariants.{Soil, Element, Tabled as TabledElement, Edge, Jump, Layer}
@@ -9,7 +9,7 @@ use Rattle.lines.specs.declared.layout.Group as Code
 use Rattle.scope.specs.Columns.{Limit, between}
 use Rattle.scope.specs.Layout.{Group, width}
 use Rattle.scope.specs.Mesh.{most_nodes, most_sides, soil_columns, element_columns, edge_columns, jump_columns}
-use Rattle.scope.specs.Mesh.{soil_lines, element_lines, edge_lines, jump_lines, mesh_lines}
+use Rattle.scope.specs.Mesh.{kind_with, soil_lines, element_lines, edge_lines, jump_lines, mesh_lines}
 use Rattle.scope.specs.Layers.{layer_columns}
 use Rattle.scope.specs.Table.{layer_lines}
 use Rattle.scope.specs.Claim.{claim_lines}
@@ -31,12 +31,27 @@ even_lines count columns a = record { lines = count; limits = replicate columns 
 
 -- lines that have rules of their own: an element names nodes and soils, an edge and a jump nodes, a layer soils
 unfoldable pub ruled_lines : Rule → Sizes → ℕ → Group
-ruled_lines Soil s count = soil_lines count
+ruled_lines Soil s count = soil_lines count s.sides
 ruled_lines Element s count = element_lines count s.nodes 1 s.soils
 ruled_lines TabledElement s count = element_lines count s.nodes 0 s.soils
 ruled_lines Edge s count = edge_lines count s.nodes
 ruled_lines Jump s count = jump_lines count s.nodes
 ruled_lines Layer s count = layer_lines count s.soils
+
+-- the most of a soil's columns, of a mesh with so many sides
+abbrev pub soil_most : ℕ → List ℤ
+soil_most side_count =
+    pos 1000
+    ∷ pos 1000
+    ∷ pos 1000
+    ∷ pos 10000
+    ∷ pos 1000
+    ∷ pos 1000
+    ∷ pos 1000
+    ∷ pos 1000
+    ∷ pos (kind_with side_count)
+    ∷ pos 10000
+    ∷ []
 
 -- how many columns they have
 abbrev pub rule_width : Rule → ℕ
@@ -88,7 +103,7 @@ pub record Tabled (s : Sizes) (gs : List Code.Group) (body : List Group) : Type 
 -- ---- the groups after the header, on a mesh with these sizes and so many pairs
 
 unfoldable pub mesh_body : Sizes → Bool → List Group
-mesh_body s tabled = mesh_lines (cond tabled 0 1) s.nodes s.elements s.soils s.edges s.jumps
+mesh_body s tabled = mesh_lines (cond tabled 0 1) s.nodes s.elements s.soils s.edges s.sides s.jumps
 
 unfoldable pub claim_body : Sizes → ℕ → Bool → Bool → List Group
 claim_body s pairs = claim_lines s.nodes s.elements s.edges s.jumps pairs s.sides

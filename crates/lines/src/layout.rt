@@ -4,9 +4,9 @@
 ghost use Rattle.std.specs.Prelude.{◌≡◌, cond, pos};
 ghost use Rattle.integer.specs.Tests.{eq_z};
 ghost use Rattle.scope.specs.Columns.{at};
-ghost use Rattle.scope.specs.Mesh.{strength_multiplier};
+ghost use Rattle.scope.specs.Mesh.{strength_multiplier, kind_with};
 ghost use Rattle.scope.specs.Claim.{if_there};
-ghost use Rattle.lines.specs.Table.{Known, Tabled, mesh_body, claim_body};
+ghost use Rattle.lines.specs.Table.{Known, Tabled, mesh_body, claim_body, soil_most};
 
 use mesh::limits::{
     EDGE_COLUMNS, EDGE_ROWS, ELEMENT_COLUMNS, ELEMENT_ROWS, JUMP_COLUMNS, JUMP_ROWS, LAYER_COLUMNS,
@@ -59,10 +59,13 @@ const STRENGTH_MOST: i64 = 10000;
 
 const STRENGTH_FOR_108: i64 = 300;
 
-// The limits of a soil's columns.
-pub const SOIL_LEAST: [i64; SOIL_COLUMNS] = [0, 1, 1, 0, -1000, -1000, -1000, -1000];
+// The least of a soil's columns.
+pub const SOIL_LEAST: [i64; SOIL_COLUMNS] = [0, 1, 1, 0, -1000, -1000, -1000, -1000, 0, 0];
 
-pub const SOIL_MOST: [i64; SOIL_COLUMNS] = [1000, 1000, 1000, 10000, 1000, 1000, 1000, 1000];
+// The largest kind of a soil, and "Kind 1 with 108 sides gets 2" (document 02, N14).
+const KIND_MOST: i64 = 1;
+
+const KIND_FOR_108: i64 = 0;
 
 // The nodes that an edge names, and the limits of its columns after them.
 pub const EDGE_ENDS: usize = 2;
@@ -165,6 +168,36 @@ fn element_rule(tabled: bool) -> Rule
     ensures { result ≡ cond tabled Rule.Tabled Rule.Element }
 {
     if tabled { Rule::Tabled } else { Rule::Element }
+}
+
+// The largest kind of a soil, of a mesh with so many sides.
+#[tactic(auto, unfolding(scope::specs::Mesh::kind_with))]
+fn kind_most(sides: usize) -> i64
+    ensures { result ≡ pos (kind_with sides) }
+{
+    if sides == MOST_SIDES {
+        KIND_FOR_108
+    } else {
+        KIND_MOST
+    }
+}
+
+// The most of a soil's columns, of a mesh with so many sides.
+pub fn soil_most(sides: usize) -> [i64; SOIL_COLUMNS]
+    ensures { result ≡ soil_most sides }
+{
+    [
+        1000,
+        1000,
+        1000,
+        10000,
+        1000,
+        1000,
+        1000,
+        1000,
+        kind_most(sides),
+        10000,
+    ]
 }
 
 // The groups of a mesh with these sizes, that has a table or has none.

@@ -12,7 +12,7 @@ ghost use Rattle.lines.specs.LineContracts.{ranges, AsMany, file_numbers, line_s
 
 use crate::layout::{
     EDGE_ENDS, EDGE_LEAST, EDGE_MOST, FileNumbers, LAYER_LEAST, LAYER_LIMITS, LAYER_MOST, Rule,
-    SOIL_LEAST, SOIL_MOST,
+    SOIL_LEAST, soil_most,
 };
 use mesh::sizes::Sizes;
 use scope::{Outcome, Place, Reason, Refusal, demand};
@@ -66,12 +66,12 @@ struct RuledLine<'a> {
 
 impl RuledLine<'_> {
     // They are within the limits of their columns: the names of nodes and of soils have none.
-    fn within_limits(&self) -> bool
-        ensures { (z : Sizes) → result ≡ all_within (ruled_lines self.now.rule z 0).limits self.now.numbers.now }
+    fn within_limits(&self, sizes: Sizes) -> bool
+        ensures { result ≡ all_within (ruled_lines self.now.rule sizes 0).limits self.now.numbers.now }
     {
         let s = self.numbers;
         match self.rule {
-            Rule::Soil => limits_hold(s, &SOIL_LEAST, &SOIL_MOST),
+            Rule::Soil => limits_hold(s, &SOIL_LEAST, &soil_most(sizes.sides)),
             Rule::Edge => limits_hold(&s[EDGE_ENDS..], &EDGE_LEAST, &EDGE_MOST),
             Rule::Layer => limits_hold(&s[..LAYER_LIMITS], &LAYER_LEAST, &LAYER_MOST),
             Rule::Element | Rule::Tabled | Rule::Jump => true,
@@ -106,7 +106,7 @@ impl RuledLine<'_> {
             ≡ line_check (file_numbers file) (ruled_lines self.now.rule sizes 0) self.now.numbers.now place }
     {
         let number = file.limit;
-        demand(self.within_limits(), Refusal { number, place })?;
+        demand(self.within_limits(sizes), Refusal { number, place })?;
         self.rule_check(sizes, place)
     }
 }

@@ -9,19 +9,20 @@ use lib.Signed.{◌≤ℤ◌}
 use mir.Syntax.{w64}
 use mir.Val.{to_z, of_z}
 use Rattle.integer.specs.Bounds.{Within, Is}
-use Rattle.integer.proofs.BoundLaws.{bounds}
+use Rattle.integer.proofs.BoundLaws.{bounds, Within-le}
 use Rattle.integer.proofs.Linear.{linear, facts, ◌&◌, nothing}
 use Rattle.integer.proofs.Machine.{Is-read}
 use Rattle.integer.proofs.Order.{≤ℤ_pos}
 use Rattle.mesh.specs.declared.sizes.Sizes.{Sizes}
 use Rattle.scope.specs.Columns.{at}
 use Rattle.scope.specs.Layout.{groups, numbers_before, count, entry}
-use Rattle.scope.specs.Mesh.{most_nodes, most_elements, most_soils, most_edges, most_sides, most_jumps, mesh_header_columns, soil_columns, node_columns, element_columns, edge_columns, jump_columns, mesh_header, soil_lines, node_lines, element_lines, edge_lines, jump_lines, mesh_layout, mesh_groups, nodes, elements, soils, edges, sides, jumps, p, q, h, cohesion, soil_entry, x, y, corner, element_soil, edge_entry, from_node, to_node, jump_entry, jump_from, jump_to, facing_from, facing_to}
+use Rattle.scope.specs.Mesh.{most_nodes, most_elements, most_soils, most_edges, most_sides, most_jumps, mesh_header_columns, soil_columns, node_columns, element_columns, edge_columns, jump_columns, mesh_header, soil_lines, node_lines, element_lines, edge_lines, jump_lines, mesh_layout, mesh_groups, nodes, elements, soils, edges, sides, jumps, p, q, h, cohesion, soil_kind, cohesion_across, soil_entry, x, y, corner, element_soil, edge_entry, from_node, to_node, jump_entry, jump_from, jump_to, facing_from, facing_to}
 use Rattle.scope.specs.Filled.{soil_place}
 use Rattle.scope.specs.NumberRanges.{Between, MeshFacts, SoilFacts, EdgeFacts, JumpFacts}
 use Rattle.scope.proofs.NumberRanges.{some_sides_lem}
 use Rattle.scope.proofs.PolygonRule.{listed_polygon}
-use Rattle.scope.proofs.SumBounds.{apart}
+use Rattle.scope.proofs.SumBounds.{apart, from_0}
+use Rattle.scope.proofs.SideLimits.{kind_most}
 use Rattle.mesh.specs.MeshContracts.{Sized, SizesAre, HeaderThere, NodeAt, nodes_from, elements_from, edges_from, jumps_from, jump_node}
 
 -- ---- counts
@@ -91,14 +92,26 @@ bounded {lo} {hi} {z} B l u b =
     linear (l & u & k & j) (search bounds depth 40) (omega arith)
 
 soil_bound : {m : List ℤ} {k : ℕ} → SoilFacts m k → (c : ℕ) → c < soil_columns → Within 10000 (soil_entry m k c)
-unfolding p q h cohesion
+unfolding p q h cohesion soil_kind cohesion_across
 soil_bound f zero l = bounded 10000 (record { le = tt }) (record { le = tt }) f.p_range
 soil_bound f (suc zero) l = bounded 10000 (record { le = tt }) (record { le = tt }) f.q_range
 soil_bound f (suc (suc zero)) l = bounded 10000 (record { le = tt }) (record { le = tt }) f.h_range
 soil_bound f (suc (suc (suc zero))) l = bounded 10000 (record { le = tt }) (record { le = tt }) f.cohesion_range
 soil_bound {m} {k} f (suc (suc (suc (suc c)))) l =
     let e : 4 + c ≡ suc (suc (suc (suc c))) = omega arith in
-    subst (λ (i : ℕ). Within 10000 (soil_entry m k i)) e (bounded 10000 (record { le = tt }) (record { le = tt }) (f.force_range c (omega arith)))
+    subst (λ (i : ℕ). Within 10000 (soil_entry m k i)) e (rest c (omega arith))
+  where
+    force : (c : ℕ) → c < 4 → Within 10000 (soil_entry m k (4 + c))
+    force c l = bounded 10000 (record { le = tt }) (record { le = tt }) (f.force_range c l)
+
+    rest : (c : ℕ) → c < 6 → Within 10000 (soil_entry m k (4 + c))
+    rest zero l = force 0 (omega arith)
+    rest (suc zero) l = force 1 (omega arith)
+    rest (suc (suc zero)) l = force 2 (omega arith)
+    rest (suc (suc (suc zero))) l = force 3 (omega arith)
+    rest (suc (suc (suc (suc zero)))) l = Within-le (from_0 f.kind_range) (omega (arith, kind_most (sides m)))
+    rest (suc (suc (suc (suc (suc zero))))) l = bounded 10000 (record { le = tt }) (record { le = tt }) f.across_range
+    rest (suc (suc (suc (suc (suc (suc c)))))) l = absurd (omega arith)
 
 edge_bound : {m : List ℤ} {g : ℕ} → EdgeFacts m g → (c : ℕ) → 2 ≤ c → c < edge_columns → Within 10000 (edge_entry m g c)
 edge_bound f zero k l = absurd (omega arith)
@@ -142,9 +155,12 @@ module _ {m : List ℤ} {s : Sizes} (k : Sized m s) where
 
   -- ---- what is read there
 
-  pub soil_read : {r : ℤ} {i c : ℕ} → i < soils m → c < soil_columns → r ≡ at m (mesh_header_columns + i * soil_columns + c) → Is (to_z w64 (of_z w64 r)) (soil_entry m i c) 10000
+  pub soil_number : {r : ℤ} {i c : ℕ} → i < soils m → c < soil_columns → r ≡ at m (mesh_header_columns + i * soil_columns + c) → Is r (soil_entry m i c) 10000
   unfolding soil_entry
-  soil_read {i = i} {c = c} l j e = Is-read (record { same = e ∙ sym (soil-at i c); inside = soil_bound (k.facts.soil i l) c j }) (omega arith)
+  soil_number {i = i} {c = c} l j e = record { same = e ∙ sym (soil-at i c); inside = soil_bound (k.facts.soil i l) c j }
+
+  pub soil_read : {r : ℤ} {i c : ℕ} → i < soils m → c < soil_columns → r ≡ at m (mesh_header_columns + i * soil_columns + c) → Is (to_z w64 (of_z w64 r)) (soil_entry m i c) 10000
+  soil_read l j e = Is-read (soil_number l j e) (omega arith)
 
   pub x_read : {r : ℤ} {v from : ℕ} → v < nodes m → from ≡ nodes_from s → r ≡ at m (from + v * node_columns + 0) → Is r (x m v) 1000
   unfolding x

@@ -1,11 +1,18 @@
 -- What contracts say of a soil, an edge and a jump as they are read of a mesh: each of their numbers is the one that
 -- the definitions read in its column.
-use Rattle.std.specs.Prelude.{◌≡◌, List, ℕ, ◌<◌, ℤ}
+use Rattle.std.specs.Prelude.{◌≡◌, Bool, true, false, List, ℕ, ◌<◌, ℤ}
+use Rattle.mesh.specs.declared.entries.SoilKind.{SoilKind}
+use Rattle.mesh.specs.declared.entries.SoilKind.TheVariants.{AsBefore, ByDirection}
 use Rattle.mesh.specs.declared.entries.Soil.{Soil}
 use Rattle.mesh.specs.declared.entries.Edge.{Edge}
 use Rattle.mesh.specs.declared.entries.Jump.{Jump}
 use Rattle.scope.specs.Mesh.{nodes, soil_entry, edge_entry, from_node, to_node}
 use Rattle.mesh.specs.MeshContracts.{NodeAt, jump_node}
+
+-- the kind is 1
+abbrev pub is_by_direction : SoilKind → Bool
+is_by_direction AsBefore = false
+is_by_direction ByDirection = true
 
 -- r is the soil k of the mesh m
 pub record SoilOf (r : Soil) (m : List ℤ) (k : ℕ) : Type 0 where
@@ -17,6 +24,7 @@ pub record SoilOf (r : Soil) (m : List ℤ) (k : ℕ) : Type 0 where
   pub dead_y : r.dead.y ≡ soil_entry m k 5
   pub live_x : r.live.x ≡ soil_entry m k 6
   pub live_y : r.live.y ≡ soil_entry m k 7
+  pub across : r.across ≡ soil_entry m k 9
 
 -- r is the edge g of the mesh m, whose nodes are there
 pub record EdgeOf (r : Edge) (m : List ℤ) (g : ℕ) : Type 0 where

@@ -10,7 +10,15 @@ pub struct Force {
     pub ghost y_fits: { Within 10000 y },
 }
 
-// A soil: p, q and h ("The friction angle has sine p/h and cosine q/h"), its cohesion, its dead and its live force.
+// "a kind (0 as before, 1 by direction)" (document 02, N14).
+#[derive(Clone, Copy)]
+pub enum SoilKind {
+    AsBefore,
+    ByDirection,
+}
+
+// A soil: p, q and h ("The friction angle has sine p/h and cosine q/h"), its cohesion, its dead and its live force, and
+// its cohesion across the beds, which a soil by direction has (document 02, N14).
 #[derive(Clone, Copy)]
 pub struct Soil {
     pub p: i64,
@@ -19,10 +27,12 @@ pub struct Soil {
     pub cohesion: i64,
     pub dead: Force,
     pub live: Force,
+    pub across: i64,
     pub ghost p_fits: { Within 10000 p },
     pub ghost q_fits: { Within 10000 q },
     pub ghost h_fits: { Within 10000 h },
     pub ghost cohesion_fits: { Within 10000 cohesion },
+    pub ghost across_fits: { Within 10000 across },
 }
 
 // An edge: its nodes, "what is fixed (1 normal, 2 shear, 3 both)", and its dead and live numbers.

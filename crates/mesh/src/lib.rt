@@ -24,13 +24,14 @@ ghost use Rattle.scope.specs.Mesh.{
   corner,
   element_soil,
   equality_count,
+  by_direction,
 };
 ghost use Rattle.scope.specs.NumberRanges.{MeshFacts};
 ghost use Rattle.mesh.specs.MeshContracts.{Sized, NodeAt};
-ghost use Rattle.mesh.specs.EntryContracts.{SoilOf, EdgeOf, JumpOf};
+ghost use Rattle.mesh.specs.EntryContracts.{SoilOf, EdgeOf, JumpOf, is_by_direction};
 ghost use Rattle.mesh.specs.SizedOnce.{sized_once};
 
-use crate::entries::{Edge, Force, Jump, Soil};
+use crate::entries::{Edge, Force, Jump, Soil, SoilKind};
 use crate::limits::{
     EDGE_COLUMNS, ELEMENT_COLUMNS, JUMP_COLUMNS, MESH_HEADER, NODE_COLUMNS, SOIL_COLUMNS,
 };
@@ -130,7 +131,20 @@ impl<'a> Mesh<'a> {
         self.thing(self.sizes.elements_from(), e, ELEMENT_COLUMNS, 4)
     }
 
-    // Soil k: columns p, q, h, cohesion, dead force x and y, live force x and y.
+    // The kind of soil k, which stands before its last column.
+    pub fn soil_kind(&self, k: usize) -> SoilKind
+        requires { k < soils self.now.numbers.now }
+        ensures { is_by_direction result ≡ by_direction self.now.numbers.now k }
+    {
+        let kind = self.entry(MESH_HEADER, k, SOIL_COLUMNS, 8);
+        if kind == 1 {
+            SoilKind::ByDirection
+        } else {
+            SoilKind::AsBefore
+        }
+    }
+
+    // Soil k: columns p, q, h, cohesion, dead force x and y, live force x and y, kind, cv.
     pub fn soil(&self, k: usize) -> Soil
         requires { k < soils self.now.numbers.now }
         ensures { SoilOf result self.now.numbers.now k }
@@ -148,6 +162,7 @@ impl<'a> Mesh<'a> {
                 x: self.entry(MESH_HEADER, k, SOIL_COLUMNS, 6),
                 y: self.entry(MESH_HEADER, k, SOIL_COLUMNS, 7),
             },
+            across: self.entry(MESH_HEADER, k, SOIL_COLUMNS, 9),
         }
     }
 

@@ -26,7 +26,7 @@ pub const PAIRS_FOR_108: usize = 40;
 // The columns of each line: of the header, of a soil, of a node, of an element, of an edge, of a jump.
 pub const MESH_HEADER: usize = 6;
 
-pub const SOIL_COLUMNS: usize = 8;
+pub const SOIL_COLUMNS: usize = 10;
 
 pub const NODE_COLUMNS: usize = 2;
 

@@ -2,6 +2,7 @@
 pub mod SumLaws
 pub mod MultiplierLaws
 pub mod PairLaws
+pub mod PlaneSumLaws
 pub mod PairSumLaws
 pub mod LimitLaws
 pub mod OpenLaws

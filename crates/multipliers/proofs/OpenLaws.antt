@@ -1,6 +1,6 @@
 -- The open rows: an equality row is never open, and the sides of a pair are counted one by one, by their slack.
 use mathlib.Core.Path.{◌≡◌, refl, sym, ◌∙◌, ap, ap₂, subst}
-use mathlib.Core.Bool.{Bool, false, cond, ◌&&◌, and-false}
+use mathlib.Core.Bool.{Bool, true, false, cond, ◌&&◌, and-false}
 use mathlib.Core.List.{List, [], ◌∷◌}
 use Prim.Native.Nat.{ℕ, ◌+◌, ◌*◌, ◌≤◌, ◌<◌}
 use native.Mathlib.Nat.{zero-mul}
@@ -11,12 +11,12 @@ use lib.ListN.{length, take, drop}
 use Rattle.std.specs.Prelude.{Option, Some, None, count_by, zip}
 use Rattle.std.proofs.lemmas.List.Sums.{sum_by-cons}
 use Rattle.scope.specs.Answer.{open_rows_of}
-use Rattle.scope.specs.Mesh.{pairs_with, most_sides, most_equality_rows, sides, equality_count}
+use Rattle.scope.specs.Mesh.{pairs_with, most_sides, most_equality_rows, sides, by_direction, equality_count}
 use Rattle.scope.specs.Bounds.{most_strength_rows}
 use Rattle.scope.specs.Columns.{at, has_field, has_multipliers}
 use Rattle.scope.specs.Polygon.{polygon_of}
 use Rattle.scope.specs.NumberRanges.{Counts}
-use Rattle.scope.specs.Rows.{Kind, asked, unfixed, strength, Row, pair_count, equality_rows, rows_of}
+use Rattle.scope.specs.Rows.{Kind, asked, unfixed, strength, Row, pair_count, pair_at, equality_rows, rows_of}
 use Rattle.scope.specs.Sums.{left_side, right_side, is_open, open_rows}
 use Rattle.scope.specs.Verdict.{open_count}
 use Rattle.scope.proofs.RowCounts.{equality_count_lem, equality_kind}
@@ -26,15 +26,20 @@ use Rattle.criterion.specs.declared.strength_numbers.PairNumbers.{PairNumbers}
 use Rattle.criterion.specs.declared.fields.Field.{Field}
 use Rattle.criterion.specs.FieldContracts.{FieldOf}
 use Rattle.criterion.specs.StrengthContracts.{Listed, PairState, SidesAre, step_at}
+use Rattle.criterion.specs.PlaneContracts.{PlanesAre, StressesAre}
+use Rattle.bedded.specs.declared.planes.PlaneRow.{PlaneRow}
+use Rattle.bedded.specs.declared.planes.Stresses.{Stresses}
+use Rattle.bedded.specs.PlaneContracts.{plane_at}
+use Rattle.scope.proofs.PolygonRule.{listed_polygon}
 use Rattle.multipliers.specs.declared.weighted_rows.WeightedRows.{WeightedRows}
 use Rattle.multipliers.specs.RowContracts.{RowsOf}
 use Rattle.multipliers.specs.MultiplierContracts.{Multipliers, count_below, pair_first}
-use Rattle.multipliers.specs.OpenContracts.{side_open}
+use Rattle.multipliers.specs.OpenContracts.{side_open, plane_open, open_test}
 use Rattle.criterion.proofs.RowLaws.{equality_among, row_count}
-use Rattle.multipliers.proofs.PairLaws.{pair_row_at, pair_length, pair_weight, pair_as_many}
+use Rattle.multipliers.proofs.PairLaws.{pair_row_at, plane_row_at, pair_length, pair_weight, pair_as_many}
 use Rattle.multipliers.proofs.PairSumLaws.{few_rows, next_first}
 use Rattle.criterion.proofs.SideLaws.{side_step}
-use Rattle.criterion.proofs.StrengthLaws.{open_test_lem, sides_counted}
+use Rattle.criterion.proofs.StrengthLaws.{open_test_lem, plane_open_lem, sides_counted}
 use Rattle.multipliers.proofs.SumLaws.{weighed-count, count_below_front, count_below_cong, count_below_add}
 use Rattle.multipliers.proofs.SumLaws.{count_below_none, count_below_most}
 use Rattle.scope.specs.Tests.{row_at}
@@ -53,11 +58,18 @@ sides_zipped d (s ∷ t) (w ∷ y) e =
     ∙ ap (λ z. cond (side_open d s w) 1 0 + z) (sides_zipped d t y (omega arith))
     ∙ sym (count_below_front (λ k. side_open d (step_at (s ∷ t) k) (at (w ∷ y) k)) (length y))
 
-pub few_sides_open : (d : PairNumbers) (t : List Step) (y : List ℤ) {r : ℕ} → length t ≡ length y
-    → length y ≤ most_sides → r ≡ count_by (λ p. side_open d p.0 p.1) (zip t y) → r ≤ most_sides
-few_sides_open d t y as_many few e =
-    let test : ℕ → Bool = λ k. side_open d (step_at t k) (at y k) in
-    omega (arith, e, sides_zipped d t y as_many, count_below_most test (length y))
+-- and the rows of planes
+planes_zipped : (d : Stresses) (rows : List PlaneRow) (y : List ℤ) → length rows ≡ length y
+    → count_by (λ p. plane_open d p.0 p.1) (zip rows y)
+    ≡ count_below (λ k. plane_open d (plane_at rows k) (at y k)) (length y)
+unfolding count_below at
+planes_zipped d [] [] e = refl
+planes_zipped d [] (w ∷ y) e = absurd (omega arith)
+planes_zipped d (s ∷ t) [] e = absurd (omega arith)
+planes_zipped d (s ∷ t) (w ∷ y) e =
+    sum_by-cons (λ p. cond (plane_open d p.0 p.1) 1 0) (s, w) (zip t y)
+    ∙ ap (λ z. cond (plane_open d s w) 1 0 + z) (planes_zipped d t y (omega arith))
+    ∙ sym (count_below_front (λ k. plane_open d (plane_at (s ∷ t) k) (at (w ∷ y) k)) (length y))
 
 -- ---- all rows
 
@@ -77,27 +89,27 @@ never_open s l n w r h = by r.kind h
     by strength h = absurd (h refl)
 
 module _ (m : List ℤ) (s : ℕ → ℤ) (l n : ℤ) (y : List ℤ) where
-  -- whether row k is open
-  abbrev pub open_test : ℕ → Bool
-  open_test k = is_open s l n (at y k, row_at (rows_of m) k)
+  abbrev opens : ℕ → Bool
+  opens = open_test m s l n y
 
-  pub no_pair_open : count_below open_test (pair_first m 0) ≡ 0
+  pub no_pair_open : count_below opens (pair_first m 0) ≡ 0
   unfolding pair_first
-  no_pair_open = count_below_none open_test (pair_first m 0) (λ k h. none k (omega (arith, zero-mul (sides m))))
+  no_pair_open = count_below_none opens (pair_first m 0) (λ k h. none k (omega (arith, zero-mul (sides m))))
     where
-      none : (k : ℕ) → k < equality_count m → open_test k ≡ false
+      none : (k : ℕ) → k < equality_count m → opens k ≡ false
       none k h =
           ap (λ (r : Row). is_open s l n (at y k, r)) (equality_among m k h)
           ∙ never_open s l n (at y k) (row_at (equality_rows m) k)
           (equality_kind m (row_at (equality_rows m) k)
           (row_in (equality_rows m) k (omega (arith, equality_count_lem m))))
 
-  -- one pair more, with its multipliers w
-  module _ (a : ℕ) (d : PairNumbers) (t : List Step) {w : List ℤ} {r : ℕ} (h : a < pair_count m) (counts : Counts m)
-      (given : Multipliers m y) (there : w ≡ take (sides m) (drop (pair_first m a) y)) (state : PairState d m s n a)
-      (steps : SidesAre (polygon_of (sides m)) t) (e : r ≡ count_by (λ p. side_open d p.0 p.1) (zip t w)) where
-    pair_opened : r ≡ count_below (λ i. open_test (pair_first m a + i)) (sides m)
-    pair_opened =
+  -- the rows of a pair, with its multipliers w
+  module _ (a : ℕ) {w : List ℤ} (h : a < pair_count m) (counts : Counts m) (given : Multipliers m y)
+      (there : w ≡ take (sides m) (drop (pair_first m a) y)) {r : ℕ} where
+    pub sides_opened : (d : PairNumbers) (t : List Step) → PairState d m s n a → SidesAre (polygon_of (sides m)) t
+        → by_direction m (pair_at m a).soil ≡ false → r ≡ count_by (λ p. side_open d p.0 p.1) (zip t w)
+        → r ≡ count_below (λ i. opens (pair_first m a + i)) (sides m)
+    sides_opened d t state steps by_sides e =
         e
         ∙ sides_zipped d t w (pair_as_many h given there counts steps)
         ∙ ap (count_below (λ k. side_open d (step_at t k) (at w k))) (pair_length h given there)
@@ -105,28 +117,52 @@ module _ (m : List ℤ) (s : ℕ → ℤ) (l n : ℤ) (y : List ℤ) where
         ∙ sym (side i g))
       where
         side : (i : ℕ) → i < sides m
-            → open_test (pair_first m a + i) ≡ side_open d (step_at t i) (at y (pair_first m a + i))
+            → opens (pair_first m a + i) ≡ side_open d (step_at t i) (at y (pair_first m a + i))
         side i g =
             ap (λ (r : Row). is_open s l n (at y (pair_first m a + i), r))
-            (pair_row_at m a h (record { listed = counts.sides_listed }) i g)
+            (pair_row_at m a h (record { listed = counts.sides_listed }) i g by_sides)
             ∙ open_test_lem m s n a i (step_at t i) state
             (side_step steps i (omega (arith, sides_counted counts steps))) l (at y (pair_first m a + i))
 
-    pub one_more_pair : {count : ℕ} → count ≡ count_below open_test (pair_first m a)
-        → count + r ≡ count_below open_test (pair_first m (a + 1))
-    one_more_pair f =
-        ap₂ ◌+◌ f pair_opened
-        ∙ sym (count_below_add open_test (pair_first m a) (sides m))
-        ∙ ap (count_below open_test) (next_first m a)
+    pub planes_opened : (d : Stresses) (rows : List PlaneRow) → StressesAre d s (pair_at m a).at n → PlanesAre rows m a
+        → by_direction m (pair_at m a).soil ≡ true → r ≡ count_by (λ p. plane_open d p.0 p.1) (zip rows w)
+        → r ≡ count_below (λ i. opens (pair_first m a + i)) (sides m)
+    planes_opened d rows state planes bedded e =
+        e
+        ∙ planes_zipped d rows w (planes.size ∙ sym (pair_length h given there))
+        ∙ ap (count_below (λ k. plane_open d (plane_at rows k) (at w k))) (pair_length h given there)
+        ∙ count_below_cong _ _ (sides m) (λ i g. ap (plane_open d (plane_at rows i)) (pair_weight h given there i g)
+        ∙ sym (plane i g))
+      where
+        plane : (i : ℕ) → i < sides m
+            → opens (pair_first m a + i) ≡ plane_open d (plane_at rows i) (at y (pair_first m a + i))
+        plane i g =
+            ap (λ (r : Row). is_open s l n (at y (pair_first m a + i), r))
+            (plane_row_at m a h (record { listed = counts.sides_listed }) i g bedded)
+            ∙ plane_open_lem m s l n counts h planes state bedded i g (at y (pair_first m a + i))
+
+  -- a pair has few open rows, and is one pair more
+  pub few_open : Counts m → (a : ℕ) {r : ℕ} → r ≡ count_below (λ i. opens (pair_first m a + i)) (sides m)
+      → r ≤ most_sides
+  few_open counts a e =
+      let few = (listed_polygon (sides m) counts.sides_listed).fits.few_sides in
+      omega (arith, e, few, count_below_most (λ i. opens (pair_first m a + i)) (sides m))
+
+  pub one_more_pair : (a : ℕ) {r count : ℕ} → r ≡ count_below (λ i. opens (pair_first m a + i)) (sides m)
+      → count ≡ count_below opens (pair_first m a) → count + r ≡ count_below opens (pair_first m (a + 1))
+  one_more_pair a e f =
+      ap₂ ◌+◌ f e
+      ∙ sym (count_below_add opens (pair_first m a) (sides m))
+      ∙ ap (count_below opens) (next_first m a)
 
   pub count_small : Counts m → pair_count m ≤ pairs_with (sides m) → (a : ℕ) {count : ℕ} → a ≤ pair_count m
-      → count ≡ count_below open_test (pair_first m a) → count ≤ most_equality_rows + most_strength_rows
+      → count ≡ count_below opens (pair_first m a) → count ≤ most_equality_rows + most_strength_rows
   unfolding pair_first
   count_small counts few a h e =
       omega (
         arith,
         e,
-        count_below_most open_test (pair_first m a),
+        count_below_most opens (pair_first m a),
         few_rows counts few a h,
         counts.elements_most,
         counts.edges_most,
@@ -134,11 +170,11 @@ module _ (m : List ℤ) (s : ℕ → ℤ) (l n : ℤ) (y : List ℤ) where
       )
 
   pub all_pairs_open : Listed (sides m) → (a : ℕ) {count : ℕ} → a ≡ pair_count m
-      → count ≡ count_below open_test (pair_first m a) → count ≡ open_rows s l n (at y) (rows_of m)
+      → count ≡ count_below opens (pair_first m a) → count ≡ open_rows s l n (at y) (rows_of m)
   unfolding open_rows pair_first
   all_pairs_open listed a e f =
       f
-      ∙ ap (count_below open_test) (ap (λ k. equality_count m + k * sides m) e ∙ sym (row_count m listed))
+      ∙ ap (count_below opens) (ap (λ k. equality_count m + k * sides m) e ∙ sym (row_count m listed))
       ∙ sym (weighed-count (is_open s l n) (at y) (rows_of m))
 
 -- the same pair on the same mesh

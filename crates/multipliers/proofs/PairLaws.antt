@@ -1,6 +1,7 @@
 -- The strength rows of a pair of a node and a soil, each times its multiplier: by induction on the sides the sums of
 -- their coefficients are those of the sides, times what the soil gives.
 use mathlib.Core.Path.{◌≡◌, refl, sym, ◌∙◌, ap, ap₂, subst}
+use mathlib.Core.Bool.{true, false}
 use mathlib.Core.List.{List, [], ◌∷◌}
 use Prim.Native.Nat.{ℕ, zero, suc, ◌+◌, ◌*◌, ◌≤◌, ◌<◌, zero-le}
 use native.Mathlib.Nat.{le_refl, add_assoc, suc-mul, mul-le-mul_right}
@@ -24,7 +25,7 @@ use Rattle.integer.proofs.BoundLaws.{Within-le, Within-*ℤ}
 use mir.Syntax.{w64}
 use mir.Val.{to_z, of_z}
 use Rattle.integer.proofs.Machine.{machine, exact, Is-as, Is-Within}
-use Rattle.scope.specs.Mesh.{strength_multiplier, most_sides, sides, p, q, h, cohesion, equality_count}
+use Rattle.scope.specs.Mesh.{strength_multiplier, most_sides, sides, p, q, h, cohesion, by_direction, equality_count}
 use Rattle.scope.specs.Bounds.{most_multiplier, strength_sum}
 use Rattle.scope.specs.PolygonRule.{ListedPolygon}
 use Rattle.scope.proofs.PolygonRule.{listed_polygon}
@@ -32,13 +33,13 @@ use Rattle.scope.proofs.SideLimits.{strength_most}
 use Rattle.scope.specs.Columns.{at}
 use Rattle.scope.specs.NumberRanges.{Counts}
 use Rattle.scope.specs.Polygon.{Side, polygon_of}
-use Rattle.scope.specs.Rows.{Row, pair_count, pair_at, sx, sy, t, strength_row, rows_of}
+use Rattle.scope.specs.Rows.{Row, pair_count, pair_at, sx, sy, t, strength_row, strength_rows, rows_of}
 use Rattle.scope.specs.Sums.{weighted_sum, unit, coefficient}
 use Rattle.scope.specs.Tests.{row_at}
 use Rattle.multipliers.specs.declared.sums.SideSums.{SideSums}
 use Rattle.multipliers.specs.declared.sums.PairSums.{PairSums}
 use Rattle.scope.specs.PrintedColumns.{sum_below}
-use Rattle.scope.specs.RowNumbers.{side_at}
+use Rattle.scope.specs.RowNumbers.{side_at, direction_row_at}
 use Rattle.criterion.specs.declared.steps.Step.{Step}
 use Rattle.criterion.specs.declared.strength_numbers.SoilNumbers.{SoilNumbers}
 use Rattle.criterion.specs.StrengthContracts.{Listed, SidesAre, SoilIs, no_step, step_at, step_numbers, side_numbers}
@@ -49,7 +50,7 @@ use Rattle.multipliers.specs.MultiplierContracts.{SideSumsAre, PairSumsAre, pair
 use Rattle.multipliers.proofs.SumLaws.{sum_below-next, sum_below_cong}
 use Rattle.criterion.proofs.SideLaws.{run-within, rise_within, cross-within, side_step}
 use Rattle.criterion.proofs.StrengthLaws.{sides_counted}
-use Rattle.criterion.proofs.RowLaws.{row_of_pair, strength_at, strength_among}
+use Rattle.criterion.proofs.RowLaws.{row_of_pair, strength_at, direction_at, strength_among}
 use Rattle.multipliers.proofs.MultiplierLaws.{grown_by, grown_is}
 
 -- c as the code reads it
@@ -263,22 +264,28 @@ module _ {m y w : List ℤ} {a : ℕ} (l : a < pair_count m) (h : Multipliers m 
 
 -- ---- the sums of pair a
 
--- row i of pair a, by its place among all rows
-pub pair_row_at : (m : List ℤ) (a : ℕ) → a < pair_count m → Listed (sides m) → (i : ℕ) → i < sides m
-    → row_at (rows_of m) (pair_first m a + i) ≡ row_of_pair m a (side_at (polygon_of (sides m)) i)
-unfolding pair_first
-pair_row_at m a there listed i l =
-    ap (row_at (rows_of m)) (add_assoc (equality_count m) (a * sides m) i)
-    ∙ strength_among m (a * sides m + i)
-    ∙ strength_at m listed a i there l
+-- row i of pair a, by its place among all rows and by the kind of its soil
+module _ (m : List ℤ) (a : ℕ) (there : a < pair_count m) (listed : Listed (sides m)) (i : ℕ) (l : i < sides m) where
+  among : row_at (rows_of m) (pair_first m a + i) ≡ row_at (strength_rows m) (a * sides m + i)
+  unfolding pair_first
+  among = ap (row_at (rows_of m)) (add_assoc (equality_count m) (a * sides m) i) ∙ strength_among m (a * sides m + i)
 
-module _ (m y : List ℤ) (a : ℕ) (there : a < pair_count m) (listed : Listed (sides m)) where
+  pub pair_row_at : by_direction m (pair_at m a).soil ≡ false
+      → row_at (rows_of m) (pair_first m a + i) ≡ row_of_pair m a (side_at (polygon_of (sides m)) i)
+  pair_row_at e = among ∙ strength_at m listed a i there l e
+
+  pub plane_row_at : by_direction m (pair_at m a).soil ≡ true
+      → row_at (rows_of m) (pair_first m a + i) ≡ direction_row_at m (pair_at m a) i
+  plane_row_at e = among ∙ direction_at m listed a i there l e
+
+module _ (m y : List ℤ) (a : ℕ) (there : a < pair_count m) (listed : Listed (sides m))
+    (by_sides : by_direction m (pair_at m a).soil ≡ false) where
   rows_of_pair : (F : Row → ℤ)
       → part_sum F (at y) (rows_of m) (pair_first m a) (sides m)
       ≡ sum_below (λ i. at y (pair_first m a + i) *ℤ F (row_of_pair m a (side_at (polygon_of (sides m)) i))) (sides m)
   unfolding part_sum pair_first
   rows_of_pair F = sum_below_cong _ _ (sides m) (λ i l. ap (λ (r : Row). at y (pair_first m a + i) *ℤ F r)
-      (pair_row_at m a there listed i l))
+      (pair_row_at m a there listed i l by_sides))
 
   abbrev weight : ℕ → ℤ
   weight i = at y (pair_first m a + i)

@@ -5,5 +5,6 @@
 pub mod multiplier_checks;
 pub mod multiplier_sums;
 pub mod open_rows;
+pub mod plane_sums;
 pub mod sums;
 pub mod weighted_rows;

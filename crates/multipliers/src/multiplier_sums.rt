@@ -1,8 +1,8 @@
 // The sums over all rows, each times its multiplier: the columns, W and m.
-ghost use Rattle.std.specs.Prelude.{◌≡◌, ◌+◌, ◌*◌, ◌<◌, ◌≤◌, ◌+ℤ◌, ◌*ℤ◌, length};
+ghost use Rattle.std.specs.Prelude.{◌≡◌, false, ◌+◌, ◌*◌, ◌<◌, ◌≤◌, ◌+ℤ◌, ◌*ℤ◌, length};
 ghost use Rattle.integer.specs.Bounds.{Within, AllWithin};
-ghost use Rattle.scope.specs.Mesh.{nodes, most_sides, equality_count};
-ghost use Rattle.scope.specs.Rows.{pair_count};
+ghost use Rattle.scope.specs.Mesh.{nodes, most_sides, by_direction, equality_count};
+ghost use Rattle.scope.specs.Rows.{pair_count, pair_at};
 ghost use Rattle.scope.specs.Bounds.{most_multiplier, equality_sums, pair_column, most_column};
 ghost use Rattle.equality.specs.EqualityContracts.{SumsAre};
 ghost use Rattle.multipliers.specs.MultiplierContracts.{
@@ -21,13 +21,16 @@ ghost use Rattle.multipliers.specs.MultiplierContracts.{
   three_added,
 };
 
+use crate::plane_sums::planes_part;
 use crate::sums::{PairSums, SideSums, Sums};
 use crate::weighted_rows::WeightedRows;
+use criterion::pair_planes::pair_kind;
 use criterion::steps::Step;
 use criterion::strength_numbers::SoilNumbers;
 use criterion::strength_rows::soil_numbers;
 use equality::equality_rows::equality_row;
 use equality::row::{EqualityRow, add_at};
+use mesh::entries::SoilKind;
 
 // ---- equality rows
 
@@ -123,9 +126,22 @@ fn pair_sums(sums: SideSums, soil: SoilNumbers) -> PairSums
     }
 }
 
-// What the strength rows of pair a add up to.
+// What the strength rows of pair a add up to, by the kind of its soil.
 fn pair_part(rows: &WeightedRows, a: usize) -> PairSums
     requires { a < pair_count rows.now.mesh.mesh.numbers.now }
+    ensures { PairPart result rows.now.mesh.mesh.numbers.now rows.now.multipliers.now a }
+{
+    match pair_kind(&rows.mesh, a) {
+        SoilKind::AsBefore => sides_part(rows, a),
+        SoilKind::ByDirection => planes_part(rows, a),
+    }
+}
+
+// The same, where its rows go side by side.
+fn sides_part(rows: &WeightedRows, a: usize) -> PairSums
+    requires there { a < pair_count rows.now.mesh.mesh.numbers.now }
+    requires by_sides { by_direction rows.now.mesh.mesh.numbers.now
+        (pair_at rows.now.mesh.mesh.numbers.now a).soil ≡ false }
     ensures { PairPart result rows.now.mesh.mesh.numbers.now rows.now.multipliers.now a }
 {
     let over_sides = side_sums(rows.polygon.sides(), rows.of_pair(a));

@@ -1,18 +1,24 @@
 // The open rows: strength rows "with multiplier above 0 and left side below right".
-ghost use Rattle.std.specs.Prelude.{◌≡◌, count_by, zip};
+ghost use Rattle.std.specs.Prelude.{◌≡◌, true, ◌+◌, ◌<◌, count_by, zip};
 ghost use Rattle.scope.specs.Answer.{open_rows_of};
 ghost use Rattle.scope.specs.Columns.{at};
-ghost use Rattle.scope.specs.Rows.{rows_of};
+ghost use Rattle.scope.specs.Mesh.{sides, by_direction};
+ghost use Rattle.scope.specs.Rows.{pair_count, pair_at, rows_of};
 ghost use Rattle.scope.specs.Sums.{open_rows};
 ghost use Rattle.scope.specs.Verdict.{open_count};
-ghost use Rattle.multipliers.specs.OpenContracts.{side_open};
+ghost use Rattle.multipliers.specs.MultiplierContracts.{count_below, pair_first};
+ghost use Rattle.multipliers.specs.OpenContracts.{side_open, plane_open, open_test};
 
 use crate::weighted_rows::WeightedRows;
+use bedded::plane_rows::plane_slack;
+use bedded::planes::{PlaneRow, Stresses};
 use criterion::claims::JudgedClaim;
 use criterion::fields::Field;
+use criterion::pair_planes::{pair_kind, pair_planes};
 use criterion::steps::Step;
 use criterion::strength_numbers::PairNumbers;
 use criterion::strength_rows::side_slack;
+use mesh::entries::SoilKind;
 
 // A side with the multiplier w is open.
 fn side_open(side: &Step, pair: &PairNumbers, w: i64) -> bool
@@ -32,6 +38,65 @@ fn pair_open(sides: &[Step], pair: &PairNumbers, y: &[i64]) -> u64
         .count() as u64
 }
 
+// A row of a plane with the multiplier w is open.
+fn plane_open(row: &PlaneRow, stresses: &Stresses, w: i64) -> bool
+    ensures { result ≡ plane_open stresses.now row.now w }
+{
+    0 < w && 0 < plane_slack(row, stresses)
+}
+
+// How many rows of a pair's planes are open, with their multipliers y.
+fn planes_open(rows: &[PlaneRow], stresses: &Stresses, y: &[i64]) -> u64
+    ensures { result ≡ count_by (λ p. plane_open stresses.now p.0 p.1) (zip rows.now y.now) }
+{
+    rows.iter()
+        .zip(y)
+        .filter(|&(row, w)| plane_open(row, stresses, *w))
+        .count() as u64
+}
+
+// How many strength rows of pair a are open, by the kind of its soil.
+fn open_in_pair(field: &Field, rows: &WeightedRows, a: usize) -> u64
+    requires same_mesh { field.now.mesh.mesh.numbers.now ≡ rows.now.mesh.mesh.numbers.now }
+    requires there { a < pair_count rows.now.mesh.mesh.numbers.now }
+    ensures { let m = rows.now.mesh.mesh.numbers.now in
+        result
+        ≡ count_below
+        (λ i. open_test m (at field.now.stresses.now) field.now.l field.now.n rows.now.multipliers.now
+        (pair_first m a + i))
+        (sides m) }
+{
+    match pair_kind(&rows.mesh, a) {
+        SoilKind::AsBefore => pair_open(
+            rows.polygon.sides(),
+            &field.pair_numbers(a),
+            rows.of_pair(a),
+        ),
+        SoilKind::ByDirection => open_by_planes(field, rows, a),
+    }
+}
+
+// The same, where its soil is by direction. For speed it stands apart: the table of its rows is room that each call pays.
+#[inline(never)]
+fn open_by_planes(field: &Field, rows: &WeightedRows, a: usize) -> u64
+    requires same_mesh { field.now.mesh.mesh.numbers.now ≡ rows.now.mesh.mesh.numbers.now }
+    requires there { a < pair_count rows.now.mesh.mesh.numbers.now }
+    requires bedded { by_direction rows.now.mesh.mesh.numbers.now
+        (pair_at rows.now.mesh.mesh.numbers.now a).soil ≡ true }
+    ensures { let m = rows.now.mesh.mesh.numbers.now in
+        result
+        ≡ count_below
+        (λ i. open_test m (at field.now.stresses.now) field.now.l field.now.n rows.now.multipliers.now
+        (pair_first m a + i))
+        (sides m) }
+{
+    planes_open(
+        &pair_planes(&rows.mesh, a),
+        &field.stresses_at(a),
+        rows.of_pair(a),
+    )
+}
+
 // The open rows of a field and of multipliers on the same mesh.
 fn open_count(field: &Field, rows: &WeightedRows) -> u64
     requires { field.now.mesh.mesh.numbers.now ≡ rows.now.mesh.mesh.numbers.now }
@@ -41,8 +106,7 @@ fn open_count(field: &Field, rows: &WeightedRows) -> u64
 {
     let mut count = 0;
     for a in 0..rows.mesh.pairs.len() {
-        let pair = field.pair_numbers(a);
-        count += pair_open(rows.polygon.sides(), &pair, rows.of_pair(a));
+        count += open_in_pair(field, rows, a);
     }
     count
 }

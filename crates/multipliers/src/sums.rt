@@ -19,6 +19,15 @@ pub struct SideSums {
     pub cross: i64,
 }
 
+// What the rows of a pair's planes add up to, each times its multiplier (document 02, N14).
+#[derive(Clone, Copy, Default)]
+pub struct PlaneSums {
+    pub sx: i64,
+    pub sy: i64,
+    pub t: i64,
+    pub right: i64,
+}
+
 // What a pair's strength rows add up to, each times its multiplier: for the columns of its node's sx, sy and t, and
 // for W. They add nothing to m.
 #[derive(Clone, Copy)]

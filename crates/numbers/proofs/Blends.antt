@@ -49,6 +49,7 @@ half_way_at_most = half_way_carried.1.at_most worked_mesh sheet refl sheet_multi
 
 -- that twice with l 19 once, a blend of a blend: (2·39/2 + 19)/3 is carried
 pub again_carried : (f : FractionField) × Carries worked_mesh f × (f.load.value ≈ᶠ mean 2 1 half_way_carried.0.load.value (pos 19 over pos 1))
+unfolding computed zeros worked_stresses worked_multipliers worked_claim sheet19
 again_carried =
     let (g, carries, load) = half_way_carried in
     let nineteen = field_in_fractions worked_mesh sheet19 answer19 nineteen_answered refl in

@@ -5,3 +5,4 @@ pub mod PromisesApplied
 pub mod OverlapsApplied
 pub mod TablePromises
 pub mod Blends
+pub mod PromisesAppliedBeds

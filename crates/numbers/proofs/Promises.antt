@@ -1,6 +1,7 @@
 -- The promises of the call on numbers hold of every answer: the theorems about the definitions, read off what is
 -- returned.
-use mathlib.Core.Path.{◌≡◌, refl, sym, ◌∙◌, ap, subst, subst₂}
+use mathlib.Core.Path.{◌≡◌, refl, sym, ◌∙◌, ap, ap₂, subst, subst₂}
+use mathlib.Core.Bool.{Bool, true, false, cond, not, ◌&&◌}
 use mathlib.Core.Logic.{◌↔◌, ◌⊎◌, inl, inr, ◌≢◌}
 use mathlib.Core.List.Memᴰ
 use mathlib.Core.List.{List}
@@ -8,6 +9,7 @@ use Prim.Native.Nat.{ℕ, ◌≤◌}
 use native.Mathlib.Omega.{arith}
 use lib.Dec.{T}
 use lib.IntN.{ℤ, pos}
+use lib.Signed.{◌<ℤ◌, <ℤ_irrefl}
 use borrow.Table.Steps.{cases}
 use Rattle.integer.specs.Fraction.{◌over◌, Positive}
 use Rattle.integer.proofs.FractionLaws.{≈ᶠ_sym, ≈ᶠ_trans}
@@ -24,7 +26,7 @@ use Rattle.std.specs.Prelude.{Result}
 use Rattle.scope.specs.declared.Refusal as Answered
 use Rattle.scope.specs.Answer.{outcome_of, place_number, place_for, number_of, place_of}
 use Rattle.scope.specs.Columns.{at, has_field, has_multipliers, n, l}
-use Rattle.scope.specs.Mesh.{sides}
+use Rattle.scope.specs.Mesh.{sides, some_by_direction, ListsDirection}
 use Rattle.scope.specs.Rows.{rows_of}
 use Rattle.scope.specs.Sums.{live_sum, limit_sum, open_rows}
 use Rattle.scope.specs.Claim.{stress, multiplier}
@@ -39,7 +41,10 @@ use Rattle.scope.proofs.RefusedRows.{equality_fails, strength_fails, pairs_fail}
 use Rattle.scope.proofs.Exactly.{accepted_exactly, refused_exactly, verdict_cases, returns_zero, claim_by_parts}
 use Rattle.scope.proofs.Exactly.{field_before_multipliers, refused_after_field}
 use Rattle.scope.proofs.Printed.{field-printed}
-use Rattle.scope.proofs.AcceptedField.{accepted_criterion, criterion_around, tractions_agree}
+use Rattle.scope.proofs.AcceptedField.{accepted_criterion, criterion_around, planes_everywhere, tractions_agree}
+use Rattle.scope.proofs.Planes.{plane_meaning, cohesion_meaning}
+use Rattle.scope.proofs.Directions.{lists_direction}
+use Rattle.scope.proofs.Decides.{Decides, equalℤ}
 use Rattle.scope.proofs.Jumps.{sound_jumps, tip_asks_nothing, no_jumps}
 use Rattle.scope.proofs.Pairs.{pairs, sound_pairs}
 use Rattle.scope.proofs.Phases.{join_refused}
@@ -58,7 +63,7 @@ use Rattle.numbers.specs.declared.numbers_answer.NumbersAnswer.{NumbersAnswer}
 use Rattle.numbers.specs.NumbersAnswer.{there, numerator, denominator, counted, answer_of}
 use Rattle.numbers.specs.Promises.{Answers, Returned, ReturnsZero, RefusesExactly, NumbersListed, RowsRefused}
 use Rattle.numbers.specs.Promises.{TellsField, FieldExactly, MultipliersExactly, FieldReported, MultipliersReported}
-use Rattle.numbers.specs.Promises.{CriterionForEachPair, PairsAsked, SidesAsked, OverlapsAsked, JumpsAsked, TractionsOnJoints, CallsBracket}
+use Rattle.numbers.specs.Promises.{CriterionForEachPair, DirectionsAsked, PairsAsked, SidesAsked, OverlapsAsked, JumpsAsked, TractionsOnJoints, CallsBracket}
 use Rattle.numbers.specs.Promises.{TwoAnswers, AnswerAndMultipliers, OpenRowsReported, FractionsBracket}
 use Rattle.numbers.specs.Promises.{FractionsAndAnswer, FieldInFractions, MeshAnsweredExactly, TrianglesAsked}
 
@@ -66,7 +71,7 @@ use Rattle.numbers.specs.Promises.{FractionsAndAnswer, FieldInFractions, MeshAns
 pub returned : {m c : List ℤ} {r : NumbersAnswer} → Answers m c r → Returned m c r.number r.place
 returned {m} {c} e = let b = by (verdict m c) e in record { number_is = b.0; place_is = b.1 }
   where
-    by : {r : NumbersAnswer} (v : Verdict) → r ≡ answer_of v → (r.number ≡ number_of v) × (r.place ≡ place_of v)
+    by : {r : NumbersAnswer} (v : Verdict) → r ≡ answer_of (has_field c) v → (r.number ≡ number_of v) × (r.place ≡ place_of v)
     by (Accepted o lower upper) e = (ap (λ (x : NumbersAnswer). x.number) e, ap (λ (x : NumbersAnswer). x.place) e)
     by (Refused k p) e = (ap (λ (x : NumbersAnswer). x.number) e, ap (λ (x : NumbersAnswer). x.place) e)
 
@@ -75,7 +80,7 @@ returned {m} {c} e = let b = by (verdict m c) e in record { number_is = b.0; pla
 -- a verdict with its reason
 abbrev VerdictCases : List ℤ → List ℤ → Type 0
 VerdictCases m c = ((k : ℕ) × (p : Place) × (verdict m c ≡ Refused k p))
-    ⊎ (verdict m c ≡ Accepted (open_count m c) (lower_load c) (upper_load m c))
+    ⊎ (verdict m c ≡ Accepted (open_count m c) (lower_load m c) (upper_load m c))
 
 pub refused_not_zero : (m c : List ℤ) {k : ℕ} {p : Place} → verdict m c ≡ Refused k p → k ≢ 0
 refused_not_zero m c e z =
@@ -88,7 +93,7 @@ module _ (m c : List ℤ) (number place : ℕ) (h : Returned m c number place) w
   is_refused : {k : ℕ} {p : Place} → verdict m c ≡ Refused k p → (number ≡ k) × (place ≡ place_number p)
   is_refused e = (h.number_is ∙ ap number_of e, h.place_is ∙ ap place_of e)
 
-  is_zero : verdict m c ≡ Accepted (open_count m c) (lower_load c) (upper_load m c) → (number ≡ 0) × (place ≡ 0)
+  is_zero : verdict m c ≡ Accepted (open_count m c) (lower_load m c) (upper_load m c) → (number ≡ 0) × (place ≡ 0)
   is_zero e = (h.number_is ∙ ap number_of e, h.place_is ∙ ap place_of e)
 
   -- ==== Demand 2
@@ -189,6 +194,13 @@ module _ (m c : List ℤ) (number place : ℕ) (h : Returned m c number place) w
     around = criterion_around m c (field_told t);
   }
 
+  pub directions_asked : DirectionsAsked m c number
+  directions_asked = record {
+    planes = plane_meaning;
+    cohesion = cohesion_meaning;
+    accepted = λ t. planes_everywhere m c (field_told t);
+  }
+
   pub tractions_on_joints : TractionsOnJoints m c number
   tractions_on_joints t = tractions_agree m c (field_told t)
 
@@ -246,16 +258,44 @@ module _ {There : Type 0} {number part : ℕ} {top bottom a b : ℤ} where
   reported_none (with_numbers t z e f g) d = absurd (d e)
   reported_none (with_none x e f g) d = (e, f, g)
 
+-- a field with its load: no accepted one is there, its load is not told, or it is
+data FieldCases (m c : List ℤ) (r : NumbersAnswer) : Type 0 where
+  not_there : ¬ (HasField c × (r.number ≡ 0)) → r.field ≡ 0 → r.l ≡ pos 0 → r.n ≡ pos 0 → FieldCases m c r
+  not_told : HasField c → ListsDirection m → r.number ≡ 0 → r.field ≡ 1 → r.l ≡ pos 0 → r.n ≡ pos 0 → FieldCases m c r
+  told : HasField c → ¬ ListsDirection m → r.number ≡ 0 → r.field ≡ 1 → r.l ≡ l c → r.n ≡ n c → FieldCases m c r
+
+no_load : {X : Type 0} {z : ℤ} → z ≡ pos 0 → pos 0 <ℤ z → X
+no_load e h = absurd (<ℤ_irrefl (rw e at h))
+
+module _ {m c : List ℤ} {r : NumbersAnswer} where
+  cases_exactly : FieldCases m c r → (r.field ≡ 1) ↔ (HasField c × (r.number ≡ 0))
+  cases_exactly (not_there x e f g) = (λ d. absurd (omega arith), λ d. absurd (x d))
+  cases_exactly (not_told t y z e f g) = (λ d. (t, z), λ d. e)
+  cases_exactly (told t y z e f g) = (λ d. (t, z), λ d. e)
+
+  cases_told : FieldCases m c r → (r.field ≡ 1 → pos 0 <ℤ n c) → (pos 0 <ℤ r.n) ↔ ((r.field ≡ 1) × (¬ ListsDirection m))
+  cases_told (not_there x e f g) above = (λ d. no_load g d, λ d. absurd (omega (arith, d.0)))
+  cases_told (not_told t y z e f g) above = (λ d. no_load g d, λ d. absurd (d.1 y))
+  cases_told (told t y z e f g) above = (λ d. (e, y), λ d. rw g (above e))
+
+  cases_load : FieldCases m c r → r.field ≡ 1 → ¬ ListsDirection m → (r.l ≡ l c) × (r.n ≡ n c)
+  cases_load (not_there x e f g) d plain = absurd (omega arith)
+  cases_load (not_told t y z e f g) d plain = absurd (plain y)
+  cases_load (told t y z e f g) d plain = (f, g)
+
+  cases_untold : FieldCases m c r → ListsDirection m → (r.l ≡ pos 0) × (r.n ≡ pos 0)
+  cases_untold (not_there x e f g) d = (f, g)
+  cases_untold (not_told t y z e f g) d = (f, g)
+  cases_untold (told t y z e f g) d = absurd (y d)
+
+  cases_none : FieldCases m c r → r.field ≢ 1 → (r.field ≡ 0) × (r.l ≡ pos 0) × (r.n ≡ pos 0)
+  cases_none (not_there x e f g) d = (e, f, g)
+  cases_none (not_told t y z e f g) d = absurd (d e)
+  cases_none (told t y z e f g) d = absurd (d e)
+
 -- a load that is there where a part is, a over b, and else absent
 abbrev LoadOf : Type 0 → Load → ℤ → ℤ → Type 0
 LoadOf There x a b = (There × (x ≡ Exact a b)) ⊎ ((¬ There) × (x ≡ Absent))
-
-lower_load_lem : (c : List ℤ) → LoadOf (HasField c) (lower_load c) (l c) (n c)
-unfolding lower_load has_field
-lower_load_lem c =
-    cases (eq_z (at c 0) (pos 1))
-    (λ t. inl (eq_z_yes (subst T (sym t) tt), rw t))
-    (λ t. inr (eq_z_no (rw t tt), rw t))
 
 upper_load_lem : (m c : List ℤ)
     → LoadOf (HasMultipliers c) (upper_load m c) (limit_sum (multiplier m c) (rows_of m))
@@ -286,22 +326,35 @@ not_both m c x =
     both (inr f) a b = absurd (f b)
 
 module _ (m c : List ℤ) (r : NumbersAnswer) (h : Answers m c r) where
-  is_answer : {v : Verdict} → verdict m c ≡ v → r ≡ answer_of v
-  is_answer e = h ∙ ap answer_of e
+  is_answer : {v : Verdict} → verdict m c ≡ v → r ≡ answer_of (has_field c) v
+  is_answer e = h ∙ ap (answer_of (has_field c)) e
 
-  field_part_lem : PartReported (HasField c) r.number r.field r.l r.n (l c) (n c)
-  field_part_lem = by (verdict_cases m c)
+  field_cases : FieldCases m c r
+  unfolding lower_load has_field
+  field_cases = of (verdict_cases m c)
     where
-      by : VerdictCases m c → PartReported (HasField c) r.number r.field r.l r.n (l c) (n c)
-      by (inl (k, p, e)) =
-          let a = is_answer e in
-          with_none (λ t. refused_not_zero m c e (sym (ap (λ (x : NumbersAnswer). x.number) a) ∙ t.1))
+      by : (b d : Bool) → Decides b (HasField c) → Decides d (ListsDirection m)
+          → r ≡ answer_of b (Accepted (open_count m c) (cond (b && not d) (Exact (l c) (n c)) Absent) (upper_load m c))
+          → FieldCases m c r
+      by true true f g a =
+          not_told (f.holds tt) (g.holds tt) (ap (λ (x : NumbersAnswer). x.number) a)
           (ap (λ (x : NumbersAnswer). x.field) a) (ap (λ (x : NumbersAnswer). x.l) a)
           (ap (λ (x : NumbersAnswer). x.n) a)
-      by (inr e) =
-          let a = is_answer e in
-          part_of (ap (λ (x : NumbersAnswer). x.number) a) (lower_load_lem c) (ap (λ (x : NumbersAnswer). x.field) a)
+      by true false f g a =
+          told (f.holds tt) (λ h. g.passes h) (ap (λ (x : NumbersAnswer). x.number) a)
+          (ap (λ (x : NumbersAnswer). x.field) a) (ap (λ (x : NumbersAnswer). x.l) a)
+          (ap (λ (x : NumbersAnswer). x.n) a)
+      by false d f g a =
+          not_there (λ h. f.passes h.0) (ap (λ (x : NumbersAnswer). x.field) a)
           (ap (λ (x : NumbersAnswer). x.l) a) (ap (λ (x : NumbersAnswer). x.n) a)
+
+      of : VerdictCases m c → FieldCases m c r
+      of (inl (k, p, e)) =
+          let a = is_answer e in
+          not_there (λ h. refused_not_zero m c e (sym (ap (λ (x : NumbersAnswer). x.number) a) ∙ h.1))
+          (ap (λ (x : NumbersAnswer). x.field) a) (ap (λ (x : NumbersAnswer). x.l) a)
+          (ap (λ (x : NumbersAnswer). x.n) a)
+      of (inr e) = by (has_field c) (some_by_direction m) (equalℤ (at c 0) (pos 1)) (lists_direction m) (is_answer e)
 
   multiplier_part_lem : PartReported (HasMultipliers c) r.number r.multipliers r.w r.m
       (limit_sum (multiplier m c) (rows_of m)) (live_sum (multiplier m c) (rows_of m))
@@ -322,7 +375,7 @@ module _ (m c : List ℤ) (r : NumbersAnswer) (h : Answers m c r) where
 
   -- the parts that are reported are accepted
   field_of : r.field ≡ 1 → FieldAccepted m c
-  field_of e = let t = (reported_exactly field_part_lem).0 e in (field_exactly m c r.number r.place (returned h)).told.1
+  field_of e = let t = (cases_exactly field_cases).0 e in (field_exactly m c r.number r.place (returned h)).told.1
       (t.0, inl t.1)
 
   multipliers_of : r.multipliers ≡ 1 → MultipliersAccepted m c
@@ -331,12 +384,12 @@ module _ (m c : List ℤ) (r : NumbersAnswer) (h : Answers m c r) where
 
   pub field-reported : FieldReported m c r
   field-reported = record {
-    exactly = reported_exactly field_part_lem;
-    load = reported-numbers field_part_lem;
-    n_above_0 = λ e. rw (reported-numbers field_part_lem e).1 (field-n m c (field_of e));
-    carried = λ e. let i = reported-numbers field_part_lem e in rw (i.0, i.1)
-        ((field-printed m (stress m c) (l c) (n c)).0 (field_of e).meets);
-    none = reported_none field_part_lem;
+    exactly = cases_exactly field_cases;
+    carries = λ e. (field-n m c (field_of e), (field-printed m (stress m c) (l c) (n c)).0 (field_of e).meets);
+    told = cases_told field_cases (λ e. field-n m c (field_of e));
+    load = cases_load field_cases;
+    untold = cases_untold field_cases;
+    none = cases_none field_cases;
   }
 
   pub multipliers_reported : MultipliersReported m c r
@@ -354,7 +407,7 @@ module _ (m c : List ℤ) (r : NumbersAnswer) (h : Answers m c r) where
   open_count_lem : r.field ≡ 1 → r.multipliers ≡ 1
       → r.open_rows ≡ open_rows (stress m c) (l c) (n c) (multiplier m c) (rows_of m)
   open_count_lem e f =
-      let z = ((reported_exactly field_part_lem).0 e).1 in
+      let z = ((cases_exactly field_cases).0 e).1 in
       let a = (accepted_exactly m c).1 ((returns_zero_exactly m c r.number r.place (returned h)).exactly.0 z) in
       ap (λ (x : NumbersAnswer). x.open_rows) (is_answer a)
       ∙ ap counted (open_rows_count m c (field_of e) (multipliers_of f)).both
@@ -363,7 +416,7 @@ module _ (m c : List ℤ) (r : NumbersAnswer) (h : Answers m c r) where
   none_counted x = by (verdict_cases m c)
     where
       lacks : r.number ≡ 0 → (r.field ≢ 1) ⊎ (r.multipliers ≢ 1) → (¬ HasField c) ⊎ (¬ HasMultipliers c)
-      lacks z (inl e) = inl (λ f. e ((reported_exactly field_part_lem).1 (f, z)))
+      lacks z (inl e) = inl (λ f. e ((cases_exactly field_cases).1 (f, z)))
       lacks z (inr e) = inr (λ f. e ((reported_exactly multiplier_part_lem).1 (f, z)))
 
       by : VerdictCases m c → r.open_rows ≡ 0
@@ -378,36 +431,34 @@ module _ (m c : List ℤ) (r : NumbersAnswer) (h : Answers m c r) where
   pub open_rows_reported : OpenRowsReported m c r
   unfolding carried allowed
   open_rows_reported = record {
-    count = λ e f. let i = reported-numbers field_part_lem e in rw (i.0, i.1, open_count_lem e f)
-        (open_rows_count m c (field_of e) (multipliers_of f)).number;
+    count = λ e f. rw (open_count_lem e f) (open_rows_count m c (field_of e) (multipliers_of f)).number;
     closed = λ e f.
-        let i = reported-numbers field_part_lem e in
         let j = reported-numbers multiplier_part_lem f in
-        rw (i.0, i.1, j.0, j.1, open_count_lem e f) (open_rows_count m c (field_of e) (multipliers_of f)).none;
+        rw (j.0, j.1, open_count_lem e f) (open_rows_count m c (field_of e) (multipliers_of f)).none;
     one_part = none_counted;
   }
 
-  pub field_in_fractions : r.field ≡ 1 → FieldInFractions m c r
+  pub field_in_fractions : r.field ≡ 1 → FieldInFractions m c
   field_in_fractions e =
-      let i = reported-numbers field_part_lem e in
+      let above = field-n m c (field_of e) in
       record {
-        above_0 = field-reported.n_above_0 e;
-        meets = (mesh_fractions m (field_of e).mesh).laws.whole_numbers r.n (field-reported.n_above_0 e) (stress m c)
-            r.l (rw (i.0, i.1) (field_of e).meets);
+        above_0 = above;
+        meets = (mesh_fractions m (field_of e).mesh).laws.whole_numbers (n c) above (stress m c) (l c)
+            (field_of e).meets;
       }
 
 -- the field of one call and the multipliers of another, or of the same, on meshes with the same rows
 pub calls_bracket : {m c d k : List ℤ} {r s : NumbersAnswer} → TwoAnswers m c d k r s
 unfolding carried allowed
 calls_bracket {m} {c} {d} {k} {r} {s} h g same e f =
-    let i = reported-numbers (field_part_lem m c r h) e in
     let j = reported-numbers (multiplier_part_lem d k s g) f in
     let b : PartsBracket m c d k = parts_bracket m c d k same (field_of m c r h e) (multipliers_of d k s g f) in
     record {
-      n_above_0 = rw i.1 b.n_above_0;
+      n_above_0 = b.n_above_0;
       m_above_0 = rw j.1 b.m_above_0;
-      at_most = rw (i.0, i.1, j.0, j.1) b.at_most;
-      equal = rw (i.0, i.1, j.0, j.1) b.equal;
+      told = λ no. let i = cases_load (field_cases m c r h) e no in ap₂ ◌over◌ i.0 i.1;
+      at_most = rw (j.0, j.1) b.at_most;
+      equal = rw (j.0, j.1) b.equal;
     }
 
 pub call_bracket : {m c : List ℤ} {r : NumbersAnswer} → Answers m c r → r.field ≡ 1 → r.multipliers ≡ 1

@@ -30,20 +30,20 @@ use Rattle.scope.specs.AcceptedField.{MeetsCriterion}
 use Rattle.scope.specs.Bracket.{Open, NoneOpen}
 use Rattle.scope.specs.Fractions.{Fraction, FractionField, field_over}
 use Rattle.scope.specs.AcceptedFractions.{MeetsMesh}
-use Rattle.scope.specs.Parts.{SameRows, NumberOf, PartsBracket}
+use Rattle.scope.specs.Parts.{carried, SameRows, NumberOf, PartsBracket}
 use Rattle.scope.specs.Worked.{zeros, worked_mesh, worked_stresses, worked_multipliers, worked_claim, multipliers_alone}
 use Rattle.scope.specs.Worked.{sheet, sheet19, sheet29, free_shear, two_triangles, field_alone, fill_over_clay}
 use Rattle.scope.specs.Worked.{over_clay, blocks, block_edges, joint, two_blocks, on_joint}
 use Rattle.scope.proofs.Printed.{field-printed}
 use Rattle.scope.proofs.Applied.{free_field, free_rows}
 use Rattle.scope.specs.Tests.{row_at}
-use Rattle.scope.specs.Mesh.{elements, sides, jumps, corner, element_soil, jump_from, facing_from}
+use Rattle.scope.specs.Mesh.{elements, sides, jumps, corner, element_soil, jump_from, facing_from, ByDirection}
 use Rattle.scope.specs.Statements.{MeshSound}
 use Rattle.scope.specs.Triangles.{Triangle}
 use Rattle.scope.specs.Pairs.{SoilAround, rows_before}
 use Rattle.scope.specs.Jumps.{SameTraction}
 use Rattle.numbers.specs.declared.numbers_answer.NumbersAnswer.{NumbersAnswer}
-use Rattle.numbers.specs.Promises.{Answers, returned_numbers, TellsField, FieldInFractions, MeshAnswered}
+use Rattle.numbers.specs.Promises.{Answers, Returned, CallsBracket, returned_numbers, TellsField, FieldInFractions, MeshAnswered}
 use Rattle.numbers.proofs.Promises.{mesh_answered_exactly, returned, returns_zero_exactly, refuses_exactly}
 use Rattle.numbers.proofs.Promises.{numbers_listed, field_exactly, multipliers_exactly, criterion_for_each_pair}
 use Rattle.numbers.proofs.Promises.{pairs_asked, jumps_asked, tractions_on_joints, rows_refused, field-reported}
@@ -110,8 +110,8 @@ refused_answered = refl
 unfoldable pub second_soil : List ℤ
 second_soil =
     (pos 4 ∷ pos 1 ∷ pos 2 ∷ pos 3 ∷ pos 12 ∷ pos 0 ∷ [])
-    ++ (pos 0 ∷ pos 1 ∷ pos 1 ∷ pos 10 ∷ zeros 4)
-    ++ (pos 3 ∷ pos 4 ∷ pos 5 ∷ pos 7 ∷ zeros 4)
+    ++ (pos 0 ∷ pos 1 ∷ pos 1 ∷ pos 10 ∷ zeros 6)
+    ++ (pos 3 ∷ pos 4 ∷ pos 5 ∷ pos 7 ∷ zeros 6)
     ++ (pos 0 ∷ pos 0 ∷ pos 1 ∷ pos 0 ∷ pos 1 ∷ pos 1 ∷ pos 0 ∷ pos 1 ∷ [])
     ++ (pos 1 ∷ pos 2 ∷ pos 3 ∷ pos 4 ∷ pos 1 ∷ [])
     ++ (pos 3 ∷ pos 4 ∷ pos 3 ∷ pos 0 ∷ pos 0 ∷ negsuc 0 ∷ pos 0 ∷ [])
@@ -166,36 +166,51 @@ alone_accepted = ((multipliers_exactly second_soil multipliers_alone 0 0 (return
     (refl, refl)).0
 
 pub sheet-carried : MeetsPrinted worked_mesh (stress worked_mesh sheet) (pos 20) (pos 1)
-sheet-carried = (field-reported worked_mesh sheet sheet_answer sheet-answered).carried refl
+unfolding computed zeros worked_stresses worked_multipliers worked_claim sheet
+sheet-carried = ((field-reported worked_mesh sheet sheet_answer sheet-answered).carries refl).1
 
 -- m = 30, W = 600
 pub sheet-limit : (pos 600 ≡ limit_sum (multiplier worked_mesh sheet) (rows_of worked_mesh))
     × (pos 30 ≡ live_sum (multiplier worked_mesh sheet) (rows_of worked_mesh))
 sheet-limit = (multipliers_reported worked_mesh sheet sheet_answer sheet-answered).limit refl
 
+no_kind-1 : ¬ ByDirection worked_mesh (element_soil worked_mesh 0)
+unfolding computed zeros worked_mesh
+no_kind-1 e = let z : ◌≡◌ {A = ℕ} 0 1 = cc in omega arith
+
 pub criterion_at-node-3 : MeetsCriterion worked_mesh sheet29 (record { at = 2; soil = 0 })
 unfolding computed zeros worked_mesh
 criterion_at-node-3 = (criterion_for_each_pair worked_mesh sheet29 32 7 (returned refused_answered) tells_field).around
-    2 0 (omega arith) (2, omega arith, refl)
+    2 0 (omega arith) (2, omega arith, refl) no_kind-1
 
 -- ---- demand 3
 
 -- one claim: 20/1 and 600/30 are equal, since no row is open
 pub sheet_closed : pos 20 over pos 1 ≈ᶠ pos 600 over pos 30
+unfolding computed zeros worked_stresses worked_multipliers worked_claim sheet carried
 sheet_closed = ((open_rows_reported worked_mesh sheet sheet_answer sheet-answered).closed refl refl).0 refl
+
+sheet-bracket : CallsBracket worked_mesh sheet worked_mesh sheet sheet_answer sheet_answer
+sheet-bracket = call_bracket sheet-answered refl refl
 
 pub sheet_none_open : NoneOpen (stress worked_mesh sheet) (pos 20) (pos 1) (multiplier worked_mesh sheet)
     (rows_of worked_mesh)
-sheet_none_open = (call_bracket sheet-answered refl refl).equal.0 sheet_closed
+unfolding computed zeros worked_stresses worked_multipliers worked_claim sheet carried
+sheet_none_open = sheet-bracket.equal.0 sheet_closed
 
 -- the two open rows of l 19
 pub nineteen_open : NumberOf (λ k. Open (stress worked_mesh sheet19) (pos 19) (pos 1) (multiplier worked_mesh sheet19 k)
     (row_at (rows_of worked_mesh) k)) (length (rows_of worked_mesh)) 2
+unfolding computed zeros worked_stresses worked_multipliers worked_claim sheet19
 nineteen_open = (open_rows_reported worked_mesh sheet19 answer19 nineteen_answered).count refl refl
 
 -- two claims on two meshes with the same rows
+nineteen_bracket : CallsBracket worked_mesh sheet19 second_soil multipliers_alone answer19 alone_answer
+nineteen_bracket = calls_bracket nineteen_answered alone_answered same_rows refl refl
+
 pub nineteen_alone : pos 19 over pos 1 ≤ᶠ pos 600 over pos 30
-nineteen_alone = (calls_bracket nineteen_answered alone_answered same_rows refl refl).at_most
+unfolding computed zeros worked_stresses worked_multipliers worked_claim sheet19 carried
+nineteen_alone = nineteen_bracket.at_most
 
 -- the field of the refused claim against them
 pub refused_alone : PartsBracket worked_mesh sheet29 second_soil multipliers_alone
@@ -214,6 +229,10 @@ fractions = record {
   load = fraction (pos 38) 1;
 }
 
+nineteen_carried : MeetsPrinted worked_mesh (stress worked_mesh sheet19) (pos 19) (pos 1)
+unfolding computed zeros worked_stresses worked_multipliers worked_claim sheet19
+nineteen_carried = ((field-reported worked_mesh sheet19 answer19 nineteen_answered).carries refl).1
+
 pub fractions_meet : MeetsMesh worked_mesh fractions
 unfolding fraction fractions
 fractions_meet = record {
@@ -229,7 +248,7 @@ fractions_meet = record {
     load = record { cross-≡ = refl };
   };
   meets = (field-printed worked_mesh (stress worked_mesh sheet19) (pos 19) (pos 1)).1
-      ((field-reported worked_mesh sheet19 answer19 nineteen_answered).carried refl);
+      nineteen_carried;
 }
 
 pub fractions_at_most : pos 38 over pos 2 ≤ᶠ pos 600 over pos 30
@@ -238,7 +257,7 @@ fractions_at_most = (fractions_bracket alone_answered refl worked_mesh sheet_acc
     fractions_meet
 
 -- the field of the sheet itself is one
-pub sheet_in_fractions : FieldInFractions worked_mesh sheet sheet_answer
+pub sheet_in_fractions : FieldInFractions worked_mesh sheet
 sheet_in_fractions = field_in_fractions worked_mesh sheet sheet_answer sheet-answered refl
 
 -- two meshes that differ in a number of an unfixed part: the field of l 19 on the one, the sheet's multipliers on the
@@ -251,14 +270,20 @@ pub free_sheet : Answers (free_shear (pos 5)) sheet sheet_answer
 unfolding computed zeros free_shear worked_stresses worked_multipliers worked_claim sheet
 free_sheet = refl
 
+free_bracket : CallsBracket (free_shear (pos 0)) sheet19 (free_shear (pos 5)) sheet answer19 sheet_answer
+free_bracket = calls_bracket free_nineteen free_sheet free_rows refl refl
+
 pub free_calls : pos 19 over pos 1 ≤ᶠ pos 600 over pos 30
-free_calls = (calls_bracket free_nineteen free_sheet free_rows refl refl).at_most
+unfolding computed zeros worked_stresses worked_multipliers worked_claim sheet19 carried
+free_calls = free_bracket.at_most
 
 -- the same field in fractions
 pub free_fractions : pos 19 over pos 1 ≤ᶠ pos 600 over pos 30
+unfolding computed zeros worked_stresses worked_multipliers worked_claim sheet19
 free_fractions =
     let field = field_in_fractions (free_shear (pos 0)) sheet19 answer19 free_nineteen refl in
-    (fractions_bracket free_sheet refl (free_shear (pos 0)) free_field.mesh free_rows).at_most
+    (fractions_bracket {d = free_shear (pos 5)} {k = sheet} {s = sheet_answer} free_sheet refl (free_shear (pos 0))
+    free_field.mesh free_rows).at_most
     (field_over (pos 1) field.above_0 (stress (free_shear (pos 0)) sheet19) (pos 19)) field.meets
 
 -- ---- a mesh alone
@@ -354,7 +379,7 @@ pub clay_row_fails : ¬ StrengthAt fill_over_clay (stress fill_over_clay (over_c
     (side_numbered (polygon_of (sides fill_over_clay)) 1)
 unfolding computed zeros fill_over_clay over_clay beyond_clay
 clay_row_fails = ((rows_refused fill_over_clay (over_clay 20) 22 37 (returned beyond_clay_answered)).strength
-    refl).strength 3 0 (omega arith) (omega arith) refl
+    refl).strength 3 0 (omega arith) (omega arith) (λ e. let z : ◌≡◌ {A = ℕ} 0 1 = cc in omega arith) refl
 
 -- l 10: accepted, and node 3 meets the criterion with the strength of the fill and with that of the clay
 pub within_clay : NumbersAnswer
@@ -374,14 +399,17 @@ pub within_clay_answered : Answers fill_over_clay (over_clay 10) within_clay
 unfolding computed zeros fill_over_clay over_clay within_clay
 within_clay_answered = refl
 
+within_clay_returned : Returned fill_over_clay (over_clay 10) within_clay.number within_clay.place
+within_clay_returned = returned within_clay_answered
+
 pub criterion_for_both_soils : MeetsCriterion fill_over_clay (over_clay 10) (record { at = 2; soil = 0 })
     × MeetsCriterion fill_over_clay (over_clay 10) (record { at = 2; soil = 1 })
 unfolding computed zeros fill_over_clay over_clay within_clay
 criterion_for_both_soils =
-    let criterion = criterion_for_each_pair fill_over_clay (over_clay 10) 0 0 (returned within_clay_answered)
-    (refl, inl refl) in (
-      criterion.around 2 0 (omega arith) (1, omega arith, refl),
-      criterion.around 2 1 (omega arith) (2, omega arith, refl),
+    let criterion = criterion_for_each_pair fill_over_clay (over_clay 10) 0 0 within_clay_returned (refl, inl refl) in
+    let none : pos 0 ≡ pos 1 → ⊥ = λ d. let z : ◌≡◌ {A = ℕ} 0 1 = cc in omega arith in (
+      criterion.around 2 0 (omega arith) (1, omega arith, refl) none,
+      criterion.around 2 1 (omega arith) (2, omega arith, refl) none,
     )
 
 clay_sound : MeshSound fill_over_clay

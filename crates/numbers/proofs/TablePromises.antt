@@ -8,6 +8,7 @@ use lib.IntN.{ℤ}
 use Rattle.scope.specs.declared.Place.{Place}
 use Rattle.scope.specs.Cases.Verdict.{Verdict}
 use Rattle.scope.specs.Cases.Verdict.{Accepted, Refused}
+use Rattle.scope.specs.Columns.{has_field}
 use Rattle.scope.specs.Answer.{place_number, place_for, number_of, place_of}
 use Rattle.scope.specs.Table.{mesh_read}
 use Rattle.scope.specs.TableVerdict.{tabled_verdict, TabledRefusal, TablePasses, TableFits}
@@ -25,7 +26,7 @@ use Rattle.numbers.specs.TablePromises.{TableAnswers, TableReturned, TableExactl
 pub table_returned : {t m c : List ℤ} {r : NumbersAnswer} → TableAnswers t m c r → TableReturned t m c r.number r.place
 table_returned {t} {m} {c} e = let b = by (tabled_verdict t m c) e in record { number_is = b.0; place_is = b.1 }
   where
-    by : {r : NumbersAnswer} (v : Verdict) → r ≡ answer_of v → (r.number ≡ number_of v) × (r.place ≡ place_of v)
+    by : {r : NumbersAnswer} (v : Verdict) → r ≡ answer_of (has_field c) v → (r.number ≡ number_of v) × (r.place ≡ place_of v)
     by (Accepted o lower upper) e = (ap (λ (x : NumbersAnswer). x.number) e, ap (λ (x : NumbersAnswer). x.place) e)
     by (Refused k p) e = (ap (λ (x : NumbersAnswer). x.number) e, ap (λ (x : NumbersAnswer). x.place) e)
 
@@ -89,8 +90,8 @@ module _ (t m c : List ℤ) (number place : ℕ) (h : TableReturned t m c number
 
 pub as_filled : {t m c : List ℤ} {r : NumbersAnswer} → TableAnswers t m c r → AsFilled t m c r
 as_filled {t} {m} {c} h = record {
-  fits = λ f. h ∙ ap answer_of (fits_late t m c f);
-  none = λ e. h ∙ ap (λ (u : List ℤ). answer_of (tabled_verdict u m c)) e ∙ ap answer_of (no_table_verdict m c);
+  fits = λ f. h ∙ ap (answer_of (has_field c)) (fits_late t m c f);
+  none = λ e. h ∙ ap (λ (u : List ℤ). answer_of (has_field c) (tabled_verdict u m c)) e ∙ ap (answer_of (has_field c)) (no_table_verdict m c);
 }
 
 pub filled_mesh : (t m : List ℤ) → TablePasses t m → FilledMesh t m

@@ -1,6 +1,6 @@
 -- What a solver that hands over numbers is answered (document 01, 'Verdict and report'): document 01's number and
 -- values for each case of the verdict.
-use Rattle.std.specs.Prelude.{ℕ, ℤ, pos}
+use Rattle.std.specs.Prelude.{Bool, true, false, ℕ, ℤ, pos}
 use Rattle.scope.specs.Cases.Load.{Load}
 use Rattle.scope.specs.Cases.Load.{Absent, Exact}
 use Rattle.scope.specs.Cases.OpenRows.{OpenRows}
@@ -9,6 +9,11 @@ use Rattle.scope.specs.Cases.Verdict.{Verdict}
 use Rattle.scope.specs.Cases.Verdict.{Accepted, Refused}
 use Rattle.scope.specs.Answer.{place_number}
 use Rattle.numbers.specs.declared.numbers_answer.NumbersAnswer.{NumbersAnswer}
+
+-- whether a part is there
+abbrev pub flag : Bool → ℕ
+flag true = 1
+flag false = 0
 
 -- whether a load is there, and its two numbers
 abbrev pub there : Load → ℕ
@@ -27,12 +32,13 @@ abbrev pub counted : OpenRows → ℕ
 counted NoCount = 0
 counted (Count k) = k
 
--- "Accepted returns 0, place 0, and reports: 0; the open rows ..; l/n; W/m"; "Refused: number, place, none, none"
-abbrev pub answer_of : Verdict → NumbersAnswer
-answer_of (Accepted o lower upper) = record {
+-- "Accepted returns 0, place 0, and reports: 0; the open rows ..; l/n; W/m"; "Refused: number, place, none, none". An
+-- accepted claim's field is there, whether or not its load is told (document 02, N14)
+abbrev pub answer_of : Bool → Verdict → NumbersAnswer
+answer_of field (Accepted o lower upper) = record {
   number = 0;
   place = 0;
-  field = there lower;
+  field = flag field;
   multipliers = there upper;
   l = numerator lower;
   n = denominator lower;
@@ -40,7 +46,7 @@ answer_of (Accepted o lower upper) = record {
   m = denominator upper;
   open_rows = counted o;
 }
-answer_of (Refused k at) = record {
+answer_of field (Refused k at) = record {
   number = k;
   place = place_number at;
   field = 0;

@@ -6,8 +6,9 @@
 use Rattle.std.specs.Prelude.{◌≡◌, ◌↔◌, ◌⊎◌, ◌≢◌, List, ◌∷◌, ℕ, ◌+◌, ◌*◌, ◌≤◌, ◌<◌, ℤ, pos, ◌<ℤ◌, length, Result}
 use Rattle.integer.specs.Fraction.{Frac, ◌over◌, ◌≈ᶠ◌, ◌≤ᶠ◌}
 use Rattle.integer.specs.Members.{◌∈◌}
-use Rattle.scope.specs.Columns.{at, n, l}
-use Rattle.scope.specs.Mesh.{mesh_header_columns, nodes, elements, sides, corner}
+use Rattle.scope.specs.Columns.{at, has_field, n, l}
+use Rattle.scope.specs.Mesh.{mesh_header_columns, nodes, elements, sides, corner, ListsDirection}
+use Rattle.scope.specs.Polygon.{Point}
 use Rattle.scope.specs.Rows.{rows_of, twice_area}
 use Rattle.scope.specs.Sums.{live_sum, limit_sum}
 use Rattle.scope.specs.Claim.{claim_layout, stress, multiplier}
@@ -22,13 +23,14 @@ use Rattle.scope.specs.Accepted.{FieldAccepted, MultipliersAccepted, ClaimAccept
 use Rattle.scope.specs.Printed.{MeetsPrinted}
 use Rattle.scope.specs.RefusedRows.{EqualityFails, StrengthFails, PairsFail}
 use Rattle.scope.specs.PrintedColumns.{MultipliersPrinted, printed_live, printed_limit}
-use Rattle.scope.specs.AcceptedField.{CriterionEverywhere, CriterionAround, TractionsAgree}
+use Rattle.scope.specs.AcceptedField.{CriterionEverywhere, CriterionAround, PlanesEverywhere, TractionsAgree}
+use Rattle.scope.specs.Planes.{PlaneMeaning, CohesionMeaning}
 use Rattle.scope.specs.Jumps.{SoundJumps, TipAsksNothing, NoJumps}
 use Rattle.scope.specs.Bracket.{Open, NoneOpen}
 use Rattle.scope.specs.Fractions.{FractionField, WrittenOver, FractionLaws, field_over}
 use Rattle.scope.specs.AcceptedFractions.{MeetsMesh}
 use Rattle.scope.specs.Blends.{BlendedClaims}
-use Rattle.scope.specs.Parts.{SameRows, PartsBracket, NumberOf}
+use Rattle.scope.specs.Parts.{carried, SameRows, PartsBracket, NumberOf}
 use Rattle.scope.specs.Tests.{row_at}
 use Rattle.scope.specs.Meaning.{Area, OutwardNormal}
 use Rattle.scope.specs.Triangles.{ReadAsTriangle, PassedBefore}
@@ -41,7 +43,7 @@ use Rattle.numbers.specs.NumbersAnswer.{answer_of}
 
 -- the contract of `check`, and of `pechuvo_check_numbers`
 abbrev pub Answers : List ℤ → List ℤ → NumbersAnswer → Type 0
-Answers m c r = r ≡ answer_of (verdict m c)
+Answers m c r = r ≡ answer_of (has_field c) (verdict m c)
 
 -- the verdict's number and place: every answer returns them, and so does the check of two files
 pub record Returned (m c : List ℤ) (number place : ℕ) : Type 0 where
@@ -95,13 +97,15 @@ pub record MultipliersExactly (m c : List ℤ) (number : ℕ) : Type 0 where
       ↔ (MeshSound m × LinesSound (claim_layout m) c × HasMultipliers c × MultipliersPrinted m (multiplier m c))
   pub told : (HasMultipliers c × (number ≡ 0)) ↔ (MultipliersAccepted m c × (HasField c → FieldAccepted m c))
 
--- the answer has a field exactly when the claim has one and is accepted; then l/n is the claim's load, and the field
--- carries it
+-- the answer has a field exactly when the claim has one and is accepted; then the field carries the claim's load l/n,
+-- which is told, n above 0, except "on a mesh that lists" a soil by direction, "used or not" (document 02, N14): there
+-- l and n are 0
 pub record FieldReported (m c : List ℤ) (r : NumbersAnswer) : Type 0 where
   pub exactly : (r.field ≡ 1) ↔ (HasField c × (r.number ≡ 0))
-  pub load : r.field ≡ 1 → (r.l ≡ l c) × (r.n ≡ n c)
-  pub n_above_0 : r.field ≡ 1 → pos 0 <ℤ r.n
-  pub carried : r.field ≡ 1 → MeetsPrinted m (stress m c) r.l r.n
+  pub carries : r.field ≡ 1 → (pos 0 <ℤ n c) × MeetsPrinted m (stress m c) (l c) (n c)
+  pub told : (pos 0 <ℤ r.n) ↔ ((r.field ≡ 1) × (¬ ListsDirection m))
+  pub load : r.field ≡ 1 → ¬ ListsDirection m → (r.l ≡ l c) × (r.n ≡ n c)
+  pub untold : ListsDirection m → (r.l ≡ pos 0) × (r.n ≡ pos 0)
   pub none : r.field ≢ 1 → (r.field ≡ 0) × (r.l ≡ pos 0) × (r.n ≡ pos 0)
 
 -- and so for multipliers, with W/m
@@ -114,11 +118,18 @@ pub record MultipliersReported (m c : List ℤ) (r : NumbersAnswer) : Type 0 whe
   pub m_above_0 : r.multipliers ≡ 1 → pos 0 <ℤ r.m
   pub none : r.multipliers ≢ 1 → (r.multipliers ≡ 0) × (r.w ≡ pos 0) × (r.m ≡ pos 0)
 
--- "the criterion is promised for each pair" (document 02, N2): the Mohr-Coulomb criterion (001, eq. 12) at each node
--- with the strength of every soil of the elements around it
+-- "the criterion is promised for each pair" (document 02, N2) whose soil is not by direction (N14): the Mohr-Coulomb
+-- criterion (001, eq. 12) at each node with the strength of every such soil of the elements around it
 pub record CriterionForEachPair (m c : List ℤ) : Type 0 where
   pub pairs : CriterionEverywhere m c
   pub around : CriterionAround m c
+
+-- "Bedded clay has cohesion ch along and cv across" (document 02, N14): what the rows of a plane and its cohesion mean,
+-- and that an accepted field is within the strength of each plane of the first half turn
+pub record DirectionsAsked (m c : List ℤ) (number : ℕ) : Type 0 where
+  pub planes : (r : ℤ) (v : Point) (p q ch cv n sx sy t : ℤ) → PlaneMeaning r v p q ch cv n sx sy t
+  pub cohesion : (r ch cv : ℤ) → CohesionMeaning r ch cv
+  pub accepted : TellsField c number → PlanesEverywhere m c
 
 -- "a node has strength rows for each soil of the elements around it, soils ascending .. Pairs are at most 100.
 -- Refused: 42, with the node that brings the 101st pair" (document 02, N2)
@@ -175,13 +186,14 @@ TrianglesAsked m = MeshSound m → (e : ℕ) → e < elements m → TrianglesRea
 -- ==== Demand 3: loads compared
 
 -- "A claim's field carries l/n and its multipliers allow W/m, both as exact fractions": the field of one call,
--- answered r, and the multipliers of one, answered s
+-- answered r, and the multipliers of one, answered s; l/n is the claim's, told or not
 pub record CallsBracket (m c d k : List ℤ) (r s : NumbersAnswer) : Type 0 where
-  pub n_above_0 : pos 0 <ℤ r.n
+  pub n_above_0 : pos 0 <ℤ n c
   pub m_above_0 : pos 0 <ℤ s.m
-  pub at_most : r.l over r.n ≤ᶠ s.w over s.m
+  pub told : ¬ ListsDirection m → r.l over r.n ≡ carried c
+  pub at_most : carried c ≤ᶠ s.w over s.m
   -- equal exactly when no strength row has both a multiplier above 0 and strength to spare
-  pub equal : (r.l over r.n ≈ᶠ s.w over s.m) ↔ NoneOpen (stress m c) r.l r.n (multiplier d k) (rows_of d)
+  pub equal : (carried c ≈ᶠ s.w over s.m) ↔ NoneOpen (stress m c) (l c) (n c) (multiplier d k) (rows_of d)
 
 -- of two calls, or of one twice, on meshes with the same rows
 abbrev pub TwoAnswers : (m c d k : List ℤ) (r s : NumbersAnswer) → Type 0
@@ -198,9 +210,9 @@ AnswerAndMultipliers m c d k r = Answers m c r → SameRows m d → TellsField c
 -- there, else 0
 pub record OpenRowsReported (m c : List ℤ) (r : NumbersAnswer) : Type 0 where
   pub count : r.field ≡ 1 → r.multipliers ≡ 1
-      → NumberOf (λ k. Open (stress m c) r.l r.n (multiplier m c k) (row_at (rows_of m) k)) (length (rows_of m))
+      → NumberOf (λ k. Open (stress m c) (l c) (n c) (multiplier m c k) (row_at (rows_of m) k)) (length (rows_of m))
       r.open_rows
-  pub closed : r.field ≡ 1 → r.multipliers ≡ 1 → (r.open_rows ≡ 0) ↔ (r.l over r.n ≈ᶠ r.w over r.m)
+  pub closed : r.field ≡ 1 → r.multipliers ≡ 1 → (r.open_rows ≡ 0) ↔ (carried c ≈ᶠ r.w over r.m)
   pub one_part : (r.field ≢ 1) ⊎ (r.multipliers ≢ 1) → r.open_rows ≡ 0
 
 -- "A field in fractions has any fractions as each node's sx, sy and t and as its load": on a mesh m that passes,
@@ -219,10 +231,10 @@ abbrev pub FractionsAndAnswer : (d k : List ℤ) (s : NumbersAnswer) → Type 0
 FractionsAndAnswer d k s = Answers d k s → s.multipliers ≡ 1 → (m : List ℤ) → MeshSound m → SameRows m d
     → FractionsBracket m d k (s.w over s.m)
 
--- the field that a claim carries, over its n, is such a field
-pub record FieldInFractions (m c : List ℤ) (r : NumbersAnswer) : Type 0 where
-  pub above_0 : pos 0 <ℤ r.n
-  pub meets : MeetsMesh m (field_over r.n above_0 (stress m c) r.l)
+-- the field of an accepted claim, over its n, is such a field
+pub record FieldInFractions (m c : List ℤ) : Type 0 where
+  pub above_0 : pos 0 <ℤ n c
+  pub meets : MeetsMesh m (field_over (n c) above_0 (stress m c) (l c))
 
 -- ==== Blended sheets
 

@@ -3,6 +3,7 @@
 -- answer is the one for the filled mesh, so that each promise of `Promises` holds of that mesh.
 use Rattle.std.specs.Prelude.{◌≡◌, ◌↔◌, ◌⊎◌, ◌≢◌, List, [], ℕ, ◌≤◌, ◌<◌, ℤ}
 use Rattle.scope.specs.Answer.{place_for, number_of, place_of}
+use Rattle.scope.specs.Columns.{has_field}
 use Rattle.scope.specs.Accepted.{ClaimAccepted}
 use Rattle.scope.specs.Mesh.{mesh_layout, elements}
 use Rattle.scope.specs.Statements.{LinesSound}
@@ -16,7 +17,7 @@ use Rattle.numbers.specs.Promises.{Answers}
 
 -- the contract of `check`, and of `pechuvo_check_numbers`
 abbrev pub TableAnswers : List ℤ → List ℤ → List ℤ → NumbersAnswer → Type 0
-TableAnswers t m c r = r ≡ answer_of (tabled_verdict t m c)
+TableAnswers t m c r = r ≡ answer_of (has_field c) (tabled_verdict t m c)
 
 -- the number and the place of every answer, and of the check of three files
 pub record TableReturned (t m c : List ℤ) (number place : ℕ) : Type 0 where

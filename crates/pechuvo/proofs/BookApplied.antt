@@ -6,6 +6,7 @@ use Prim.Native.Nat.{ℕ}
 use native.Mathlib.Omega.{arith}
 use lib.IntN.{pos}
 use lib.Signed.{≤ℤ_refl}
+use Rattle.scope.specs.Mesh.{ListsDirection}
 use Rattle.judge.specs.Judge.{files_verdict}
 use Rattle.judge.specs.Handed.{Handed, files}
 use Rattle.reader.specs.File.{file_width}
@@ -14,6 +15,8 @@ use Rattle.book.specs.History.{Call, asks, commits}
 use Rattle.pechuvo.specs.declared.books.BookForC.{BookForC}
 use Rattle.pechuvo.specs.declared.books.BookAnswer.{BookAnswer}
 use Rattle.pechuvo.specs.BookInC.{bound_of, book_of, told_book}
+use Rattle.pechuvo.specs.SheetsBeds.{bedded_block}
+use Rattle.pechuvo.specs.Promises.{mesh_with}
 use Rattle.pechuvo.specs.BookPromises.{AskAnswers, CommitAnswers, Made, begun, then_ask, then_commit, KeepsTheBest}
 use Rattle.pechuvo.proofs.BookPromises.{book_asked, book_committed, ask_then_commit, after_any_calls}
 use Rattle.pechuvo.proofs.PromisesApplied.{at}
@@ -127,3 +130,11 @@ no_denominator h = (book_asked over_zero (at 0).mesh [] (at 0).claim h).exactly.
 -- a full book: 48 of an ask
 pub full_book : {r : BookAnswer} → AskAnswers (sheet_book 1000000) (at 0).mesh [] (at 0).claim r → r.number ≡ 48
 full_book h = (book_asked (sheet_book 1000000) (at 0).mesh [] (at 0).claim h).exactly.1 (inl (omega arith))
+
+-- bedded clay, whose load is not told: the book that an ask tells has the lower bound that it had
+bedded_listed : ListsDirection (mesh_with bedded_block.mesh [])
+unfolding opened bedded_block
+bedded_listed = (0, omega arith, refl)
+
+pub no_load_of_beds : {r : BookAnswer} → AskAnswers (sheet_book 1) bedded_block.mesh [] bedded_block.claim r → (book_of r.book).lower ≡ (book_of (sheet_book 1)).lower
+no_load_of_beds h = (book_asked (sheet_book 1) bedded_block.mesh [] bedded_block.claim h).no_load bedded_listed

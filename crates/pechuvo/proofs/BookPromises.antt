@@ -8,14 +8,16 @@ use native.Mathlib.Omega.{arith}
 use Rattle.scope.specs.Cases.Load.{Load, Absent, Exact}
 use Rattle.scope.specs.Cases.Verdict.{Verdict, Accepted, Refused}
 use Rattle.scope.specs.Answer.{number_of, place_of}
+use Rattle.scope.specs.Mesh.{ListsDirection}
 use Rattle.numbers.specs.NumbersAnswer.{there, numerator, denominator}
 use Rattle.reader.specs.File.{file_width}
 use Rattle.judge.specs.Judge.{files_verdict}
-use Rattle.judge.specs.Handed.{Handed, files, handed_verdict}
+use Rattle.judge.specs.Handed.{Handed, files, mesh_of, handed_verdict}
 use Rattle.book.specs.Book.{Kept, Told, Judged, takes_ask, takes_commit, empty_book, followed, unjudged, judged, asked, committed}
 use Rattle.book.specs.History.{Call, asks, commits, left, left_by_all, Shut, InOrder, judged_call, book_after}
 use Rattle.book.proofs.HistoryLaws.{not_taken, shut_not_taken, not_committed, shut_not_committed, ask_and_commit_agree, one_call_more, the_book_is_the_best}
 use Rattle.book.proofs.BracketLaws.{the_book_is_a_bracket}
+use Rattle.book.proofs.DirectionLaws.{no_load_by_direction}
 use Rattle.pechuvo.specs.declared.books.BookForC.{BookForC}
 use Rattle.pechuvo.specs.declared.books.BookAnswer.{BookAnswer}
 use Rattle.pechuvo.specs.BookInC.{bound_of, book_of, for_c, told_book, book_answer}
@@ -62,6 +64,11 @@ module _ (c : BookForC) (mesh table claim : List ℕ) where
   unfolding files_verdict
   no_48 = not_48 (table_in table) (mesh_in mesh) (claim_in (mesh_with mesh table) claim)
 
+  -- the book that would follow has the lower bound of this one, where the mesh lists a soil by direction
+  none_taken : ListsDirection (mesh_with mesh table) → (followed b v).lower ≡ b.lower
+  unfolding mesh_of handed_verdict
+  none_taken = no_load_by_direction b (files mesh table claim)
+
   -- an answer of the test t, which fails exactly when the call is refused before all else
   book_call : (Before : Type 0) (t : Bool) → (t ≡ false → Before) → (Before → t ≡ false) → {r : BookAnswer} → r ≡ book_answer c (cond {A = Told} t (judged b v) (unjudged b)) → BookCall c mesh table claim Before r
   unfolding judged unjudged files_verdict told_book
@@ -75,6 +82,7 @@ module _ (c : BookForC) (mesh table claim : List ℕ) where
         returns = λ h. record { number_is = number; place_is = place };
         follows = λ h. book;
         leaves = λ h. ap (λ (x : BookAnswer). x.book) e ∙ told_same c (followed b v) v (λ z. h (number ∙ z));
+        no_load = λ h. ap (λ (x : Kept). x.lower) book ∙ none_taken h;
       }
   book_call Before false to from {r} e =
       let number : r.number ≡ 48 = ap (λ (x : BookAnswer). x.number) e in
@@ -84,6 +92,7 @@ module _ (c : BookForC) (mesh table claim : List ℕ) where
         returns = λ h. absurd (h number);
         follows = λ h. absurd (let z : ◌≡◌ {A = ℕ} 0 48 = sym h ∙ number in omega arith);
         leaves = λ h. ap (λ (x : BookAnswer). x.book) e;
+        no_load = λ h. ap (λ (x : BookAnswer). (book_of x.book).lower) e;
       }
 
   pub book_asked : {r : BookAnswer} → BookAsked c mesh table claim r

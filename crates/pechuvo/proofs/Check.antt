@@ -50,7 +50,7 @@ use Rattle.pechuvo.proofs.TableFile.{layout_widths, table_cut, table_back}
 -- ---- how long a mesh and a claim can be
 
 -- the bytes of the lines after a mesh's header
-mesh_bytes : (h : List ℤ) → bytes_of 12 (widths (mesh_layout.body h)) ≡ soils h * 97 + (nodes h * 25 + (elements h * 61 + (edges h * 85 + jumps h * 49)))
+mesh_bytes : (h : List ℤ) → bytes_of 12 (widths (mesh_layout.body h)) ≡ soils h * 121 + (nodes h * 25 + (elements h * 61 + (edges h * 85 + jumps h * 49)))
 unfolding mesh_layout soil_lines node_lines element_lines edge_lines jump_lines line_bytes
 mesh_bytes h = simp (group_bytes_lem, no_bytes) (omega arith)
 

@@ -12,6 +12,7 @@ use Rattle.scope.specs.declared.Place.TheVariants.{Line}
 use Rattle.scope.specs.Cases.Verdict.{Verdict}
 use Rattle.scope.specs.Cases.Verdict.{Refused}
 use Rattle.scope.specs.Answer.{place_for}
+use Rattle.scope.specs.Columns.{has_field}
 use Rattle.scope.specs.Mesh.{mesh_layout, layout_with}
 use Rattle.scope.specs.Claim.{claim_layout}
 use Rattle.scope.specs.Accepted.{ClaimAccepted}
@@ -101,5 +102,5 @@ module _ (mesh table claim : List ℕ) (z : ℤ) (before : List ℕ) (number pla
 pub as_a_file : {t m c : List ℤ} {r : NumbersAnswer} → TableAnswers t m c r → AsAFile t m c r
 as_a_file {t} {m} {c} h = record {
   some_width = let (w, x, y, z) = width-there m t c in (w, y, x, z);
-  every_width = λ w y x z. h ∙ ap answer_of (sym (numbers-verdict w m t c x y z));
+  every_width = λ w y x z. h ∙ ap (answer_of (has_field c)) (sym (numbers-verdict w m t c x y z));
 }

@@ -1,6 +1,7 @@
 -- The theorems about the whole check, and about the next strength to try.
 pub mod Sheets
 pub mod Sheets108
+pub mod SheetsBeds
 pub mod TableFile
 pub mod Check
 pub mod Answers
@@ -12,6 +13,7 @@ pub mod TablePromises
 pub mod FilePromises
 pub mod PromisesApplied
 pub mod PromisesApplied108
+pub mod PromisesAppliedBeds
 pub mod TableApplied
 pub mod RunPromises
 pub mod RunApplied

@@ -34,6 +34,6 @@ pub open_column : (d : ℕ) (m c : List ℤ) → d ≤ 7 → ClaimAccepted m c �
 open_column d m c h a f w =
     let parts = (claim_by_parts m c).0 a in
     let count = (open_rows_count m c (parts.2 f) (parts.3 w)).both in
-    let e : verdict m c ≡ Accepted (Count (open_rows (stress m c) (l c) (n c) (multiplier m c) (rows_of m))) (lower_load c) (upper_load m c) = (accepted_exactly m c).1 a ∙ ap (λ (o : OpenRows). Accepted o (lower_load c) (upper_load m c)) count in
+    let e : verdict m c ≡ Accepted (Count (open_rows (stress m c) (l c) (n c) (multiplier m c) (rows_of m))) (lower_load m c) (upper_load m c) = (accepted_exactly m c).1 a ∙ ap (λ (o : OpenRows). Accepted o (lower_load m c) (upper_load m c)) count in
     let line = line_says d (verdict m c) h (held m c) in
     line.read_second ∙ ap some (second (subst (λ (v : Verdict). Says d v line.first line.second line.third line.fourth) e line.says))

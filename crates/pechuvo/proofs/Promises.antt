@@ -24,6 +24,7 @@ use Rattle.scope.specs.Cases.Verdict.{Verdict}
 use Rattle.scope.specs.Cases.Verdict.{Accepted}
 use Rattle.scope.specs.Answer.{number_of, place_of}
 use Rattle.scope.specs.Columns.{at, has_field, has_multipliers, n, l}
+use Rattle.scope.specs.Mesh.{ListsDirection}
 use Rattle.scope.specs.Rows.{rows_of}
 use Rattle.scope.specs.Sums.{open_rows, live_sum, limit_sum}
 use Rattle.scope.specs.Claim.{stress, multiplier}
@@ -31,10 +32,12 @@ use Rattle.scope.specs.Verdict.{verdict, lower_load, upper_load, open_count}
 use Rattle.scope.specs.Statements.{HasField, HasMultipliers}
 use Rattle.scope.specs.Accepted.{ClaimAccepted}
 use Rattle.scope.specs.Parts.{carried, allowed}
+use Rattle.scope.proofs.Decides.{is_no}
+use Rattle.scope.proofs.Directions.{lists_direction}
 use Rattle.scope.proofs.Exactly.{accepted_exactly, returns_zero, claim_by_parts}
 use Rattle.scope.proofs.Parts.{field-n, open_rows_count}
 use Rattle.numbers.specs.Promises.{Returned}
-use Rattle.numbers.proofs.Promises.{returns_zero_exactly, refuses_exactly, numbers_listed, rows_refused, field_exactly, multipliers_exactly, pairs_asked, sides_asked, overlaps_asked, criterion_for_each_pair, jumps_asked, tractions_on_joints}
+use Rattle.numbers.proofs.Promises.{returns_zero_exactly, refuses_exactly, numbers_listed, rows_refused, field_exactly, multipliers_exactly, pairs_asked, sides_asked, overlaps_asked, criterion_for_each_pair, directions_asked, jumps_asked, tractions_on_joints}
 use Rattle.report.specs.Text.{Said, number as shows, said}
 use Rattle.report.specs.Report.{report_bytes, report_line, most_decimals, Decimals, is_decimals}
 use Rattle.report.specs.Says.{LoadSays, no_load, rounded, Says, says_accepted, says_refused, LineSays}
@@ -123,23 +126,23 @@ ceil_says p (no_load h) = absurd (<ℤ_irrefl (<ℤ-≤ℤ_trans p h))
 ceil_says {d} p (rounded num v den q f) = let b = upper_within d den num v f in (v, refl, b.0, b.1)
 
 module _ (m c : List ℤ) where
-  lower_exact : HasField c → lower_load c ≡ Exact (l c) (n c)
+  lower_exact : HasField c → ¬ ListsDirection m → lower_load m c ≡ Exact (l c) (n c)
   unfolding lower_load has_field
-  lower_exact f = rw (is_true (eq_z (at c 0) (pos 1)) (yes_eq_z f))
+  lower_exact f none = rw (is_true (eq_z (at c 0) (pos 1)) (yes_eq_z f), is_no (lists_direction m) none)
 
   upper_exact : HasMultipliers c → upper_load m c ≡ Exact (limit_sum (multiplier m c) (rows_of m)) (live_sum (multiplier m c) (rows_of m))
   unfolding upper_load has_multipliers
   upper_exact f = rw (is_true (eq_z (at c 1) (pos 1)) (yes_eq_z f))
 
-  accepted : number_of (verdict m c) ≡ 0 → verdict m c ≡ Accepted (open_count m c) (lower_load c) (upper_load m c)
+  accepted : number_of (verdict m c) ≡ 0 → verdict m c ≡ Accepted (open_count m c) (lower_load m c) (upper_load m c)
   accepted z = (accepted_exactly m c).1 ((returns_zero m c).0 z)
 
   module _ (d : ℕ) (h : d ≤ most_decimals) where
-    prints_lower : number_of (verdict m c) ≡ 0 → HasField c → LowerPrinted d c (report_line d (verdict m c))
+    prints_lower : number_of (verdict m c) ≡ 0 → HasField c → ¬ ListsDirection m → LowerPrinted d c (report_line d (verdict m c))
     unfolding carried
-    prints_lower z f =
+    prints_lower z f none =
         let line = says_line d h m c in
-        let says : LoadSays Floor d (Exact (l c) (n c)) line.third = subst (λ (x : Load). LoadSays Floor d x line.third) (lower_exact f) (third_says (subst (λ (v : Verdict). Says d v line.first line.second line.third line.fourth) (accepted z) line.says)) in
+        let says : LoadSays Floor d (Exact (l c) (n c)) line.third = subst (λ (x : Load). LoadSays Floor d x line.third) (lower_exact f none) (third_says (subst (λ (v : Verdict). Says d v line.first line.second line.third line.fourth) (accepted z) line.says)) in
         let (v, e, a, b) = floor_says (field-n m c (((claim_by_parts m c).0 ((returns_zero m c).0 z)).2 f)) says in
         let r = line.read_third ∙ ap some e in
         record { units = v; reads = r; at_most = a; within = b; minus = minus_below_zero v d r }
@@ -180,12 +183,12 @@ module _ (m c : List ℤ) where
 
     -- "in the same 28 characters"
     pub texts_fit : ClaimAccepted m c → TextsFit d m c
-    texts_fit a = record { lower = lower_room d (lower_load c) h (lower_held m c a); upper = upper_room d (upper_load m c) h (upper_held m c a) }
+    texts_fit a = record { lower = lower_room d (lower_load m c) h (lower_held m c a); upper = upper_room d (upper_load m c) h (upper_held m c a) }
 
 -- six decimals are millionths
 pub millionths : {m c : List ℤ} {place : ℕ} {line : List ℕ} → Prints 6 m c 0 place line → Millionths m c line
 millionths p = record {
-  lower = λ f. let l = p.lower refl f in (l.units, l.reads, l.at_most, l.within);
+  lower = λ f none. let l = p.lower refl f none in (l.units, l.reads, l.at_most, l.within);
   upper = λ f. let u = p.upper refl f in (u.units, u.reads, u.at_least, u.within);
 }
 
@@ -274,6 +277,7 @@ module _ (m : List ℤ) (claim : List ℕ) (z : ℤ) (before : List ℕ) (number
         multipliers = multipliers_exactly m c number place r;
         pairs = pairs_asked m c number place r;
         criterion = criterion_for_each_pair m c number place r;
+        directions = directions_asked m c number place r;
         jumps = jumps_asked m;
         sides = sides_asked m c number place r;
         overlaps = overlaps_asked m c number place r;

@@ -4,7 +4,7 @@ use mathlib.Core.Logic.{inl, inr, ◌≢◌}
 use mathlib.Core.List.Memᴰ
 use mathlib.Core.List.{List, [], ◌∷◌, ◌++◌, map}
 use mathlib.Core.Option.{some}
-use Prim.Native.Nat.{ℕ, ◌+◌, ◌*◌, ◌<◌, ◌≤◌}
+use Prim.Native.Nat.{ℕ, zero, suc, ◌+◌, ◌*◌, ◌<◌, ◌≤◌}
 use native.Mathlib.Omega.{arith}
 use lib.IntN.{ℤ, pos, negsuc}
 use lib.Signed.{<ℤ_irrefl}
@@ -13,8 +13,8 @@ use Rattle.integer.specs.Fraction.{◌over◌, ◌≈ᶠ◌, ◌≤ᶠ◌}
 use Rattle.scope.specs.declared.Place.TheVariants.{Column}
 use Rattle.scope.proofs.Computed.{computed}
 use Rattle.integer.specs.Members.{◌∈◌}
-use Rattle.scope.specs.Columns.{n, l}
-use Rattle.scope.specs.Mesh.{mesh_layout, nodes, elements, edges, sides, corner, element_soil, from_node, jumps}
+use Rattle.scope.specs.Columns.{has_field, n, l}
+use Rattle.scope.specs.Mesh.{mesh_layout, nodes, elements, edges, sides, corner, element_soil, from_node, jumps, ByDirection, ListsDirection}
 use Rattle.scope.specs.Polygon.{polygon_of}
 use Rattle.scope.specs.Rows.{Pair, pair_count, pair_at, equality_rows, rows_of, judged}
 use Rattle.scope.specs.RowNumbers.{side_numbered}
@@ -236,10 +236,14 @@ one_element : (0 < elements (mesh_in (at 4).mesh)) × (corner (mesh_in (at 4).me
 unfolding opened
 one_element = (omega arith, refl)
 
+no_direction : ¬ ByDirection (mesh_in (at 4).mesh) (element_soil (mesh_in (at 4).mesh) 0)
+unfolding opened
+no_direction e = let z : ◌≡◌ {A = ℕ} 0 1 = cc in omega arith
+
 pub criterion_at-node-3 : MeetsCriterion (mesh_in (at 4).mesh) (claim_in (mesh_in (at 4).mesh) (at 4).claim) (record { at = 2; soil = element_soil (mesh_in (at 4).mesh) 0 })
 criterion_at-node-3 =
     ((on_mesh (mesh_in (at 4).mesh) (at 4).claim (pos 6) room 32 7 (at 4).line (plain (at 4).mesh (at 4).claim refused_answered) fits).criterion tells_field).around 2 0 one_element.0
-    (2, omega arith, one_element.1)
+    (2, omega arith, one_element.1) no_direction
 
 -- node 3 of the seam is a pair with the clay, and the row of 22 is that pair's, which the field does not meet
 abbrev mesh_of_seam : List ℤ
@@ -256,10 +260,14 @@ fourth_pair : (3 < pair_count mesh_of_seam) × (0 < sides mesh_of_seam) × (37 �
 unfolding opened seam_mesh seam_fault
 fourth_pair = (omega arith, omega arith, refl, refl)
 
+no_bedded_clay : ¬ ByDirection mesh_of_seam (pair_at mesh_of_seam 3).soil
+unfolding opened seam_mesh seam_fault
+no_bedded_clay e = let z : ◌≡◌ {A = ℕ} 0 1 = cc in omega arith
+
 pub clay_row_fails : ¬ StrengthAt mesh_of_seam (stress mesh_of_seam claim_of_seam) (l claim_of_seam) (n claim_of_seam) (polygon_of (sides mesh_of_seam)).radius (record { at = 2; soil = 1 }) (side_numbered (polygon_of (sides mesh_of_seam)) 1)
 clay_row_fails =
     subst (λ (a : Pair). ¬ StrengthAt mesh_of_seam (stress mesh_of_seam claim_of_seam) (l claim_of_seam) (n claim_of_seam) (polygon_of (sides mesh_of_seam)).radius a (side_numbered (polygon_of (sides mesh_of_seam)) 1)) fourth_pair.3
-    (((on_mesh (mesh_in seam_fault.mesh) seam_fault.claim (pos 6) room 22 37 seam_fault.line (plain seam_fault.mesh seam_fault.claim fault_answered) fits).rows.strength refl).strength 3 0 fourth_pair.0 fourth_pair.1 fourth_pair.2)
+    (((on_mesh (mesh_in seam_fault.mesh) seam_fault.claim (pos 6) room 22 37 seam_fault.line (plain seam_fault.mesh seam_fault.claim fault_answered) fits).rows.strength refl).strength 3 0 fourth_pair.0 fourth_pair.1 no_bedded_clay fourth_pair.2)
 
 -- the two blocks press on their joint alike
 abbrev mesh_of_joint : List ℤ
@@ -298,8 +306,13 @@ pub empty_claim_form : MeshAccepted (at 0).mesh [] × FormFails file_width (clai
 empty_claim_form = ((form_exactly (at 0).mesh [] [] (pos 6) room 11 1 (check (at 0).mesh [] [] (pos 6) room).buffer empty_claim fits).claim_form 0).0 (refl, refl)
 
 -- 1/3 as lower 0.333333, as upper 0.333334
+third_told : ¬ ListsDirection (mesh_in (at 7).mesh)
+unfolding opened
+third_told (zero, h, e) = let z : ◌≡◌ {A = ℕ} 0 1 = cc in omega arith
+third_told (suc s, h, e) = absurd (omega arith)
+
 pub third_lower : LowerPrinted 6 (claim_in (mesh_in (at 7).mesh) (at 7).claim) (take report_bytes (at 7).line)
-third_lower = (prints_columns (mesh_in (at 7).mesh) (at 7).claim (pos 6) room 0 0 (at 7).line (plain (at 7).mesh (at 7).claim third_answered) fits).lower refl third_parts.0
+third_lower = (prints_columns (mesh_in (at 7).mesh) (at 7).claim (pos 6) room 0 0 (at 7).line (plain (at 7).mesh (at 7).claim third_answered) fits).lower refl third_parts.0 third_told
 
 pub third_upper : UpperPrinted 6 (mesh_in (at 7).mesh) (claim_in (mesh_in (at 7).mesh) (at 7).claim) (take report_bytes (at 7).line)
 third_upper = (prints_columns (mesh_in (at 7).mesh) (at 7).claim (pos 6) room 0 0 (at 7).line (plain (at 7).mesh (at 7).claim third_answered) fits).upper refl third_parts.1
@@ -336,8 +349,13 @@ pull_parts : HasField (claim_in (mesh_in (pull 1).mesh) (pull 1).claim) × HasMu
 unfolding opened
 pull_parts = (refl, refl)
 
+pull_told : ¬ ListsDirection (mesh_in (pull 1).mesh)
+unfolding opened
+pull_told (zero, h, e) = let z : ◌≡◌ {A = ℕ} 0 1 = cc in omega arith
+pull_told (suc s, h, e) = absurd (omega arith)
+
 pub pull_lower : LowerPrinted 3 (claim_in (mesh_in (pull 1).mesh) (pull 1).claim) (take report_bytes (pull 1).line)
-pull_lower = (prints_columns (mesh_in (pull 1).mesh) (pull 1).claim (pos 3) room 0 0 (pull 1).line (plain (pull 1).mesh (pull 1).claim pull_answered) (fits_with 3 (omega arith))).lower refl pull_parts.0
+pull_lower = (prints_columns (mesh_in (pull 1).mesh) (pull 1).claim (pos 3) room 0 0 (pull 1).line (plain (pull 1).mesh (pull 1).claim pull_answered) (fits_with 3 (omega arith))).lower refl pull_parts.0 pull_told
 
 pub pull_upper : UpperPrinted 3 (mesh_in (pull 1).mesh) (claim_in (mesh_in (pull 1).mesh) (pull 1).claim) (take report_bytes (pull 1).line)
 pull_upper = (prints_columns (mesh_in (pull 1).mesh) (pull 1).claim (pos 3) room 0 0 (pull 1).line (plain (pull 1).mesh (pull 1).claim pull_answered) (fits_with 3 (omega arith))).upper refl pull_parts.1
@@ -413,7 +431,7 @@ third_closed = third_open.closed.0 (let a = third_open.reads in let b = third_co
 
 -- the calls, on files and on numbers, without a table
 untabled : (m c : List ℤ) {r : NumbersAnswer} → Handed-over.Answers m c r → TableAnswers [] m c r
-untabled m c h = h ∙ ap answer_of (sym (no_table_verdict m c))
+untabled m c h = h ∙ ap (answer_of (has_field c)) (sym (no_table_verdict m c))
 
 pub refused_call : Call (files (at 4).mesh [] (at 4).claim) 32
 refused_call = on_files (at 4).mesh [] (at 4).claim (pos 6) room 32 7 (at 4).line refused_answered

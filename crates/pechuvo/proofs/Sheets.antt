@@ -17,6 +17,7 @@ use Rattle.judge.specs.Judge.{mesh_numbers, mesh_from, mesh_outcome, claim_numbe
 use Rattle.pechuvo.specs.Check.{answered, check}
 use Rattle.pechuvo.specs.Bytes.{bytes, with_word, numbers_after, numbers}
 use Rattle.pechuvo.specs.Sheets.{sheet_with, sheet, printed_with, printed, worked_mesh, pull_mesh, pull_claim, starred, unit_square, seam_mesh, seam_fault, joint_mesh, joint_blocks, noticing, two_thirds_mesh, two_thirds_claim, with_decimals, soil_zero_mesh, worked_claim, seam_zero, seam_mixed, seam_claim, tabled_sheets}
+use Rattle.pechuvo.specs.SheetsBeds.{bedded_block, bedded_half, bedded_unused}
 use Rattle.pechuvo.specs.Shipped.{as_files, shipped}
 
 -- for proofs by computation: the definitions of a table and of a filled mesh are open
@@ -47,5 +48,5 @@ tabled_sheets_lem = refl
 
 -- the files that ship are the ones that the definition writes
 pub shipped-written : map (λ s. (s.mesh, s.claim)) as_files ≡ shipped
-unfolding computed_line seam_mesh seam_fault joint_mesh joint_blocks as_files shipped
+unfolding computed_line seam_mesh seam_fault joint_mesh joint_blocks bedded_block bedded_half bedded_unused as_files shipped
 shipped-written = refl

@@ -13,7 +13,7 @@ use Rattle.scope.specs.Answer.{place_for}
 use Rattle.scope.specs.Accepted.{ClaimAccepted}
 use Rattle.integer.specs.Members.{◌∈◌}
 use Rattle.scope.specs.Columns.{at as number_at}
-use Rattle.scope.specs.Mesh.{elements}
+use Rattle.scope.specs.Mesh.{elements, ListsDirection}
 use Rattle.scope.specs.Rows.{rows_of, judged}
 use Rattle.scope.specs.Filled.{height_of, soil_place}
 use Rattle.scope.specs.LayerRows.{OneLayer}
@@ -96,8 +96,13 @@ soil-has : HasField (claim_in (mesh_with (with_table 0).mesh (with_table 0).tabl
 unfolding opened
 soil-has = refl
 
+soil_told : ¬ ListsDirection (mesh_with (with_table 0).mesh (with_table 0).table)
+unfolding opened
+soil_told (zero, h, e) = let z : ◌≡◌ {A = ℕ} 0 1 = cc in omega arith
+soil_told (suc s, h, e) = absurd (omega arith)
+
 pub soil_lower : LowerPrinted 6 (claim_in (mesh_with (with_table 0).mesh (with_table 0).table) (with_table 0).claim) (take report_bytes (with_table 0).line)
-soil_lower = (prints_columns (mesh_with (with_table 0).mesh (with_table 0).table) (with_table 0).claim (pos 6) room 0 0 (with_table 0).line soil_read fits).lower refl soil-has
+soil_lower = (prints_columns (mesh_with (with_table 0).mesh (with_table 0).table) (with_table 0).claim (pos 6) room 0 0 (with_table 0).line soil_read fits).lower refl soil-has soil_told
 
 pub soil_accepted : ClaimAccepted (mesh_with (with_table 0).mesh (with_table 0).table) (claim_in (mesh_with (with_table 0).mesh (with_table 0).table) (with_table 0).claim)
 soil_accepted = (on_mesh (mesh_with (with_table 0).mesh (with_table 0).table) (with_table 0).claim (pos 6) room 0 0 (with_table 0).line soil_read fits).returns_zero.exactly.0 refl

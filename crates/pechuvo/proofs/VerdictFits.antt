@@ -18,6 +18,7 @@ use Rattle.scope.specs.Cases.Verdict.{Accepted, Refused}
 use Rattle.integer.specs.Members.{◌∈◌}
 use Rattle.scope.specs.Answer.{number_of, place_of}
 use Rattle.scope.specs.Columns.{has_field, has_multipliers, n, l}
+use Rattle.scope.specs.Mesh.{some_by_direction}
 use Rattle.scope.specs.Rows.{Row, equality_rows, strength_rows, rows_of}
 use Rattle.scope.specs.Sums.{weighed, limit_sum, live_sum, how_many, is_open, open_rows}
 use Rattle.scope.specs.Claim.{stress, multiplier}
@@ -81,9 +82,9 @@ module _ (m c : List ℤ) (a : ClaimAccepted m c) where
         mesh.counts,
       ))
 
-  pub lower_held : HeldLoad (lower_load c)
+  pub lower_held : HeldLoad (lower_load m c)
   unfolding lower_load
-  lower_held = if_load (has_field c) (l c) (n c) (λ t. omega (arith, (between claim.l_range).within))
+  lower_held = if_load (has_field c && not (some_by_direction m)) (l c) (n c) (λ t. omega (arith, (between claim.l_range).within))
 
   pub upper_held : HeldLoad (upper_load m c)
   unfolding upper_load has_multipliers
@@ -94,7 +95,7 @@ module _ (m c : List ℤ) (a : ClaimAccepted m c) where
 pub held : (m c : List ℤ) → Held (verdict m c)
 held m c = by (verdict_cases m c)
   where
-    by : ((k : ℕ) × (p : Place) × (verdict m c ≡ Refused k p)) ⊎ (verdict m c ≡ Accepted (open_count m c) (lower_load c) (upper_load m c)) → Held (verdict m c)
+    by : ((k : ℕ) × (p : Place) × (verdict m c ≡ Refused k p)) ⊎ (verdict m c ≡ Accepted (open_count m c) (lower_load m c) (upper_load m c)) → Held (verdict m c)
     by (inl (k, p, e)) = let b = refusal_bounds ((refused_exactly m c k p).0 e) in subst Held (sym e) (omega (arith, b.0), omega (arith, b.1))
     by (inr e) = let a = (accepted_exactly m c).0 e in subst Held (sym e) (rows_held m c a, lower_held m c a, upper_held m c a)
 

@@ -2,6 +2,7 @@
 -- and after any calls, by the book that the last one left. Each is proved of every call (`proofs/BookPromises.antt`)
 -- and applied to document 01's sheet and its neighbours (`proofs/BookApplied.antt`).
 use Rattle.std.specs.Prelude.{◌≡◌, ◌↔◌, ◌⊎◌, ◌≢◌, List, [], ◌∷◌, ◌++◌, map, ℕ, ℤ}
+use Rattle.scope.specs.Mesh.{ListsDirection}
 use Rattle.numbers.specs.TablePromises.{TableReturned}
 use Rattle.reader.specs.File.{file_width}
 use Rattle.judge.specs.Judge.{files_verdict}
@@ -34,6 +35,8 @@ pub record BookCall (c : BookForC) (mesh table claim : List ℕ) (Before : Type 
   -- an accepted claim is followed; "a refused claim leaves the book", and so does 48, number by number
   pub follows : r.number ≡ 0 → book_of r.book ≡ followed (book_of c) (files_verdict file_width mesh table claim)
   pub leaves : r.number ≢ 0 → r.book ≡ c
+  -- "A book takes no carried load from such a mesh", one that lists a soil by direction (document 02, N14)
+  pub no_load : ListsDirection (mesh_with mesh table) → (book_of r.book).lower ≡ (book_of c).lower
 
 -- "for a commit or ask when the count is already 1,000,000 or more or a bound in the book has a denominator not above
 -- 0"; of a commit also "if the named count differs"

@@ -10,10 +10,10 @@
 use Rattle.std.specs.Prelude.{◌≡◌, ◌↔◌, ◌⊎◌, ◌≢◌, List, [], ◌∷◌, ◌++◌, ℕ, suc, ◌+◌, ◌*◌, ◌/◌, ◌^◌, ◌≤◌, ◌<◌, ℤ, pos, nat_abs, ◌+ℤ◌, ◌-ℤ◌, ◌<ℤ◌, length, take, drop, replicate}
 use Rattle.std.proofs.Math.Option.{some}
 use Rattle.integer.specs.Fraction.{◌over◌, ◌≈ᶠ◌, ◌≤ᶠ◌, ◌<ᶠ◌}
-use Rattle.scope.specs.Columns.{at, n, l}
+use Rattle.scope.specs.Columns.{at, has_field, n, l}
 use Rattle.scope.specs.Cases.Verdict.{Verdict}
 use Rattle.integer.specs.Members.{◌∈◌}
-use Rattle.scope.specs.Mesh.{mesh_layout, nodes, elements, edges, sides, jumps}
+use Rattle.scope.specs.Mesh.{mesh_layout, nodes, elements, edges, sides, jumps, ListsDirection}
 use Rattle.scope.specs.Answer.{place_for, number_of, place_of}
 use Rattle.scope.specs.Rows.{Row, pair_count, balance_rows, side_rows, jump_rows, strength_rows, rows_of}
 use Rattle.scope.specs.Claim.{claim_header_columns, claim_layout, stress, multiplier}
@@ -27,7 +27,7 @@ use Rattle.scope.specs.Parts.{carried, allowed, SameRows, NumberOf}
 use Rattle.scope.specs.Tests.{row_at}
 use Rattle.scope.specs.Verdict.{mesh_check, verdict, lower_load, upper_load}
 use Rattle.numbers.specs.declared.numbers_answer.NumbersAnswer.{NumbersAnswer}
-use Rattle.numbers.specs.Promises.{returned_numbers, ReturnsZero, RefusesExactly, NumbersListed, TellsField, RowsRefused, FieldExactly, MultipliersExactly, CriterionForEachPair, PairsAsked, SidesAsked, OverlapsAsked, JumpsAsked, TractionsOnJoints, FractionsBracket}
+use Rattle.numbers.specs.Promises.{returned_numbers, ReturnsZero, RefusesExactly, NumbersListed, TellsField, RowsRefused, FieldExactly, MultipliersExactly, CriterionForEachPair, DirectionsAsked, PairsAsked, SidesAsked, OverlapsAsked, JumpsAsked, TractionsOnJoints, FractionsBracket}
 use Rattle.numbers.specs.NumbersAnswer.{answer_of}
 use Rattle.numbers.specs.TablePromises.{TableAnswers, TableExactly, FilledMesh}
 use Rattle.reader.specs.File.{file_of, table_of, table_numbers_of, file_width, line_bytes}
@@ -130,8 +130,8 @@ pub record OnTable (mesh table claim : List ℕ) (number place : ℕ) : Type 0 w
 -- ==== Demand 2: what is accepted, what is refused, what is printed; where a line is written (`Room`)
 
 -- 0 exactly when, each refusal with its place exactly when, no number but those of the table, each part accepted
--- exactly when, the pairs with the criterion for each, the elements that lie on each other, the jumps with the tractions
--- on their joints, and what goes by the number of sides
+-- exactly when, the pairs with the criterion for each, strength by direction, the elements that lie on each other, the
+-- jumps with the tractions on their joints, and what goes by the number of sides
 pub record OnMesh (m c : List ℤ) (number place : ℕ) : Type 0 where
   pub returns_zero : ReturnsZero m c number place
   pub refuses : RefusesExactly m c number place
@@ -141,6 +141,7 @@ pub record OnMesh (m c : List ℤ) (number place : ℕ) : Type 0 where
   pub multipliers : MultipliersExactly m c number
   pub pairs : PairsAsked m number place
   pub criterion : TellsField c number → CriterionForEachPair m c
+  pub directions : DirectionsAsked m c number
   pub jumps : JumpsAsked m
   pub sides : SidesAsked m number place
   pub overlaps : OverlapsAsked m number place
@@ -185,7 +186,7 @@ pub record UpperPrinted (d : ℕ) (m c : List ℤ) (line : List ℕ) : Type 0 wh
 
 -- the case of six decimals, demand 2's millionth: 0 ≤ l/n - v/10^6 < 10^-6, and 0 ≤ v/10^6 - W/m < 10^-6
 pub record Millionths (m c : List ℤ) (line : List ℕ) : Type 0 where
-  pub lower : HasField c → (v : ℤ)
+  pub lower : HasField c → ¬ ListsDirection m → (v : ℤ)
       × (said (column_of 2 line) ≡ some (shows v 6)) × (v over pos 1000000 ≤ᶠ carried c)
       × (carried c <ᶠ (v +ℤ pos 1) over pos 1000000)
   pub upper : HasMultipliers c → (v : ℤ)
@@ -194,16 +195,17 @@ pub record Millionths (m c : List ℤ) (line : List ℕ) : Type 0 where
 
 -- "in the same 28 characters": no load of an accepted claim has a longer text
 pub record TextsFit (d : ℕ) (m c : List ℤ) : Type 0 where
-  pub lower : length (lower_text d (lower_load c)) ≤ column_bytes
+  pub lower : length (lower_text d (lower_load m c)) ≤ column_bytes
   pub upper : length (upper_text d (upper_load m c)) ≤ column_bytes
 
 -- the four columns: "Accepted .. reports: 0; the open rows ..; l/n; W/m"; "Refused: number, place, none, none";
--- "Whichever part the claim lacks gives the four letters none"
+-- "Whichever part the claim lacks gives the four letters none", and so does the lower load on "a mesh that lists" a
+-- soil by direction, "used or not" (document 02, N14)
 pub record Prints (d : ℕ) (m c : List ℤ) (number place : ℕ) (line : List ℕ) : Type 0 where
   pub first : said (column_of 0 line) ≡ some (shows (pos number) 0)
   pub refused : number ≢ 0 → said (column_of 1 line) ≡ some (shows (pos place) 0)
-  pub lower : number ≡ 0 → HasField c → LowerPrinted d c line
-  pub lower_none : (said (column_of 2 line) ≡ some word) ↔ ((number ≢ 0) ⊎ (¬ HasField c))
+  pub lower : number ≡ 0 → HasField c → ¬ ListsDirection m → LowerPrinted d c line
+  pub lower_none : (said (column_of 2 line) ≡ some word) ↔ ((number ≢ 0) ⊎ ((¬ HasField c) ⊎ ListsDirection m))
   pub upper : number ≡ 0 → HasMultipliers c → UpperPrinted d m c line
   pub upper_none : (said (column_of 3 line) ≡ some word) ↔ ((number ≢ 0) ⊎ (¬ HasMultipliers c))
   pub rows_none : number ≡ 0 → (said (column_of 1 line) ≡ some word) ↔ ((¬ HasField c) ⊎ (¬ HasMultipliers c))
@@ -252,7 +254,8 @@ BlendedCalls a b i j = Call a i → Call b j → OnTheSameMesh a b → TellsFiel
 pub record AsAFile (t m c : List ℤ) (r : NumbersAnswer) : Type 0 where
   pub some_width : (w : ℕ) × Fit w t × Fit w m × Fit w c
   pub every_width : (w : ℕ) → Fit w t → Fit w m → Fit w c
-      → r ≡ answer_of (files_verdict w (file_of w mesh_layout m) (table_of w t) (file_of w (claim_layout (mesh_read t m)) c))
+      → r ≡ answer_of (has_field c)
+      (files_verdict w (file_of w mesh_layout m) (table_of w t) (file_of w (claim_layout (mesh_read t m)) c))
 
 -- ==== The sheets
 

@@ -73,7 +73,7 @@ limit = "1 1 1 20 / 0 -20 0 / 0 -20 0 / 0 -20 0 / 0 -20 0 / 0 0 / 30 0 0 100001 
 
 -- soil 3 4 6: 3, line 2
 unfoldable pub refused_mesh : String
-refused_mesh = "4 1 1 3 12 0 / 3 4 6 10 0 0 0 0 / 0 0 / 1 0 / 1 1 / 0 1 / 1 2 3 4 1 / 3 4 3 0 0 -1 0 / 2 3 3 0 0 0 0 / 4 1 3 0 0 0 0"
+refused_mesh = "4 1 1 3 12 0 / 3 4 6 10 0 0 0 0 0 0 / 0 0 / 1 0 / 1 1 / 0 1 / 1 2 3 4 1 / 3 4 3 0 0 -1 0 / 2 3 3 0 0 0 0 / 4 1 3 0 0 0 0"
 
 unfoldable pub refused_line : String
 refused_line = "                           3                           2                        none                        none\n"

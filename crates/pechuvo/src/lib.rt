@@ -9,6 +9,7 @@ pub mod books;
 
 ghost use Rattle.std.specs.Prelude.{◌≡◌};
 ghost use Rattle.scope.specs.Answer.{number_of, place_number, place_of, verdict_of};
+ghost use Rattle.scope.specs.Columns.{has_field};
 ghost use Rattle.scope.specs.TableVerdict.{tabled_verdict};
 ghost use Rattle.numbers.specs.NumbersAnswer.{answer_of};
 ghost use Rattle.report.specs.Buffer.{reported_number, reported_place};
@@ -105,7 +106,7 @@ pub fn pechuvo_check_run(mesh: &[u8], table: &[u8], claims: &[u8], reports: &mut
 
 // The same check of the numbers of a mesh, of a table and of a claim, for a solver that writes no files.
 pub fn pechuvo_check_numbers(m: &[i64], t: &[i64], c: &[i64]) -> NumbersAnswer
-    ensures { result ≡ answer_of (tabled_verdict t.now m.now c.now) }
+    ensures { result ≡ answer_of (has_field c.now) (tabled_verdict t.now m.now c.now) }
 {
     numbers::check(m, t, c)
 }

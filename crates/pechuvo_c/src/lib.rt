@@ -3,6 +3,7 @@
 #![tactic(auto)]
 
 ghost use Rattle.std.specs.Prelude.{◌≡◌};
+ghost use Rattle.scope.specs.Columns.{has_field};
 ghost use Rattle.scope.specs.TableVerdict.{tabled_verdict};
 ghost use Rattle.numbers.specs.NumbersAnswer.{answer_of};
 ghost use Rattle.pechuvo.specs.Answers.{Answers};
@@ -50,7 +51,7 @@ pub extern "C" fn pechuvo_check_run(
 // The same check of the numbers of a mesh, of a table and of a claim, for a solver that writes no files.
 #[unsafe(no_mangle)]
 pub extern "C" fn pechuvo_check_numbers(m: &[i64], t: &[i64], c: &[i64]) -> NumbersAnswer
-    ensures { result ≡ answer_of (tabled_verdict t.now m.now c.now) }
+    ensures { result ≡ answer_of (has_field c.now) (tabled_verdict t.now m.now c.now) }
 {
     pechuvo::pechuvo_check_numbers(m, t, c)
 }

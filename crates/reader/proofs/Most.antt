@@ -155,7 +155,7 @@ numbers_most w f most header told bs = by (read_line w (width f.header) bs) refl
 
 mesh_count : (m : List ℤ)
     → number_count (mesh_layout.body m)
-    ≡ soils m * width (soil_lines 0) + nodes m * width (node_lines 0)
+    ≡ soils m * width (soil_lines 0 0) + nodes m * width (node_lines 0)
     + elements m * width (element_lines 0 0 1 0) + edges m * width (edge_lines 0 0) + jumps m * width (jump_lines 0 0)
 unfolding number_count mesh_layout soil_lines node_lines element_lines edge_lines jump_lines
 mesh_count m = omega arith

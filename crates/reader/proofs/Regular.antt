@@ -36,11 +36,11 @@ claim_number (at_most_where c k d z) = omega arith
 
 -- with a table or without
 pub layout_regular : (tabled : Bool) → Regular (layout_with tabled)
-unfolding layout_with mesh_header groups soil_lines node_lines element_lines edge_lines jump_lines nodes elements soils edges jumps
+unfolding layout_with mesh_header groups soil_lines node_lines element_lines edge_lines jump_lines nodes elements soils edges sides jumps
 layout_regular tabled = record {
   one_header = refl;
   by_header = λ h rest e.
-      rw (front h rest 0 (omega arith), front h rest 1 (omega arith), front h rest 2 (omega arith), front h rest 3 (omega arith), front h rest 5 (omega arith));
+      rw (front h rest 0 (omega arith), front h rest 1 (omega arith), front h rest 2 (omega arith), front h rest 3 (omega arith), front h rest 4 (omega arith), front h rest 5 (omega arith));
   some_columns = λ h. omega arith;
   not_limit = omega arith;
   not_rule = mesh_number;

@@ -40,7 +40,7 @@ use Rattle.scope.proofs.Refusals.{mesh_passed, lines_passed, field_passed, multi
 
 -- ---- what passes is accepted
 
-field_accepted : (m c : List ℤ) → mesh_check m ≡ Passed → lines_check (claim_layout m) c ≡ Passed → HasField c → field_check (equality_rows m) (strength_rows m) (stress m c) (l c) (n c) ≡ Passed → FieldAccepted m c
+pub field_accepted : (m c : List ℤ) → mesh_check m ≡ Passed → lines_check (claim_layout m) c ≡ Passed → HasField c → field_check (equality_rows m) (strength_rows m) (stress m c) (l c) (n c) ≡ Passed → FieldAccepted m c
 unfolding rows_of
 field_accepted m c a b h e = record {
   mesh = (mesh_passed m).says a;
@@ -49,7 +49,7 @@ field_accepted m c a b h e = record {
   meets = (field_passed (equality_rows m) (strength_rows m) (stress m c) (l c) (n c)).says e;
 }
 
-multipliers_accepted : (m c : List ℤ) → mesh_check m ≡ Passed → lines_check (claim_layout m) c ≡ Passed → HasMultipliers c → multipliers_check (equality_rows m) (rows_of m) (3 * nodes m) (multiplier m c) ≡ Passed → MultipliersAccepted m c
+pub multipliers_accepted : (m c : List ℤ) → mesh_check m ≡ Passed → lines_check (claim_layout m) c ≡ Passed → HasMultipliers c → multipliers_check (equality_rows m) (rows_of m) (3 * nodes m) (multiplier m c) ≡ Passed → MultipliersAccepted m c
 multipliers_accepted m c a b h e = record {
   mesh = (mesh_passed m).says a;
   lines = (lines_passed (claim_layout m) c).says b;

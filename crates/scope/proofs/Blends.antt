@@ -186,7 +186,7 @@ mesh_blends m sound = record {
   carries = λ f met. record {
     meets = met;
     at_most = λ d k same w. fraction_at_most m d k same w f met;
-    criterion = λ a i e s j v. field_criterion m s j e ((field-printed m s j e).0 (((mesh_fractions m sound).laws.same_for_each f).0 met e s j v)) a i;
+    criterion = λ a i d e s j v. field_criterion m s j e ((field-printed m s j e).0 (((mesh_fractions m sound).laws.same_for_each f).0 met e s j v)) a i d;
   };
 }
 

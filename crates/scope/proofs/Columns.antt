@@ -6,11 +6,12 @@ use native.Mathlib.Omega.{arith}
 use lib.Dec.{lit<}
 use lib.IntN.{ℤ}
 use Rattle.scope.proofs.Lists.{of_count, each_nil, each_cons, each_++, each_map, each_joined}
+use Rattle.scope.proofs.Directions.{by_kind}
 use Rattle.scope.proofs.Pairs.{pairs}
 use Rattle.integer.specs.Members.{◌∈◌}
 use Rattle.scope.specs.Mesh.{nodes, elements, edges, sides, jumps, corner, from_node, to_node, jump_from, jump_to, facing_from, facing_to}
-use Rattle.scope.specs.Polygon.{Side, polygon_sides, polygon_of}
-use Rattle.scope.specs.Rows.{Row, sx, sy, t, count_from, node, balance_x, balance_y, balance_rows, normal_row, shear_row, side_rows, agree_row, jump_normal, jump_shear, jump_rows, strength_pairs, strength_row, pair_rows, strength_rows, equality_rows, rows_of}
+use Rattle.scope.specs.Polygon.{Side, polygon_sides, polygon_of, Point, half_turn}
+use Rattle.scope.specs.Rows.{Row, sx, sy, t, count_from, node, balance_x, balance_y, balance_rows, normal_row, shear_row, side_rows, agree_row, jump_normal, jump_shear, jump_rows, strength_pairs, strength_row, strength_rows, equality_rows, rows_of, plane_row, rows_by_sides, rows_by_planes}
 use Rattle.scope.specs.Bracket.{MeshColumns}
 
 module _ (m : List ℤ) where
@@ -59,8 +60,12 @@ module _ (m : List ℤ) where
   unfolding In RowIn strength_row
   strength_in r p q h C v d k = let c = columns_of v k in each_cons In c.at-sx (each_cons In c.at-sy (each_cons In c.at-t (each_nil In)))
 
+  plane_in : (r p q ch cv : ℤ) (v : ℕ) (c : Point) (k : ℤ) → v < nodes m → RowIn (plane_row r p q ch cv v c k)
+  unfolding In RowIn plane_row
+  plane_in r p q ch cv v c k h = let w = columns_of v h in each_cons In w.at-sx (each_cons In w.at-sy (each_cons In w.at-t (each_nil In)))
+
   pub mesh_columns : MeshColumns m
-  unfolding RowIn In rows_of equality_rows balance_rows side_rows jump_rows strength_rows pair_rows
+  unfolding RowIn In rows_of equality_rows balance_rows side_rows jump_rows strength_rows rows_by_sides rows_by_planes
   mesh_columns named =
       each_++ RowIn
       (each_++ RowIn
@@ -79,4 +84,9 @@ module _ (m : List ℤ) where
       let to = jump_in g (jump_to m g) (facing_to m g) (named.jump_tos g k).0 (named.jump_tos g k).1 in
       each_cons RowIn from.0 (each_cons RowIn from.1 (each_cons RowIn to.0 (each_cons RowIn to.1 (each_nil RowIn))))))))
       (each_joined RowIn _ (strength_pairs m) (λ a j.
-      each_map RowIn _ (polygon_sides (polygon_of (sides m)).corners) (λ d k. strength_in _ _ _ _ _ a.at d (((pairs m).exactly a).0 j).0)))
+      let there = (((pairs m).exactly a).0 j).0 in
+      by_kind (polygon_of (sides m)) m a (λ rs. (r : Row) → r ∈ rs → RowIn r)
+      (λ e.
+      each_joined RowIn _ (half_turn (polygon_of (sides m)).corners) (λ v k.
+      each_cons RowIn (plane_in _ _ _ _ _ a.at v _ there) (each_cons RowIn (plane_in _ _ _ _ _ a.at v _ there) (each_nil RowIn))))
+      (λ e. each_map RowIn _ (polygon_sides (polygon_of (sides m)).corners) (λ d k. strength_in _ _ _ _ _ a.at d there))))

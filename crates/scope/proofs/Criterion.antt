@@ -13,7 +13,7 @@ use Rattle.integer.proofs.Ring.{ring, ring_from, terms}
 use Rattle.integer.proofs.Order.{by_nn, nn_diff, ≤ℤ_trans, ≤ℤ_total, <ℤ→≤ℤ, +ℤ_mono, *ℤ_nonneg, square_nonneg, *ℤ_pos, *ℤ_cancel_≤}
 use Rattle.scope.proofs.PolygonRule.{polygon_rule}
 use Rattle.integer.specs.Members.{◌∈◌}
-use Rattle.scope.specs.Mesh.{sides, p, q, h, cohesion}
+use Rattle.scope.specs.Mesh.{sides, p, q, h, cohesion, ByDirection}
 use Rattle.scope.specs.Polygon.{Point, point, Polygon, Side, sides_to, polygon_sides, polygon_of}
 use Rattle.scope.specs.Rows.{sx, sy, t, Pair, strength_pairs, cross}
 use Rattle.scope.specs.PolygonRule.{OnCircle, OnceAround, PolygonRule}
@@ -150,6 +150,6 @@ criterion {g} rule p q h C n sx sy t rows =
 pub criterion_of : (k : ℕ) → WithinCriterion (polygon_of k)
 criterion_of k = let (sides, step, product, rule) = polygon_rule k in criterion rule
 
-pub field_criterion : (m : List ℤ) (s : ℕ → ℤ) (l n : ℤ) → MeetsPrinted m s l n → (a : Pair) → a ∈ strength_pairs m → CriterionAt m s n a
-field_criterion m s l n f a k =
-    criterion_of (sides m) (p m a.soil) (q m a.soil) (h m a.soil) (cohesion m a.soil) n (s (sx a.at)) (s (sy a.at)) (s (t a.at)) (f.strength a k)
+pub field_criterion : (m : List ℤ) (s : ℕ → ℤ) (l n : ℤ) → MeetsPrinted m s l n → (a : Pair) → a ∈ strength_pairs m → ¬ ByDirection m a.soil → CriterionAt m s n a
+field_criterion m s l n f a k d =
+    criterion_of (sides m) (p m a.soil) (q m a.soil) (h m a.soil) (cohesion m a.soil) n (s (sx a.at)) (s (sy a.at)) (s (t a.at)) (f.strength a k d)

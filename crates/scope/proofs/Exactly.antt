@@ -55,19 +55,19 @@ module _ (m c : List ℤ) where
   accepted_exactly = (to, from)
     where
       good : Verdict
-      good = Accepted (open_count m c) (lower_load c) (upper_load m c)
+      good = Accepted (open_count m c) (lower_load m c) (upper_load m c)
 
       to : verdict m c ≡ good → ClaimAccepted m c
       to e =
-          let h : (mesh_check m ≡ Passed) × (claim_verdict m c ≡ good) = (answer_accepted (mesh_check m) (claim_verdict m c) (open_count m c) (lower_load c) (upper_load m c)).0 e in
-          let r : LinesSound (claim_layout m) c × ((HasField c → RowsMet m c) × (HasMultipliers c → ColumnsMet m c)) = (claim_passed m c).says ((answer_accepted (claim_check m c) good (open_count m c) (lower_load c) (upper_load m c)).0 h.1).0 in
+          let h : (mesh_check m ≡ Passed) × (claim_verdict m c ≡ good) = (answer_accepted (mesh_check m) (claim_verdict m c) (open_count m c) (lower_load m c) (upper_load m c)).0 e in
+          let r : LinesSound (claim_layout m) c × ((HasField c → RowsMet m c) × (HasMultipliers c → ColumnsMet m c)) = (claim_passed m c).says ((answer_accepted (claim_check m c) good (open_count m c) (lower_load m c) (upper_load m c)).0 h.1).0 in
           record { mesh = (mesh_passed m).says h.0; lines = r.0; field_meets = r.1.0; multipliers_meet = r.1.1 }
 
       from : ClaimAccepted m c → verdict m c ≡ good
       from a =
-          (answer_accepted (mesh_check m) (claim_verdict m c) (open_count m c) (lower_load c) (upper_load m c)).1 (
+          (answer_accepted (mesh_check m) (claim_verdict m c) (open_count m c) (lower_load m c) (upper_load m c)).1 (
             (mesh_passed m).passed a.mesh,
-            (answer_accepted (claim_check m c) good (open_count m c) (lower_load c) (upper_load m c)).1
+            (answer_accepted (claim_check m c) good (open_count m c) (lower_load m c) (upper_load m c)).1
                 ((claim_passed m c).passed (a.lines, (a.field_meets, a.multipliers_meet)), refl),
           )
 
@@ -75,7 +75,7 @@ module _ (m c : List ℤ) where
   pub refused_exactly : RefusedExactly m c
   unfolding verdict claim_verdict
   refused_exactly k p =
-      let checks : (verdict m c ≡ Refused k p) ↔ (mesh_check m then claim_check m c ≡ Fails k p) = answer_refused (mesh_check m) (claim_check m c) (open_count m c) (lower_load c) (upper_load m c) in
+      let checks : (verdict m c ≡ Refused k p) ↔ (mesh_check m then claim_check m c ≡ Fails k p) = answer_refused (mesh_check m) (claim_check m c) (open_count m c) (lower_load m c) (upper_load m c) in
       (λ e. (all_exact m c).refuses.why k p (checks.0 e), λ r. checks.1 ((all_exact m c).refuses.refused k p r))
 
 -- ---- what is returned
@@ -167,12 +167,12 @@ refusal_number {m} {c} r =
     r.by
 
 -- a verdict is a refusal, or accepts with the claim's own open rows and loads
-pub verdict_cases : (m c : List ℤ) → ((k : ℕ) × (p : Place) × (verdict m c ≡ Refused k p)) ⊎ (verdict m c ≡ Accepted (open_count m c) (lower_load c) (upper_load m c))
+pub verdict_cases : (m c : List ℤ) → ((k : ℕ) × (p : Place) × (verdict m c ≡ Refused k p)) ⊎ (verdict m c ≡ Accepted (open_count m c) (lower_load m c) (upper_load m c))
 unfolding verdict claim_verdict answer
 verdict_cases m c = of_mesh' (mesh_check m)
   where
     good : Verdict
-    good = Accepted (open_count m c) (lower_load c) (upper_load m c)
+    good = Accepted (open_count m c) (lower_load m c) (upper_load m c)
 
     of_claim' : (o : Outcome) → ((k : ℕ) × (p : Place) × (answer o good ≡ Refused k p)) ⊎ (answer o good ≡ good)
     of_claim' Passed = inr refl
@@ -186,7 +186,7 @@ verdict_cases m c = of_mesh' (mesh_check m)
 pub returns_zero : (m c : List ℤ) → ZeroExactly m c
 returns_zero m c = (λ e. to (verdict_cases m c) e, λ a. ap number_of ((accepted_exactly m c).1 a))
   where
-    to : ((k : ℕ) × (p : Place) × (verdict m c ≡ Refused k p)) ⊎ (verdict m c ≡ Accepted (open_count m c) (lower_load c) (upper_load m c)) → number_of (verdict m c) ≡ 0 → ClaimAccepted m c
+    to : ((k : ℕ) × (p : Place) × (verdict m c ≡ Refused k p)) ⊎ (verdict m c ≡ Accepted (open_count m c) (lower_load m c) (upper_load m c)) → number_of (verdict m c) ≡ 0 → ClaimAccepted m c
     to (inl (k, p, d)) e = absurd (omega (arith, refusal_number ((refused_exactly m c k p).0 d), sym (ap number_of d) ∙ e))
     to (inr d) e = (accepted_exactly m c).0 d
 

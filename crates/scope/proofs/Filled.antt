@@ -1,5 +1,5 @@
 -- What stands in a mesh whose elements with soil 0 were given soils: at the place of such a soil the one that was given, and everywhere else what stood there. So all that sound lines say stays, and each element's height is in one layer.
-use mathlib.Core.Path.{◌≡◌, refl, sym, ◌∙◌, ap, ap₂, subst, subst₃}
+use mathlib.Core.Path.{◌≡◌, refl, sym, ◌∙◌, ap, ap₂, subst, subst₂, subst₃}
 use mathlib.Core.Bool.{Bool, true, false, cond, ◌&&◌, and-false}
 use mathlib.Core.List.{List}
 use Prim.Native.Nat.{ℕ, ◌+◌, ◌*◌, ◌-◌, ◌≤◌, ◌<◌}
@@ -15,7 +15,7 @@ use Rattle.integer.specs.Tests.{eq_z}
 use Rattle.scope.specs.Columns.{at}
 use Rattle.scope.specs.Layout.{Group, width, groups, numbers_before, count, entry}
 use Rattle.scope.specs.Polygon.{SidesListed}
-use Rattle.scope.specs.Mesh.{nodes_with, mesh_header_columns, soil_columns, element_columns, mesh_header, soil_lines, node_lines, element_lines, edge_lines, jump_lines, mesh_layout, mesh_groups, nodes, elements, soils, edges, sides, jumps, p, q, h, cohesion, soil_entry, x, y, corner, element_soil, edge_entry, from_node, to_node, jump_entry, jump_from, jump_to, facing_from, facing_to}
+use Rattle.scope.specs.Mesh.{nodes_with, kind_with, mesh_header_columns, soil_columns, element_columns, mesh_header, soil_lines, node_lines, element_lines, edge_lines, jump_lines, mesh_layout, mesh_groups, nodes, elements, soils, edges, sides, jumps, p, q, h, cohesion, soil_kind, cohesion_across, soil_entry, x, y, corner, element_soil, edge_entry, from_node, to_node, jump_entry, jump_from, jump_to, facing_from, facing_to}
 use Rattle.scope.specs.Rows.{count_from}
 use Rattle.scope.specs.NumberRanges.{Between, Counts, SoilFacts, NodeFacts, ElementFacts, EdgeFacts, JumpFacts, MeshFacts}
 use Rattle.scope.specs.Bounds.{most_coordinate}
@@ -224,7 +224,7 @@ module _ (f : ℕ → ℤ) (m : List ℤ) where
 
   pub groups_kept : mesh_groups (given f m) ≡ mesh_groups m
   unfolding mesh_groups groups mesh_layout
-  groups_kept = rw (nodes_kept, elements_kept, soils_kept, edges_kept, jumps_kept)
+  groups_kept = rw (nodes_kept, elements_kept, soils_kept, edges_kept, sides_kept, jumps_kept)
 
   pub place_kept : (e : ℕ) → soil_place (given f m) e ≡ soil_place m e
   unfolding soil_place
@@ -351,13 +351,15 @@ module _ (f : ℕ → ℤ) (m : List ℤ) (k : MeshFacts (given f m)) where
         }
 
     soil_facts : (s : ℕ) → s < soils (given g m) → SoilFacts (given g m) s
-    unfolding p q h cohesion
+    unfolding p q h cohesion soil_kind cohesion_across
     soil_facts s l = record {
       p_range = subst (Between (pos 0) (pos 1000)) (same 0 (omega arith)) old.p_range;
       q_range = subst (Between (pos 1) (pos 1000)) (same 1 (omega arith)) old.q_range;
       h_range = subst (Between (pos 1) (pos 1000)) (same 2 (omega arith)) old.h_range;
       cohesion_range = subst (Between (pos 0) (pos 10000)) (same 3 (omega arith)) old.cohesion_range;
       force_range = λ c b. subst (Between (neg_ℤ (pos 1000)) (pos 1000)) (same (4 + c) (omega arith)) (old.force_range c b);
+      kind_range = subst₂ (λ (n : ℕ) (z : ℤ). Between (pos 0) (pos (kind_with n)) z) (sides_kept f m ∙ sym (sides_kept g m)) (same 8 (omega arith)) old.kind_range;
+      across_range = subst (Between (pos 0) (pos 10000)) (same 9 (omega arith)) old.across_range;
       right_angle = subst₃ (λ (a b c : ℤ). a *ℤ a +ℤ b *ℤ b ≡ c *ℤ c) (same 0 (omega arith)) (same 1 (omega arith)) (same 2 (omega arith)) old.right_angle;
     }
       where

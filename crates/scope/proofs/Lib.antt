@@ -16,6 +16,7 @@ pub mod RefusalTable
 pub mod Exactly
 pub mod PlaceKinds
 pub mod LineRefusals
+pub mod Directions
 pub mod NumberRanges
 pub mod Pairs
 pub mod SideLimits
@@ -25,6 +26,7 @@ pub mod Printed
 pub mod Meets
 pub mod Meaning
 pub mod Jumps
+pub mod Planes
 pub mod Criterion
 pub mod AcceptedField
 pub mod Weighted
@@ -54,3 +56,4 @@ pub mod Table
 pub mod TableVerdict
 pub mod TableApplied
 pub mod Applied
+pub mod AppliedBeds

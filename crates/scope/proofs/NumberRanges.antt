@@ -14,7 +14,7 @@ use Rattle.integer.proofs.Order.{≤ℤ_pos}
 use Rattle.scope.specs.Columns.{one_of, free, up_to, at}
 use Rattle.scope.specs.Layout.{width, groups, line_count, number_count, lines_before, numbers_before, count, entry}
 use Rattle.scope.specs.Polygon.{SidesListed}
-use Rattle.scope.specs.Mesh.{most_nodes, most_sides, listed_sides, nodes_for_108, nodes_with, mesh_header, soil_lines, node_lines, element_lines, edge_lines, jump_lines, mesh_layout, mesh_groups, nodes, elements, soils, edges, sides, jumps, p, q, h, cohesion, soil_entry, x, y, corner, element_soil, edge_entry, from_node, to_node, jump_entry, jump_from, jump_to, facing_from, facing_to}
+use Rattle.scope.specs.Mesh.{most_nodes, most_sides, listed_sides, nodes_for_108, nodes_with, mesh_header, soil_lines, node_lines, element_lines, edge_lines, jump_lines, mesh_layout, mesh_groups, nodes, elements, soils, edges, sides, jumps, p, q, h, cohesion, soil_entry, x, y, corner, element_soil, edge_entry, from_node, to_node, jump_entry, jump_from, jump_to, facing_from, facing_to, soil_kind, cohesion_across}
 use Rattle.scope.specs.Statements.{Within, LineSound, LinesSound}
 use Rattle.scope.specs.NumberRanges.{Between, Counts, SoilFacts, NodeFacts, ElementFacts, EdgeFacts, JumpFacts, MeshFacts}
 use Rattle.scope.proofs.PolygonRule.{listed_polygon}
@@ -92,7 +92,7 @@ module _ (m : List ℤ) (s : LinesSound mesh_layout m) where
   counts = header_counts m (s.lines 0 (omega arith))
 
   soil_facts : (k : ℕ) → k < soils m → SoilFacts m k
-  unfolding mesh_layout groups mesh_groups mesh_header soil_lines up_to soil_entry p q h cohesion
+  unfolding mesh_layout groups mesh_groups mesh_header soil_lines up_to soil_entry p q h cohesion soil_kind cohesion_across
   soil_facts k l =
       let f : LineFacts (groups mesh_layout m) m 1 k = line_facts mesh_layout m s 1 k l (omega arith) in
       let w = f.within in
@@ -102,6 +102,8 @@ module _ (m : List ℤ) (s : LinesSound mesh_layout m) where
         h_range = record { least = (w 2 (omega arith)).0; most = (w 2 (omega arith)).1 };
         cohesion_range = record { least = (w 3 (omega arith)).0; most = (w 3 (omega arith)).1 };
         force_range = λ c h. force c h (w (4 + c) (omega arith));
+        kind_range = record { least = (w 8 (omega arith)).0; most = (w 8 (omega arith)).1 };
+        across_range = record { least = (w 9 (omega arith)).0; most = (w 9 (omega arith)).1 };
         right_angle =
             subst₃ (λ (a b c : ℤ). a *ℤ a +ℤ b *ℤ b ≡ c *ℤ c)
             (at_line_in (groups mesh_layout m) m 1 k 0 (omega arith))
@@ -110,7 +112,7 @@ module _ (m : List ℤ) (s : LinesSound mesh_layout m) where
             f.rules.0;
       }
     where
-      force : (c : ℕ) → c < 4 → Within (get_or (soil_lines (soils m)).limits (4 + c) free) (soil_entry m k (4 + c)) → Between (neg_ℤ (pos 1000)) (pos 1000) (soil_entry m k (4 + c))
+      force : (c : ℕ) → c < 4 → Within (get_or (soil_lines (soils m) (sides m)).limits (4 + c) free) (soil_entry m k (4 + c)) → Between (neg_ℤ (pos 1000)) (pos 1000) (soil_entry m k (4 + c))
       force zero h w = record { least = w.0; most = w.1 }
       force (suc zero) h w = record { least = w.0; most = w.1 }
       force (suc (suc zero)) h w = record { least = w.0; most = w.1 }
@@ -212,25 +214,25 @@ module _ (m : List ℤ) (s : LinesSound mesh_layout m) where
       four (suc (suc (suc (suc k)))) h a b c d = absurd (omega arith)
 
   -- the last line is there, whether it is an element's, an edge's or a jump's
-  last_element : 6 + soils m * 8 + nodes m * 2 + elements m * 5 ≤ length m
+  last_element : 6 + soils m * 10 + nodes m * 2 + elements m * 5 ≤ length m
   unfolding mesh_layout groups mesh_header soil_lines node_lines element_lines numbers_before
   last_element =
       let c : Counts m = counts in
       omega (arith, c.elements_least, (line_facts mesh_layout m s 3 (elements m - 1) (omega (arith, c.elements_least)) (omega arith)).there)
 
-  last_edge : 0 < edges m → 6 + soils m * 8 + nodes m * 2 + elements m * 5 + edges m * 7 ≤ length m
+  last_edge : 0 < edges m → 6 + soils m * 10 + nodes m * 2 + elements m * 5 + edges m * 7 ≤ length m
   unfolding mesh_layout groups mesh_header soil_lines node_lines element_lines edge_lines numbers_before
   last_edge h = omega (arith, (line_facts mesh_layout m s 4 (edges m - 1) (omega arith) (omega arith)).there)
 
-  last_jump : 0 < jumps m → 6 + soils m * 8 + nodes m * 2 + elements m * 5 + edges m * 7 + jumps m * 4 ≤ length m
+  last_jump : 0 < jumps m → 6 + soils m * 10 + nodes m * 2 + elements m * 5 + edges m * 7 + jumps m * 4 ≤ length m
   unfolding mesh_layout groups mesh_header soil_lines node_lines element_lines edge_lines jump_lines numbers_before
   last_jump h = omega (arith, (line_facts mesh_layout m s 5 (jumps m - 1) (omega arith) (omega arith)).there)
 
-  size : length m ≡ 6 + soils m * 8 + nodes m * 2 + elements m * 5 + edges m * 7 + jumps m * 4
+  size : length m ≡ 6 + soils m * 10 + nodes m * 2 + elements m * 5 + edges m * 7 + jumps m * 4
   unfolding mesh_layout groups mesh_header soil_lines node_lines element_lines edge_lines jump_lines number_count
   size = by (dec_lt 0 (edges m)) (dec_lt 0 (jumps m))
     where
-      by : Dec (0 < edges m) → Dec (0 < jumps m) → length m ≡ 6 + soils m * 8 + nodes m * 2 + elements m * 5 + edges m * 7 + jumps m * 4
+      by : Dec (0 < edges m) → Dec (0 < jumps m) → length m ≡ 6 + soils m * 10 + nodes m * 2 + elements m * 5 + edges m * 7 + jumps m * 4
       by h (yes j) = omega (arith, s.none_left, last_jump j)
       by (yes h) (no j) = omega (arith, s.none_left, last_edge h)
       by (no h) (no j) = omega (arith, s.none_left, last_element)

@@ -5,27 +5,28 @@ use mathlib.Core.Bool.{Bool, true, false, not, ◌&&◌, ◌||◌}
 use mathlib.Core.Logic.{◌⊎◌, inl, inr, ⊎_elim}
 use mathlib.Core.List.Memᴰ
 use mathlib.Core.List.{List, [], ◌∷◌, tail-eq_of_cons-eq}
-use Prim.Native.Nat.{ℕ, zero, suc, ◌+◌, ◌*◌, ◌≤◌, ◌<◌, zero-le, suc-le-suc}
+use Prim.Native.Nat.{ℕ, zero, suc, ◌+◌, ◌*◌, ◌≤◌, ◌<◌, zero-le, suc-le-suc, ◌/◌}
 use native.Mathlib.Nat.{mul-le-mul}
 use native.Mathlib.Decide.{dec_lt}
 use native.Mathlib.Omega.{arith}
-use lib.Dec.{T, eqb, leb, ltb, leb→le, ltb→lt, nleb→lt, eqb→eq}
+use lib.Dec.{T, eqb, leb, ltb, leb→le, ltb→lt, nleb→lt, eqb→eq, T_not}
 use mir.Facts.{and_yes, or_yes}
 use lib.Ieee.Fits.{and_l, and_r}
 use lib.IntN.{ℤ, pos, negsuc, ◌+ℤ◌, ◌*ℤ◌, neg_ℤ, nat_abs}
 use lib.Signed.{lt_z, ◌<ℤ◌, lt_z_yes}
-use lib.ListN.{length}
+use lib.ListN.{length, drop, take-append-drop}
 use Rattle.integer.specs.Tests.{eq_z}
 use Rattle.integer.proofs.TestLaws.{eq_z_yes}
 use Rattle.integer.proofs.RingLaws.{pos_injective}
 use Rattle.scope.proofs.Lists.{each_nil, each_cons}
+use Rattle.scope.proofs.Decides.{Decides, both, either, said_as, equalℤ, belowℤ}
 use Rattle.integer.specs.Members.{◌∈◌}
-use Rattle.scope.specs.Polygon.{Point, point, Polygon, Side, sides_to, polygon_sides, quarter_turn, four_quadrants, twelve, twenty, thirty_six, one_hundred_eight, polygon_of, SidesListed}
+use Rattle.scope.specs.Polygon.{Point, point, Polygon, Side, sides_to, polygon_sides, quarter_turn, four_quadrants, twelve, twenty, thirty_six, one_hundred_eight, polygon_of, SidesListed, half_turn}
 use Rattle.scope.specs.Rows.{cross}
-use Rattle.scope.specs.Mesh.{most_sides, nodes_for_108, nodes_with, pairs_with, strength_multiplier}
+use Rattle.scope.specs.Mesh.{most_sides, nodes_for_108, nodes_with, pairs_with, strength_multiplier, kind_with}
 use Rattle.scope.specs.Claim.{stress_columns}
-use Rattle.scope.specs.Bounds.{most_radius, most_step, most_cross, weighted_step, weighted_cross, most_strength_rows}
-use Rattle.scope.specs.PolygonRule.{OnCircle, OnceAround, step_size, cross_size, Largest, PolygonRule, PolygonFits, ListedPolygon}
+use Rattle.scope.specs.Bounds.{most_radius, most_step, most_cross, weighted_step, weighted_cross, most_strength_rows, most_plane_radius, twice_strength, strength_right_with, strength_sum}
+use Rattle.scope.specs.PolygonRule.{OnCircle, OnceAround, step_size, cross_size, Largest, PolygonRule, PolygonFits, ListedPolygon, HalfTurn}
 
 -- ---- tests
 
@@ -67,6 +68,13 @@ once_around : ℤ → List Point → Bool
 once_around r [] = false
 once_around r (v ∷ c) = is_point r (pos 0) v && from_upper r c
 
+-- (r, 0), or above the axis: so is each corner of the first half turn, and none of the rest
+in_half : ℤ → Point → Bool
+in_half r v = is_point r (pos 0) v || lt_z (pos 0) v.py
+
+halves : ℤ → List Point → Bool
+halves r c = every (in_half r) (half_turn c) && every (λ v. not (in_half r v)) (drop (length c / 2) c)
+
 largest : (Side → ℕ) → List Side → ℕ → Bool
 largest size ss k = every (λ s. leb (size s) k) ss && some (λ s. eqb (size s) k) ss
 
@@ -84,6 +92,7 @@ polygon_test g sides step product =
     && every (on_circle g.radius) g.corners
     && walk (has_signed g.corners) (r * r) (2 * r + 2) 0 (suc r)
     && once_around g.radius g.corners
+    && halves g.radius g.corners
     && every turns_left (polygon_sides g.corners)
     && largest step_size (polygon_sides g.corners) step
     && largest cross_size (polygon_sides g.corners) product
@@ -222,6 +231,25 @@ once_around_lem r [] t = absurd t
 once_around_lem r (v ∷ c) t =
     let h = and_yes (is_point r (pos 0) v) (from_upper r c) t in rw (point_yes r (pos 0) v h.0) (from_upper_lem r c h.1)
 
+half_says : (r : ℤ) (v : Point) → Decides (in_half r v) ((v ≡ point r (pos 0)) ⊎ (pos 0 <ℤ v.py))
+unfolding in_half is_point
+half_says r v =
+    either
+    (said_as (both (equalℤ v.px r) (equalℤ v.py (pos 0))) (λ h. ap₂ point h.0 h.1) (λ e. (ap (λ (w : Point). w.px) e, ap (λ (w : Point). w.py) e)))
+    (belowℤ (pos 0) v.py)
+
+half_turn_lem : (r : ℤ) (c : List Point) → T (halves r c) → HalfTurn r c
+unfolding halves half_turn
+half_turn_lem r c t v =
+    let h = and_yes (every (in_half r) (half_turn c)) (every (λ v. not (in_half r v)) (drop (length c / 2) c)) t in
+    let parts = take-append-drop (length c / 2) c in (
+      λ m. (subst (λ l. v ∈ l) parts (Memᴰ.append_left (drop (length c / 2) c) m), (half_says r v).holds (every_yes (in_half r) (half_turn c) h.0 v m)),
+      λ k.
+          ⊎_elim (λ m. m)
+          (λ m. absurd (T_not (in_half r v) (every_yes (λ v. not (in_half r v)) (drop (length c / 2) c) h.1 v m) ((half_says r v).passes k.1)))
+          (Memᴰ.append_cases (half_turn c) (subst (λ l. v ∈ l) (sym parts) k.0)),
+    )
+
 largest_yes : (size : Side → ℕ) (ss : List Side) (k : ℕ) → T (largest size ss k) → Largest size ss k
 unfolding largest
 largest_yes size ss k t =
@@ -238,6 +266,7 @@ tested g sides step product t = record {
   on_circle_lem = λ v m. eq_z_yes (every_yes (on_circle g.radius) g.corners (search (and_l, and_r) depth 10) v m);
   none_left_out = none_left_out g.corners g.radius (2 * nat_abs g.radius + 2) (search (and_l, and_r) depth 10);
   once_around_lem = once_around_lem g.radius g.corners (search (and_l, and_r) depth 10);
+  half_turn_lem = half_turn_lem g.radius g.corners (search (and_l, and_r) depth 10);
   left_turns_lem = λ s m. lt_z_yes (every_yes turns_left (polygon_sides g.corners) (search (and_l, and_r) depth 10) s m);
   largest_step = largest_yes step_size (polygon_sides g.corners) step (search (and_l, and_r) depth 10);
   largest_cross = largest_yes cross_size (polygon_sides g.corners) product (search (and_l, and_r) depth 10);
@@ -247,7 +276,7 @@ tested g sides step product t = record {
 
 -- every definition that a table's test computes with
 shown : Unit {0}
-unfolding polygon_test on_circle turns_left largest once_around from_upper walk has_signed is_point some every twelve twenty thirty_six one_hundred_eight four_quadrants quarter_turn polygon_sides sides_to cross polygon_of
+unfolding polygon_test on_circle turns_left largest once_around halves in_half half_turn from_upper walk has_signed is_point some every twelve twenty thirty_six one_hundred_eight four_quadrants quarter_turn polygon_sides sides_to cross polygon_of
 shown = tt
 
 pub twelve-sides : PolygonRule (polygon_of 12) 12 3 15
@@ -283,11 +312,15 @@ bounds_test : ℕ → ℕ → ℕ → ℕ → Bool
 bounds_test sides radius step product =
     ltb 0 sides
     && leb sides most_sides
+    && eqb (sides / 2 * 2) sides
     && leb radius most_radius
+    && leb (kind_with sides * radius) most_plane_radius
     && leb step most_step
     && leb product most_cross
     && leb (strength_multiplier sides * step) weighted_step
     && leb (strength_multiplier sides * product) weighted_cross
+    && leb (product * twice_strength) (strength_right_with sides)
+    && leb (strength_multiplier sides * strength_right_with sides) strength_sum
     && leb (pairs_with sides * sides) most_strength_rows
     && leb (nodes_with sides * stress_columns + pairs_with sides * sides) (nodes_for_108 * stress_columns + most_strength_rows)
 
@@ -297,19 +330,23 @@ unfolding bounds_test
 bounded {sides = sides} {step = step} {product = product} radius rule e t = record {
   rule = rule;
   radius_is = e;
-  some_sides = ltb→lt 0 sides (search (and_l, and_r) depth 10);
-  few_sides = leb→le sides most_sides (search (and_l, and_r) depth 10);
-  radius_fits = leb→le radius most_radius (search (and_l, and_r) depth 10);
-  step_fits = leb→le step most_step (search (and_l, and_r) depth 10);
-  product_fits = leb→le product most_cross (search (and_l, and_r) depth 10);
-  step_weighted = leb→le (strength_multiplier sides * step) weighted_step (search (and_l, and_r) depth 10);
-  product_weighted = leb→le (strength_multiplier sides * product) weighted_cross (search (and_l, and_r) depth 10);
-  rows_fit = leb→le (pairs_with sides * sides) most_strength_rows (search (and_l, and_r) depth 10);
-  numbers_fit = leb→le (nodes_with sides * stress_columns + pairs_with sides * sides) (nodes_for_108 * stress_columns + most_strength_rows) (search (and_l, and_r) depth 10);
+  some_sides = ltb→lt 0 sides (search (and_l, and_r) depth 15);
+  few_sides = leb→le sides most_sides (search (and_l, and_r) depth 15);
+  even_sides = eqb→eq (sides / 2 * 2) sides (search (and_l, and_r) depth 15);
+  radius_fits = leb→le radius most_radius (search (and_l, and_r) depth 15);
+  plane_radius = leb→le (kind_with sides * radius) most_plane_radius (search (and_l, and_r) depth 15);
+  step_fits = leb→le step most_step (search (and_l, and_r) depth 15);
+  product_fits = leb→le product most_cross (search (and_l, and_r) depth 15);
+  step_weighted = leb→le (strength_multiplier sides * step) weighted_step (search (and_l, and_r) depth 15);
+  product_weighted = leb→le (strength_multiplier sides * product) weighted_cross (search (and_l, and_r) depth 15);
+  right_fits = leb→le (product * twice_strength) (strength_right_with sides) (search (and_l, and_r) depth 15);
+  right_weighted = leb→le (strength_multiplier sides * strength_right_with sides) strength_sum (search (and_l, and_r) depth 15);
+  rows_fit = leb→le (pairs_with sides * sides) most_strength_rows (search (and_l, and_r) depth 15);
+  numbers_fit = leb→le (nodes_with sides * stress_columns + pairs_with sides * sides) (nodes_for_108 * stress_columns + most_strength_rows) (search (and_l, and_r) depth 15);
 }
 
 pub listed_polygon : (k : ℕ) → SidesListed k → ListedPolygon k
-unfolding shown bounds_test nodes_with pairs_with strength_multiplier
+unfolding shown bounds_test nodes_with pairs_with strength_multiplier kind_with strength_right_with
 listed_polygon k (inl e) = subst ListedPolygon (sym e) (record { radius = 5; step = 3; product = 15; fits = bounded 5 twelve-sides refl tt })
 listed_polygon k (inr (inl e)) = subst ListedPolygon (sym e) (record { radius = 25; step = 8; product = 220; fits = bounded 25 twenty-sides refl tt })
 listed_polygon k (inr (inr (inl e))) = subst ListedPolygon (sym e) (record { radius = 65; step = 16; product = 1183; fits = bounded 65 thirty_six_sides refl tt })

@@ -13,14 +13,15 @@ use Rattle.integer.specs.Tests.{eq_z}
 use Rattle.integer.proofs.Order.{by_nn, nn_diff}
 use Rattle.scope.proofs.Lists.{in_joined, in_count, of_count, each_nil, each_cons, each_++, each_map, each_joined}
 use Rattle.scope.proofs.Decides.{Decides, either, equalℤ}
-use Rattle.scope.specs.Mesh.{elements, edges, sides, jumps, p, q, h, cohesion, dead_x, dead_y, live_x, live_y, x, y, corner, element_soil, edge_entry, from_node, to_node, jump_from, jump_to, facing_from, facing_to}
-use Rattle.scope.specs.Polygon.{Polygon, Side, polygon_sides, polygon_of}
-use Rattle.scope.specs.Rows.{rows_of, equality_rows, balance_rows, side_rows, jump_rows, strength_pairs, strength_rows, pair_rows, asked, unfixed, Row, Pair, sx, sy, t, count_from, joined, node, rise_across, run_across, twice_area, balance_x, balance_y, step_x, step_y, step_square, normal_row, shear_row, fixed_if, jump_step_x, jump_step_y, agree_row, jump_normal, jump_shear, cross, strength_row}
+use Rattle.scope.proofs.Directions.{is_direction, not_direction, by_kind}
+use Rattle.scope.specs.Mesh.{elements, edges, sides, jumps, p, q, h, cohesion, dead_x, dead_y, live_x, live_y, x, y, corner, element_soil, edge_entry, from_node, to_node, jump_from, jump_to, facing_from, facing_to, cohesion_across, ByDirection}
+use Rattle.scope.specs.Polygon.{Polygon, Side, polygon_sides, polygon_of, Point, half_turn}
+use Rattle.scope.specs.Rows.{rows_of, equality_rows, balance_rows, side_rows, jump_rows, strength_pairs, strength_rows, pair_rows, asked, unfixed, Row, Pair, sx, sy, t, count_from, joined, node, rise_across, run_across, twice_area, balance_x, balance_y, step_x, step_y, step_square, normal_row, shear_row, fixed_if, jump_step_x, jump_step_y, agree_row, jump_normal, jump_shear, cross, strength_row, rows_by_sides, rows_by_planes, plane_row, plane_rows}
 use Rattle.scope.specs.Sums.{weighted_sum, left_side, right_side}
 use Rattle.integer.specs.Members.{◌∈◌}
 use Rattle.scope.specs.Meets.{Asks, RowMet, FieldMeets}
 use Rattle.scope.specs.PrintedColumns.{less_x, less_y, less_normal, less_shear, less_jump_normal, less_jump_shear, RowsPrinted}
-use Rattle.scope.specs.Printed.{force_x, force_y, deviator, resistance, BalanceXAt, BalanceYAt, NormalAt, ShearAt, NormalAgreesAt, ShearAgreesAt, StrengthAt, MeetsPrinted, FieldPrinted}
+use Rattle.scope.specs.Printed.{force_x, force_y, deviator, resistance, BalanceXAt, BalanceYAt, NormalAt, ShearAt, NormalAgreesAt, ShearAgreesAt, StrengthAt, MeetsPrinted, FieldPrinted, plane_normal, plane_shear, plane_minus, plane_resistance, PlanePlusAt, PlaneMinusAt}
 
 same_equation : {a b c d : ℤ} → a -ℤ b ≡ c -ℤ d → (a ≡ b) ↔ (c ≡ d)
 same_equation {a} {b} {c} {d} e = (
@@ -53,6 +54,17 @@ strength_less s l n r p q h C v d =
     ring
     (r ∷ p ∷ q ∷ h ∷ C ∷ n ∷ l ∷ s (sx v) ∷ s (sy v) ∷ s (t v) ∷ d.from.px ∷ d.from.py ∷ d.to.px ∷ d.to.py ∷ [])
     (both_sides (search terms depth 200 fits 100000) (search terms depth 200 fits 100000)) refl
+
+-- a row of the plane with the normal c, for any soil's numbers
+plane_less : (s : ℕ → ℤ) (l n r p q ch cv : ℤ) (v : ℕ) (c : Point) (k : ℤ) → left_side s l (plane_row r p q ch cv v c k) -ℤ right_side n (plane_row r p q ch cv v c k) ≡ p *ℤ plane_normal c (s (sx v)) (s (sy v)) (s (t v)) +ℤ k *ℤ plane_shear c (s (sx v)) (s (sy v)) (s (t v)) -ℤ plane_resistance r c q ch cv n
+unfolding plane_row left_side right_side weighted_sum
+plane_less s l n r p q ch cv v c k =
+    ring
+    (r ∷ p ∷ q ∷ ch ∷ cv ∷ k ∷ n ∷ l ∷ s (sx v) ∷ s (sy v) ∷ s (t v) ∷ c.px ∷ c.py ∷ [])
+    (both_sides (search terms depth 200 fits 100000) (search terms depth 200 fits 100000)) refl
+
+minus_times : (a q b c : ℤ) → a +ℤ neg_ℤ q *ℤ b -ℤ c ≡ a -ℤ q *ℤ b -ℤ c
+minus_times a q b c = ring (a ∷ q ∷ b ∷ c ∷ []) (search terms depth 100) refl
 
 -- the rows of an element, of an edge, of a jump and of a pair among the rows of the mesh
 module _ (m : List ℤ) where
@@ -120,8 +132,37 @@ module _ (m : List ℤ) (s : ℕ → ℤ) (l n : ℤ) where
       ≡ deviator r d (h m a.soil) (s (sx a.at)) (s (sy a.at)) (s (t a.at)) -ℤ resistance d (p m a.soil) (q m a.soil) (cohesion m a.soil) n (s (sx a.at)) (s (sy a.at))
   row_strength r a d = strength_less s l n r (p m a.soil) (q m a.soil) (h m a.soil) (cohesion m a.soil) a.at d
 
+  -- a plane's row pN + kT, for a polygon of radius r
+  abbrev row_of : ℤ → Pair → Point → ℤ → Row
+  row_of r a v k = plane_row r (p m a.soil) (q m a.soil) (cohesion m a.soil) (cohesion_across m a.soil) a.at v k
+
+  abbrev resists : ℤ → Pair → Point → ℤ
+  resists r a v = plane_resistance r v (q m a.soil) (cohesion m a.soil) (cohesion_across m a.soil) n
+
+  row_plane : (r : ℤ) (a : Pair) (v : Point) (k : ℤ)
+      → left_side s l (row_of r a v k) -ℤ right_side n (row_of r a v k)
+      ≡ p m a.soil *ℤ plane_normal v (s (sx a.at)) (s (sy a.at)) (s (t a.at)) +ℤ k *ℤ plane_shear v (s (sx a.at)) (s (sy a.at)) (s (t a.at)) -ℤ resists r a v
+  row_plane r a v k = plane_less s l n r (p m a.soil) (q m a.soil) (cohesion m a.soil) (cohesion_across m a.soil) a.at v k
+
+  row_minus : (r : ℤ) (a : Pair) (v : Point)
+      → left_side s l (row_of r a v (neg_ℤ (q m a.soil))) -ℤ right_side n (row_of r a v (neg_ℤ (q m a.soil)))
+      ≡ plane_minus v (p m a.soil) (q m a.soil) (s (sx a.at)) (s (sy a.at)) (s (t a.at)) -ℤ resists r a v
+  row_minus r a v =
+      row_plane r a v (neg_ℤ (q m a.soil))
+      ∙ minus_times (p m a.soil *ℤ plane_normal v (s (sx a.at)) (s (sy a.at)) (s (t a.at))) (q m a.soil) (plane_shear v (s (sx a.at)) (s (sy a.at)) (s (t a.at))) (resists r a v)
+
   pub rows_printed : RowsPrinted m s l n
-  rows_printed = record { balance_x_lem = row_x; balance_y_lem = row_y; normal = row_normal; shear = row_shear; jump_normal_lem = row_jump_normal; jump_shear_lem = row_jump_shear; strength = row_strength (polygon_of (sides m)).radius }
+  rows_printed = record {
+    balance_x_lem = row_x;
+    balance_y_lem = row_y;
+    normal = row_normal;
+    shear = row_shear;
+    jump_normal_lem = row_jump_normal;
+    jump_shear_lem = row_jump_shear;
+    strength = row_strength (polygon_of (sides m)).radius;
+    plane_plus = λ a v. row_plane (polygon_of (sides m)).radius a v (q m a.soil);
+    plane_minus = row_minus (polygon_of (sides m)).radius;
+  }
 
   -- ---- what is asked
 
@@ -153,9 +194,24 @@ module _ (m : List ℤ) (s : ℕ → ℤ) (l n : ℤ) where
   unfolding strength_row
   strength r a d = same_inequality (row_strength r a d)
 
-  pub pair_rows_lem : (g : Polygon) (a : Pair) → FieldMeets s l n (pair_rows g m a) ↔ ((d : Side) → d ∈ polygon_sides g.corners → StrengthAt m s l n g.radius a d)
-  unfolding pair_rows
-  pair_rows_lem g a = (
+  pub plus_row : (r : ℤ) (a : Pair) (v : Point) → RowMet s l n (row_of r a v (q m a.soil)) ↔ PlanePlusAt m s l n r a v
+  unfolding plane_row
+  plus_row r a v = same_inequality (row_plane r a v (q m a.soil))
+
+  pub minus_row : (r : ℤ) (a : Pair) (v : Point) → RowMet s l n (row_of r a v (neg_ℤ (q m a.soil))) ↔ PlaneMinusAt m s l n r a v
+  unfolding plane_row
+  minus_row r a v = same_inequality (row_minus r a v)
+
+  -- the rows of a pair by sides, by planes, and by the kind of its soil
+  BySides : Polygon → Pair → Type 0
+  BySides g a = (d : Side) → d ∈ polygon_sides g.corners → StrengthAt m s l n g.radius a d
+
+  ByPlanes : Polygon → Pair → Type 0
+  ByPlanes g a = (v : Point) → v ∈ half_turn g.corners → PlanePlusAt m s l n g.radius a v × PlaneMinusAt m s l n g.radius a v
+
+  by_sides : (g : Polygon) (a : Pair) → FieldMeets s l n (rows_by_sides g m a) ↔ BySides g a
+  unfolding rows_by_sides BySides
+  by_sides g a = (
     λ f d k. (strength g.radius a d).0 (f (row d) (Memᴰ.map row k)),
     λ f. each_map (RowMet s l n) row (polygon_sides g.corners) (λ d k. (strength g.radius a d).1 (f d k)),
   )
@@ -163,10 +219,31 @@ module _ (m : List ℤ) (s : ℕ → ℤ) (l n : ℤ) where
       row : Side → Row
       row = strength_row g.radius (p m a.soil) (q m a.soil) (h m a.soil) (cohesion m a.soil) a.at
 
+  by_planes : (g : Polygon) (a : Pair) → FieldMeets s l n (rows_by_planes g m a) ↔ ByPlanes g a
+  unfolding rows_by_planes ByPlanes
+  by_planes g a = (
+    λ f v k. (
+      (plus_row g.radius a v).0 (f (row_of g.radius a v (q m a.soil)) (in_joined rows (half_turn g.corners) k (Memᴰ.head refl))),
+      (minus_row g.radius a v).0 (f (row_of g.radius a v (neg_ℤ (q m a.soil))) (in_joined rows (half_turn g.corners) k (Memᴰ.tail (Memᴰ.head refl)))),
+    ),
+    λ f.
+        each_joined (RowMet s l n) rows (half_turn g.corners) (λ v k.
+        each_cons (RowMet s l n) ((plus_row g.radius a v).1 (f v k).0) (each_cons (RowMet s l n) ((minus_row g.radius a v).1 (f v k).1) (each_nil (RowMet s l n)))),
+  )
+    where
+      rows : Point → List Row
+      rows = plane_rows g.radius (p m a.soil) (q m a.soil) (cohesion m a.soil) (cohesion_across m a.soil) a.at
+
+  pair_rows_lem : (g : Polygon) (a : Pair) → FieldMeets s l n (pair_rows g m a) ↔ ((¬ ByDirection m a.soil → BySides g a) × (ByDirection m a.soil → ByPlanes g a))
+  pair_rows_lem g a =
+      by_kind g m a (λ rs. FieldMeets s l n rs ↔ ((¬ ByDirection m a.soil → BySides g a) × (ByDirection m a.soil → ByPlanes g a)))
+      (λ e. (λ f. (λ no. absurd (no (is_direction m a.soil e)), λ yes. (by_planes g a).0 f), λ f. (by_planes g a).1 (f.1 (is_direction m a.soil e))))
+      (λ e. (λ f. (λ no. (by_sides g a).0 f, λ yes. absurd (not_direction m a.soil e yes)), λ f. (by_sides g a).1 (f.0 (not_direction m a.soil e))))
+
   -- ---- the rows of a mesh
 
   meets_printed : FieldMeets s l n (rows_of m) → MeetsPrinted m s l n
-  unfolding element_rows edge_rows rows_of_jump
+  unfolding element_rows edge_rows rows_of_jump BySides ByPlanes
   meets_printed f = record {
     balance_x_lem = λ e k. (balance_x_lem e).0 (f (balance_x m e) (of_element_lem m e k (Memᴰ.head refl)));
     balance_y_lem = λ e k. (balance_y_lem e).0 (f (balance_y m e) (of_element_lem m e k (Memᴰ.tail (Memᴰ.head refl))));
@@ -178,11 +255,12 @@ module _ (m : List ℤ) (s : ℕ → ℤ) (l n : ℤ) where
     jump_shear_from = λ j k. (jump_shear_lem j (jump_from m j) (facing_from m j)).0 (f (jump_shear m j (jump_from m j) (facing_from m j)) (of_jump_lem m j k (Memᴰ.tail (Memᴰ.head refl))));
     jump_normal_to = λ j k. (jump_normal_lem j (jump_to m j) (facing_to m j)).0 (f (jump_normal m j (jump_to m j) (facing_to m j)) (of_jump_lem m j k (Memᴰ.tail (Memᴰ.tail (Memᴰ.head refl)))));
     jump_shear_to = λ j k. (jump_shear_lem j (jump_to m j) (facing_to m j)).0 (f (jump_shear m j (jump_to m j) (facing_to m j)) (of_jump_lem m j k (Memᴰ.tail (Memᴰ.tail (Memᴰ.tail (Memᴰ.head refl))))));
-    strength = λ a k. (pair_rows_lem (polygon_of (sides m)) a).0 (λ r j. f r (of_pair m a k j));
+    strength = λ a k. ((pair_rows_lem (polygon_of (sides m)) a).0 (λ r j. f r (of_pair m a k j))).0;
+    planes = λ a k. ((pair_rows_lem (polygon_of (sides m)) a).0 (λ r j. f r (of_pair m a k j))).1;
   }
 
   printed_meets : MeetsPrinted m s l n → FieldMeets s l n (rows_of m)
-  unfolding rows_of equality_rows balance_rows side_rows jump_rows strength_rows
+  unfolding rows_of equality_rows balance_rows side_rows jump_rows strength_rows BySides ByPlanes
   printed_meets f =
       each_++ M
       (each_++ M
@@ -200,7 +278,7 @@ module _ (m : List ℤ) (s : ℕ → ℤ) (l n : ℤ) where
       (each_cons M ((jump_shear_lem j (jump_from m j) (facing_from m j)).1 (f.jump_shear_from j k))
       (each_cons M ((jump_normal_lem j (jump_to m j) (facing_to m j)).1 (f.jump_normal_to j k))
       (each_cons M ((jump_shear_lem j (jump_to m j) (facing_to m j)).1 (f.jump_shear_to j k)) (each_nil M))))))))
-      (each_joined M _ (strength_pairs m) (λ a j. (pair_rows_lem (polygon_of (sides m)) a).1 (f.strength a j)))
+      (each_joined M _ (strength_pairs m) (λ a j. (pair_rows_lem (polygon_of (sides m)) a).1 (f.strength a j, f.planes a j)))
     where
       M : Row → Type 0
       M = RowMet s l n

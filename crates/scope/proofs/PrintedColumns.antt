@@ -11,19 +11,19 @@ use lib.IntN.{ℤ, pos, negsuc, ◌+ℤ◌, ◌-ℤ◌, ◌*ℤ◌, neg_ℤ, +�
 use lib.ListN.{length}
 use Rattle.integer.proofs.Ring.{ring, terms}
 use Rattle.integer.specs.Tests.{eq_z}
-use Rattle.scope.specs.Mesh.{nodes, elements, edges, sides, jumps, edge_entry, from_node, to_node, jump_from, jump_to, facing_from, facing_to}
+use Rattle.scope.specs.Mesh.{nodes, elements, edges, sides, jumps, edge_entry, from_node, to_node, jump_from, jump_to, facing_from, facing_to, by_direction}
 use Rattle.scope.specs.Polygon.{polygon_of, SidesListed}
-use Rattle.scope.specs.Rows.{asked, unfixed, strength, Row, sx, sy, t, pair_count, pair_at, balance_x, balance_y, normal_row, shear_row, fixed_if, agree_row, jump_normal, jump_shear, equality_rows, rows_of}
+use Rattle.scope.specs.Rows.{asked, unfixed, strength, Row, sx, sy, t, pair_count, pair_at, balance_x, balance_y, normal_row, shear_row, fixed_if, agree_row, jump_normal, jump_shear, equality_rows, rows_of, strength_rows}
 use Rattle.scope.specs.Sums.{weighted_sum, left_side, right_side, weighed, unit, coefficient, column_sum, live_sum, limit_sum}
 use Rattle.scope.specs.Statements.{NoneOnUnfixed}
-use Rattle.scope.specs.RowNumbers.{side_at}
+use Rattle.scope.specs.RowNumbers.{side_at, corner_at}
 use Rattle.scope.specs.Printed.{FixesNormal, FixesShear}
-use Rattle.scope.specs.PrintedColumns.{less_x, less_y, less_normal, less_shear, less_jump_normal, less_jump_shear, less_strength, sum_below, of_element, of_edge, of_jump, of_pair, weighed_rows, ColumnsPrinted, MultipliersAsPrinted, MultipliersPrinted}
+use Rattle.scope.specs.PrintedColumns.{less_x, less_y, less_normal, less_shear, less_jump_normal, less_jump_shear, sum_below, of_element, of_edge, of_jump, of_pair, weighed_rows, ColumnsPrinted, MultipliersAsPrinted, MultipliersPrinted, less_plus, less_minus, weighed_sides, weighed_planes, weighed_pair}
 use Rattle.scope.proofs.Decides.{Decides, either, equalℤ}
 use Rattle.scope.proofs.Weighted.{weighted_same, weighted_zero, weighted_multiple}
 use Rattle.scope.proofs.Printed.{rows_printed}
 use Rattle.scope.proofs.RowCounts.{equality_count_lem}
-use Rattle.scope.proofs.RowNumbers.{element_rows, edge_rows, rows_of_jump, balance_at, side_at_lem, jump_at, equality_among, strength_among, strength_at, row_count}
+use Rattle.scope.proofs.RowNumbers.{element_rows, edge_rows, rows_of_jump, balance_at, side_at_lem, jump_at, equality_among, strength_among, strength_at, row_count, even_sides, plus_at, minus_at}
 use Rattle.scope.specs.Tests.{row_at}
 
 -- ---- sums below a number
@@ -92,14 +92,48 @@ module _ (m : List ℤ) (listed : SidesListed (sides m)) (w : ℕ → ℤ) (s : 
   jump_term j i h k =
       ap (λ (r : Row). w (elements m * 2 + edges m * 4 + (j * 4 + i)) *ℤ less r) (equality_among m (elements m * 2 + edges m * 4 + (j * 4 + i)) (omega arith) ∙ jump_at m j i h k)
 
-  pair_term : (a k : ℕ) → a < pair_count m → k < sides m → term (elements m * 2 + edges m * 4 + jumps m * 4 + (a * sides m + k)) ≡ of_pair m w a k *ℤ less_strength m s l n (pair_at m a) (side_at (polygon_of (sides m)) k)
+  -- a strength row by its place, and what it has left minus right
+  strength_term : (i : ℕ) {r : Row} {z : ℤ} → row_at (strength_rows m) i ≡ r → left_side s l r -ℤ right_side n r ≡ z
+      → term (elements m * 2 + edges m * 4 + jumps m * 4 + i) ≡ w (elements m * 2 + edges m * 4 + jumps m * 4 + i) *ℤ z
   unfolding term less
-  pair_term a k h j =
-      ap (λ (r : Row). w (elements m * 2 + edges m * 4 + jumps m * 4 + (a * sides m + k)) *ℤ less r) (strength_among m (a * sides m + k) ∙ strength_at m listed a k h j)
-      ∙ ap (λ z. w (elements m * 2 + edges m * 4 + jumps m * 4 + (a * sides m + k)) *ℤ z) ((rows_printed m s l n).strength (pair_at m a) (side_at (polygon_of (sides m)) k))
+  strength_term i e f =
+      ap (λ (r : Row). w (elements m * 2 + edges m * 4 + jumps m * 4 + i) *ℤ less r) (strength_among m i ∙ e)
+      ∙ ap (λ z. w (elements m * 2 + edges m * 4 + jumps m * 4 + i) *ℤ z) f
+
+  -- the rows of pair a
+  module _ (a : ℕ) (h : a < pair_count m) where
+    of_row : ℕ → ℤ
+    of_row k = term (elements m * 2 + edges m * 4 + jumps m * 4 + (a * sides m + k))
+
+    by_sides : by_direction m (pair_at m a).soil ≡ false → sum_below of_row (sides m) ≡ weighed_sides m w s l n a
+    unfolding of_row weighed_sides
+    by_sides e =
+        sum_same _ _ (sides m) (λ k j. strength_term (a * sides m + k) (strength_at m listed a k h j e) ((rows_printed m s l n).strength (pair_at m a) (side_at (polygon_of (sides m)) k)))
+
+    by_planes : by_direction m (pair_at m a).soil ≡ true → sum_below of_row (sides m) ≡ weighed_planes m w s l n a
+    unfolding of_row weighed_planes sum_below
+    by_planes e =
+        ap (sum_below of_row) (sym (even_sides m listed))
+        ∙ sum_pieces of_row 2 (sides m / 2)
+        ∙ sum_same _ _ (sides m / 2) (λ j i.
+        let v = corner_at (polygon_of (sides m)) j in
+        let low : 2 * j + 1 < sides m = omega (arith, even_sides m listed) in
+        let first = of_pair m w a (2 * j) *ℤ less_plus m s l n (pair_at m a) v in
+        ap₂ (λ x y. pos 0 +ℤ x +ℤ y)
+        (ap of_row (omega arith) ∙ strength_term (a * sides m + 2 * j) (plus_at m listed a j h low e) ((rows_printed m s l n).plane_plus (pair_at m a) v))
+        (ap of_row (omega arith) ∙ strength_term (a * sides m + (2 * j + 1)) (minus_at m listed a j h low e) ((rows_printed m s l n).plane_minus (pair_at m a) v))
+        ∙ ap (λ x. x +ℤ of_pair m w a (2 * j + 1) *ℤ less_minus m s l n (pair_at m a) v) (+ℤ_idl first))
+
+    pair_terms : sum_below of_row (sides m) ≡ weighed_pair m w s l n a
+    unfolding weighed_pair
+    pair_terms = by (by_direction m (pair_at m a).soil) refl
+      where
+        by : (b : Bool) → by_direction m (pair_at m a).soil ≡ b → sum_below of_row (sides m) ≡ cond b (weighed_planes m w s l n a) (weighed_sides m w s l n a)
+        by true e = by_planes e
+        by false e = by_sides e
 
   pub weighed_rows_lem : weighted_sum (λ r. left_side s l r -ℤ right_side n r) (weighed w (rows_of m)) ≡ weighed_rows m w s l n
-  unfolding weighed_rows sum_below term less row_at
+  unfolding weighed_rows sum_below term less row_at of_row
   weighed_rows_lem =
       by_number less w (rows_of m)
       ∙ ap (sum_below term) (row_count m listed)
@@ -113,7 +147,7 @@ module _ (m : List ℤ) (listed : SidesListed (sides m)) (w : ℕ → ℤ) (s : 
       (sum_pieces (λ k. term (elements m * 2 + k)) 4 (edges m) ∙ sum_same _ _ (edges m) of_edge_lem))
       (sum_pieces (λ k. term (elements m * 2 + edges m * 4 + k)) 4 (jumps m) ∙ sum_same _ _ (jumps m) of_jump_lem))
       (sum_pieces (λ k. term (elements m * 2 + edges m * 4 + jumps m * 4 + k)) (sides m) (pair_count m)
-      ∙ sum_same _ _ (pair_count m) (λ a h. sum_same _ _ (sides m) (λ k j. pair_term a k h j)))
+      ∙ sum_same _ _ (pair_count m) pair_terms)
     where
       of_element_lem : (e : ℕ) → e < elements m → sum_below (λ i. term (e * 2 + i)) 2 ≡ of_element m w e 0 *ℤ less_x m s l n e +ℤ of_element m w e 1 *ℤ less_y m s l n e
       of_element_lem e h =

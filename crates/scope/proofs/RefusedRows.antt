@@ -17,7 +17,7 @@ use Rattle.scope.specs.Rows as R
 use Rattle.scope.specs.Rows.{pair_at, equality_rows, strength_rows}
 use Rattle.scope.specs.Meets.{RowMet}
 use Rattle.scope.specs.Refusals.{rule_number, mesh_phases, claim_phases, Refusal}
-use Rattle.scope.specs.RowNumbers.{row_numbered, side_numbered, RowNumbers}
+use Rattle.scope.specs.RowNumbers.{row_numbered, side_numbered, RowNumbers, corner_numbered}
 use Rattle.scope.specs.RefusalTable.{MeshRow, of_lines, five, six, seven, forty_seven, eight, forty_four, forty_two, TableRow, of_mesh, of_claim_lines, twenty_one, twenty_two, thirty_one, thirty_two, thirty_three}
 use Rattle.scope.specs.RefusedRows.{EqualityFails, StrengthFails, PairsFail}
 use Rattle.scope.proofs.Phases.{EachIn, each_refusal, own_number}
@@ -25,7 +25,7 @@ use Rattle.scope.proofs.Exactly.{OfParts, not_of_parts, each_number, refused_on_
 use Rattle.scope.proofs.LineRefusals.{other_number}
 use Rattle.scope.proofs.NumberRanges.{mesh_facts}
 use Rattle.scope.proofs.Pairs.{pairs}
-use Rattle.scope.proofs.Printed.{balance_x_lem, balance_y_lem, normal, shear, jump_normal_lem, jump_shear_lem, strength}
+use Rattle.scope.proofs.Printed.{balance_x_lem, balance_y_lem, normal, shear, jump_normal_lem, jump_shear_lem, strength, plus_row, minus_row}
 use Rattle.scope.proofs.RefusalTable.{table_row}
 use Rattle.scope.proofs.RowNumbers.{row_numbers}
 use Rattle.scope.specs.Tests.{row_at}
@@ -93,7 +93,9 @@ module _ (m c : List ℤ) where
         let f = (refused r).1 refl in
         let by = numbers r (omega arith) in
         record {
-          strength = λ a k h j d g. row_fails (strength_rows m) place (a * sides m + suc k) f (by.strength a k h j) d ((strength m (stress m c) (l c) (n c) (polygon_of (sides m)).radius (pair_at m a) (side_numbered (polygon_of (sides m)) (suc k))).1 g);
+          strength = λ a k h j e d g. row_fails (strength_rows m) place (a * sides m + suc k) f (by.strength a k h j e) d ((strength m (stress m c) (l c) (n c) (polygon_of (sides m)).radius (pair_at m a) (side_numbered (polygon_of (sides m)) (suc k))).1 g);
+          plane_plus = λ a i h j e d g. row_fails (strength_rows m) place (a * sides m + (2 * suc i - 1)) f (by.plane_plus a i h j e) d ((plus_row m (stress m c) (l c) (n c) (polygon_of (sides m)).radius (pair_at m a) (corner_numbered (polygon_of (sides m)) (suc i))).1 g);
+          plane_minus = λ a i h j e d g. row_fails (strength_rows m) place (a * sides m + 2 * suc i) f (by.plane_minus a i h j e) d ((minus_row m (stress m c) (l c) (n c) (polygon_of (sides m)).radius (pair_at m a) (corner_numbered (polygon_of (sides m)) (suc i))).1 g);
         }
 
 -- ---- 42

@@ -3,18 +3,20 @@ use mathlib.Core.Path.{◌≡◌, refl, sym, ◌∙◌, ap}
 use mathlib.Core.Bool.{Bool, true, false, cond, ◌||◌}
 use mathlib.Core.List.Memᴰ
 use mathlib.Core.List.{List, [], ◌∷◌, ◌++◌}
-use Prim.Native.Nat.{ℕ, suc, ◌*◌}
-use native.Mathlib.Nat.{zero-mul}
+use Prim.Native.Nat.{ℕ, suc, ◌*◌, ◌/◌, ◌≤◌}
+use native.Mathlib.Nat.{zero-mul, div-add-mod'}
 use native.Mathlib.Omega.{arith}
 use lib.IntN.{ℤ, pos}
 use lib.ListN.{length, length-append, length-map}
+use lib.Seq.{length-take-le}
 use Rattle.integer.specs.Tests.{eq_z}
 use Rattle.integer.specs.Members.{◌∈◌}
 use Rattle.scope.specs.Mesh.{elements, edges, sides, jumps, edge_entry, equality_count}
-use Rattle.scope.specs.Polygon.{Point, sides_to, polygon_sides, polygon_of, SidesListed}
-use Rattle.scope.specs.Rows.{Kind, asked, unfixed, strength, Row, count_from, joined, balance_x, balance_y, balance_rows, fixed_if, normal_row, shear_row, side_rows, agree_row, jump_normal, jump_shear, jump_rows, strength_pairs, pair_count, strength_row, pair_rows, strength_rows, equality_rows}
+use Rattle.scope.specs.Polygon.{Point, sides_to, polygon_sides, polygon_of, SidesListed, Polygon, half_turn}
+use Rattle.scope.specs.Rows.{Kind, asked, unfixed, strength, Row, count_from, joined, balance_x, balance_y, balance_rows, fixed_if, normal_row, shear_row, side_rows, agree_row, jump_normal, jump_shear, jump_rows, strength_pairs, pair_count, strength_row, pair_rows, strength_rows, equality_rows, Pair, plane_row, rows_by_sides, rows_by_planes}
 use Rattle.scope.proofs.Lists.{count-length, each_nil, each_cons, each_++, each_map, each_joined}
 use Rattle.scope.proofs.PolygonRule.{listed_polygon}
+use Rattle.scope.proofs.Directions.{by_kind}
 
 pub length-joined : {A B : Type 0} (f : A → List B) (w : ℕ) (l : List A) → ((a : A) → a ∈ l → length (f a) ≡ w) → length (joined f l) ≡ length l * w
 unfolding joined
@@ -98,15 +100,46 @@ side_of_each (v ∷ vs) = sides_to_lem v v vs
 pub polygon_sides_lem : (k : ℕ) → SidesListed k → length (polygon_sides (polygon_of k).corners) ≡ k
 polygon_sides_lem k h = side_of_each (polygon_of k).corners ∙ (listed_polygon k h).fits.rule.count
 
+-- half of the corners
+pub half_length : (vs : List Point) → length (half_turn vs) ≡ length vs / 2
+unfolding half_turn
+half_length vs = length-take-le (length vs / 2) vs (half_≤ (length vs))
+  where
+    half_≤ : (n : ℕ) → n / 2 ≤ n
+    half_≤ n = omega (arith, div-add-mod' n 2)
+
+-- as many rows as sides: one for each side, or two for each corner of the first half turn
+module _ (k : ℕ) (listed : SidesListed k) (m : List ℤ) (a : Pair) where
+  planes_count : length (rows_by_planes (polygon_of k) m a) ≡ k
+  unfolding rows_by_planes
+  planes_count =
+      let fits = (listed_polygon k listed).fits in
+      length-joined _ 2 (half_turn (polygon_of k).corners) (λ v i. refl)
+      ∙ ap (λ (n : ℕ). n * 2) (half_length (polygon_of k).corners ∙ ap (λ (n : ℕ). n / 2) fits.rule.count)
+      ∙ fits.even_sides
+
+  sides_count : length (rows_by_sides (polygon_of k) m a) ≡ k
+  unfolding rows_by_sides
+  sides_count = length-map (polygon_sides (polygon_of k).corners) _ ∙ polygon_sides_lem k listed
+
+  pub pair_rows_count : length (pair_rows (polygon_of k) m a) ≡ k
+  pair_rows_count = by_kind (polygon_of k) m a (λ rs. length rs ≡ k) (λ e. planes_count) (λ e. sides_count)
+
 pub strength_count : (m : List ℤ) → SidesListed (sides m) → length (strength_rows m) ≡ pair_count m * sides m
-unfolding strength_rows pair_rows pair_count
+unfolding strength_rows pair_count
 strength_count m h =
-    length-joined (pair_rows (polygon_of (sides m)) m) (sides m) (strength_pairs m) (λ a i. length-map (polygon_sides (polygon_of (sides m)).corners) _ ∙ polygon_sides_lem (sides m) h)
+    length-joined (pair_rows (polygon_of (sides m)) m) (sides m) (strength_pairs m) (λ a i. pair_rows_count (sides m) h m a)
 
 pub strength_kind : (m : List ℤ) (r : Row) → r ∈ strength_rows m → r.kind ≡ strength
-unfolding strength_rows pair_rows strength_row
+unfolding strength_rows rows_by_sides rows_by_planes strength_row plane_row
 strength_kind m =
-    each_joined P _ (strength_pairs m) (λ a i. each_map P _ (polygon_sides (polygon_of (sides m)).corners) (λ d j. refl))
+    each_joined P _ (strength_pairs m) (λ a i.
+    by_kind g m a (λ rs. (r : Row) → r ∈ rs → P r)
+    (λ e. each_joined P _ (half_turn g.corners) (λ v j. each_cons P refl (each_cons P refl (each_nil P))))
+    (λ e. each_map P _ (polygon_sides g.corners) (λ d j. refl)))
   where
+    g : Polygon
+    g = polygon_of (sides m)
+
     P : Row → Type 0
     P r = r.kind ≡ strength

@@ -15,7 +15,7 @@ use Rattle.integer.proofs.Order.{≤ℤ-<ℤ_trans}
 use Rattle.scope.specs.declared.Place.TheVariants.{Line}
 use Rattle.scope.specs.Columns.{between, Rule, at_most_where, at}
 use Rattle.scope.specs.Layout.{groups, line_of, line_numbers, line_count, numbers_at}
-use Rattle.scope.specs.Mesh.{most_pairs, most_sides, most_strength, nodes_for_108, pairs_for_108, strength_for_108, nodes_with, pairs_with, strength_multiplier, mesh_header_columns, mesh_header, mesh_layout, nodes, sides}
+use Rattle.scope.specs.Mesh.{most_pairs, most_sides, most_strength, nodes_for_108, pairs_for_108, strength_for_108, nodes_with, pairs_with, strength_multiplier, mesh_header_columns, mesh_header, mesh_layout, nodes, sides, kind_with, soil_lines, soil_kind}
 use Rattle.scope.specs.Claim.{strength_multipliers}
 use Rattle.scope.specs.Rows.{pair_count, pair_at}
 use Rattle.scope.specs.Statements.{Says, InLimits, RulesHold, PairsFit}
@@ -41,6 +41,10 @@ few_most k h = omega (arith, at_most_if {a = pairs_for_108} {b = most_pairs} (om
 pub strength_most : (k : ℕ) → strength_multiplier k ≤ most_strength
 unfolding strength_multiplier
 strength_most k = at_most_if {a = strength_for_108} {b = most_strength} (omega arith) (eqb k most_sides)
+
+pub kind_most : (k : ℕ) → kind_with k ≤ 1
+unfolding kind_with
+kind_most k = at_most_if {a = 0} {b = 1} (omega arith) (eqb k most_sides)
 
 -- ---- refusals and limits, by whether there are 108 sides
 
@@ -83,20 +87,22 @@ unfolding mesh_layout groups mesh_header line_of line_numbers at
 nodes_over_100 [] l h = absurd (omega arith)
 nodes_over_100 (a ∷ m) l h = header_refused (a ∷ m) l (λ w s. over_limit h w.0.1)
 
-module _ (m : List ℤ) {node_most pair_most strength_most : ℕ} (a : nodes_with (sides m) ≡ node_most) (b : pairs_with (sides m) ≡ pair_most) (c : strength_multiplier (sides m) ≡ strength_most) where
-  limits_are : (mesh_header_columns ≤ length m → pos node_most <ℤ at m 0 → MeshRefusal m 2 (Line 1)) → SideLimits m node_most pair_most strength_most
-  unfolding strength_multipliers
+module _ (m : List ℤ) {node_most pair_most strength_most kind_most : ℕ} (a : nodes_with (sides m) ≡ node_most) (b : pairs_with (sides m) ≡ pair_most) (c : strength_multiplier (sides m) ≡ strength_most) (d : kind_with (sides m) ≡ kind_most) where
+  limits_are : (mesh_header_columns ≤ length m → pos node_most <ℤ at m 0 → MeshRefusal m 2 (Line 1)) → SideLimits m node_most pair_most strength_most kind_most
+  unfolding strength_multipliers soil_lines
   limits_are refused = record {
     nodes_refused = refused;
     nodes_few = λ s. subst (λ (k : ℕ). nodes m ≤ k) a (mesh_facts m s.lines).counts.nodes_fit;
     brings_one_more = λ v. subst (λ (k : ℕ). LowestFails (nodes m) (PairsFit m) v ↔ ((k < pair_count m) × ((pair_at m k).at ≡ v))) b ((pairs m).brings_one_more v);
     pairs_few = λ s. subst (λ (k : ℕ). pair_count m ≤ k) b (few_pairs_lem m s);
     strength_limits = λ k. ap (λ (z : ℕ). replicate (sides m) (between (pos 0) (pos z))) c;
+    kind_limit = λ k. ap (λ (z : ℕ). between (pos 0) (pos z)) d;
+    kinds_fit = λ s k l. subst (λ (z : ℕ). soil_kind m k ≤ℤ pos z) d ((mesh_facts m s.lines).soil k l).kind_range.most;
   }
 
 pub limits_by_sides : (m : List ℤ) → LimitsBySides m
-unfolding nodes_with pairs_with strength_multiplier sides
+unfolding nodes_with pairs_with strength_multiplier kind_with sides
 limits_by_sides m = record {
-  with_108 = λ e. limits_are m (rw e) (rw e) (rw e) (nodes_over m (count_is (at m 4) e));
-  with_fewer = λ f. limits_are m (rw (ne_eqb (sides m) 108 f)) (rw (ne_eqb (sides m) 108 f)) (rw (ne_eqb (sides m) 108 f)) (nodes_over_100 m);
+  with_108 = λ e. limits_are m (rw e) (rw e) (rw e) (rw e) (nodes_over m (count_is (at m 4) e));
+  with_fewer = λ f. limits_are m (rw (ne_eqb (sides m) 108 f)) (rw (ne_eqb (sides m) 108 f)) (rw (ne_eqb (sides m) 108 f)) (rw (ne_eqb (sides m) 108 f)) (nodes_over_100 m);
 }

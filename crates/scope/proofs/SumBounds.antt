@@ -3,7 +3,7 @@ use mathlib.Core.Path.{◌≡◌, refl, sym, ◌∙◌, ap, subst, fun_ext}
 use mathlib.Core.List.Memᴰ
 use mathlib.Core.List.{List, [], ◌∷◌, ◌++◌}
 use Prim.Native.Nat.{ℕ, suc, ◌+◌, ◌*◌, ◌%◌, ◌^◌, ◌<◌, ◌≤◌}
-use native.Mathlib.Nat.{mod-lt, zero-add, suc-add, mul_assoc, mul-le-mul, mul-le-mul_right}
+use native.Mathlib.Nat.{mod-lt, zero-add, suc-add, mul-le-mul, mul-le-mul_right}
 use native.Mathlib.Omega.{arith}
 use lib.IntN.{ℤ, pos, neg_ℤ, ◌+ℤ◌, ◌-ℤ◌, ◌*ℤ◌}
 use lib.ListN.{length}
@@ -14,10 +14,10 @@ use Rattle.integer.proofs.Ring.{ring, terms}
 use Rattle.integer.specs.Sum.{sum_of}
 use Rattle.integer.proofs.SumLaws.{sum_of_++}
 use Rattle.integer.specs.Members.{◌∈◌}
-use Rattle.scope.specs.Mesh.{strength_multiplier, nodes, elements, edges, sides, jumps, dead_x, dead_y, soil_entry, x, y, corner, element_soil, edge_entry, from_node, to_node, equality_count}
-use Rattle.scope.specs.Polygon.{Side, polygon_sides, polygon_of}
-use Rattle.scope.specs.Rows.{Row, count_from, node, cross_at, rise_across, run_across, twice_area, balance_x, balance_y, balance_rows, step_x, step_y, step_square, normal_row, shear_row, side_rows, agree_row, jump_normal, jump_shear, jump_rows, strength_pairs, cross, strength_row, pair_rows, strength_rows, equality_rows, rows_of}
-use Rattle.scope.specs.Bounds.{most_coordinate, most_force, most_traction, most_multiplier, most_area, balance_right, most_balance_rows, most_square, side_right, most_side_rows, jump_right, most_jump_rows, weighted_cross, twice_strength, strength_sum, most_strength_rows, most_slack, most_limit}
+use Rattle.scope.specs.Mesh.{strength_multiplier, nodes, elements, edges, sides, jumps, dead_x, dead_y, soil_entry, x, y, corner, element_soil, edge_entry, from_node, to_node, equality_count, kind_with, ByDirection}
+use Rattle.scope.specs.Polygon.{Side, polygon_sides, polygon_of, Point, half_turn}
+use Rattle.scope.specs.Rows.{Row, count_from, node, cross_at, rise_across, run_across, twice_area, balance_x, balance_y, balance_rows, step_x, step_y, step_square, normal_row, shear_row, side_rows, agree_row, jump_normal, jump_shear, jump_rows, strength_pairs, cross, strength_row, strength_rows, equality_rows, rows_of, Pair, plane_row, rows_by_sides, rows_by_planes}
+use Rattle.scope.specs.Bounds.{most_coordinate, most_force, most_traction, most_multiplier, most_area, balance_right, most_balance_rows, most_square, side_right, most_side_rows, jump_right, most_jump_rows, strength_sum, most_strength_rows, most_slack, most_limit, most_plane_radius, strength_right_with}
 use Rattle.scope.specs.PolygonRule.{ListedPolygon}
 use Rattle.scope.specs.Sums.{weighted_sum, weighed, limit_sum}
 use Rattle.scope.specs.Claim.{multiplier}
@@ -27,7 +27,8 @@ use Rattle.scope.proofs.Lists.{of_count, each_nil, each_cons, each_map, each_joi
 use Rattle.scope.proofs.NumberRanges.{mesh_facts}
 use Rattle.scope.proofs.Pairs.{pairs, few_pairs_lem}
 use Rattle.scope.proofs.RowCounts.{balance_count, side_count, jump_count, equality_count_lem, strength_count}
-use Rattle.scope.proofs.PolygonRule.{listed_polygon}
+use Rattle.scope.proofs.PolygonRule.{listed_polygon, legs_within}
+use Rattle.scope.proofs.Directions.{kind_one, kind_sides, is_direction, by_kind}
 
 -- ---- limits as bounds
 
@@ -44,6 +45,18 @@ apart h k = linear (h.least & h.most & k.least & k.most) (search bounds depth 40
 -- a cross product of two consecutive corners
 pub cross_bound : {k : ℕ} (g : ListedPolygon k) (d : Side) → d ∈ polygon_sides (polygon_of k).corners → Within g.product (cross d.from d.to)
 cross_bound g d m = record { within = g.fits.rule.largest_cross.bounds d m }
+
+-- the radius and the corners of a polygon whose soils may have kind 1
+module _ {k : ℕ} (g : ListedPolygon k) (one : 1 ≤ kind_with k) where
+  pub plane_radius : Within most_plane_radius (polygon_of k).radius
+  plane_radius =
+      subst (Within most_plane_radius) (sym g.fits.radius_is)
+      (record { within = omega (arith, subst (λ (z : ℕ). z * g.radius ≤ most_plane_radius) (kind_one k one).0 g.fits.plane_radius) })
+
+  pub plane_corner : (v : Point) → v ∈ (polygon_of k).corners → Within most_plane_radius v.px × Within most_plane_radius v.py
+  plane_corner v m =
+      let legs = legs_within (polygon_of k).radius v (g.fits.rule.on_circle_lem v m) in
+      (record { within = omega (arith, legs.0, plane_radius.within) }, record { within = omega (arith, legs.1, plane_radius.within) })
 
 -- D by the lines across the element, from neighbour to neighbour
 pub area_is : (m : List ℤ) (e : ℕ) → rise_across m e 0 *ℤ run_across m e 1 -ℤ rise_across m e 1 *ℤ run_across m e 0 ≡ twice_area m e
@@ -134,16 +147,33 @@ module _ (m : List ℤ) (f : MeshFacts m) where
       P : Row → Type 0
       P r = Right jump_right r
 
-  strength_right_lem : (g : ListedPolygon (sides m)) → (r : Row) → r ∈ strength_rows m → Right (g.product * twice_strength) r
-  unfolding strength_rows pair_rows strength_row
-  strength_right_lem g =
-      each_joined P _ (strength_pairs m) (λ a i.
-      each_map P _ (polygon_sides (polygon_of (sides m)).corners) (λ d j.
+  side_strength : (g : ListedPolygon (sides m)) (a : Pair) → a ∈ strength_pairs m → (r : Row) → r ∈ rows_by_sides (polygon_of (sides m)) m a → Right (strength_right_with (sides m)) r
+  unfolding rows_by_sides strength_row
+  side_strength g a i =
+      each_map (Right (strength_right_with (sides m))) _ (polygon_sides (polygon_of (sides m)).corners) (λ d j.
       let s = f.soil a.soil (((pairs m).exactly a).0 i).1 in
-      Within-*ℤ (cross_bound g d j) (Within-*ℤ (Within-*ℤ (Within-pos 2) (from_0 s.q_range)) (from_0 s.cohesion_range))))
-    where
-      P : Row → Type 0
-      P r = Right (g.product * twice_strength) r
+      Within-le (Within-*ℤ (cross_bound g d j) (Within-*ℤ (Within-*ℤ (Within-pos 2) (from_0 s.q_range)) (from_0 s.cohesion_range))) g.fits.right_fits)
+
+  plane_strength : (g : ListedPolygon (sides m)) (a : Pair) → a ∈ strength_pairs m → ByDirection m a.soil → (r : Row) → r ∈ rows_by_planes (polygon_of (sides m)) m a → Right (strength_right_with (sides m)) r
+  unfolding rows_by_planes plane_row
+  plane_strength g a i e =
+      each_joined (Right (strength_right_with (sides m))) _ (half_turn (polygon_of (sides m)).corners) (λ v j.
+      let s = f.soil a.soil (((pairs m).exactly a).0 i).1 in
+      let one = kind_sides s e in
+      let r = plane_radius g one in
+      let x = (plane_corner g one v ((g.fits.rule.half_turn_lem v).0 j).0).0 in
+      let right =
+      Within-le
+      (Within-*ℤ (from_0 s.q_range) (Within-+ℤ (Within-*ℤ (Within-*ℤ r r) (from_0 s.cohesion_range)) (Within-*ℤ (apart s.across_range s.cohesion_range) (Within-*ℤ x x))))
+      (omega (arith, (kind_one (sides m) one).1)) in
+      each_cons (Right (strength_right_with (sides m))) right (each_cons (Right (strength_right_with (sides m))) right (each_nil (Right (strength_right_with (sides m))))))
+
+  strength_right : (g : ListedPolygon (sides m)) → (r : Row) → r ∈ strength_rows m → Right (strength_right_with (sides m)) r
+  unfolding strength_rows
+  strength_right g =
+      each_joined (Right (strength_right_with (sides m))) _ (strength_pairs m) (λ a i.
+      by_kind (polygon_of (sides m)) m a (λ rs. (r : Row) → r ∈ rs → Right (strength_right_with (sides m)) r)
+      (λ e. plane_strength g a i (is_direction m a.soil e)) (λ e. side_strength g a i))
 
 -- ---- sums
 
@@ -167,10 +197,6 @@ rows_bound Y B w (r ∷ rs) a b =
 limit-++ : (w : ℕ → ℤ) (rs ss : List Row) → limit_sum w (rs ++ ss) ≡ limit_sum w rs +ℤ limit_sum (λ k. w (length rs + k)) ss
 unfolding limit_sum weighted_sum
 limit-++ w rs ss = ap (sum_of (λ p. p.0 *ℤ p.1.right)) (weighed-++ w rs ss) ∙ sum_of_++ (λ p. p.0 *ℤ p.1.right) (weighed w rs) (weighed (λ k. w (length rs + k)) ss)
-
--- a largest cross product with its largest multiplier, times 2qC
-weighted : (g n : ℕ) → g * n ≤ weighted_cross → g * (n * twice_strength) ≤ strength_sum
-weighted g n h = rw (← mul_assoc) (omega (arith, mul-le-mul_right twice_strength h))
 
 -- the right side of a strength row less its left, and W: both fit 64 bits
 pub sums_fit : (most_slack < 14 * 10 ^ 17) × (most_limit < 52 * 10 ^ 17)
@@ -234,5 +260,5 @@ limit_bound m c s k t =
     strengths : Within (most_strength_rows * strength_sum) (limit_sum (λ i. w (length (equality_rows m) + i)) (strength_rows m))
     strengths =
         Within-le
-        (rows_bound (strength_multiplier (sides m)) (g.product * twice_strength) (λ i. w (length (equality_rows m) + i)) (strength_rows m) strength (strength_right_lem m f g))
-        (mul-le-mul few (weighted (strength_multiplier (sides m)) g.product g.fits.product_weighted))
+        (rows_bound (strength_multiplier (sides m)) (strength_right_with (sides m)) (λ i. w (length (equality_rows m) + i)) (strength_rows m) strength (strength_right m f g))
+        (mul-le-mul few g.fits.right_weighted)

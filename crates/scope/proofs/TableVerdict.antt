@@ -171,7 +171,7 @@ module _ (t m : List ℤ) where
         let f : List ℤ = mesh_read t m in
         let all : Exact (check_phases (tabled_phases t m ++ claim_phases f c)) (AllPass (tabled_phases t m ++ claim_phases f c)) (RefusedBy (tabled_phases t m ++ claim_phases f c)) = phases_exact (tabled_phases t m ++ claim_phases f c) (decided_join (tabled_phases t m) (claim_phases f c) (tabled_decided t m) (λ a. claim_decided f c)) in
         let join : check_phases (tabled_phases t m ++ claim_phases f c) ≡ check_phases (tabled_phases t m) then check_phases (claim_phases f c) = check_join (tabled_phases t m) (claim_phases f c) in
-        let checks = answer_refused (tabled_check t m) (claim_check f c) (open_count f c) (lower_load c) (upper_load f c) in
+        let checks = answer_refused (tabled_check t m) (claim_check f c) (open_count f c) (lower_load f c) (upper_load f c) in
         (λ e. record { by = all.refuses.why k p (join ∙ checks.0 e) }, λ r. checks.1 (sym join ∙ all.refuses.refused k p r.by))
 
 -- ---- what a table is refused with

@@ -13,7 +13,7 @@ use Rattle.scope.specs.Accepted.{FieldAccepted, MultipliersAccepted, ClaimAccept
 -- accepted, with the claim's own open rows and loads, exactly when mesh and claim are sound and each part that is
 -- there meets what is asked
 abbrev pub AcceptedExactly : List ℤ → List ℤ → Type 0
-AcceptedExactly m c = (verdict m c ≡ Accepted (open_count m c) (lower_load c) (upper_load m c)) ↔ ClaimAccepted m c
+AcceptedExactly m c = (verdict m c ≡ Accepted (open_count m c) (lower_load m c) (upper_load m c)) ↔ ClaimAccepted m c
 
 -- each refusal with its place exactly when the table has it, in its order
 abbrev pub RefusedExactly : List ℤ → List ℤ → Type 0

@@ -5,7 +5,7 @@ use Rattle.std.specs.Prelude.{List, ℕ, ◌+◌, ◌*◌, ◌<◌, ℤ, pos, �
 use Rattle.integer.specs.Fraction.{Frac, ◌over◌, ◌≈ᶠ◌, ◌≤ᶠ◌}
 use Rattle.integer.specs.Members.{◌∈◌}
 use Rattle.scope.specs.Columns.{n, l}
-use Rattle.scope.specs.Mesh.{nodes}
+use Rattle.scope.specs.Mesh.{nodes, ByDirection}
 use Rattle.scope.specs.Rows.{Row, Pair, strength_pairs, rows_of}
 use Rattle.scope.specs.Sums.{live_sum, limit_sum}
 use Rattle.scope.specs.Claim.{stress}
@@ -57,9 +57,11 @@ pub record Carries (m : List ℤ) (f : FractionField) : Type 0 where
   pub meets : MeetsMesh m f
   -- its load passes no accepted limit, of multipliers on any mesh with the same rows
   pub at_most : (d k : List ℤ) → SameRows m d → MultipliersAccepted d k → f.load.value ≤ᶠ allowed d k
-  -- the criterion for each pair, over every denominator that it is written over
-  pub criterion : (a : Pair) → a ∈ strength_pairs m → (e : ℤ) (s : ℕ → ℤ) (j : ℤ) → WrittenOver (3 * nodes m) f e s j
-      → CriterionAt m s e a
+  -- the criterion for each pair whose soil is not by direction, over every denominator that it is written over; "A
+  -- field that meets these rows may lie outside the criterion" (document 02, N14), so that of the others only the rows
+  -- are said
+  pub criterion : (a : Pair) → a ∈ strength_pairs m → ¬ ByDirection m a.soil → (e : ℤ) (s : ℕ → ℤ) (j : ℤ)
+      → WrittenOver (3 * nodes m) f e s j → CriterionAt m s e a
 
 -- of any two fields in fractions that meet the rows of m, so of blends too
 pub record MeshBlends (m : List ℤ) : Type 0 where
@@ -74,7 +76,8 @@ pub record BlendedClaims (a b : ℕ) (m c d k : List ℤ) : Type 0 where
   pub can_be_blended : (f : FractionField)
       × Blend (3 * nodes m) a b (field_over (n c) n_above_0 (stress m c) (l c))
       (field_over (n k) other_above_0 (stress d k) (l k)) f
-  -- each meets every row, passes no accepted limit and meets the criterion; it carries the weighted load
+  -- each meets every row, passes no accepted limit and meets the criterion but for soils by direction; it carries the
+  -- weighted load
   pub each : (f : FractionField)
       → Blend (3 * nodes m) a b (field_over (n c) n_above_0 (stress m c) (l c))
       (field_over (n k) other_above_0 (stress d k) (l k)) f

@@ -1,7 +1,8 @@
 -- How large the numbers of rows and of sums can be: one name for each limit of the two files, and each bound as an
 -- expression over them, by kind of row.
--- The largest radius, step and cross product are those of 108 sides (document 02, N9).
-use Rattle.std.specs.Prelude.{ℕ, ◌+◌, ◌*◌, ◌^◌}
+-- The largest radius, step and cross product are those of 108 sides (document 02, N9); soils of kind 1 are not listed
+-- with so many (N14), so that their rows are bounded by the largest radius of the others.
+use Rattle.std.specs.Prelude.{ℕ, ◌+◌, ◌*◌, ◌^◌, cond, eqb}
 use Rattle.scope.specs.Mesh.{most_pairs, most_elements, most_edges, most_sides, most_jumps, most_strength, pairs_for_108, strength_for_108, element_rows, edge_rows, rows_per_jump, most_equality_rows}
 
 -- ---- limits (document 01, 'The two files')
@@ -131,9 +132,29 @@ most_reserve = twice_strength * most_scale + most_friction * most_spread
 abbrev pub most_slack : ℕ
 most_slack = most_cross * most_reserve + most_lever * (most_step * most_spread + most_step * most_spread)
 
--- the right side
-abbrev pub strength_right : ℕ
-strength_right = most_cross * twice_strength
+-- ---- strength rows by direction (document 02, N14): a², ab, b² and r²; a coefficient; the right side; and that less
+-- the left
+
+abbrev pub most_plane_radius : ℕ
+most_plane_radius = 65
+
+abbrev pub plane_square : ℕ
+plane_square = most_plane_radius * most_plane_radius
+
+abbrev pub plane_coefficient : ℕ
+plane_coefficient = 4 * (most_friction * plane_square)
+
+abbrev pub plane_right : ℕ
+plane_right = most_friction * (2 * (plane_square * most_cohesion))
+
+abbrev pub plane_slack : ℕ
+plane_slack = plane_right * most_scale + 3 * (plane_coefficient * most_stress)
+
+-- ---- strength rows of either kind
+
+-- the right side, in a mesh with so many sides
+unfoldable pub strength_right_with : ℕ → ℕ
+strength_right_with k = cond (eqb k most_sides) (most_cross * twice_strength) plane_right
 
 -- what a row with its multiplier adds to a column, and to W
 abbrev pub strength_column : ℕ

@@ -2,7 +2,7 @@
 -- answered, the layout, rows, sums, the verdict; then what the theorems say of them.
 -- All of it a reader must believe, and nothing here is a contract between functions: the definitions down to Verdict;
 -- then the statements, which say the same a second time and share no helper with them where a slip could hide
--- (Printed, PrintedColumns, Criterion, Meaning, Jumps, Overlaps, Pairs, SideLimits, PolygonRule, RowNumbers).
+-- (Printed, PrintedColumns, Criterion, Meaning, Planes, Jumps, Overlaps, Pairs, SideLimits, PolygonRule, RowNumbers).
 -- Worked has the numbers of document 01's sheet.
 -- 001 and 003, where a comment names them, are sources that document 01 cites by these numbers.
 pub mod Cases
@@ -44,6 +44,7 @@ pub mod SideLimits
 pub mod Overlaps
 pub mod Criterion
 pub mod Meaning
+pub mod Planes
 pub mod Jumps
 pub mod AcceptedField
 pub mod Bracket

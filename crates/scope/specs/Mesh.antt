@@ -1,6 +1,8 @@
 -- A mesh (document 01, 'The two files', "Mesh, in this order"): its lines, and what its numbers are.
 -- Soils, nodes, elements, edges and jumps are counted from 0 here; the file counts from 1.
-use Rattle.std.specs.Prelude.{Bool, cond, List, [], ◌∷◌, ℕ, ◌+◌, ◌-◌, ◌*◌, ◌%◌, ℤ, pos, eqb, replicate}
+use Rattle.std.specs.Prelude.{Bool, cond, List, [], ◌∷◌, ℕ, ◌+◌, ◌-◌, ◌*◌, ◌%◌, ℤ, pos, eqb, replicate, ◌≡◌, ◌<◌}
+use Rattle.integer.specs.Tests.{eq_z}
+use Rattle.scope.specs.Checks.{some_below}
 use Rattle.scope.specs.Columns.{between, one_of, free, up_to, right_angle, naming, at_most_where, at}
 use Rattle.scope.specs.Layout.{Group, Layout, groups, lines_before, count, entry}
 
@@ -56,6 +58,11 @@ pairs_with k = cond (eqb k most_sides) pairs_for_108 most_pairs
 unfoldable pub strength_multiplier : ℕ → ℕ
 strength_multiplier k = cond (eqb k most_sides) strength_for_108 most_strength
 
+-- the largest kind of a soil: "a kind (0 as before, 1 by direction)", and "Kind 1 with 108 sides gets 2" (document 02,
+-- N14)
+unfoldable pub kind_with : ℕ → ℕ
+kind_with k = cond (eqb k most_sides) 0 1
+
 -- "Header: nodes 4 to 100, elements 1 to 100, soils 1 to 16, edges 0 to 60, sides 12, 20 or 36"; "The mesh header gains
 -- a sixth column, jumps 0 to 60" (document 02, N6); with 108 sides "at most 40 nodes" (N9)
 unfoldable pub mesh_header : Group
@@ -78,7 +85,7 @@ abbrev pub mesh_header_columns : ℕ
 mesh_header_columns = 6
 
 abbrev pub soil_columns : ℕ
-soil_columns = 8
+soil_columns = 10
 
 abbrev pub node_columns : ℕ
 node_columns = 2
@@ -111,16 +118,23 @@ unfoldable pub jumps : List ℤ → ℕ
 jumps m = count (at m 5)
 
 -- "Each soil: p 0 to 1,000, q 1 to 1,000, h 1 to 1,000, cohesion C 0 to 10,000, dead force x and y, live force x and y
--- (each -1,000 to 1,000)"
-unfoldable pub soil_lines : ℕ → Group
-soil_lines n = record {
+-- (each -1,000 to 1,000)"; "Soil lines gain at their end a kind (0 as before, 1 by direction) and cv 0 to 10,000"
+-- (document 02, N14), in a mesh with so many sides
+unfoldable pub soil_lines : ℕ → ℕ → Group
+soil_lines n side_count = record {
   lines = n;
   limits =
       between (pos 0) (pos 1000)
       ∷ between (pos 1) (pos 1000)
       ∷ between (pos 1) (pos 1000)
       ∷ between (pos 0) (pos 10000)
-      ∷ replicate 4 (up_to 1000);
+      ∷ up_to 1000
+      ∷ up_to 1000
+      ∷ up_to 1000
+      ∷ up_to 1000
+      ∷ between (pos 0) (pos (kind_with side_count))
+      ∷ between (pos 0) (pos 10000)
+      ∷ [];
   rules = right_angle ∷ [];
 }
 
@@ -155,9 +169,9 @@ jump_lines n ns = record {
 }
 
 -- the lines after the header, in a mesh of so many things whose elements name soils from the least number on
-abbrev pub mesh_lines : ℕ → ℕ → ℕ → ℕ → ℕ → ℕ → List Group
-mesh_lines least node_count element_count soil_count edge_count jump_count =
-    soil_lines soil_count
+abbrev pub mesh_lines : ℕ → ℕ → ℕ → ℕ → ℕ → ℕ → ℕ → List Group
+mesh_lines least node_count element_count soil_count edge_count side_count jump_count =
+    soil_lines soil_count side_count
     ∷ node_lines node_count
     ∷ element_lines element_count node_count least soil_count
     ∷ edge_lines edge_count node_count
@@ -174,7 +188,7 @@ mesh_layout = record {
   form_number = 1;
   limit_number = mesh_limit;
   header = mesh_header;
-  body = λ m. mesh_lines 1 (nodes m) (elements m) (soils m) (edges m) (jumps m);
+  body = λ m. mesh_lines 1 (nodes m) (elements m) (soils m) (edges m) (sides m) (jumps m);
 }
 
 -- "Without a table, soil 0 still gets 4" (document 02, N8): the lines of a mesh that has a table, or has none
@@ -183,7 +197,7 @@ layout_with tabled = record {
   form_number = 1;
   limit_number = mesh_limit;
   header = mesh_header;
-  body = λ m. mesh_lines (cond tabled 0 1) (nodes m) (elements m) (soils m) (edges m) (jumps m);
+  body = λ m. mesh_lines (cond tabled 0 1) (nodes m) (elements m) (soils m) (edges m) (sides m) (jumps m);
 }
 
 unfoldable pub mesh_groups : List ℤ → List Group
@@ -191,7 +205,8 @@ mesh_groups m = groups mesh_layout m
 
 -- ---- what the numbers are
 
--- soil s: p, q and h ("The friction angle has sine p/h and cosine q/h"), cohesion, dead force F and live force f
+-- soil s: p, q and h ("The friction angle has sine p/h and cosine q/h"), cohesion, dead force F and live force f, kind
+-- and cv: "Bedded clay has cohesion ch along and cv across .. C is then ch" (document 02, N14)
 unfoldable pub soil_entry : List ℤ → ℕ → ℕ → ℤ
 soil_entry m s c = entry (mesh_groups m) m 1 s c
 
@@ -218,6 +233,26 @@ live_x m s = soil_entry m s 6
 
 unfoldable pub live_y : List ℤ → ℕ → ℤ
 live_y m s = soil_entry m s 7
+
+unfoldable pub soil_kind : List ℤ → ℕ → ℤ
+soil_kind m s = soil_entry m s 8
+
+unfoldable pub cohesion_across : List ℤ → ℕ → ℤ
+cohesion_across m s = soil_entry m s 9
+
+-- "1 by direction": as a test, and of a mesh that "lists one, used or not"
+unfoldable pub by_direction : List ℤ → ℕ → Bool
+by_direction m s = eq_z (soil_kind m s) (pos 1)
+
+unfoldable pub some_by_direction : List ℤ → Bool
+some_by_direction m = some_below (by_direction m) (soils m)
+
+-- the same as statements
+abbrev pub ByDirection : List ℤ → ℕ → Type 0
+ByDirection m s = soil_kind m s ≡ pos 1
+
+abbrev pub ListsDirection : List ℤ → Type 0
+ListsDirection m = (s : ℕ) × (s < soils m) × ByDirection m s
 
 -- node v
 unfoldable pub x : List ℤ → ℕ → ℤ

@@ -7,7 +7,7 @@ use Rattle.scope.specs.Claim.{claim_header_columns, stress_columns, if_there, st
 use Rattle.scope.specs.Polygon.{SidesListed}
 use Rattle.scope.specs.Rows.{pair_count}
 use Rattle.scope.specs.Statements.{PartsFit}
-use Rattle.scope.specs.Mesh.{most_nodes, most_elements, most_soils, most_edges, most_jumps, nodes_with, strength_multiplier, mesh_header_columns, soil_columns, node_columns, element_columns, edge_columns, jump_columns, element_rows, edge_rows, rows_per_jump, mesh_groups, nodes, elements, soils, edges, sides, jumps, p, q, h, cohesion, soil_entry, x, y, corner, element_soil, edge_entry, from_node, to_node, jump_entry, jump_from, jump_to, facing_from, facing_to, equality_count}
+use Rattle.scope.specs.Mesh.{most_nodes, most_elements, most_soils, most_edges, most_jumps, nodes_with, strength_multiplier, mesh_header_columns, soil_columns, node_columns, element_columns, edge_columns, jump_columns, element_rows, edge_rows, rows_per_jump, mesh_groups, nodes, elements, soils, edges, sides, jumps, p, q, h, cohesion, soil_entry, x, y, corner, element_soil, edge_entry, from_node, to_node, jump_entry, jump_from, jump_to, facing_from, facing_to, equality_count, kind_with, soil_kind, cohesion_across}
 
 -- z is from lo to hi
 pub record Between (lo hi z : ℤ) : Type 0 where
@@ -37,6 +37,8 @@ pub record SoilFacts (m : List ℤ) (s : ℕ) : Type 0 where
   pub h_range : Between (pos 1) (pos 1000) (h m s)
   pub cohesion_range : Between (pos 0) (pos 10000) (cohesion m s)
   pub force_range : (c : ℕ) → c < 4 → Between (neg_ℤ (pos 1000)) (pos 1000) (soil_entry m s (4 + c))
+  pub kind_range : Between (pos 0) (pos (kind_with (sides m))) (soil_kind m s)
+  pub across_range : Between (pos 0) (pos 10000) (cohesion_across m s)
   pub right_angle : p m s *ℤ p m s +ℤ q m s *ℤ q m s ≡ h m s *ℤ h m s
 
 -- node v

@@ -1,7 +1,7 @@
 -- The polygons (document 01, 'Rows', Strength): "Polygon corners are all whole-number points on the circle of radius r
 -- = 5, 25 or 65 (12, 20 or 36 sides), counterclockwise from (r, 0)". "Sides may also be 108: all whole-number points
 -- on the circle of radius 1105, in the same turning order" (document 02, N9).
-use Rattle.std.specs.Prelude.{◌≡◌, ◌⊎◌, true, false, List, [], ◌∷◌, ◌++◌, map, ℕ, ℤ, pos, neg_ℤ, eqb}
+use Rattle.std.specs.Prelude.{◌≡◌, ◌⊎◌, true, false, List, [], ◌∷◌, ◌++◌, map, ℕ, ℤ, pos, neg_ℤ, eqb, ◌/◌, length, take}
 
 -- a point of the plane
 pub record Point : Type 0 where
@@ -31,6 +31,10 @@ sides_to end (v ∷ w ∷ rest) = record { from = v; to = w } ∷ sides_to end (
 unfoldable pub polygon_sides : List Point → List Side
 polygon_sides [] = []
 polygon_sides (v ∷ rest) = sides_to v (v ∷ rest)
+
+-- "the first half turn of corners, (r, 0) in and (-r, 0) out" (document 02, N14): the first half of them
+unfoldable pub half_turn : List Point → List Point
+half_turn vs = take (length vs / 2) vs
 
 -- ---- the four polygons
 

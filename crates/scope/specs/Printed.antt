@@ -1,9 +1,10 @@
--- The rows as document 01 prints them ('Rows'), and those of jumps as document 02 says them (N6), over whole numbers,
--- with l and n on the side where they have them; and what a field that meets the rows of a mesh meets.
+-- The rows as document 01 prints them ('Rows'), and those of jumps (N6) and of strength by direction (N14) as document
+-- 02 says them, over whole numbers, with l and n on the side where they have them; and what a field that meets the rows
+-- of a mesh meets.
 use Rattle.std.specs.Prelude.{◌≡◌, ◌↔◌, ◌⊎◌, List, ℕ, ◌+◌, ◌%◌, ◌<◌, ℤ, pos, ◌+ℤ◌, ◌-ℤ◌, ◌*ℤ◌, neg_ℤ, ◌≤ℤ◌}
 use Rattle.integer.specs.Members.{◌∈◌}
-use Rattle.scope.specs.Mesh.{elements, edges, sides, jumps, p, q, h, cohesion, dead_x, dead_y, live_x, live_y, x, y, corner, element_soil, edge_entry, from_node, to_node, jump_from, jump_to, facing_from, facing_to}
-use Rattle.scope.specs.Polygon.{Side, polygon_sides, polygon_of}
+use Rattle.scope.specs.Mesh.{elements, edges, sides, jumps, p, q, h, cohesion, dead_x, dead_y, live_x, live_y, x, y, corner, element_soil, edge_entry, from_node, to_node, jump_from, jump_to, facing_from, facing_to, cohesion_across, ByDirection}
+use Rattle.scope.specs.Polygon.{Side, polygon_sides, polygon_of, Point, half_turn}
 use Rattle.scope.specs.Rows.{sx, sy, t, twice_area, step_x, step_y, jump_step_x, jump_step_y, Pair, strength_pairs, rows_of}
 use Rattle.scope.specs.Meets.{FieldMeets}
 
@@ -101,6 +102,38 @@ resistance s p q C n sx sy =
 abbrev pub Strength : (r : ℤ) → Side → (p q h C n sx sy t : ℤ) → Type 0
 Strength r s p q h C n sx sy t = deviator r s h sx sy t ≤ℤ resistance s p q C n sx sy
 
+-- ---- strength by direction (document 02, N14): the plane's normal is (a, b)/r
+
+-- "N = a²sx + 2abt + b²sy and T = ab(sy-sx) + (a²-b²)t"
+abbrev pub plane_normal : Point → (sx sy t : ℤ) → ℤ
+plane_normal v sx sy t =
+    let a : ℤ = v.px in
+    let b : ℤ = v.py in
+    a *ℤ a *ℤ sx +ℤ pos 2 *ℤ a *ℤ b *ℤ t +ℤ b *ℤ b *ℤ sy
+
+abbrev pub plane_shear : Point → (sx sy t : ℤ) → ℤ
+plane_shear v sx sy t =
+    let a : ℤ = v.px in
+    let b : ℤ = v.py in
+    a *ℤ b *ℤ (sy -ℤ sx) +ℤ (a *ℤ a -ℤ b *ℤ b) *ℤ t
+
+-- "each ≤ q·n·(r²·ch + (cv-ch)·a²)"
+abbrev pub plane_resistance : (r : ℤ) → Point → (q ch cv n : ℤ) → ℤ
+plane_resistance r v q ch cv n = q *ℤ n *ℤ (r *ℤ r *ℤ ch +ℤ (cv -ℤ ch) *ℤ (v.px *ℤ v.px))
+
+-- "pN + qT, then pN - qT": their left sides, then the rows
+abbrev pub plane_plus : Point → (p q sx sy t : ℤ) → ℤ
+plane_plus v p q sx sy t = p *ℤ plane_normal v sx sy t +ℤ q *ℤ plane_shear v sx sy t
+
+abbrev pub plane_minus : Point → (p q sx sy t : ℤ) → ℤ
+plane_minus v p q sx sy t = p *ℤ plane_normal v sx sy t -ℤ q *ℤ plane_shear v sx sy t
+
+abbrev pub PlanePlus : (r : ℤ) → Point → (p q ch cv n sx sy t : ℤ) → Type 0
+PlanePlus r v p q ch cv n sx sy t = plane_plus v p q sx sy t ≤ℤ plane_resistance r v q ch cv n
+
+abbrev pub PlaneMinus : (r : ℤ) → Point → (p q ch cv n sx sy t : ℤ) → Type 0
+PlaneMinus r v p q ch cv n sx sy t = plane_minus v p q sx sy t ≤ℤ plane_resistance r v q ch cv n
+
 -- ---- a field on the mesh m: its stresses s by column, with l and n
 
 module _ (m : List ℤ) (s : ℕ → ℤ) (l n : ℤ) where
@@ -143,6 +176,17 @@ module _ (m : List ℤ) (s : ℕ → ℤ) (l n : ℤ) where
       Strength r d (p m a.soil) (q m a.soil) (h m a.soil) (cohesion m a.soil) n (s (sx a.at))
       (s (sy a.at)) (s (t a.at))
 
+  -- the same for a soil by direction, and a corner of that polygon
+  abbrev pub PlanePlusAt : ℤ → Pair → Point → Type 0
+  PlanePlusAt r a v =
+      PlanePlus r v (p m a.soil) (q m a.soil) (cohesion m a.soil) (cohesion_across m a.soil) n
+      (s (sx a.at)) (s (sy a.at)) (s (t a.at))
+
+  abbrev pub PlaneMinusAt : ℤ → Pair → Point → Type 0
+  PlaneMinusAt r a v =
+      PlaneMinus r v (p m a.soil) (q m a.soil) (cohesion m a.soil) (cohesion_across m a.soil) n
+      (s (sx a.at)) (s (sy a.at)) (s (t a.at))
+
   -- all that is asked of the field
   pub record MeetsPrinted : Type 0 where
     pub balance_x_lem : (e : ℕ) → e < elements m → BalanceXAt e
@@ -155,8 +199,11 @@ module _ (m : List ℤ) (s : ℕ → ℤ) (l n : ℤ) where
     pub jump_shear_from : (j : ℕ) → j < jumps m → ShearAgreesAt j (jump_from m j) (facing_from m j)
     pub jump_normal_to : (j : ℕ) → j < jumps m → NormalAgreesAt j (jump_to m j) (facing_to m j)
     pub jump_shear_to : (j : ℕ) → j < jumps m → ShearAgreesAt j (jump_to m j) (facing_to m j)
-    pub strength : (a : Pair) → a ∈ strength_pairs m → (d : Side) → d ∈ polygon_sides (polygon_of (sides m)).corners
-        → StrengthAt (polygon_of (sides m)).radius a d
+    pub strength : (a : Pair) → a ∈ strength_pairs m → ¬ ByDirection m a.soil
+        → (d : Side) → d ∈ polygon_sides (polygon_of (sides m)).corners → StrengthAt (polygon_of (sides m)).radius a d
+    pub planes : (a : Pair) → a ∈ strength_pairs m → ByDirection m a.soil
+        → (v : Point) → v ∈ half_turn (polygon_of (sides m)).corners
+        → PlanePlusAt (polygon_of (sides m)).radius a v × PlaneMinusAt (polygon_of (sides m)).radius a v
 
   -- it meets the rows as data exactly when it meets them as printed
   abbrev pub FieldPrinted : Type 0

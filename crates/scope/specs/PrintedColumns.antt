@@ -1,14 +1,14 @@
 -- The columns (document 01, 'Rows', Columns) from the rows as it prints them, with l and n on the side where it has
 -- them; and what accepted multipliers are in these terms.
 -- Multipliers w are numbered as the rows are; a field is its stresses s by column, with l and n.
-use Rattle.std.specs.Prelude.{◌≡◌, ◌↔◌, List, ℕ, zero, suc, ◌+◌, ◌*◌, ◌<◌, ℤ, pos, ◌+ℤ◌, ◌-ℤ◌, ◌*ℤ◌, neg_ℤ, ◌<ℤ◌}
-use Rattle.scope.specs.Mesh.{nodes, elements, edges, sides, jumps, p, q, h, cohesion, dead_x, dead_y, live_x, live_y, x, y, corner, element_soil, edge_entry, from_node, to_node, jump_from, jump_to, facing_from, facing_to}
-use Rattle.scope.specs.Polygon.{Side, polygon_of}
+use Rattle.std.specs.Prelude.{◌≡◌, ◌↔◌, List, ℕ, zero, suc, ◌+◌, ◌*◌, ◌<◌, ℤ, pos, ◌+ℤ◌, ◌-ℤ◌, ◌*ℤ◌, neg_ℤ, ◌<ℤ◌, cond, ◌/◌}
+use Rattle.scope.specs.Mesh.{nodes, elements, edges, sides, jumps, p, q, h, cohesion, dead_x, dead_y, live_x, live_y, x, y, corner, element_soil, edge_entry, from_node, to_node, jump_from, jump_to, facing_from, facing_to, cohesion_across, by_direction}
+use Rattle.scope.specs.Polygon.{Side, polygon_of, Point}
 use Rattle.scope.specs.Rows.{sx, sy, t, twice_area, step_x, step_y, jump_step_x, jump_step_y, Pair, pair_count, pair_at, balance_x, balance_y, normal_row, shear_row, jump_normal, jump_shear, equality_rows, rows_of}
 use Rattle.scope.specs.Statements.{MeetsColumns}
 use Rattle.scope.specs.Sums.{left_side, right_side, unit, column_sum, live_sum, limit_sum}
-use Rattle.scope.specs.RowNumbers.{side_at, pair_row}
-use Rattle.scope.specs.Printed.{force_x, force_y, body_force, normal_force, shear_force, edge_force, FixesNormal, FixesShear, deviator, resistance}
+use Rattle.scope.specs.RowNumbers.{side_at, corner_at, side_row, direction_row}
+use Rattle.scope.specs.Printed.{force_x, force_y, body_force, normal_force, shear_force, edge_force, FixesNormal, FixesShear, deviator, resistance, plane_plus, plane_minus, plane_resistance}
 
 -- ---- a printed row in a field: its left side minus its right side
 
@@ -49,6 +49,18 @@ module _ (m : List ℤ) (s : ℕ → ℤ) (l n : ℤ) where
       deviator (polygon_of (sides m)).radius d (h m a.soil) (s (sx a.at)) (s (sy a.at)) (s (t a.at))
       -ℤ resistance d (p m a.soil) (q m a.soil) (cohesion m a.soil) n (s (sx a.at)) (s (sy a.at))
 
+  abbrev pub less_plus : Pair → Point → ℤ
+  less_plus a v =
+      plane_plus v (p m a.soil) (q m a.soil) (s (sx a.at)) (s (sy a.at)) (s (t a.at))
+      -ℤ plane_resistance (polygon_of (sides m)).radius v (q m a.soil) (cohesion m a.soil)
+      (cohesion_across m a.soil) n
+
+  abbrev pub less_minus : Pair → Point → ℤ
+  less_minus a v =
+      plane_minus v (p m a.soil) (q m a.soil) (s (sx a.at)) (s (sy a.at)) (s (t a.at))
+      -ℤ plane_resistance (polygon_of (sides m)).radius v (q m a.soil) (cohesion m a.soil)
+      (cohesion_across m a.soil) n
+
   -- each row's data is the printed row itself, and no multiple of it: left minus right is the same in every field
   pub record RowsPrinted : Type 0 where
     pub balance_x_lem : (e : ℕ) → left_side s l (balance_x m e) -ℤ right_side n (balance_x m e) ≡ less_x e
@@ -60,7 +72,14 @@ module _ (m : List ℤ) (s : ℕ → ℤ) (l n : ℤ) where
     pub jump_shear_lem : (j v f : ℕ)
         → left_side s l (jump_shear m j v f) -ℤ right_side n (jump_shear m j v f) ≡ less_jump_shear j v f
     pub strength : (a : Pair) (d : Side)
-        → left_side s l (pair_row m a d) -ℤ right_side n (pair_row m a d) ≡ less_strength a d
+        → left_side s l (side_row m a d) -ℤ right_side n (side_row m a d) ≡ less_strength a d
+    pub plane_plus : (a : Pair) (v : Point)
+        → left_side s l (direction_row m a v (q m a.soil)) -ℤ right_side n (direction_row m a v (q m a.soil))
+        ≡ less_plus a v
+    pub plane_minus : (a : Pair) (v : Point)
+        → left_side s l (direction_row m a v (neg_ℤ (q m a.soil)))
+        -ℤ right_side n (direction_row m a v (neg_ℤ (q m a.soil)))
+        ≡ less_minus a v
 
 -- ---- the columns
 
@@ -84,6 +103,24 @@ module _ (m : List ℤ) (w : ℕ → ℤ) where
   abbrev pub of_pair : ℕ → ℕ → ℤ
   of_pair a k = w (elements m * 2 + edges m * 4 + jumps m * 4 + (a * sides m + k))
 
+  -- multiplier times left minus right over the rows of a pair: side by side; for a soil by direction corner by corner
+  -- of the first half turn
+  unfoldable pub weighed_sides : (ℕ → ℤ) → ℤ → ℤ → ℕ → ℤ
+  weighed_sides s l n a =
+      sum_below (λ k. of_pair a k *ℤ less_strength m s l n (pair_at m a) (side_at (polygon_of (sides m)) k)) (sides m)
+
+  unfoldable pub weighed_planes : (ℕ → ℤ) → ℤ → ℤ → ℕ → ℤ
+  weighed_planes s l n a =
+      sum_below
+      (λ j.
+      of_pair a (2 * j) *ℤ less_plus m s l n (pair_at m a) (corner_at (polygon_of (sides m)) j)
+      +ℤ of_pair a (2 * j + 1) *ℤ less_minus m s l n (pair_at m a) (corner_at (polygon_of (sides m)) j))
+      (sides m / 2)
+
+  unfoldable pub weighed_pair : (ℕ → ℤ) → ℤ → ℤ → ℕ → ℤ
+  weighed_pair s l n a =
+      cond (by_direction m (pair_at m a).soil) (weighed_planes s l n a) (weighed_sides s l n a)
+
   -- multiplier times left minus right, summed over all rows: elements, edges, jumps, pairs
   unfoldable pub weighed_rows : (ℕ → ℤ) → ℤ → ℤ → ℤ
   weighed_rows s l n =
@@ -102,10 +139,7 @@ module _ (m : List ℤ) (w : ℕ → ℤ) where
       +ℤ of_jump j 2 *ℤ less_jump_normal m s l n j (jump_to m j) (facing_to m j)
       +ℤ of_jump j 3 *ℤ less_jump_shear m s l n j (jump_to m j) (facing_to m j))
       (jumps m)
-      +ℤ sum_below
-      (λ a. sum_below (λ k. of_pair a k *ℤ less_strength m s l n (pair_at m a) (side_at (polygon_of (sides m)) k))
-      (sides m))
-      (pair_count m)
+      +ℤ sum_below (weighed_pair s l n) (pair_count m)
 
   -- "For each node and stress, multiplier times coefficient, summed over all rows": a row's coefficient is left minus
   -- right where this stress is 1 and all else is 0

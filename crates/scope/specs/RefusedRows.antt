@@ -1,13 +1,13 @@
 -- What the place of 21 and of 22 says (document 01, 'Rows'): the row of that number, as it is printed, is the one that
 -- the field does not meet; and what that of 42 says (document 02, N2).
-use Rattle.std.specs.Prelude.{◌≡◌, List, ℕ, suc, ◌+◌, ◌*◌, ◌-◌, ◌<◌, ℤ}
+use Rattle.std.specs.Prelude.{◌≡◌, List, ℕ, suc, ◌+◌, ◌*◌, ◌-◌, ◌<◌, ℤ, ◌≤◌}
 use Rattle.scope.specs.Columns.{n, l}
-use Rattle.scope.specs.Mesh.{pairs_with, elements, edges, sides, jumps, from_node, to_node, jump_from, jump_to, facing_from, facing_to}
+use Rattle.scope.specs.Mesh.{pairs_with, elements, edges, sides, jumps, from_node, to_node, jump_from, jump_to, facing_from, facing_to, ByDirection}
 use Rattle.scope.specs.Polygon.{polygon_of}
 use Rattle.scope.specs.Claim.{stress}
 use Rattle.scope.specs.Rows.{pair_count, pair_at}
-use Rattle.scope.specs.RowNumbers.{side_numbered}
-use Rattle.scope.specs.Printed.{BalanceXAt, BalanceYAt, NormalAt, ShearAt, NormalAgreesAt, ShearAgreesAt, StrengthAt}
+use Rattle.scope.specs.RowNumbers.{side_numbered, corner_numbered}
+use Rattle.scope.specs.Printed.{BalanceXAt, BalanceYAt, NormalAt, ShearAt, NormalAgreesAt, ShearAgreesAt, StrengthAt, PlanePlusAt, PlaneMinusAt}
 
 -- elements, edges, jumps and pairs are counted from 0 here
 module _ (m c : List ℤ) (place : ℕ) where
@@ -34,9 +34,19 @@ module _ (m c : List ℤ) (place : ℕ) where
 
   -- refusal 22
   pub record StrengthFails : Type 0 where
-    pub strength : (a k : ℕ) → a < pair_count m → k < sides m → place ≡ a * sides m + suc k
+    pub strength : (a k : ℕ) → a < pair_count m → k < sides m → ¬ ByDirection m (pair_at m a).soil
+        → place ≡ a * sides m + suc k
         → ¬ StrengthAt m (stress m c) (l c) (n c) (polygon_of (sides m)).radius (pair_at m a)
         (side_numbered (polygon_of (sides m)) (suc k))
+    -- of a pair by direction (document 02, N14)
+    pub plane_plus : (a j : ℕ) → a < pair_count m → 2 * suc j ≤ sides m → ByDirection m (pair_at m a).soil
+        → place ≡ a * sides m + (2 * suc j - 1)
+        → ¬ PlanePlusAt m (stress m c) (l c) (n c) (polygon_of (sides m)).radius (pair_at m a)
+        (corner_numbered (polygon_of (sides m)) (suc j))
+    pub plane_minus : (a j : ℕ) → a < pair_count m → 2 * suc j ≤ sides m → ByDirection m (pair_at m a).soil
+        → place ≡ a * sides m + 2 * suc j
+        → ¬ PlaneMinusAt m (stress m c) (l c) (n c) (polygon_of (sides m)).radius (pair_at m a)
+        (corner_numbered (polygon_of (sides m)) (suc j))
 
 -- refusal 42: "with the node that brings the 101st pair", the 41st with 108 sides
 pub record PairsFail (m : List ℤ) (place : ℕ) : Type 0 where

@@ -1,9 +1,10 @@
--- The numbers of the rows (document 01, 'Rows'; document 02, N6), over the lists of rows. Elements, edges, jumps and
--- pairs are counted from 0 here, so that document 01's element is `suc e`; rows and sides are counted from 1, as there.
-use Rattle.std.specs.Prelude.{◌≡◌, List, ℕ, suc, ◌+◌, ◌*◌, ◌-◌, ◌<◌, ℤ, pos, length, get_or}
-use Rattle.scope.specs.Mesh.{elements, edges, sides, jumps, p, q, h, cohesion, from_node, to_node, jump_from, jump_to, facing_from, facing_to}
-use Rattle.scope.specs.Polygon.{point, Side, Polygon, polygon_sides, polygon_of}
-use Rattle.scope.specs.Rows.{Row, Pair, pair_count, pair_at, balance_x, balance_y, normal_row, shear_row, jump_normal, jump_shear, strength_row, equality_rows, strength_rows, rows_of}
+-- The numbers of the rows (document 01, 'Rows'; document 02, N6 and N14), over the lists of rows. Elements, edges,
+-- jumps and pairs are counted from 0 here, so that document 01's element is `suc e`; rows and sides are counted from
+-- 1, as there.
+use Rattle.std.specs.Prelude.{◌≡◌, List, ℕ, suc, ◌+◌, ◌*◌, ◌-◌, ◌<◌, ℤ, pos, length, get_or, cond, ◌/◌, ◌%◌, ◌≤◌, neg_ℤ, eqb}
+use Rattle.scope.specs.Mesh.{elements, edges, sides, jumps, p, q, h, cohesion, from_node, to_node, jump_from, jump_to, facing_from, facing_to, cohesion_across, ByDirection}
+use Rattle.scope.specs.Polygon.{point, Side, Polygon, polygon_sides, polygon_of, Point}
+use Rattle.scope.specs.Rows.{Row, Pair, pair_count, pair_at, balance_x, balance_y, normal_row, shear_row, jump_normal, jump_shear, strength_row, equality_rows, strength_rows, rows_of, plane_row}
 use Rattle.scope.specs.Tests.{row_at}
 
 -- row k of a list, counted from 1
@@ -17,10 +18,29 @@ side_at g k = get_or (polygon_sides g.corners) k (record { from = point (pos 0) 
 abbrev pub side_numbered : Polygon → ℕ → Side
 side_numbered g k = side_at g (k - 1)
 
+-- corner k, likewise
+unfoldable pub corner_at : Polygon → ℕ → Point
+corner_at g k = get_or g.corners k (point (pos 0) (pos 0))
+
+abbrev pub corner_numbered : Polygon → ℕ → Point
+corner_numbered g k = corner_at g (k - 1)
+
 -- the strength row of a pair and a side of the mesh's polygon
-abbrev pub pair_row : List ℤ → Pair → Side → Row
-pair_row m a d = strength_row (polygon_of (sides m)).radius (p m a.soil) (q m a.soil) (h m a.soil)
+abbrev pub side_row : List ℤ → Pair → Side → Row
+side_row m a d = strength_row (polygon_of (sides m)).radius (p m a.soil) (q m a.soil) (h m a.soil)
     (cohesion m a.soil) a.at d
+
+-- the strength row of a pair whose soil has kind 1 and a corner of that polygon: pN + kT
+abbrev pub direction_row : List ℤ → Pair → Point → ℤ → Row
+direction_row m a c k = plane_row (polygon_of (sides m)).radius (p m a.soil) (q m a.soil) (cohesion m a.soil)
+    (cohesion_across m a.soil) a.at c k
+
+-- row k of such a pair, counted from 0: that of corner k/2, "pN + qT, then pN - qT"
+unfoldable pub plus_minus : ℤ → ℕ → ℤ
+plus_minus q k = cond (eqb (k % 2) 0) q (neg_ℤ q)
+
+abbrev pub direction_row_at : List ℤ → Pair → ℕ → Row
+direction_row_at m a k = direction_row m a (corner_at (polygon_of (sides m)) (k / 2)) (plus_minus (q m a.soil) k)
 
 pub record RowNumbers (m : List ℤ) : Type 0 where
   -- "row 2e-1", "row 2e"
@@ -50,9 +70,16 @@ pub record RowNumbers (m : List ℤ) : Type 0 where
       ≡ jump_shear m j (jump_to m j) (facing_to m j)
   pub equalities : length (equality_rows m) ≡ 2 * elements m + 4 * edges m + 4 * jumps m
   -- "Its number is (node-1)·sides + k", by pairs: pair `suc a`, side `suc k`
-  pub strength : (a k : ℕ) → a < pair_count m → k < sides m
+  pub strength : (a k : ℕ) → a < pair_count m → k < sides m → ¬ ByDirection m (pair_at m a).soil
       → row_numbered (strength_rows m) (a * sides m + suc k)
-      ≡ pair_row m (pair_at m a) (side_numbered (polygon_of (sides m)) (suc k))
+      ≡ side_row m (pair_at m a) (side_numbered (polygon_of (sides m)) (suc k))
+  -- "corner by corner they are pN + qT, then pN - qT" (document 02, N14): corner `suc j` of the first half turn
+  pub plane_plus : (a j : ℕ) → a < pair_count m → 2 * suc j ≤ sides m → ByDirection m (pair_at m a).soil
+      → row_numbered (strength_rows m) (a * sides m + (2 * suc j - 1))
+      ≡ direction_row m (pair_at m a) (corner_numbered (polygon_of (sides m)) (suc j)) (q m (pair_at m a).soil)
+  pub plane_minus : (a j : ℕ) → a < pair_count m → 2 * suc j ≤ sides m → ByDirection m (pair_at m a).soil
+      → row_numbered (strength_rows m) (a * sides m + 2 * suc j)
+      ≡ direction_row m (pair_at m a) (corner_numbered (polygon_of (sides m)) (suc j)) (neg_ℤ (q m (pair_at m a).soil))
   pub strengths : length (strength_rows m) ≡ pair_count m * sides m
   -- all rows, as multipliers are numbered: the equality rows, then the strength rows
   pub equality_first : (k : ℕ) → k < 2 * elements m + 4 * edges m + 4 * jumps m

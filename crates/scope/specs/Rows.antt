@@ -4,8 +4,8 @@
 use Rattle.std.specs.Prelude.{Bool, true, false, cond, ◌&&◌, ◌||◌, List, [], ◌∷◌, ◌++◌, map, ℕ, zero, suc, ◌+◌, ◌*◌, ◌%◌, ℤ, pos, ◌+ℤ◌, ◌-ℤ◌, ◌*ℤ◌, neg_ℤ, eqb, length, get_or}
 use Rattle.integer.specs.Tests.{eq_z}
 use Rattle.scope.specs.Checks.{some_below}
-use Rattle.scope.specs.Mesh.{nodes, elements, soils, edges, sides, jumps, p, q, h, cohesion, dead_x, dead_y, live_x, live_y, x, y, corner, element_soil, edge_entry, from_node, to_node, jump_from, jump_to, facing_from, facing_to}
-use Rattle.scope.specs.Polygon.{Point, Side, Polygon, polygon_sides, polygon_of}
+use Rattle.scope.specs.Mesh.{nodes, elements, soils, edges, sides, jumps, p, q, h, cohesion, cohesion_across, by_direction, dead_x, dead_y, live_x, live_y, x, y, corner, element_soil, edge_entry, from_node, to_node, jump_from, jump_to, facing_from, facing_to}
+use Rattle.scope.specs.Polygon.{Point, Side, Polygon, polygon_sides, half_turn, polygon_of}
 
 -- ---- what a row is
 
@@ -247,12 +247,48 @@ strength_row r p q h C v s =
       right = k *ℤ (pos 2 *ℤ q *ℤ C);
     }
 
--- the rows of one pair, side by side
-unfoldable pub pair_rows : Polygon → List ℤ → Pair → List Row
-pair_rows g m a =
+-- ---- strength by direction (000, eq. 5 to 10; document 02, N14), on the plane with the normal (a, b)/r
+
+-- "With N = a²sx + 2abt + b²sy and T = ab(sy-sx) + (a²-b²)t .. pN + qT, then pN - qT, each ≤ q·n·(r²·ch + (cv-ch)·a²)":
+-- pN + kT, where k is q or -q
+unfoldable pub plane_row : ℤ → ℤ → ℤ → ℤ → ℤ → ℕ → Point → ℤ → Row
+plane_row r p q ch cv v c k =
+    let aa : ℤ = c.px *ℤ c.px in
+    let ab : ℤ = c.px *ℤ c.py in
+    let bb : ℤ = c.py *ℤ c.py in
+    record {
+      kind = strength;
+      entries =
+          (p *ℤ aa -ℤ k *ℤ ab, sx v)
+          ∷ (p *ℤ bb +ℤ k *ℤ ab, sy v)
+          ∷ (p *ℤ (pos 2 *ℤ ab) +ℤ k *ℤ (aa -ℤ bb), t v)
+          ∷ [];
+      live = pos 0;
+      right = q *ℤ (r *ℤ r *ℤ ch +ℤ (cv -ℤ ch) *ℤ aa);
+    }
+
+-- a corner's two rows: "pN + qT, then pN - qT"
+abbrev pub plane_rows : ℤ → ℤ → ℤ → ℤ → ℤ → ℕ → Point → List Row
+plane_rows r p q ch cv v c = plane_row r p q ch cv v c q ∷ plane_row r p q ch cv v c (neg_ℤ q) ∷ []
+
+-- ---- the strength rows of a mesh
+
+-- the rows of one pair, side by side; those of a soil by direction, "corner by corner" of the first half turn
+unfoldable pub rows_by_sides : Polygon → List ℤ → Pair → List Row
+rows_by_sides g m a =
     map
     (strength_row g.radius (p m a.soil) (q m a.soil) (h m a.soil) (cohesion m a.soil) a.at)
     (polygon_sides g.corners)
+
+unfoldable pub rows_by_planes : Polygon → List ℤ → Pair → List Row
+rows_by_planes g m a =
+    joined
+    (plane_rows g.radius (p m a.soil) (q m a.soil) (cohesion m a.soil) (cohesion_across m a.soil) a.at)
+    (half_turn g.corners)
+
+-- by the kind of its soil: "0 as before, 1 by direction"
+unfoldable pub pair_rows : Polygon → List ℤ → Pair → List Row
+pair_rows g m a = cond (by_direction m a.soil) (rows_by_planes g m a) (rows_by_sides g m a)
 
 -- "Its number is (node-1)·sides + k", by pairs: "Strength rows and multiplier lines are numbered by node-and-soil
 -- pairs in that order"

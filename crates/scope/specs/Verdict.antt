@@ -1,6 +1,6 @@
 -- The verdict on the numbers of a mesh and of a claim (document 01, 'Verdict and report'): the first phase that fails,
 -- and else what is accepted.
-use Rattle.std.specs.Prelude.{cond, ◌&&◌, List, ℕ, suc, ℤ}
+use Rattle.std.specs.Prelude.{cond, ◌&&◌, List, ℕ, suc, ℤ, not}
 use Rattle.scope.specs.declared.Place.{Place}
 use Rattle.scope.specs.declared.Place.TheVariants.{Line}
 use Rattle.scope.specs.Cases.Outcome.{Outcome}
@@ -14,6 +14,7 @@ use Rattle.scope.specs.Cases.Verdict.{Accepted, Refused}
 use Rattle.scope.specs.Phases.{check_steps, check_phases}
 use Rattle.scope.specs.Columns.{Rule, has_field, has_multipliers, n, l}
 use Rattle.scope.specs.Layout.{Group, Layout, group_at, numbers_at}
+use Rattle.scope.specs.Mesh.{some_by_direction}
 use Rattle.scope.specs.Rows as R
 use Rattle.scope.specs.Rows.{rows_of}
 use Rattle.scope.specs.Sums.{live_sum, limit_sum, open_rows}
@@ -51,9 +52,10 @@ multipliers_check es rs columns w = check_phases (multiplier_phases es rs column
 
 -- ---- what an accepted claim reports
 
--- l/n, and W/m
-unfoldable pub lower_load : List ℤ → Load
-lower_load c = cond (has_field c) (Exact (l c) (n c)) Absent
+-- l/n, and W/m; on a mesh that lists a soil of kind 1, "used or not, the report's lower load reads none" (document 02,
+-- N14)
+unfoldable pub lower_load : List ℤ → List ℤ → Load
+lower_load m c = cond (has_field c && not (some_by_direction m)) (Exact (l c) (n c)) Absent
 
 unfoldable pub upper_load : List ℤ → List ℤ → Load
 upper_load m c =
@@ -73,7 +75,7 @@ answer (Fails k at) v = Refused k at
 -- the verdict on the claim c where its mesh m has passed
 unfoldable pub claim_verdict : List ℤ → List ℤ → Verdict
 claim_verdict m c =
-    answer (claim_check m c) (Accepted (open_count m c) (lower_load c) (upper_load m c))
+    answer (claim_check m c) (Accepted (open_count m c) (lower_load m c) (upper_load m c))
 
 -- the verdict on a mesh and a claim
 unfoldable pub verdict : List ℤ → List ℤ → Verdict

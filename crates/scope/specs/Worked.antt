@@ -1,17 +1,18 @@
 -- The numbers of document 01's sheet ('A whole sheet, and its neighbours'), of its neighbours, of fill over clay
--- (document 02, N2), and of two blocks on a joint (N6). Each header's sixth number is that of its jumps, 0 on document 01's
--- sheet: "document 01's sheet takes a 0 there".
+-- (document 02, N2), of two blocks on a joint (N6), and of bedded clay (N14). Each header's sixth number is that of its
+-- jumps, 0 on document 01's sheet: "document 01's sheet takes a 0 there". Each soil's last two are its kind and cv, "0
+-- and 0 on document 01's sheet".
 use Rattle.std.specs.Prelude.{List, [], ◌∷◌, ◌++◌, ℕ, ℤ, pos, negsuc, neg_ℤ, ◌-ℤ◌, replicate, get_or}
 
 unfoldable pub zeros : ℕ → List ℤ
 zeros k = replicate k (pos 0)
 
--- "Mesh: 4 1 1 3 12 0 / 0 1 1 10 0 0 0 0 / 0 0 / 1 0 / 1 1 / 0 1 / 1 2 3 4 1 / 3 4 3 0 0 -1 0 / 2 3 3 0 0 0 0 / 4 1 3 0
--- 0 0 0"
+-- "Mesh: 4 1 1 3 12 0 / 0 1 1 10 0 0 0 0 0 0 / 0 0 / 1 0 / 1 1 / 0 1 / 1 2 3 4 1 / 3 4 3 0 0 -1 0 / 2 3 3 0 0 0 0 / 4
+-- 1 3 0 0 0 0"
 unfoldable pub worked_mesh : List ℤ
 worked_mesh =
     (pos 4 ∷ pos 1 ∷ pos 1 ∷ pos 3 ∷ pos 12 ∷ pos 0 ∷ [])
-    ++ (pos 0 ∷ pos 1 ∷ pos 1 ∷ pos 10 ∷ zeros 4)
+    ++ (pos 0 ∷ pos 1 ∷ pos 1 ∷ pos 10 ∷ zeros 6)
     ++ (pos 0 ∷ pos 0 ∷ pos 1 ∷ pos 0 ∷ pos 1 ∷ pos 1 ∷ pos 0 ∷ pos 1 ∷ [])
     ++ (pos 1 ∷ pos 2 ∷ pos 3 ∷ pos 4 ∷ pos 1 ∷ [])
     ++ (pos 3 ∷ pos 4 ∷ pos 3 ∷ pos 0 ∷ pos 0 ∷ negsuc 0 ∷ pos 0 ∷ [])
@@ -68,12 +69,12 @@ nineteen_sixths k =
 
 -- ---- meshes that differ in a number of an unfixed part
 
--- "4 1 1 1 12 0 / 0 1 1 10 0 0 0 0 / 0 0 / 1 0 / 1 1 / 0 1 / 1 2 3 4 1 / 2 3 1 0 z 0 0": the edge's shear is unfixed,
--- with z as its dead number
+-- "4 1 1 1 12 0 / 0 1 1 10 0 0 0 0 0 0 / 0 0 / 1 0 / 1 1 / 0 1 / 1 2 3 4 1 / 2 3 1 0 z 0 0": the edge's shear is
+-- unfixed, with z as its dead number
 unfoldable pub one_edge : ℤ → List ℤ
 one_edge z =
     (pos 4 ∷ pos 1 ∷ pos 1 ∷ pos 1 ∷ pos 12 ∷ pos 0 ∷ [])
-    ++ (pos 0 ∷ pos 1 ∷ pos 1 ∷ pos 10 ∷ zeros 4)
+    ++ (pos 0 ∷ pos 1 ∷ pos 1 ∷ pos 10 ∷ zeros 6)
     ++ (pos 0 ∷ pos 0 ∷ pos 1 ∷ pos 0 ∷ pos 1 ∷ pos 1 ∷ pos 0 ∷ pos 1 ∷ [])
     ++ (pos 1 ∷ pos 2 ∷ pos 3 ∷ pos 4 ∷ pos 1 ∷ [])
     ++ (pos 2 ∷ pos 3 ∷ pos 1 ∷ pos 0 ∷ z ∷ zeros 2)
@@ -82,7 +83,7 @@ one_edge z =
 unfoldable pub free_shear : ℤ → List ℤ
 free_shear z =
     (pos 4 ∷ pos 1 ∷ pos 1 ∷ pos 3 ∷ pos 12 ∷ pos 0 ∷ [])
-    ++ (pos 0 ∷ pos 1 ∷ pos 1 ∷ pos 10 ∷ zeros 4)
+    ++ (pos 0 ∷ pos 1 ∷ pos 1 ∷ pos 10 ∷ zeros 6)
     ++ (pos 0 ∷ pos 0 ∷ pos 1 ∷ pos 0 ∷ pos 1 ∷ pos 1 ∷ pos 0 ∷ pos 1 ∷ [])
     ++ (pos 1 ∷ pos 2 ∷ pos 3 ∷ pos 4 ∷ pos 1 ∷ [])
     ++ (pos 3 ∷ pos 4 ∷ pos 3 ∷ pos 0 ∷ pos 0 ∷ negsuc 0 ∷ pos 0 ∷ [])
@@ -93,7 +94,7 @@ free_shear z =
 unfoldable pub two_triangles : List ℤ
 two_triangles =
     (pos 4 ∷ pos 2 ∷ pos 1 ∷ pos 3 ∷ pos 12 ∷ pos 0 ∷ [])
-    ++ (pos 0 ∷ pos 1 ∷ pos 1 ∷ pos 10 ∷ zeros 4)
+    ++ (pos 0 ∷ pos 1 ∷ pos 1 ∷ pos 10 ∷ zeros 6)
     ++ (pos 0 ∷ pos 0 ∷ pos 1 ∷ pos 0 ∷ pos 1 ∷ pos 1 ∷ pos 0 ∷ pos 1 ∷ [])
     ++ (pos 1 ∷ pos 2 ∷ pos 3 ∷ pos 3 ∷ pos 1 ∷ [])
     ++ (pos 1 ∷ pos 3 ∷ pos 4 ∷ pos 4 ∷ pos 1 ∷ [])
@@ -107,14 +108,14 @@ field_alone = (pos 1 ∷ pos 0 ∷ pos 1 ∷ pos 20 ∷ []) ++ worked_stresses 2
 
 -- ---- "Soft clay under fill was passed at the fill's strength, since a shared node had one soil" (document 02, N2)
 
--- "6 2 2 1 12 0 / 0 1 1 10 0 0 0 0 / 0 1 1 5 0 10 0 0 / 0 0 / 1 0 / 1 1 / 0 1 / 1 2 / 0 2 / 4 3 5 6 1 / 1 2 3 4 2 / 5 6
--- 3 0 0 -1 0": the fill is the lower-numbered element and lies over the clay, of half its cohesion; nodes 3 and 4 are
--- corners of both
+-- "6 2 2 1 12 0 / 0 1 1 10 0 0 0 0 0 0 / 0 1 1 5 0 10 0 0 0 0 / 0 0 / 1 0 / 1 1 / 0 1 / 1 2 / 0 2 / 4 3 5 6 1 / 1 2 3
+-- 4 2 / 5 6 3 0 0 -1 0": the fill is the lower-numbered element and lies over the clay, of half its cohesion; nodes 3
+-- and 4 are corners of both
 unfoldable pub fill_over_clay : List ℤ
 fill_over_clay =
     (pos 6 ∷ pos 2 ∷ pos 2 ∷ pos 1 ∷ pos 12 ∷ pos 0 ∷ [])
-    ++ (pos 0 ∷ pos 1 ∷ pos 1 ∷ pos 10 ∷ zeros 4)
-    ++ (pos 0 ∷ pos 1 ∷ pos 1 ∷ pos 5 ∷ pos 0 ∷ pos 10 ∷ zeros 2)
+    ++ (pos 0 ∷ pos 1 ∷ pos 1 ∷ pos 10 ∷ zeros 6)
+    ++ (pos 0 ∷ pos 1 ∷ pos 1 ∷ pos 5 ∷ pos 0 ∷ pos 10 ∷ zeros 4)
     ++ (pos 0 ∷ pos 0 ∷ pos 1 ∷ pos 0 ∷ pos 1 ∷ pos 1 ∷ pos 0 ∷ pos 1 ∷ pos 1 ∷ pos 2 ∷ pos 0 ∷ pos 2 ∷ [])
     ++ (pos 4 ∷ pos 3 ∷ pos 5 ∷ pos 6 ∷ pos 1 ∷ [])
     ++ (pos 1 ∷ pos 2 ∷ pos 3 ∷ pos 4 ∷ pos 2 ∷ [])
@@ -132,13 +133,13 @@ over_clay l =
 
 -- ---- two blocks on a joint (document 02, N6)
 
--- "8 2 1 edges 12 jumps / 0 1 1 10 0 0 0 0 / 0 0 / 1 0 / 1 1 / 0 1 / 1 0 / 2 0 / 2 1 / 1 1 / 1 2 3 4 1 / 5 6 7 8 1 /
--- ..": blocks side by side without a common node, on one upright joint from (1, 0) to (1, 1); the edges and jumps as
+-- "8 2 1 edges 12 jumps / 0 1 1 10 0 0 0 0 0 0 / 0 0 / 1 0 / 1 1 / 0 1 / 1 0 / 2 0 / 2 1 / 1 1 / 1 2 3 4 1 / 5 6 7 8 1
+-- / ..": blocks side by side without a common node, on one upright joint from (1, 0) to (1, 1); the edges and jumps as
 -- they are given
 unfoldable pub blocks : ℕ → ℕ → List ℤ → List ℤ
 blocks edge_count jump_count lines =
     (pos 8 ∷ pos 2 ∷ pos 1 ∷ pos edge_count ∷ pos 12 ∷ pos jump_count ∷ [])
-    ++ (pos 0 ∷ pos 1 ∷ pos 1 ∷ pos 10 ∷ zeros 4)
+    ++ (pos 0 ∷ pos 1 ∷ pos 1 ∷ pos 10 ∷ zeros 6)
     ++ (pos 0 ∷ pos 0 ∷ pos 1 ∷ pos 0 ∷ pos 1 ∷ pos 1 ∷ pos 0 ∷ pos 1 ∷ [])
     ++ (pos 1 ∷ pos 0 ∷ pos 2 ∷ pos 0 ∷ pos 2 ∷ pos 1 ∷ pos 1 ∷ pos 1 ∷ [])
     ++ (pos 1 ∷ pos 2 ∷ pos 3 ∷ pos 4 ∷ pos 1 ∷ [])
@@ -176,7 +177,7 @@ on_joint z y =
 unfoldable pub shared_blocks : List ℤ
 shared_blocks =
     (pos 6 ∷ pos 2 ∷ pos 1 ∷ pos 2 ∷ pos 12 ∷ pos 0 ∷ [])
-    ++ (pos 0 ∷ pos 1 ∷ pos 1 ∷ pos 10 ∷ zeros 4)
+    ++ (pos 0 ∷ pos 1 ∷ pos 1 ∷ pos 10 ∷ zeros 6)
     ++ (pos 0 ∷ pos 0 ∷ pos 1 ∷ pos 0 ∷ pos 1 ∷ pos 1 ∷ pos 0 ∷ pos 1 ∷ pos 2 ∷ pos 0 ∷ pos 2 ∷ pos 1 ∷ [])
     ++ (pos 1 ∷ pos 2 ∷ pos 3 ∷ pos 4 ∷ pos 1 ∷ [])
     ++ (pos 2 ∷ pos 5 ∷ pos 6 ∷ pos 3 ∷ pos 1 ∷ [])
@@ -193,7 +194,7 @@ on_shared =
 unfoldable pub cut_with_tip : List ℤ
 cut_with_tip =
     (pos 7 ∷ pos 2 ∷ pos 1 ∷ pos 2 ∷ pos 12 ∷ pos 1 ∷ [])
-    ++ (pos 0 ∷ pos 1 ∷ pos 1 ∷ pos 10 ∷ zeros 4)
+    ++ (pos 0 ∷ pos 1 ∷ pos 1 ∷ pos 10 ∷ zeros 6)
     ++ (pos 0 ∷ pos 0 ∷ pos 1 ∷ pos 0 ∷ pos 1 ∷ pos 1 ∷ pos 0 ∷ pos 1 ∷ [])
     ++ (pos 2 ∷ pos 0 ∷ pos 2 ∷ pos 1 ∷ pos 1 ∷ pos 1 ∷ [])
     ++ (pos 1 ∷ pos 2 ∷ pos 3 ∷ pos 4 ∷ pos 1 ∷ [])
@@ -209,6 +210,43 @@ on_cut =
     (pos 1 ∷ pos 0 ∷ pos 1 ∷ pos 20 ∷ [])
     ++ at (neg_ℤ (pos 30)) ++ at (neg_ℤ (pos 10)) ++ at (neg_ℤ (pos 20)) ++ at (neg_ℤ (pos 20))
     ++ at (pos 10) ++ at (pos 0) ++ at (pos 0)
+
+-- ---- bedded clay (document 02, N14)
+
+-- document 01's square of a soil with ch 10, with this number of sides, this h, and this kind and cv: "4 1 1 3 sides 0
+-- / 0 1 h 10 0 0 0 0 kind cv / .."
+unfoldable pub beds : ℕ → ℕ → ℕ → ℕ → List ℤ
+beds side_count h kind cv =
+    (pos 4 ∷ pos 1 ∷ pos 1 ∷ pos 3 ∷ pos side_count ∷ pos 0 ∷ [])
+    ++ (pos 0 ∷ pos 1 ∷ pos h ∷ pos 10 ∷ zeros 4)
+    ++ (pos kind ∷ pos cv ∷ [])
+    ++ (pos 0 ∷ pos 0 ∷ pos 1 ∷ pos 0 ∷ pos 1 ∷ pos 1 ∷ pos 0 ∷ pos 1 ∷ [])
+    ++ (pos 1 ∷ pos 2 ∷ pos 3 ∷ pos 4 ∷ pos 1 ∷ [])
+    ++ (pos 3 ∷ pos 4 ∷ pos 3 ∷ pos 0 ∷ pos 0 ∷ negsuc 0 ∷ pos 0 ∷ [])
+    ++ (pos 2 ∷ pos 3 ∷ pos 3 ∷ zeros 4)
+    ++ (pos 4 ∷ pos 1 ∷ pos 3 ∷ zeros 4)
+
+-- "1 1 6 l", four times "0 -l 0"; "0 0"; "24 0 0 0 / 0 0 -24 0 / 0 0 0 0"; node 3 "0 0 0 1 0 0 0 0 0 0 1 0": its rows 4
+-- and 11, pN - qT of the plane (4, 3) and pN + qT of the plane (-4, 3), have 12·(sx - sy) each
+unfoldable pub on_beds : ℕ → List ℤ
+on_beds l =
+    (pos 1 ∷ pos 1 ∷ pos 6 ∷ pos l ∷ []) ++ worked_stresses l
+    ++ zeros 2 ++ (pos 24 ∷ zeros 5) ++ (neg_ℤ (pos 24) ∷ zeros 29)
+    ++ zeros 3 ++ (pos 1 ∷ zeros 6) ++ (pos 1 ∷ zeros 13)
+
+-- document 01's sheet with a second soil, which is bedded and which no element has: "4 1 2 3 12 0 / 0 1 1 10 0 0 0 0 0
+-- 0 / 0 1 1 10 0 0 0 0 1 5 / .."
+unfoldable pub unused_beds : List ℤ
+unused_beds =
+    (pos 4 ∷ pos 1 ∷ pos 2 ∷ pos 3 ∷ pos 12 ∷ pos 0 ∷ [])
+    ++ (pos 0 ∷ pos 1 ∷ pos 1 ∷ pos 10 ∷ zeros 6)
+    ++ (pos 0 ∷ pos 1 ∷ pos 1 ∷ pos 10 ∷ zeros 4)
+    ++ (pos 1 ∷ pos 5 ∷ [])
+    ++ (pos 0 ∷ pos 0 ∷ pos 1 ∷ pos 0 ∷ pos 1 ∷ pos 1 ∷ pos 0 ∷ pos 1 ∷ [])
+    ++ (pos 1 ∷ pos 2 ∷ pos 3 ∷ pos 4 ∷ pos 1 ∷ [])
+    ++ (pos 3 ∷ pos 4 ∷ pos 3 ∷ pos 0 ∷ pos 0 ∷ negsuc 0 ∷ pos 0 ∷ [])
+    ++ (pos 2 ∷ pos 3 ∷ pos 3 ∷ zeros 4)
+    ++ (pos 4 ∷ pos 1 ∷ pos 3 ∷ zeros 4)
 
 -- ---- meshes that are refused with 44
 
@@ -246,7 +284,7 @@ joint_from_behind = blocks 0 2 (joint ++ (pos 8 ∷ pos 5 ∷ pos 3 ∷ pos 2 �
 unfoldable pub crossing_bars : List ℤ
 crossing_bars =
     (pos 12 ∷ pos 3 ∷ pos 1 ∷ pos 0 ∷ pos 12 ∷ pos 0 ∷ [])
-    ++ (pos 0 ∷ pos 1 ∷ pos 1 ∷ pos 10 ∷ zeros 4)
+    ++ (pos 0 ∷ pos 1 ∷ pos 1 ∷ pos 10 ∷ zeros 6)
     ++ (pos 0 ∷ pos 2 ∷ pos 6 ∷ pos 2 ∷ pos 6 ∷ pos 4 ∷ pos 0 ∷ pos 4 ∷ [])
     ++ (pos 4 ∷ pos 4 ∷ pos 6 ∷ pos 4 ∷ pos 6 ∷ pos 6 ∷ pos 4 ∷ pos 6 ∷ [])
     ++ (pos 2 ∷ pos 0 ∷ pos 4 ∷ pos 0 ∷ pos 4 ∷ pos 6 ∷ pos 2 ∷ pos 6 ∷ [])

@@ -47,7 +47,7 @@ unfolding layout_with mesh_layout
 plain_lines m = refl
 
 -- the numbers of a mesh whose lines have passed have room in a copy
-pub few_numbers_lem : (m : List ℤ) → lines_check (layout_with true) m ≡ Passed → length m ≤ 1494
+pub few_numbers_lem : (m : List ℤ) → lines_check (layout_with true) m ≡ Passed → length m ≤ 1526
 unfolding with_soils
 few_numbers_lem m e =
     let f = named_facts m ((lines_passed (layout_with true) m).says e) in

@@ -69,7 +69,7 @@ module _ (m c : List ℤ) where
 
   -- the verdict where all checks pass
   abbrev pub all_accepted : Verdict
-  all_accepted = Accepted (open_count m c) (lower_load c) (upper_load m c)
+  all_accepted = Accepted (open_count m c) (lower_load m c) (upper_load m c)
 
   pub mesh_first : answer (mesh_check m) (claim_verdict m c) ≡ verdict m c
   unfolding verdict

@@ -1,7 +1,5 @@
 // The check of a field against the rows: 21 and 22.
-ghost use Rattle.std.specs.Prelude.{◌≡◌, true, ◌+◌, ◌*◌, ◌<◌, ◌≤◌, IfSome, IfNone, length, pos};
-ghost use Rattle.std.specs.List.{list_all};
-ghost use Rattle.std.specs.Int.Signed.{le_z};
+ghost use Rattle.std.specs.Prelude.{◌≡◌, ◌+◌, ◌*◌, ◌<◌, ◌≤◌};
 ghost use Rattle.scope.specs.Answer.{outcome_of};
 ghost use Rattle.scope.specs.Columns.{at};
 ghost use Rattle.scope.specs.Mesh.{most_pairs, most_sides, equality_count};
@@ -10,14 +8,9 @@ ghost use Rattle.scope.specs.Sums.{row_holds};
 ghost use Rattle.scope.specs.Phases.{check_phase, check_phases};
 ghost use Rattle.scope.specs.Refusals.{equalities_phase, strengths_phase, field_phases};
 ghost use Rattle.scope.specs.Tests.{row_at};
-ghost use Rattle.lines.specs.SearchContracts.{first_failing};
-ghost use Rattle.criterion.specs.StrengthContracts.{step_at, side_slack};
 ghost use Rattle.verdict.specs.FieldContracts.{FieldFits};
 
 use criterion::fields::Field;
-use criterion::steps::Step;
-use criterion::strength_numbers::PairNumbers;
-use criterion::strength_rows::side_holds;
 use equality::equality_rows::equality_row;
 use mesh::Mesh;
 use scope::{Outcome, Place, Reason, demand};
@@ -55,16 +48,6 @@ fn strength_number(a: usize, sides: usize, k: usize) -> u32
     (a * sides + k + 1) as u32
 }
 
-// The first side whose strength row fails at a pair with these numbers.
-fn first_side(sides: &[Step], pair: &PairNumbers) -> Option<usize>
-    ensures found { IfSome result (λ k. k
-        ≡ first_failing (λ k. le_z (pos 0) (side_slack pair.now (step_at sides.now k))) (length sides.now)) }
-    ensures none { IfNone result
-        (list_all (λ side. le_z (pos 0) (side_slack pair.now side)) sides.now ≡ true) }
-{
-    sides.iter().position(|side| !side_holds(side, pair))
-}
-
 // 22: the lowest strength row that fails, which is one of the lowest pair that has one. For speed a loop with nothing
 // else in it asks of each pair whether one fails, and the search only which.
 fn strengths_check(field: &Field) -> Outcome
@@ -73,13 +56,13 @@ fn strengths_check(field: &Field) -> Outcome
         (strengths_phase (strength_rows field.now.mesh.mesh.numbers.now) (at field.now.stresses.now)
         field.now.l field.now.n) }
 {
-    let sides = field.polygon.sides();
+    let sides = field.mesh.mesh.sizes.sides;
     for a in 0..field.mesh.pairs.len() {
         if field.pair_holds(a) {
             continue;
         }
-        if let Some(k) = first_side(sides, &field.pair_numbers(a)) {
-            let row = strength_number(a, sides.len(), k);
+        if let Some(k) = field.first_row(a) {
+            let row = strength_number(a, sides, k);
             return Err(Reason::Strength.at(Place::Row(row)));
         }
     }

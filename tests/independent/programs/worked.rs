@@ -58,13 +58,30 @@ fn thirds(dead: i64, live: i64, l: i64) -> Sheet {
     sheet
 }
 
+/// The worked sheet with a soil of kind 1 (document 02, N14): the only one, or a second that no element
+/// has. The first carries 15.5, and so do its multipliers allow; the lower load reads none all the same.
+fn bedded(soils: i64) -> Sheet {
+    let mut sheet = loaded(15, -15);
+    sheet.mesh[0][2] = soils;
+    let line = vec![0, 1, 1, 10, 0, 0, 0, 0, 1, 6];
+    if soils == 2 {
+        sheet.mesh.insert(2, line);
+        return sheet;
+    }
+    sheet.mesh[1] = line;
+    sheet.claim[6][0] = 24;
+    sheet.claim[7][2] = -24;
+    sheet.claim[11] = vec![0, 0, 0, 1, 0, 0, 0, 0, 0, 0, 1, 0];
+    sheet
+}
+
 /// Two edges at one node ask λ = -1/3000000 of any field: the foot (169, 0) fixes sy and t, the
 /// side (119, 120) fixes its own normal and shear, and 119·sy - 120·t follows from both.
 fn one_in_three_million() -> Sheet {
     let zeros = " / 0 0 0 0 0 0 0 0 0 0 0 0".repeat(4);
     Sheet {
         mesh: printed(
-            "4 1 1 2 12 0 / 0 1 1 10000 0 0 0 0 / 0 0 / 169 0 / 288 120 / 0 120 / 1 2 3 4 1 / \
+            "4 1 1 2 12 0 / 0 1 1 10000 0 0 0 0 0 0 / 0 0 / 169 0 / 288 120 / 0 120 / 1 2 3 4 1 / \
              1 2 3 -1 1 6000 6600 / 2 3 3 0 0 -6000 6500",
         ),
         table: Lines::new(),
@@ -75,7 +92,10 @@ fn one_in_three_million() -> Sheet {
 }
 
 fn hundred_nodes(nodes: i64) -> Files {
-    let mut mesh = vec![vec![nodes, 81, 1, 0, 12, 0], vec![0, 1, 1, 10, 0, 0, 0, 0]];
+    let mut mesh = vec![
+        vec![nodes, 81, 1, 0, 12, 0],
+        vec![0, 1, 1, 10, 0, 0, 0, 0, 0, 0],
+    ];
     mesh.extend((0..nodes).map(|node| vec![node % 10, node / 10]));
     let corner = |e: i64| e / 9 * 10 + e % 9 + 1;
     mesh.extend(
@@ -116,6 +136,8 @@ fn main() {
     show_decimals("2/3", &thirds(0, 30, 2));
     show_decimals("-1/3", &thirds(40, 60, -1));
     show_decimals("-1/3000000", &one_in_three_million());
+    show_sheet("bedded clay", &bedded(1));
+    show_sheet("bedded clay, listed only", &bedded(2));
     show_sizes("sizes", &worked);
     show_sizes("sizes of an empty mesh", &empty.files());
     show("-1 decimals", &worked, -1, 113);

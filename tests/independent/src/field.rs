@@ -2,8 +2,8 @@
 //! Every sum fits 64 bits: the largest right side, of an edge, stays below 2.1e18.
 
 use crate::claim::Field;
-use crate::mesh::{Element, Mesh, Pair};
-use crate::polygon::Side;
+use crate::mesh::{Element, Mesh};
+use crate::strength_rows::Row;
 use crate::{refuse, Refusal};
 
 /// The coefficients of an element's balance rows at its corners, y[i+1]-y[i-1] and x[i-1]-x[i+1],
@@ -82,38 +82,11 @@ fn check_jumps(mesh: &Mesh, field: &Field) -> Result<(), Refusal> {
     Ok(())
 }
 
-/// The strength rows of one pair of node and soil with one field.
-struct Strength {
-    /// r·h·(sx - sy), r·h·2t, and 2qCn - p(sx + sy).
-    difference: i64,
-    shear: i64,
-    radius: i64,
-}
-
-impl Strength {
-    fn new(mesh: &Mesh, field: &Field, pair: &Pair) -> Self {
-        let soil = &mesh.soils[pair.soil];
-        let [sx, sy, t] = field.stresses[pair.node];
-        let scale = mesh.polygon.radius * soil.h;
-        Strength {
-            difference: scale * (sx - sy),
-            shear: scale * 2 * t,
-            radius: 2 * soil.q * soil.cohesion * field.n - soil.p * (sx + sy),
-        }
-    }
-
-    /// Right side minus left side of the row of a polygon side.
-    fn slack(&self, side: &Side) -> i64 {
-        side.cross * self.radius - side.step[1] * self.difference + side.step[0] * self.shear
-    }
-}
-
 fn check_strength(mesh: &Mesh, field: &Field) -> Result<(), Refusal> {
-    let sides = mesh.polygon.sides;
     for (k, pair) in mesh.pairs.iter().enumerate() {
-        let strength = Strength::new(mesh, field, pair);
-        if let Some(side) = sides.iter().position(|side| strength.slack(side) < 0) {
-            return refuse(22, k * sides.len() + side + 1);
+        let (rows, stress) = (&mesh.strength[pair.soil], field.stresses[pair.node]);
+        if let Some(row) = rows.iter().position(|row| row.slack(stress, field.n) < 0) {
+            return refuse(22, k * rows.len() + row + 1);
         }
     }
     Ok(())
@@ -121,12 +94,16 @@ fn check_strength(mesh: &Mesh, field: &Field) -> Result<(), Refusal> {
 
 /// Strength rows with a multiplier above 0 and a left side below the right.
 pub fn open_rows(mesh: &Mesh, field: &Field, multipliers: &[i64]) -> u64 {
-    let sides = mesh.polygon.sides;
+    let lines = multipliers.chunks_exact(mesh.polygon.sides.len());
     let mut open = 0;
-    for (pair, line) in mesh.pairs.iter().zip(multipliers.chunks_exact(sides.len())) {
-        let strength = Strength::new(mesh, field, pair);
-        let is_open = |(side, &y): &(&Side, &i64)| y > 0 && strength.slack(side) > 0;
-        open += sides.iter().zip(line).filter(is_open).count() as u64;
+    for (pair, line) in mesh.pairs.iter().zip(lines) {
+        let stress = field.stresses[pair.node];
+        let is_open = |(row, &y): &(&Row, &i64)| y > 0 && row.slack(stress, field.n) > 0;
+        open += mesh.strength[pair.soil]
+            .iter()
+            .zip(line)
+            .filter(is_open)
+            .count() as u64;
     }
     open
 }

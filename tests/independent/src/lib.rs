@@ -16,6 +16,7 @@ pub mod shape;
 pub mod sheet;
 pub mod sizes;
 pub mod strength;
+pub mod strength_rows;
 pub mod table;
 
 pub use book::{book_ask, book_commit, Book, BookAnswer};
@@ -50,6 +51,8 @@ pub struct Load {
 /// What an accepted claim says; a part that the claim lacks is `None`.
 #[derive(Clone, Copy, Debug, PartialEq, Eq)]
 pub struct Accepted {
+    /// The claim has a field; its load may be untold all the same.
+    pub has_field: bool,
     pub carried: Option<Load>,
     pub limit: Option<Load>,
     pub open_rows: Option<u64>,
@@ -76,11 +79,13 @@ fn judge_claim(mesh: &Mesh, claim: &Claim) -> Verdict {
         (Some(f), Some(y)) => Some(field::open_rows(mesh, f, &y.strength)),
         _ => None,
     };
-    let carried = claim.field.as_ref().map(|f| Load {
+    let told = claim.field.as_ref().filter(|_| mesh.tells_carried());
+    let carried = told.map(|f| Load {
         numerator: f.l,
         denominator: f.n,
     });
     Ok(Accepted {
+        has_field: claim.field.is_some(),
         carried,
         limit,
         open_rows,
@@ -155,7 +160,7 @@ pub fn check_numbers(mesh: &[i64], table: &[i64], claim: &[i64]) -> Numbers {
             let carried = accepted.carried.unwrap_or(absent);
             let limit = accepted.limit.unwrap_or(absent);
             Numbers {
-                field: accepted.carried.is_some() as u32,
+                field: accepted.has_field as u32,
                 multipliers: accepted.limit.is_some() as u32,
                 l: carried.numerator,
                 n: carried.denominator,

@@ -2,6 +2,7 @@
 
 use crate::lines::Lines;
 use crate::polygon::Polygon;
+use crate::strength_rows::{of_soil, Row};
 use crate::table::{self, Heights};
 use crate::{refuse, shape, Refusal};
 
@@ -9,9 +10,13 @@ pub struct Soil {
     pub p: i64,
     pub q: i64,
     pub h: i64,
+    /// C, or ch along the beds where the ground is stronger one way.
     pub cohesion: i64,
     pub dead: [i64; 2],
     pub live: [i64; 2],
+    /// Kind 1: stronger one way, with cv across the beds (document 02, N14).
+    pub is_directed: bool,
+    pub cohesion_across: i64,
 }
 
 /// An element as its line has it; a soil 0 is left to the table (document 02, N8).
@@ -88,6 +93,8 @@ pub struct Pair {
 pub struct Mesh {
     pub polygon: Polygon,
     pub soils: Vec<Soil>,
+    /// The strength rows of each soil.
+    pub strength: Vec<Vec<Row>>,
     pub nodes: Vec<[i64; 2]>,
     pub elements: Vec<Element>,
     pub edges: Vec<Edge>,
@@ -125,7 +132,8 @@ impl Mesh {
         };
         let [nodes, elements, soils, edges, _, jumps] = header.map(|count| count as usize);
         let has_table = !table.at_end();
-        let soils = reader.group(soils, Reader::soil)?;
+        let with_kinds = header[4] != 108;
+        let soils = reader.group(soils, |r| r.soil(with_kinds))?;
         let nodes = reader.group(nodes, Reader::node)?;
         let elements =
             reader.group(elements, |r| r.element(nodes.len(), soils.len(), has_table))?;
@@ -138,6 +146,7 @@ impl Mesh {
         let heights = table::read(&mut table, soils.len(), &nodes)?;
         let filled = |line: &ElementLine| line.filled(&nodes, heights.as_ref());
         let mut mesh = Mesh {
+            strength: soils.iter().map(|soil| of_soil(soil, &polygon)).collect(),
             polygon,
             soils,
             elements: elements.iter().map(filled).collect(),
@@ -148,6 +157,11 @@ impl Mesh {
         };
         mesh.pairs = shape::check(&mesh)?;
         Ok(mesh)
+    }
+
+    /// No carried load is told where a soil of kind 1 is listed, used or not.
+    pub fn tells_carried(&self) -> bool {
+        !self.soils.iter().any(|soil| soil.is_directed)
     }
 
     /// The line of the first edge.
@@ -216,12 +230,16 @@ impl<L: Lines> Reader<'_, L> {
         (0..count).map(|_| one(self)).collect()
     }
 
-    fn soil(&mut self) -> Result<Soil, Refusal> {
-        let [p, q, h, cohesion, dead_x, dead_y, live_x, live_y] = self.line()?;
+    /// A soil; kind 1 only where the polygon has it.
+    fn soil(&mut self, with_kinds: bool) -> Result<Soil, Refusal> {
+        let line = self.line()?;
+        let [p, q, h, cohesion, dead_x, dead_y, live_x, live_y, kind, cohesion_across] = line;
         let limits = within(p, 0, 1000)
             && within(q, 1, 1000)
             && within(h, 1, 1000)
             && within(cohesion, 0, 10_000)
+            && within(kind, 0, i64::from(with_kinds))
+            && within(cohesion_across, 0, 10_000)
             && all_within(&[dead_x, dead_y, live_x, live_y], 1000);
         if !limits {
             return self.refuse(2);
@@ -236,6 +254,8 @@ impl<L: Lines> Reader<'_, L> {
             cohesion,
             dead: [dead_x, dead_y],
             live: [live_x, live_y],
+            is_directed: kind == 1,
+            cohesion_across,
         })
     }
 

@@ -102,22 +102,17 @@ impl Sums {
     }
 
     fn add_strength(&mut self, mesh: &Mesh, multipliers: &Multipliers) {
-        let sides = mesh.polygon.sides;
-        let lines = multipliers.strength.chunks_exact(sides.len());
+        let lines = multipliers.strength.chunks_exact(mesh.polygon.sides.len());
         for (pair, line) in mesh.pairs.iter().zip(lines) {
-            let (mut across, mut along, mut cross) = (0, 0, 0);
-            for (&y, side) in line.iter().zip(sides) {
-                across += y * side.step[1];
-                along += y * side.step[0];
-                cross += y * side.cross;
-            }
-            let soil = &mesh.soils[pair.soil];
-            let scale = mesh.polygon.radius * soil.h;
             let column = &mut self.columns[pair.node];
-            column[0] += scale * across + soil.p * cross;
-            column[1] += soil.p * cross - scale * across;
-            column[2] -= 2 * scale * along;
-            self.w += i128::from(cross * 2 * soil.q * soil.cohesion);
+            let mut right = 0;
+            for (&y, row) in line.iter().zip(&mesh.strength[pair.soil]) {
+                for (sum, coefficient) in column.iter_mut().zip(row.coefficients) {
+                    *sum += y * coefficient;
+                }
+                right += y * row.right;
+            }
+            self.w += i128::from(right);
         }
     }
 }

@@ -4,6 +4,8 @@
 /// A side from corner (a, b) to the next, (c, d).
 #[derive(Clone, Copy)]
 pub struct Side {
+    /// a and b.
+    pub from: [i64; 2],
     /// c - a and d - b.
     pub step: [i64; 2],
     /// ad - bc.
@@ -43,11 +45,22 @@ const fn quadrant(radius: i64) -> ([(i64, i64); 28], usize) {
     (corners, count)
 }
 
+/// By so many right angles.
+const fn turned([x, y]: [i64; 2], quarters: usize) -> [i64; 2] {
+    match quarters {
+        0 => [x, y],
+        1 => [-y, x],
+        2 => [-x, -y],
+        _ => [y, -x],
+    }
+}
+
 /// All sides; each quadrant is the one before, turned.
 const fn sides<const N: usize>(radius: i64) -> [Side; N] {
     let (corners, count) = quadrant(radius);
     assert!(N == 4 * (count - 1));
     let mut all = [Side {
+        from: [0, 0],
         step: [0, 0],
         cross: 0,
     }; N];
@@ -55,14 +68,10 @@ const fn sides<const N: usize>(radius: i64) -> [Side; N] {
     while k < N {
         let (a, b) = corners[k % (N / 4)];
         let (c, d) = corners[k % (N / 4) + 1];
-        let step = match k / (N / 4) {
-            0 => [c - a, d - b],
-            1 => [b - d, c - a],
-            2 => [a - c, b - d],
-            _ => [d - b, a - c],
-        };
+        let quarters = k / (N / 4);
         all[k] = Side {
-            step,
+            from: turned([a, b], quarters),
+            step: turned([c - a, d - b], quarters),
             cross: a * d - b * c,
         };
         k += 1;

@@ -41,12 +41,8 @@ pub fn at_random(tally: &mut Tally, random: &mut Random) {
     let (mut fields, mut limits) = (Vec::new(), Vec::new());
     for claim in &claims {
         if let Ok(accepted) = judge(claim) {
-            fields.extend(
-                accepted
-                    .carried
-                    .filter(|load| load.denominator <= 50)
-                    .map(|_| claim),
-            );
+            // Their loads count where they aren't told, too.
+            fields.extend((accepted.has_field && claim[0][2] <= 50).then_some(claim));
             limits.extend(accepted.limit);
         }
     }

@@ -128,10 +128,28 @@ pub fn by_hand(tally: &mut Tally) {
         0,
         book(Some((20, 1)), None, 1),
     );
+    bedded_by_hand(tally, &worked);
     for before in unsound() {
         for files in [&good, &beyond, &broken] {
             expect(tally, files, before, 48, 0, before);
         }
+    }
+}
+
+/// "A book takes no carried load from such a mesh" (document 02, N14): the worked sheet with a bedded
+/// soil that no element has, with both parts and with its field alone.
+fn bedded_by_hand(tally: &mut Tally, worked: &Sheet) {
+    let listed = [
+        Change::Mesh(1, 3, 2),
+        Change::MeshInsert(3, &[0, 1, 1, 10, 0, 0, 0, 0, 1, 6]),
+    ];
+    let both = changed(worked, &listed);
+    let field = changed(&both, &[Change::NoMultipliers, Change::Claim(1, 2, 0)]).files();
+    let both = both.files();
+    for lower in [None, Some((-21, 1)), Some((21, 1))] {
+        let before = book(lower, Some((21, 1)), 4);
+        expect(tally, &both, before, 0, 0, book(lower, Some((600, 30)), 5));
+        expect(tally, &field, before, 0, 0, book(lower, Some((21, 1)), 5));
     }
 }
 

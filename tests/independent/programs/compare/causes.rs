@@ -2,6 +2,7 @@
 //! The answers were worked out by hand from documents 01 and 02.
 
 mod base;
+mod beds;
 mod jumps;
 mod layers;
 mod overlaps;
@@ -48,6 +49,7 @@ pub fn tables() -> Vec<Table> {
     all.extend(layers::tables());
     all.extend(sides::tables());
     all.extend(overlaps::tables());
+    all.push(beds::table());
     all
 }
 

@@ -72,7 +72,7 @@ fn groups(mesh: &Lines) -> Option<[usize; 6]> {
     };
     let mut ends = [1usize; 6];
     let groups = [
-        (soils, 8),
+        (soils, 10),
         (nodes, 2),
         (elements, 5),
         (edges, 7),
@@ -99,8 +99,9 @@ fn shape(random: &mut Random, mesh: &mut Lines) {
     let node = nodes + random.below(elements - nodes);
     let edge = edges + random.below((jumps - edges).max(1));
     let corner = random.below(4);
-    match random.below(18) {
+    match random.below(19) {
         0 => mesh[soil][random.below(3)] += 1,
+        18 => mesh[soil][8] = 1 - mesh[soil][8],
         1 => mesh[element][corner] = near_limit(random),
         2 => mesh[element][4] = near_limit(random),
         3 => mesh[element][..4].reverse(),

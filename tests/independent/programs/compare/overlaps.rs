@@ -63,7 +63,7 @@ fn mesh(places: &[Place], outlines: &[Vec<usize>]) -> Lines {
         .collect();
     let number = |place: usize| 1 + used.iter().position(|&k| k == place).expect("a node") as i64;
     let mut mesh = vec![vec![used.len() as i64, outlines.len() as i64, 1, 0, 12, 0]];
-    mesh.push(vec![0, 1, 1, 10, 0, 0, 0, 0]);
+    mesh.push(vec![0, 1, 1, 10, 0, 0, 0, 0, 0, 0]);
     mesh.extend(used.iter().map(|&place| places[place].to_vec()));
     for outline in outlines {
         let mut line: Vec<i64> = outline.iter().map(|&place| number(place)).collect();

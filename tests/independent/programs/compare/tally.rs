@@ -234,10 +234,16 @@ impl Tally {
         println!("disagreements: {}", self.disagreements);
     }
 
-    /// Every number came, and the two agreed each time.
+    /// Every number and every call came, and the two agreed each time.
     pub fn good(&self) -> bool {
         let in_files = |n: &u32| self.files.contains_key(n);
+        let every_call = self.runs.keys().any(|&reports| reports > 2)
+            && self.lengths > 0
+            && self.blends > 0
+            && [0, 22, 48].iter().all(|n| self.books.contains_key(n))
+            && [0, 49].iter().all(|n| self.strengths.contains_key(n));
         self.disagreements == 0
+            && every_call
             && NUMBERS
                 .iter()
                 .all(|n| in_files(n) && self.lists.contains_key(n))

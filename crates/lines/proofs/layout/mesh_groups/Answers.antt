@@ -18,7 +18,7 @@ use Rattle.lines.proofs.layout.mesh_groups.Goals as goal
 -- the groups with this rule of elements
 abbrev listed : Sizes → Rule → List Code.Group
 listed s element =
-    record { kind = Ruled Soil; lines = s.soils; columns = 8 }
+    record { kind = Ruled Soil; lines = s.soils; columns = 10 }
     ∷ record { kind = Even (pos 0) (pos 1000); lines = s.nodes; columns = 2 }
     ∷ record { kind = Ruled element; lines = s.elements; columns = 5 }
     ∷ record { kind = Ruled Edge; lines = s.edges; columns = 7 }

@@ -25,6 +25,7 @@ invariant_of-result-3 c =
       q_fits = Is-Within (soil_read k c.requires (omega arith) c.entry-2.ensures) (omega arith);
       h_fits = Is-Within (soil_read k c.requires (omega arith) c.entry-3.ensures) (omega arith);
       cohesion_fits = Is-Within (soil_read k c.requires (omega arith) c.entry-4.ensures) (omega arith);
+      across_fits = Is-Within (soil_read k c.requires (omega arith) c.entry-9.ensures) (omega arith);
     }
 
 pub returns : goal.returns
@@ -38,4 +39,5 @@ returns c =
       dead_y = (soil_read k c.requires (omega arith) c.entry-6.ensures).same;
       live_x = (soil_read k c.requires (omega arith) c.entry-7.ensures).same;
       live_y = (soil_read k c.requires (omega arith) c.entry-8.ensures).same;
+      across = (soil_read k c.requires (omega arith) c.entry-9.ensures).same;
     }

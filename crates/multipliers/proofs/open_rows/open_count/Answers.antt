@@ -4,26 +4,15 @@ use Prim.Native.Nat.{◌<◌}
 use native.Mathlib.Omega.{arith}
 use Rattle.scope.specs.Rows.{pair_count}
 use Rattle.mesh.proofs.PairLaws.{pairs_counted}
-use Rattle.criterion.proofs.StrengthLaws.{its_sides}
-use Rattle.multipliers.proofs.PairLaws.{pair_as_many, pair_few}
-use Rattle.multipliers.proofs.OpenLaws.{
-  no_pair_open,
-  few_sides_open,
-  one_more_pair,
-  count_small,
-  all_pairs_open,
-  state_as,
-}
+use Rattle.multipliers.proofs.OpenLaws.{no_pair_open, few_open, one_more_pair, count_small, all_pairs_open}
 use Rattle.multipliers.proofs.open_rows.open_count.Goals as goal
 
 pub loop-a-init : goal.loop-a-init
 loop-a-init c = sym (no_pair_open _ _ _ _ _)
 
-pub pair_numbers-pair-requires : goal.pair_numbers-pair-requires
-pair_numbers-pair-requires c = rw c.requires (omega (arith, pairs_counted _ _ c.args.rows.now.mesh.paired))
-
-pub of_pair-requires : goal.of_pair-requires
-of_pair-requires c = omega (arith, pairs_counted _ _ c.args.rows.now.mesh.paired)
+pub open_in_pair-count-requires : goal.open_in_pair-count-requires
+open_in_pair-count-requires c =
+    record { same_mesh = c.requires; there = omega (arith, pairs_counted _ _ c.args.rows.now.mesh.paired) }
 
 pub overflow_add-count : goal.overflow_add-count
 overflow_add-count c =
@@ -31,22 +20,11 @@ overflow_add-count c =
     let counts = rows.mesh.mesh.sized.facts.counts in
     let there : c.loop-a.a < pair_count rows.mesh.mesh.numbers.now =
     omega (arith, pairs_counted _ _ rows.mesh.paired) in
-    let sides = its_sides _ rows.polygon.now rows.its_polygon c.sides.ensures in
-    let as_many = pair_as_many there rows.of_each_row c.of_pair.ensures counts sides in
-    let few = pair_few there rows.of_each_row c.of_pair.ensures counts sides in
     let small = count_small _ _ _ _ _ counts rows.mesh.few_with_sides c.loop-a.a (omega (arith, there)) c.loop-a.invariant in
-    record { fits = omega (arith, small, few_sides_open _ _ _ as_many few c.pair_open-count.ensures) }
+    record { fits = omega (arith, small, few_open _ _ _ _ _ counts c.loop-a.a c.open_in_pair-count.ensures) }
 
 pub loop-a-preserved : goal.loop-a-preserved
-loop-a-preserved c =
-    let rows = c.args.rows.now in
-    let counts = rows.mesh.mesh.sized.facts.counts in
-    let there : c.loop-a.a < pair_count rows.mesh.mesh.numbers.now =
-    omega (arith, pairs_counted _ _ rows.mesh.paired) in
-    let sides = its_sides _ rows.polygon.now rows.its_polygon c.sides.ensures in
-    let state = state_as c.requires c.pair_numbers-pair.ensures in
-    one_more_pair _ _ _ _ _ c.loop-a.a _ _ there counts rows.of_each_row c.of_pair.ensures state sides
-    c.pair_open-count.ensures c.loop-a.invariant
+loop-a-preserved c = one_more_pair _ _ _ _ _ c.loop-a.a c.open_in_pair-count.ensures c.loop-a.invariant
 
 pub returns : goal.returns
 returns c =

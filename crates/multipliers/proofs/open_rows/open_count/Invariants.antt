@@ -2,7 +2,7 @@
 use mathlib.Core.Path.{◌≡◌}
 use Rattle.scope.specs.Columns.{at}
 use Rattle.multipliers.specs.MultiplierContracts.{count_below, pair_first}
-use Rattle.multipliers.proofs.OpenLaws.{open_test}
+use Rattle.multipliers.specs.OpenContracts.{open_test}
 use Rattle.multipliers.proofs.open_rows.open_count.Given as goal
 
 abbrev pub invariant-loop-a : goal.invariant-loop-a

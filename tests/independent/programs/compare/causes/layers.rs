@@ -11,7 +11,7 @@ use independent::sheet::{printed, Sheet};
 pub fn tower() -> Sheet {
     Sheet {
         mesh: printed(
-            "6 2 2 1 12 0 / 0 1 1 10 0 0 0 0 / 0 1 1 20 0 0 0 0 / \
+            "6 2 2 1 12 0 / 0 1 1 10 0 0 0 0 0 0 / 0 1 1 20 0 0 0 0 0 0 / \
              0 0 / 1 0 / 1 1 / 0 1 / 1 2 / 0 2 / 1 2 3 4 0 / 4 3 5 6 0 / 5 6 3 0 0 -1 0",
         ),
         table: printed("1 3 2 / -1 1 1"),
@@ -110,7 +110,7 @@ const TOWER: &[Listed] = &[
 fn slope() -> Sheet {
     Sheet {
         mesh: printed(
-            "4 2 2 1 12 0 / 0 1 1 10 0 0 0 0 / 0 1 1 20 0 0 0 0 / \
+            "4 2 2 1 12 0 / 0 1 1 10 0 0 0 0 0 0 / 0 1 1 20 0 0 0 0 0 0 / \
              0 0 / 2 0 / 0 2 / 2 2 / 1 2 3 3 0 / 2 4 3 3 0 / 4 3 3 0 0 -1 0",
         ),
         table: printed("0 1 1 / 1 3 2"),

@@ -9,7 +9,7 @@ use independent::sheet::{printed, Lines, Sheet};
 fn apart(outlines: &[&[[i64; 2]]]) -> Sheet {
     let nodes: usize = outlines.iter().map(|outline| outline.len()).sum();
     let mut mesh: Lines = vec![vec![nodes as i64, outlines.len() as i64, 1, 0, 12, 0]];
-    mesh.extend(printed("0 1 1 10 0 0 0 0"));
+    mesh.extend(printed("0 1 1 10 0 0 0 0 0 0"));
     mesh.extend(
         outlines
             .iter()

@@ -11,7 +11,7 @@ fn meeting() -> Sheet {
     let field = " / 0 -20 0".repeat(6);
     Sheet {
         mesh: printed(
-            "6 2 2 4 12 0 / 0 1 1 10 0 0 0 0 / 0 1 1 20 0 0 0 0 / \
+            "6 2 2 4 12 0 / 0 1 1 10 0 0 0 0 0 0 / 0 1 1 20 0 0 0 0 0 0 / \
              0 0 / 1 0 / 2 0 / 0 1 / 1 1 / 2 1 / 1 2 5 4 2 / 2 3 6 5 1 / \
              6 5 3 0 0 -1 0 / 5 4 3 0 0 -1 0 / 3 6 3 0 0 0 0 / 4 1 3 0 0 0 0",
         ),
@@ -50,7 +50,7 @@ pub fn strips(soils: &[i64], rows: i64, sides: i64) -> Sheet {
     let (columns, most) = (soils.len() as i64, *soils.iter().max().expect("a column"));
     let across = columns + 1;
     let mut mesh: Lines = vec![vec![across * (rows + 1), columns * rows, most, 0, sides, 0]];
-    mesh.extend((0..most).map(|_| vec![0, 1, 1, 10, 0, 0, 0, 0]));
+    mesh.extend((0..most).map(|_| vec![0, 1, 1, 10, 0, 0, 0, 0, 0, 0]));
     mesh.extend((0..across * (rows + 1)).map(|k| vec![k % across, k / across]));
     for e in 0..columns * rows {
         let corner = e / columns * across + e % columns + 1;

@@ -16,7 +16,7 @@ returns-in_err-demand c =
     first_refuses c.from_residual.result c.in_err-demand.field-0.0 (rules_hold g.rules line.numbers.now a.place)
     c.from_residual.ensures.1 c.in_err-demand.ensures
     (line_limits (file_numbers a.file) g line.numbers.now a.place (line.whole ∙ sym (width_is line.rule a.sizes 0))
-    (sym (c.within_limits.ensures a.sizes)))
+    (sym c.within_limits.ensures))
 
 pub returns : goal.returns
 unfolding file_numbers
@@ -25,5 +25,5 @@ returns c =
     let line = a.self.now in
     second_decides c.in_ok-demand.ensures
     (line_limits (file_numbers a.file) (ruled_lines line.rule a.sizes 0) line.numbers.now a.place
-    (line.whole ∙ sym (width_is line.rule a.sizes 0)) (sym (c.within_limits.ensures a.sizes)))
+    (line.whole ∙ sym (width_is line.rule a.sizes 0)) (sym c.within_limits.ensures))
     c.rule_check.ensures

@@ -37,7 +37,7 @@ bounds-s-2 c = let w = wide Soil c.in-Soil.is c.args.self.now.whole in omega ari
 angle : {rule : Rule} (z : Sizes) (s : List ℤ) → rule ≡ Soil → length s ≡ soil_columns
     → all_within (ruled_lines rule z 0).limits s ≡ true → SmallAngle s
 unfolding ruled_lines
-angle z s e w h = small_angle s (omega arith) (rw e at h)
+angle z s e w h = small_angle z.sides s (omega arith) (rw e at h)
 
 pub right_angle-right-requires : goal.right_angle-right-requires
 right_angle-right-requires c =

@@ -19,7 +19,9 @@ use Rattle.lines.proofs.LineLaws.{all_free, edge_limits, layer_limits, wide}
 use Rattle.lines.proofs.line_tests.RuledLine.within_limits.Goals as goal
 
 pub limits_hold-requires : goal.limits_hold-requires
-limits_hold-requires c = let w = wide Soil c.in-Soil.is c.args.self.now.whole in record { least = sym w; most = sym w }
+limits_hold-requires c =
+    let w = wide Soil c.in-Soil.is c.args.self.now.whole in
+    record { least = sym w; most = rw c.soil_most.ensures (sym w) }
 
 pub slice_bounds-limits_hold-count : goal.slice_bounds-limits_hold-count
 slice_bounds-limits_hold-count c = let w = wide Edge c.in-Edge.is c.args.self.now.whole in omega arith
@@ -46,18 +48,19 @@ limits_hold-requires-in-Layer c =
 
 pub returns-in-Soil : goal.returns-in-Soil
 unfolding ruled_lines soil_lines up_to ranges
-returns-in-Soil c z = rw c.in-Soil.is c.limits_hold.ensures
+returns-in-Soil c = rw c.in-Soil.is (rw c.soil_most.ensures at c.limits_hold.ensures)
 
 pub returns-in-Edge : goal.returns-in-Edge
 unfolding ruled_lines edge_lines up_to ranges
-returns-in-Edge c z =
+returns-in-Edge c =
+    let z = c.args.sizes in
     let s = c.args.self.now.numbers.now in
     rw c.in-Edge.is (c.limits_hold-in-Edge.ensures ∙ rw (take_rest s 2) (sym (edge_limits z.nodes s)))
 
 pub returns-in-Layer : goal.returns-in-Layer
 unfolding ruled_lines layer_lines up_to ranges
-returns-in-Layer c z = rw c.in-Layer.is (c.limits_hold-in-Layer.ensures
-    ∙ sym (layer_limits z.soils c.args.self.now.numbers.now))
+returns-in-Layer c = rw c.in-Layer.is (c.limits_hold-in-Layer.ensures
+    ∙ sym (layer_limits c.args.sizes.soils c.args.self.now.numbers.now))
 
 no_limits : {rule : Rule} (z : Sizes) (s : List ℤ) → (rule ≡ Element) ⊎ ((rule ≡ Tabled) ⊎ (rule ≡ Jump))
     → true ≡ all_within (ruled_lines rule z 0).limits s
@@ -67,4 +70,4 @@ no_limits z s (inr (inl e)) = rw e (sym (all_free element_columns s))
 no_limits z s (inr (inr e)) = rw e (sym (all_free jump_columns s))
 
 pub returns-in-Element : goal.returns-in-Element
-returns-in-Element c z = no_limits z c.args.self.now.numbers.now c.in-Element.is
+returns-in-Element c = no_limits c.args.sizes c.args.self.now.numbers.now c.in-Element.is

@@ -1,0 +1,2 @@
+-- Contracts between functions, nothing that a reader must believe: the rows of a soil by direction as numbers.
+pub mod PlaneContracts

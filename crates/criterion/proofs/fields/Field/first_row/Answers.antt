@@ -1,0 +1,34 @@
+-- `first_row` meets its contract: the first of the pair's sides, or of its planes, whose row fails.
+use mathlib.Core.Path.{sym}
+use Rattle.criterion.proofs.StrengthLaws.{its_sides, first_side_is, no_side_is, first_plane_is, no_plane_is}
+use Rattle.criterion.proofs.fields.Field.first_row.Goals as goal
+
+pub returns-in-AsBefore : goal.returns-in-AsBefore
+returns-in-AsBefore c =
+    let field = c.args.self.now in
+    let counts = field.mesh.mesh.sized.facts.counts in
+    let sides = its_sides _ field.polygon.now field.its_polygon c.sides.ensures in
+    let by_sides = sym c.in-AsBefore.ensures in
+    let state = c.pair_numbers.ensures in
+    let first = c.first_side in
+    record {
+      found = first_side_is _ _ _ _ counts sides c.requires state by_sides first.result first.ensures.found;
+      none = no_side_is _ _ _ _ counts sides c.requires state by_sides first.result first.ensures.none;
+    }
+
+pub pair_planes-requires : goal.pair_planes-requires
+pair_planes-requires c = record { there = c.requires; bedded = sym c.in-ByDirection.ensures }
+
+pub returns-in-ByDirection : goal.returns-in-ByDirection
+returns-in-ByDirection c =
+    let field = c.args.self.now in
+    let counts = field.mesh.mesh.sized.facts.counts in
+    let bedded = sym c.in-ByDirection.ensures in
+    let planes = c.pair_planes.ensures in
+    let state = c.stresses_at.ensures in
+    let found = rw c.deref.ensures.0 at c.first_plane.ensures.found in
+    let none = rw c.deref.ensures.0 at c.first_plane.ensures.none in
+    record {
+      found = first_plane_is _ _ _ _ counts c.requires planes state bedded c.first_plane.result found;
+      none = no_plane_is _ _ _ _ counts c.requires planes state bedded c.first_plane.result none;
+    }
