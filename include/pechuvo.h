@@ -1,8 +1,9 @@
 /* The check of load factor certificates on quadrilateral soil meshes, for C.
 
    One archive has every call: target/staticlib/libpechuvo.a, which tests/archive builds from
-   crates/pechuvo_c. Of other libraries it takes memcpy, memmove and memset, and the compiler's division
-   in 128 bits (__udivti3), which gcc and clang link by themselves.
+   crates/pechuvo_c; 'make install' puts it, a shared library and this header where a compiler finds
+   them. Of other libraries it takes memcpy, memmove and memset, and the compiler's division in 128 bits
+   (__udivti3), which gcc and clang link by themselves.
 
    The calls take every input, whatever its bytes or numbers, and answer in bounded time. They
    read only what is lent, keep nothing from call to call, allocate nothing and write nothing but
@@ -94,11 +95,124 @@
 extern "C" {
 #endif
 
+/* The version of this header and of the archive that goes with it; the shared library's name has its first figure. */
+#define PECHUVO_VERSION_MAJOR 1
+#define PECHUVO_VERSION_MINOR 0
+#define PECHUVO_VERSION_PATCH 0
+#define PECHUVO_VERSION "1.0.0"
+
 /* The bytes of a report line. */
 #define PECHUVO_REPORT 113
 
+/* The most decimals, and those that pechuvo_check_run writes. */
+#define PECHUVO_MOST_DECIMALS 7
+#define PECHUVO_USUAL_DECIMALS 6
+
+/* The most of each that passes. With 108 sides, the most there are, fewer nodes and pairs pass. */
+#define PECHUVO_MOST_NODES 100
+#define PECHUVO_MOST_ELEMENTS 100
+#define PECHUVO_MOST_SOILS 16
+#define PECHUVO_MOST_EDGES 60
+#define PECHUVO_MOST_JUMPS 60
+#define PECHUVO_MOST_PAIRS 100
+#define PECHUVO_MOST_LAYERS 32
+#define PECHUVO_MOST_SIDES 108
+#define PECHUVO_MOST_NODES_WITH_108 40
+#define PECHUVO_MOST_PAIRS_WITH_108 40
+
+/* The first line of a table, as a place. */
+#define PECHUVO_TABLE_LINE 1001
+
+/* No mesh, table or claim that is accepted has more numbers, and no such file has more bytes: what follows from the
+   limits above, 12 bytes a number and 1 a line. (A claim has the most with 108 sides.) */
+#define PECHUVO_MOST_MESH_NUMBERS 1526
+#define PECHUVO_MOST_TABLE_NUMBERS 96
+#define PECHUVO_MOST_CLAIM_NUMBERS 5124
+#define PECHUVO_MOST_MESH_BYTES 18649
+#define PECHUVO_MOST_TABLE_BYTES 1184
+#define PECHUVO_MOST_CLAIM_BYTES 61789
+
+/* A book with so many commits takes no more. */
+#define PECHUVO_MOST_COMMITS 1000000
+
+/* What is returned as number. */
+enum pechuvo_number {
+  PECHUVO_ACCEPTED = 0,
+  PECHUVO_MESH_FORM = 1,
+  PECHUVO_MESH_LIMIT = 2,
+  PECHUVO_NO_RIGHT_ANGLE = 3,
+  PECHUVO_UNKNOWN_NAME = 4,
+  PECHUVO_NO_LEFT_TURN = 5,
+  PECHUVO_SIDE_TWICE = 6,
+  PECHUVO_NODE_UNUSED = 7,
+  PECHUVO_WRONG_EDGE = 8,
+  PECHUVO_CLAIM_FORM = 11,
+  PECHUVO_CLAIM_LIMIT = 12,
+  PECHUVO_WRONG_PARTS = 13,
+  PECHUVO_EQUALITY_FAILS = 21,
+  PECHUVO_STRENGTH_FAILS = 22,
+  PECHUVO_UNFIXED_MULTIPLIER = 31,
+  PECHUVO_COLUMN_SUM = 32,
+  PECHUVO_LOAD_SUM = 33,
+  PECHUVO_SHORT_BUFFER = 41,
+  PECHUVO_TOO_MANY_PAIRS = 42,
+  PECHUVO_WRONG_DECIMALS = 43,
+  PECHUVO_WRONG_JUMP = 44,
+  PECHUVO_LAYER_MISSING = 45,
+  PECHUVO_WRONG_LAYER = 46,
+  PECHUVO_ELEMENTS_OVERLAP = 47,
+  PECHUVO_BOOK_TAKES_NONE = 48,
+  PECHUVO_NO_NEXT_STRENGTH = 49
+};
+
+/* What a place counts. */
+enum pechuvo_kind {
+  PECHUVO_KIND_NONE,
+  PECHUVO_KIND_LINE,
+  PECHUVO_KIND_HEIGHT,
+  PECHUVO_KIND_ELEMENT,
+  PECHUVO_KIND_NODE,
+  PECHUVO_KIND_ROW,
+  PECHUVO_KIND_COLUMN
+};
+
+/* What the place beside this number counts. */
+static inline enum pechuvo_kind pechuvo_kind_of(uint32_t number) {
+  switch (number) {
+  case PECHUVO_MESH_FORM:
+  case PECHUVO_MESH_LIMIT:
+  case PECHUVO_NO_RIGHT_ANGLE:
+  case PECHUVO_UNKNOWN_NAME:
+  case PECHUVO_WRONG_EDGE:
+  case PECHUVO_CLAIM_FORM:
+  case PECHUVO_CLAIM_LIMIT:
+  case PECHUVO_WRONG_PARTS:
+  case PECHUVO_WRONG_JUMP:
+  case PECHUVO_WRONG_LAYER:
+    return PECHUVO_KIND_LINE;
+  case PECHUVO_LAYER_MISSING:
+    return PECHUVO_KIND_HEIGHT;
+  case PECHUVO_NO_LEFT_TURN:
+  case PECHUVO_SIDE_TWICE:
+  case PECHUVO_ELEMENTS_OVERLAP:
+    return PECHUVO_KIND_ELEMENT;
+  case PECHUVO_NODE_UNUSED:
+  case PECHUVO_TOO_MANY_PAIRS:
+    return PECHUVO_KIND_NODE;
+  case PECHUVO_EQUALITY_FAILS:
+  case PECHUVO_STRENGTH_FAILS:
+  case PECHUVO_UNFIXED_MULTIPLIER:
+    return PECHUVO_KIND_ROW;
+  case PECHUVO_COLUMN_SUM:
+  case PECHUVO_LOAD_SUM:
+    return PECHUVO_KIND_COLUMN;
+  default:
+    return PECHUVO_KIND_NONE;
+  }
+}
+
 struct pechuvo_answer {
-  uint32_t number;
+  uint32_t number; /* of enum pechuvo_number */
   uint32_t place;
 };
 

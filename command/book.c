@@ -1,0 +1,202 @@
+/* pechuvo book FILE ..: a book of the best bracket of the claims for one mesh, kept in a file. */
+#include <inttypes.h>
+#include <stdio.h>
+#include <stdlib.h>
+#include <string.h>
+
+#include "answers.h"
+#include "book_file.h"
+#include "commands.h"
+#include "json.h"
+#include "pechuvo.h"
+#include "say.h"
+#include "whole.h"
+
+/* What is asked of a book, and what is answered. */
+struct session {
+  const char *name;
+  bool commits; /* else asks */
+  bool json;
+  const char *count; /* that the ask saw; NULL where the book's own is meant */
+  int claims;
+  char **claim;
+  struct pechuvo_answer *answers; /* one for each claim */
+};
+
+static void put_json_claims(const struct session *session) {
+  fputs(", \"claims\": [", stdout);
+  for (int k = 0; k < session->claims; k++) {
+    fputs(k == 0 ? "{\"claim\": " : ", {\"claim\": ", stdout);
+    put_json_name(session->claim[k]);
+    fputs(", ", stdout);
+    put_json_answer(session->answers[k], words_of(session->answers[k].number));
+    putchar('}');
+  }
+  putchar(']');
+}
+
+/* The book that is told, as its file has it but for the mesh. */
+static void put_book(const struct session *session, const struct pechuvo_book *book) {
+  char lower[BOUND_TEXT], upper[BOUND_TEXT];
+  lower_text(book, lower);
+  upper_text(book, upper);
+  if (!session->json) {
+    printf("lower %s\nupper %s\ncount %" PRIu64 "\n", lower, upper, book->count);
+    return;
+  }
+  fputs("{\"book\": ", stdout);
+  put_json_name(session->name);
+  put_json_text("lower", lower, "\"");
+  put_json_text("upper", upper, "\"");
+  printf(", \"count\": %" PRIu64, book->count);
+  if (session->claims > 0) {
+    put_json_claims(session);
+  }
+  fputs("}\n", stdout);
+}
+
+static int show(const struct session *session) {
+  struct kept_book kept;
+  if (!read_book(session->name, &kept)) {
+    return FAILED;
+  }
+  put_book(session, &kept.book);
+  return ACCEPTED;
+}
+
+static int make(const struct session *session) {
+  return make_book(session->name) ? show(session) : FAILED;
+}
+
+/* Whether the claims are for the mesh of the book; an empty one is for any. */
+static bool is_same_mesh(const struct session *session, const struct ground *ground, const struct kept_book *kept) {
+  bool same = !kept->mesh_there || kept->mesh == sum_of(ground);
+  if (!same) {
+    complain(session->name, "this book is for another mesh, or for another table with it");
+  }
+  return same;
+}
+
+/* One claim after another, each on the book that the last one left; false where one can't be read. */
+static bool judge_claims(const struct session *session, const struct ground *ground, uint64_t count,
+                         struct pechuvo_book *told) {
+  static struct file claim;
+  for (int k = 0; k < session->claims; k++) {
+    if (!read_file(session->claim[k], &claim)) {
+      return false;
+    }
+    struct pechuvo_book_answer answer =
+        session->commits ? pechuvo_book_commit(*told, k == 0 ? count : told->count, GIVEN(ground->mesh),
+                                               GIVEN(ground->table), GIVEN(claim))
+                         : pechuvo_book_ask(*told, GIVEN(ground->mesh), GIVEN(ground->table), GIVEN(claim));
+    *told = answer.book;
+    session->answers[k] = (struct pechuvo_answer){answer.number, answer.place};
+  }
+  return true;
+}
+
+/* The book that is told and each refusal; the worst of the claims' statuses. */
+static int tell(const struct session *session, const struct ground *ground, const struct pechuvo_book *told) {
+  int status = ACCEPTED;
+  put_book(session, told);
+  for (int k = 0; k < session->claims; k++) {
+    struct pechuvo_answer answer = session->answers[k];
+    status = worse(status, status_of(answer));
+    if (session->json || answer.number == PECHUVO_ACCEPTED) {
+      continue;
+    }
+    if (answer.number == PECHUVO_BOOK_TAKES_NONE) {
+      tell_refusal_of(session->name, 0, answer);
+    } else {
+      tell_refusal(ground, session->claim[k], 0, answer);
+    }
+  }
+  return status;
+}
+
+static int ask(const struct session *session, const struct ground *ground) {
+  struct kept_book kept;
+  if (!read_book(session->name, &kept) || !is_same_mesh(session, ground, &kept) ||
+      !judge_claims(session, ground, 0, &kept.book)) {
+    return FAILED;
+  }
+  return tell(session, ground, &kept.book);
+}
+
+/* The count that is named: the given one, else the one that the book has. */
+static bool named_count(const struct session *session, const struct kept_book *kept, uint64_t *count) {
+  *count = kept->book.count;
+  if (session->count == NULL || read_unsigned(session->count, count)) {
+    return true;
+  }
+  complain(session->count, "--count asks for a whole number that is not below 0");
+  return false;
+}
+
+/* The book is read while no other command may write it, so the count that it has is the count that is named. */
+static bool commit_claims(const struct session *session, const struct ground *ground, struct kept_book *kept) {
+  struct rewriting next;
+  uint64_t count;
+  if (!begin_rewriting(session->name, &next) || !read_book(next.name, kept) ||
+      !is_same_mesh(session, ground, kept) || !named_count(session, kept, &count) ||
+      !judge_claims(session, ground, count, &kept->book)) {
+    give_up_rewriting(&next);
+    return false;
+  }
+  bool accepted = false;
+  for (int k = 0; k < session->claims; k++) {
+    accepted = accepted || session->answers[k].number == PECHUVO_ACCEPTED;
+  }
+  if (!accepted) {
+    give_up_rewriting(&next);
+    return true;
+  }
+  kept->mesh_there = true;
+  kept->mesh = sum_of(ground);
+  return end_rewriting(&next, kept);
+}
+
+static int commit(const struct session *session, const struct ground *ground) {
+  struct kept_book kept;
+  return commit_claims(session, ground, &kept) ? tell(session, ground, &kept.book) : FAILED;
+}
+
+static int take_claims(struct session *session, const struct arguments *given) {
+  static struct ground ground;
+  session->claims = given->operands - 3;
+  session->claim = given->operand + 3;
+  session->answers = calloc((size_t)session->claims, sizeof *session->answers);
+  if (session->answers == NULL) {
+    return complain_of_system(session->name);
+  }
+  int status = FAILED;
+  if (read_ground(given->operand[2], given->table, &ground)) {
+    status = session->commits ? commit(session, &ground) : ask(session, &ground);
+  }
+  free(session->answers);
+  return status;
+}
+
+int book(const struct arguments *given) {
+  const char *action = given->operand[1];
+  struct session session = {.name = given->operand[0], .json = given->json, .count = given->count};
+  session.commits = strcmp(action, "commit") == 0;
+  bool makes = strcmp(action, "new") == 0, shows = strcmp(action, "show") == 0;
+  if (makes || shows) {
+    bool alone = given->operands == 2 && given->table == NULL && given->count == NULL;
+    if (!alone) {
+      return complain(action, "nothing but the book's file goes with it");
+    }
+    return makes ? make(&session) : show(&session);
+  }
+  if (!session.commits && strcmp(action, "ask") != 0) {
+    return complain(action, "a book can be told new, show, ask and commit");
+  }
+  if (given->operands < 4) {
+    return complain(action, "a mesh and a claim are missing");
+  }
+  if (given->count != NULL && (!session.commits || given->operands > 4)) {
+    return complain("--count", "it goes with a commit of one claim");
+  }
+  return take_claims(&session, given);
+}
