@@ -161,16 +161,20 @@ def filled(mesh, layers):
     return mesh._replace(elements=elements)
 
 
-def mesh_of(lines, table):
-    """The mesh that lines hold, in document 01's order: 1 to 4 line by line; then the table, an empty one being
-    none."""
+def things_there(mesh):
+    """The nodes and soils that a line may name."""
+    return {NODE: range(1, len(mesh.nodes) + 1), SOIL: range(1, len(mesh.soils) + 1)}
+
+
+def lined_mesh(lines, with_table):
+    """The mesh that lines hold: 1 to 4 line by line. With a table an element's soil may be 0, here -1: the table's."""
     nodes, elements, soils, edges, sides, jumps = take_line(lines, HEADER, 2)
     if sides == MANY_SIDES and nodes > MOST_NODES_MANY:
         raise Refused(2, 1, "line")
-    there = {NODE: range(1, nodes + 1), SOIL: range(1, soils + 1)}
-    there_or_0 = {**there, SOIL: range(soils + 1)} if table.data else there
     all_soils = [soil_of(lines, sides) for _ in range(soils)]
     all_nodes = [tuple(take_line(lines, NODE_LINE, 2)) for _ in range(nodes)]
+    there = things_there(Mesh(sides, all_soils, all_nodes, [], [], []))
+    there_or_0 = {**there, SOIL: range(soils + 1)} if with_table else there
     all_elements = []
     for _ in range(elements):
         *corner, soil = take_line(lines, ELEMENT_LINE, 2, there_or_0)
@@ -181,12 +185,23 @@ def mesh_of(lines, table):
         all_edges.append(Edge(start - 1, end - 1, fixed, tuple(loads[:2]), tuple(loads[2:])))
     all_jumps = [Jump(*(node - 1 for node in take_line(lines, JUMP_LINE, 2, there))) for _ in range(jumps)]
     lines.end()
-    mesh = Mesh(sides, all_soils, all_nodes, all_elements, all_edges, all_jumps)
+    return Mesh(sides, all_soils, all_nodes, all_elements, all_edges, all_jumps)
+
+
+def heights_of(mesh):
+    """The mesh's heights in quarters, from its lowest node to its highest."""
+    heights = [y for _, y in mesh.nodes]
+    return range(4 * min(heights), 4 * max(heights) + 1)
+
+
+def mesh_of(lines, table):
+    """The mesh that lines hold, in document 01's order: 1 to 4 line by line; then the table, an empty one being
+    none."""
+    mesh = lined_mesh(lines, bool(table.data))
     if not table.data:
         return mesh
-    layers = layers_of(table, there)
-    heights = [y for _, y in all_nodes]
-    judge_layers(layers, range(4 * min(heights), 4 * max(heights) + 1))
+    layers = layers_of(table, things_there(mesh))
+    judge_layers(layers, heights_of(mesh))
     return filled(mesh, layers)
 
 

@@ -1,0 +1,413 @@
+"""Holds tools/explain.py to the archive, to its own figures and to the words that a reader needs."""
+
+import json
+import os
+import shutil
+import subprocess
+import sys
+import tempfile
+import xml.etree.ElementTree
+from fractions import Fraction
+
+HERE = os.path.dirname(os.path.abspath(__file__))
+ROOT = os.path.join(HERE, "..", "..")
+TOOLS, SHEETS = os.path.join(ROOT, "tools"), os.path.join(ROOT, "sheets")
+COMMAND = os.path.join(TOOLS, "explain.py")
+sys.path.insert(0, TOOLS)
+
+import archive
+import drawing
+import explain
+import reasons
+import rows
+
+CALLS = archive.library()
+SVG = "{http://www.w3.org/2000/svg}"
+failures = []
+
+
+def hold(true, words):
+    if not true:
+        failures.append(words)
+
+
+def files_of(folder, name):
+    return reasons.Files(*(rows.read(os.path.join(folder, name + end)) for end in (".mesh", ".table", ".claim")))
+
+
+def sheet(name):
+    return files_of(SHEETS, name)
+
+
+# What holds of every explanation
+
+PLACE_OF = {kind: kind for kind in ("line", "element", "node", "row", "column")} | {"height": "lowest_quarter"}
+
+
+def redone(written):
+    """What a written-out sum comes to, worked out from its middle part."""
+    parts = written.split(" = ")
+    return eval(parts[1]) if len(parts) == 3 else int(written)
+
+
+def hold_figures(name, item):
+    for side in ("left", "right"):
+        if side in item:
+            written = item[f"{side}_written_out"]
+            hold(redone(written) == item[side] and written.endswith(str(item[side])), f"{name}: {written}")
+    if "terms" in item:
+        hold(sum(y * c for _, _, y, c, _ in item["terms"]) == item["sum"], f"{name}: terms of {item['what']}")
+
+
+def hold_point(name, mesh, item):
+    """The point of a 47 is inside both elements."""
+    point = [Fraction(part) for part in item["point"]]
+    for element in (item["element"], item["lower_element"]):
+        sides = rows.sides_of(mesh.elements[element - 1])
+        inside = all(rows.turn(mesh.nodes[a], mesh.nodes[b], point) > 0 for a, b in sides)
+        hold(inside, f"{name}: {item['what']}")
+
+
+def hold_spare(name, files, mesh, told):
+    """Every failing row and every open row is told, with its own strength to spare or what it is off by."""
+    if told["number"] not in (0, 21, 22) or "n" not in told["loads"] and not told["number"]:
+        return
+    all_rows, claim = reasons.judged_parts(files, mesh)
+    failing = rows.failing(all_rows, claim)
+    expected = [(refusal, row.kind, row.number, rows.spare(row, claim)) for refusal, row in failing]
+    found = [item for item in told["reasons"] if item["refusal"] in (21, 22)]
+    found = [(item["refusal"], item["row_kind"], item["row"], item["right"] - item["left"]) for item in found]
+    hold(found == expected, f"{name}: failing rows {found}, expected {expected}")
+    hold(all(row["spare"] == row["right"] - row["left"] > 0 for row in told["open_rows"]), f"{name}: open rows")
+
+
+def hold_picture(name, mesh, told):
+    root = xml.etree.ElementTree.fromstring(drawing.picture(name, mesh, told))
+    texts = [text.text for text in root.iter(SVG + "text")]
+    places = [(float(text.get("x")), float(text.get("y"))) for text in root.iter(SVG + "text")]
+    width, height = float(root.get("width")), float(root.get("height"))
+    hold(all(0 <= x <= width and 0 <= y <= height for x, y in places), f"{name}: words outside the picture")
+    for number in range(1, len(mesh.nodes) + 1 if mesh else 1):
+        hold(str(number) in texts, f"{name}: no node number {number} in the picture")
+
+
+def explained(name, files):
+    """The explanation of files, held to the archive and to itself."""
+    told, mesh = reasons.explanation(files)
+    number, place, report = archive.ask(CALLS, *files)
+    told |= {"archive": {"number": number, "place": place, "report": report}, "differs": False}
+    answer = told["number"], told["place"], told["report"]
+    hold(answer == (number, place, report), f"{name}: {answer}, the archive says {number} {place} {report}")
+    hold(bool(told["reasons"]) == (number != 0), f"{name}: {len(told['reasons'])} reasons of {number}")
+    for item in told["reasons"][:1]:
+        found = item.get(PLACE_OF[told["kind_of_place"]])
+        hold(found == place, f"{name}: the first reason is of {found}, the place is {place}")
+    for item in told["reasons"] + told["open_rows"]:
+        hold_figures(name, item)
+        if "point" in item:
+            hold_point(name, mesh, item)
+    hold_spare(name, files, mesh, told)
+    if told["open_rows"]:
+        load, products = told["loads"], [row["multiplier"] * row["spare"] for row in told["open_rows"]]
+        if "n" in load:
+            width = load["W"] * load["n"] - load["m"] * load["l"]
+            hold(sum(products) == width, f"{name}: open rows make {sum(products)}, the bracket {width}")
+    hold(json.loads(json.dumps(told)) == told, f"{name}: JSON loses something")
+    hold_picture(name, mesh, told)
+    return told
+
+
+def hold_sheets():
+    with open(os.path.join(SHEETS, "expected"), encoding="ascii") as expected:
+        lines = expected.read().splitlines()
+    for line in lines:
+        name, report = line.split(" ", 1)
+        told = explained(name, sheet(name))
+        hold(told["report"] == report, f"{name}: {told['report']}, expected {report}")
+    return len(lines)
+
+
+def hold_vectors():
+    """Returns how many cases there are, and the refusals among them."""
+    folder = os.path.join(ROOT, "tests", "vectors", "cases")
+    names = sorted(name[:-5] for name in os.listdir(folder) if name.endswith(".mesh"))
+    return len(names), {explained(f"case {name}", files_of(folder, name))["number"] for name in names}
+
+
+# Damaged files
+
+
+def lines_of(data):
+    return data.decode("ascii").split("\n")
+
+
+def with_number(data, line, column, number):
+    """A file with another number in a column; lines and columns count from 1."""
+    lines = lines_of(data)
+    start = 12 * (column - 1)
+    lines[line - 1] = f"{lines[line - 1][:start]}{number:12d}{lines[line - 1][start + 12:]}"
+    return "\n".join(lines).encode("ascii")
+
+
+def with_numbers(data, *changes):
+    for change in changes:
+        data = with_number(data, *change)
+    return data
+
+
+def with_line(data, line, numbers):
+    """A file with a further line before this one."""
+    lines = lines_of(data)
+    lines.insert(line - 1, "".join(f"{number:12d}" for number in numbers))
+    return "\n".join(lines).encode("ascii")
+
+
+def mesh_changed(name, *changes):
+    return sheet(name)._replace(mesh=with_numbers(sheet(name).mesh, *changes))
+
+
+def claim_changed(name, *changes):
+    return sheet(name)._replace(claim=with_numbers(sheet(name).claim, *changes))
+
+
+def table_changed(name, *changes):
+    return sheet(name)._replace(table=with_numbers(sheet(name).table, *changes))
+
+
+def mesh_bytes(change):
+    return sheet("worked")._replace(mesh=change(sheet("worked").mesh))
+
+
+def claim_bytes(change):
+    return sheet("worked")._replace(claim=change(sheet("worked").claim))
+
+
+def free_edge_lost():
+    """footing_12 without the line of its last free edge, as it is forgotten; a field alone."""
+    files = sheet("footing_12")
+    mesh, lines = rows.mesh_of(rows.FileLines(files.mesh, 1), rows.FileLines(b"", 1)), lines_of(files.mesh)
+    last = max(k for k, edge in enumerate(mesh.edges) if edge.fixed == 3 and not any(edge.dead + edge.live))
+    del lines[rows.edge_line(mesh, last) - 1]
+    lost = with_number("\n".join(lines).encode("ascii"), 1, 4, len(mesh.edges) - 1)
+    claim = lines_of(files.claim)[: 1 + len(mesh.nodes)]
+    return reasons.Files(lost, b"", with_number(("\n".join(claim) + "\n").encode("ascii"), 1, 2, 0))
+
+
+def jump_twice():
+    files = sheet("joint_blocks")
+    return files._replace(mesh=with_line(with_number(files.mesh, 1, 6, 2), 19, (2, 6, 3, 7)))
+
+
+def jump_far_away():
+    """joint_blocks without the line of edge 5, and the jump facing that side."""
+    files = mesh_changed("joint_blocks", (1, 4, 5), (19, 3, 8), (19, 4, 4))
+    lines = lines_of(files.mesh)
+    del lines[16]
+    return files._replace(mesh="\n".join(lines).encode("ascii"))
+
+
+def damaged():
+    """(number, place, files, words that must be told)."""
+    base = sheet("worked")
+    nothing = [(7, 1, 0), (8, 3, 0), (12, 1, 0), (12, 12, 0)]
+    return [
+        # mesh form
+        (1, 1, mesh_bytes(lambda mesh: mesh.replace(b"\n", b"\r\n")), "the line ends with CR LF"),
+        (1, 4, mesh_bytes(lambda mesh: mesh[:219] + b"\t" + mesh[220:]), "[<TAB>          1]"),
+        (1, 4, mesh_bytes(lambda mesh: mesh[:219] + b"\t" + mesh[220:]), "byte 1 of the line, byte 220 of the file"),
+        (1, 10, mesh_bytes(lambda mesh: mesh[:-1]), "the file ends without the line's byte 10"),
+        (1, 11, mesh_bytes(lambda mesh: mesh + b"\n"), "bytes left over: [<LF>]"),
+        (1, 1, mesh_bytes(lambda mesh: b""), "the file is empty"),
+        (1, 1, mesh_bytes(lambda mesh: base.claim), "are mesh and claim swapped?"),
+        (1, 1, mesh_bytes(lambda mesh: mesh[:60] + mesh[72:]), "tools/convert_mesh.py writes such a mesh in today's"),
+        (1, 1, mesh_bytes(lambda mesh: b"\xef\xbb\xbf" + mesh), "byte order mark"),
+        (1, 3, mesh_bytes(lambda mesh: mesh[:204] + b"00" + mesh[206:]), "a leading zero"),
+        (1, 6, mesh_bytes(lambda mesh: mesh[:194] + mesh[219:]), "do the header's counts fit the lines?"),
+        (1, 1001, base._replace(table=b" "), "the table, line 1001 (layer 1), column 1 (bottom)"),
+        # mesh numbers
+        (2, 1, mesh_changed("worked", (1, 5, 13)), "column 5 (sides): 13, where 12, 20, 36 or 108 may be"),
+        (2, 2, mesh_changed("block_sand_108", (2, 9, 1)), "a mesh with 108 sides has soils of kind 0 alone"),
+        (2, 1, mesh_changed("block_sand_108", (1, 1, 41)), "41 nodes, where a mesh with 108 sides has at most 40"),
+        (2, 1002, table_changed("table_seam", (2, 1, 3000)), "line 1002 (layer 2), column 1 (bottom): 3000"),
+        (3, 2, mesh_changed("worked", (2, 1, 3), (2, 2, 4), (2, 3, 6)), "p*p + q*q = 3*3 + 4*4 = 25"),
+        (4, 7, mesh_changed("worked", (7, 4, 9)), "column 4 (fourth node): node 9 isn't there"),
+        (4, 7, mesh_changed("worked", (7, 5, 0)), "no table was handed over"),
+        (4, 1001, table_changed("table_seam", (1, 3, 9)), "soil 9 isn't there"),
+        # table
+        (46, 1001, table_changed("table_worked", (1, 2, -9)), "its top -9 isn't above its bottom"),
+        (46, 1003, sheet("table_overlap"), "shares heights of the mesh with line 1002: 10 to 10.75"),
+        (45, 4, sheet("table_gap"), "no layer at height 1 (4 quarters of a unit)"),
+        # mesh as a whole
+        (5, 1, mesh_changed("worked", (7, 1, 4), (7, 2, 3), (7, 3, 2), (7, 4, 1)), "the nodes go clockwise"),
+        (5, 1, mesh_changed("worked", (7, 2, 1)), "a node is repeated; only the third may be"),
+        (
+            6,
+            2,
+            mesh_bytes(lambda mesh: with_line(with_number(mesh, 1, 2, 2), 8, (1, 2, 3, 4, 1))),
+            "element 2 has a directed side that element 1 has: from node 1 at (0, 0) to node 2 at (1, 0)",
+        ),
+        (
+            7,
+            5,
+            mesh_bytes(lambda mesh: with_line(with_number(mesh, 1, 1, 5), 7, (5, 5))),
+            "node 5 at (5, 5) is in no element",
+        ),
+        (47, 11, sheet("fan_folded"), "element 11 lies on element 5: the point (230/9, 20/3) is inside both"),
+        (47, 2, sheet("bars_crossing"), "is inside both"),
+        (8, 8, mesh_changed("worked", (8, 1, 4), (8, 2, 3)), "the two nodes are exchanged"),
+        (8, 9, mesh_changed("worked", (9, 1, 3), (9, 2, 4)), "edge 1 (line 8) has it already"),
+        (8, 8, mesh_changed("worked", (8, 1, 1), (8, 2, 3)), "no element has this side"),
+        (8, 9, mesh_changed("triangle_block", (9, 1, 1), (9, 2, 4)), "it lies between the elements 2 and 1"),
+        (44, 19, mesh_changed("joint_blocks", (19, 3, 7), (19, 4, 3)), "the two nodes are exchanged"),
+        (44, 19, mesh_changed("joint_blocks", (19, 1, 5), (19, 2, 1)), "edge 3 has it already"),
+        (44, 20, jump_twice(), "jump 1 has it already"),
+        (44, 18, jump_far_away(), "node 2 at (10, 0) faces node 8 at (20, 10), which isn't the same place"),
+        (42, None, mesh_changed("largest", (119, 5, 1)), "a mesh with 36 sides has at most 100"),
+        # claim
+        (11, 1, base._replace(claim=b""), "the claim, line 1 (the header), column 1 (field there): the file is empty"),
+        (11, 14, claim_bytes(lambda claim: claim + b"0"), "bytes left over: [0]"),
+        (11, 7, claim_bytes(lambda claim: claim[: len(claim) // 8 * 2]), "the multipliers of"),
+        (12, 2, claim_changed("worked", (2, 2, -2_000_000_000)), "column 2 (sy): -2000000000, where"),
+        (12, 10, claim_changed("worked", (10, 4, 10_001)), "column 4 (side 4): 10001, where 0 to 10000"),
+        (13, 1, claim_changed("worked", (1, 1, 0), (1, 2, 0)), "both parts are absent"),
+        (13, 1, claim_changed("worked", (1, 3, 0)), "there is a field and n is 0"),
+        (13, 1, claim_changed("worked", (1, 1, 0)), "there is no field, and n or l isn't 0"),
+        (21, 1, claim_changed("worked", (2, 1, 5)), "balance x of element 1 (nodes 1, 2, 3, 4): -5 isn't 0"),
+        (21, 3, sheet("worked_unbalanced"), "the from end of edge 1 (line 8, nodes 3 to 4): -21 isn't -20"),
+        (21, 29, sheet("joint_blocks_uneven"), "the normal is -20 at node 2 and -19 at node 3"),
+        (22, 1, sheet("worked_above"), "15*sx1 - 15*sy1 + 10*t1 = 15*0 - 15*(-21) + 10*0 = 315"),
+        (22, 37, sheet("seam_fault"), "pair 4, node 3 at (0, 10) with soil 2, side 1 of the polygon's 12"),
+        (22, None, claim_changed("bedded_block_half", (1, 3, 5)), "plane 2 of 6, with the normal (4, 3)/5 at 36.87"),
+        (31, None, claim_changed("wall_passive_sand", (16, 2, 7)), "the multiplier is 7, and this row asks nothing"),
+        (32, 7, sheet("worked_column"), "-29 * 1 = -29   equality row 9: normal at node 3"),
+        (33, 0, claim_changed("worked", *nothing), "no row with a live load has a multiplier"),
+        # accepted
+        (0, 0, sheet("worked_below"), "W*n - m*l = 600*1 - 30*19 = 30"),
+        (0, 0, sheet("worked_below"), "multiplier 1, 15 to spare, in stress 0.5; 1 * 15 = 15"),
+        (0, 0, sheet("bedded_unused"), "though no element has it: its rows bound the strength of some planes only"),
+        (0, 0, sheet("third"), "1/3 = 0.333333 (rounded down)"),
+        (0, 0, free_edge_lost(), "may carry anything; it goes on straight as edge 5: is its line forgotten?"),
+    ]
+
+
+def hold_damaged():
+    """Returns how many there are, and their numbers."""
+    cases = damaged()
+    for number, place, files, words in cases:
+        name = f"{number} at {place}, '{words}'"
+        told = explained(name, files)
+        found = told["number"], told["place"]
+        hold(found == (number, found[1] if place is None else place), f"{name}: found {found}")
+        text = "\n".join(explain.in_words(told, True))
+        hold(words in text, f"{name}: not in\n{text}")
+    return len(cases), {case[0] for case in cases}
+
+
+def hold_bedded():
+    """No word of a carried load on a mesh that lists a soil of kind 1."""
+    names = [name[:-5] for name in os.listdir(SHEETS) if name.startswith("bedded") and name.endswith(".mesh")]
+    for name in names:
+        told = explained(name, sheet(name))
+        hold(not any(line.startswith("carried") for line in told["load_words"]), f"{name}: says what is carried")
+        words = " ".join(told["load_words"])
+        hold("n" not in told["loads"] and "no carried load is told" in words, f"{name}: {told['loads']}")
+
+
+# The command
+
+FAKE = """
+#include <string.h>
+struct answer { unsigned number, place; };
+struct answer pechuvo_check(const char *mesh, size_t a, const char *table, size_t b, const char *claim, size_t c,
+                            long long decimals, char *report, size_t d) {
+  memset(report, ' ', 113);
+  return (struct answer){22, 2};
+}
+"""
+
+
+def run(*given, command=COMMAND, **environment):
+    done = subprocess.run(
+        [sys.executable, "-B", command, *given], capture_output=True, text=True, env={**os.environ, **environment}
+    )
+    hold("Traceback" not in done.stderr, f"explain.py {' '.join(given)}: {done.stderr}")
+    return done
+
+
+def hold_run(status, words, *given, **more):
+    """A run has this exit status and these words on its output or, from status 2 on, on standard error."""
+    done = run(*given, **more)
+    text = done.stderr if status >= 2 else done.stdout
+    run_words = f"explain.py {' '.join(given)}: {done.returncode}\n{done.stdout}{done.stderr}"
+    hold(done.returncode == status and words in text, run_words)
+    return done
+
+
+def hold_command(out):
+    mesh, claim = os.path.join(SHEETS, "worked.mesh"), os.path.join(SHEETS, "worked.claim")
+    above, absent = os.path.join(SHEETS, "worked_above.claim"), os.path.join(out, "absent")
+    table = os.path.join(SHEETS, "table_gap.table")
+    hold_run(0, "number, place and report are the archive's", mesh, claim)
+    hold_run(1, "refused with 22 at row 1", mesh, above)
+    hold_run(1, "refused with 45 at height 4", mesh, claim, table)
+    hold_run(2, "the following arguments are required", mesh)
+    hold_run(2, f"{absent}: can't be read: No such file", mesh, absent)
+    hold_run(2, f"{absent}: can't be read: No such file", mesh, claim, absent)
+    hold_run(2, f"{out}: can't be read: Is a directory", out, claim)
+    hold_run(2, "which is not overwritten", mesh, claim, "--svg", claim)
+    hold_run(2, "can't be written", mesh, claim, "--svg", os.path.join(absent, "picture"))
+    hold_run(2, "the archive's library can't be used", mesh, claim, PECHUVO_LIBRARY=absent)
+    hold_run(0, "Status: 0 accepted", "--help")
+    strange = os.path.join(out, "mesh\udcff\n.mesh")
+    shutil.copy(mesh, strange)
+    hold_run(0, "accepted", strange, claim, "--svg", os.path.join(out, "strange.svg"))
+    hold_json(mesh, above, os.path.join(out, "picture.svg"))
+    hold_differing(out, mesh, claim)
+    hold_without_archive(out, mesh, claim)
+
+
+def hold_json(mesh, claim, picture):
+    told = json.loads(hold_run(1, "", mesh, claim, "--json", "--svg", picture).stdout)
+    answer = {part: told[part] for part in ("number", "place", "report")}
+    hold((told["number"], told["place"]) == (22, 1) and len(told["reasons"]) == 8, f"--json: {answer}")
+    hold(told["archive"] == answer, "--json: the archive's answer")
+    hold(xml.etree.ElementTree.parse(picture).getroot().tag == SVG + "svg", "--svg: no picture")
+
+
+def hold_differing(out, mesh, claim):
+    source, library = os.path.join(out, "fake.c"), os.path.join(out, "fake.so")
+    with open(source, "w", encoding="ascii") as file:
+        file.write(FAKE)
+    subprocess.run(["gcc", "-shared", "-fPIC", "-o", library, source], check=True)
+    done = hold_run(3, "THE TWO ANSWERS DIFFER", mesh, claim, PECHUVO_LIBRARY=library)
+    hold("the archive: number 22, place 2" in done.stderr, "differing, the archive's answer")
+    hold("THE ARCHIVE SAYS SOMETHING ELSE" in done.stdout, "differing, on standard output")
+    hold(json.loads(run(mesh, claim, "--json", PECHUVO_LIBRARY=library).stdout)["differs"], "differing, --json")
+
+
+def hold_without_archive(out, mesh, claim):
+    """The tools alone, where nothing is built."""
+    copied = os.path.join(out, "tools")
+    shutil.copytree(TOOLS, copied, ignore=shutil.ignore_patterns("__pycache__"))
+    words = "number and place are this tool's own and not the archive's"
+    hold_run(0, words, mesh, claim, command=os.path.join(copied, "explain.py"), PECHUVO_LIBRARY="")
+
+
+def main():
+    hold(CALLS is not None, "no archive is built")
+    if CALLS is not None:
+        sheets = hold_sheets()
+        cases, case_numbers = hold_vectors()
+        changed, changed_numbers = hold_damaged()
+        hold(set(reasons.MEANINGS) == changed_numbers, f"not damaged: {set(reasons.MEANINGS) ^ changed_numbers}")
+        hold(case_numbers <= set(reasons.MEANINGS), f"not explained: {case_numbers - set(reasons.MEANINGS)}")
+        hold_bedded()
+        with tempfile.TemporaryDirectory() as out:
+            hold_command(out)
+        print(f"{sheets} sheets, {cases} cases, {changed} damaged or telling inputs explained")
+    print("\n".join(failures), end="\n" if failures else "")
+    sys.exit(bool(failures))
+
+
+if __name__ == "__main__":
+    main()
