@@ -1,6 +1,7 @@
 """The true answer: number, place and report line as the archive with the calls of include/pechuvo.h gives them."""
 
 import ctypes
+import functools
 import os
 import subprocess
 import tempfile
@@ -28,6 +29,7 @@ def shared_of_archive():
             return None
 
 
+@functools.cache
 def library():
     """The archive's calls: of the shared library that PECHUVO_LIBRARY names; else of the one that is built here,
     unless the archive is newer, or of one made of the archive; None where nothing is built. A library that can't be
@@ -45,11 +47,17 @@ def newer(one, other):
 
 
 def ask(calls, mesh, table, claim, decimals=6):
-    """Number, place and report line that pechuvo_check gives for three byte strings."""
+    """Number, place and the report line's bytes that pechuvo_check gives for three byte strings."""
     check, size = calls.pechuvo_check, ctypes.c_size_t
     check.restype = Answer
     check.argtypes = [ctypes.c_char_p, size] * 3 + [ctypes.c_int64, ctypes.c_char_p, size]
     report = ctypes.create_string_buffer(rows.REPORT)
     lent = [part for data in (mesh, table, claim) for part in (data, len(data))]
     answer = check(*lent, decimals, report, rows.REPORT)
-    return answer.number, answer.place, report.raw.decode("ascii").rstrip("\n")
+    return answer.number, answer.place, report.raw
+
+
+def check(mesh, table, claim):
+    """The same of the library that is here, or None where nothing is built."""
+    calls = library()
+    return None if calls is None else ask(calls, mesh, table, claim)

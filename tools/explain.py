@@ -74,13 +74,13 @@ def same_file(one, other):
 def archive_answer(files):
     """What the archive says, or None where none is built."""
     try:
-        calls = archive.library()
-        if calls is None:
-            return None
-        number, place, report = archive.ask(calls, *files)
+        answer = archive.check(*files)
     except (OSError, AttributeError) as error:
         raise Unusable(f"the archive's library can't be used: {error}") from None
-    return {"number": number, "place": place, "report": report}
+    if answer is None:
+        return None
+    number, place, report = answer
+    return {"number": number, "place": place, "report": report.decode("ascii").rstrip("\n")}
 
 
 def differ(told):

@@ -18,12 +18,23 @@ def write(folder, name, data):
         file.write(data)
 
 
+def solved(mesh, table, *how):
+    """A claim's lines for a mesh file, and a word on how it was made; without the searches, which take long and end
+    by time."""
+    read = rows.judged_mesh(*rows.mesh_files(mesh, table))
+    made = claim_from_solver.make_claim(*read, *how)
+    missing = [note for note in made.notes if note.startswith("no ")]
+    if missing:
+        raise SystemExit("; ".join(missing))
+    return rows.claim_lines(read[0], made.claim), "; ".join(made.notes)
+
+
 def write_sheet(folder, sheet):
     """One sheet; returns its line."""
     mesh, table, note = rows.text_of(sheet.mesh), rows.text_of(sheet.table), "by hand"
     claim = sheet.claim
     if claim is None:
-        claim, note = claim_from_solver.make_claim(mesh, table, *sheet.how)
+        claim, note = solved(mesh, table, *sheet.how)
     claim = rows.text_of(claim)
     verdict, line = rows.check(mesh, table, claim)
     line = line.decode("ascii")
@@ -54,7 +65,7 @@ def write_run(folder, run):
     """One run; returns its line: name, bytes of the buffer, reports, bytes taken."""
     mesh, claims = rows.text_of(run.mesh), b""
     for claim in run.claims:
-        lines = claim_from_solver.make_claim(mesh, b"", *claim)[0] if isinstance(claim, tuple) else claim
+        lines = solved(mesh, b"", *claim)[0] if isinstance(claim, tuple) else claim
         claims += rows.text_of(lines)
     claims = claims[: len(claims) - run.short]
     written, reports, taken = rows.check_run(mesh, b"", claims, run.room)

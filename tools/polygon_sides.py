@@ -6,6 +6,7 @@ its columns only through the vector V = Σ y·S and the number Z = Σ y·K (docu
 import functools
 import heapq
 import itertools
+import math
 
 from rows import corners
 
@@ -16,6 +17,18 @@ def side_table(sides):
     corner = corners(sides)
     pairs = zip(corner, corner[1:] + corner[:1])
     return [((c - a, d - b), a * d - b * c) for (a, b), (c, d) in pairs]
+
+
+@functools.cache
+def step_basis(sides):
+    """Two vectors whose whole multiples make every sum of steps, and no other vector; the second has x 0."""
+    steps = [step for step, _ in side_table(sides)]
+    while sum(x != 0 for x, _ in steps) > 1:
+        steps.sort(key=lambda step: (step[0] == 0, abs(step[0])))
+        (x, y), *others = steps
+        steps = [(x, y)] + [(a - a // x * x, b - a // x * y) for a, b in others]
+    first = next(step for step in steps if step[0])
+    return first, (0, math.gcd(*(y for x, y in steps if x == 0)))
 
 
 @functools.cache

@@ -95,6 +95,7 @@ def explained(name, files):
     """The explanation of files, held to the archive and to itself."""
     told, mesh = reasons.explanation(files)
     number, place, report = archive.ask(CALLS, *files)
+    report = report.decode("ascii").rstrip("\n")
     told |= {"archive": {"number": number, "place": place, "report": report}, "differs": False}
     answer = told["number"], told["place"], told["report"]
     hold(answer == (number, place, report), f"{name}: {answer}, the archive says {number} {place} {report}")

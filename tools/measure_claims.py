@@ -1,0 +1,97 @@
+#!/usr/bin/env python3
+"""Measures claim_from_solver.py on random meshes of every kind: measure_claims.py COUNT [--part PART] [--seconds S].
+
+A line for each mesh, then for each kind how many parts were made, how many within 0.1 % of the solver's optimum, and
+the middle and the worst distance from it, relative to it. Every claim goes through rows.py and, where it is built,
+through the archive. Meshes on which nothing or anything is carried are left out and counted."""
+
+import argparse
+import random
+import time
+from statistics import median
+
+import archive
+import claim_from_solver
+import glpsol
+import rows as exact
+from random_meshes import FORMS, SHAPES, SIDES, SOILS, Kind, random_mesh
+
+NEAR = 1e-3
+NOTHING = 1e-6  # a load below this is none
+
+
+def kind_of(number):
+    """Kinds in turn, so that each word of each comes as often; sizes by chance, 12 to 100 nodes."""
+    chance = random.Random(number)
+    words = [names[number // step % len(names)] for names, step in ((SHAPES, 1), (SOILS, 3), (FORMS, 15), (SIDES, 45))]
+    shape, soils, form, sides = words
+    if soils == "bedded" and sides == 108:
+        sides = 36
+    columns, rows = chance.choice([(4, 3), (5, 5), (6, 5), (7, 6), (8, 7), (9, 9)])
+    if sides == 108:
+        columns, rows = chance.randint(4, 5), chance.randint(3, 5)
+    step = chance.choice([(2, 5), (6, 20), (6, 20), (20, 60)])
+    return Kind(shape, soils, form, sides, columns, rows, step)
+
+
+def words_of(kind, nodes):
+    """The kinds that a mesh is counted under."""
+    size = "12 to 30 nodes" if nodes <= 30 else "31 to 60 nodes" if nodes <= 60 else "61 to 100 nodes"
+    steps = {2: "steps of 2 to 5", 6: "steps of 6 to 20", 20: "steps of 20 to 60"}[kind.step[0]]
+    return ["all", kind.shape, kind.soils, kind.form, f"{kind.sides} sides", size, steps]
+
+
+def measured(kind, number, part, seconds):
+    """(nodes, field's distance, multipliers' distance), None for what wasn't made, or None where the mesh is no use."""
+    mesh_text, table = map(exact.text_of, random_mesh(kind, number))
+    mesh, rows = exact.judged_mesh(*exact.mesh_files(mesh_text, table))
+    try:
+        load = glpsol.solve(rows, 3 * len(mesh.nodes)).load
+    except glpsol.NoOptimum:
+        return None
+    if abs(load) < NOTHING:
+        return None
+    claim = claim_from_solver.make_claim(mesh, rows, part, seconds=seconds).claim
+    away = [None, None]
+    if claim.stresses:
+        away[0] = claim_from_solver.distance(claim.l / claim.n, load)
+    if claim.multipliers:
+        limit = claim_from_solver.whole_multipliers.limit(rows, claim.multipliers)
+        away[1] = claim_from_solver.distance(float(limit), load)
+    if claim.stresses or claim.multipliers:
+        claim_from_solver.checked(mesh_text, table, exact.text_of(exact.claim_lines(mesh, claim)))
+    return len(mesh.nodes), *away
+
+
+def told(distances):
+    made = [away for away in distances if away is not None]
+    near = sum(away <= NEAR for away in made)
+    figures = f"{median(made):9.1e} {max(made):9.1e}" if made else f"{'-':>9} {'-':>9}"
+    return f"{len(made):5d} {near:5d} {figures}"
+
+
+def main():
+    parser = argparse.ArgumentParser(description=__doc__, formatter_class=argparse.RawDescriptionHelpFormatter)
+    parser.add_argument("count", type=int)
+    parser.add_argument("--part", choices=("field", "multipliers", "both"), default="both")
+    parser.add_argument("--seconds", type=int, default=20)
+    parser.add_argument("--first", type=int, default=0, help="the number of the first mesh")
+    words = parser.parse_args()
+    print("checked by", "rows.py and the archive" if archive.library() else "rows.py", flush=True)
+    counted, left_out = {}, 0
+    for number in range(words.first, words.first + words.count):
+        kind, begun = kind_of(number), time.time()
+        found = measured(kind, number, words.part, words.seconds)
+        if found is None:
+            left_out += 1
+            continue
+        print(number, *kind[:6], *kind.step, *found, f"{time.time() - begun:.0f} s", flush=True)
+        for word in words_of(kind, found[0]):
+            counted.setdefault(word, []).append(found[1:])
+    print(f"\n{left_out} left out\n{'kind':20} meshes | field: made, near, middle, worst | multipliers: the same")
+    for word, found in counted.items():
+        print(f"{word:20} {len(found):6d} | {told([f for f, _ in found])} | {told([m for _, m in found])}")
+
+
+if __name__ == "__main__":
+    main()
