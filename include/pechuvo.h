@@ -13,6 +13,7 @@
    - Each pointer goes with the length of what it points to, in elements. A length of 0 goes with
      any pointer; nothing is read or written through it.
    - Numbers are aligned as int64_t is.
+   - 68 KiB of the thread's stack are left for the call: its arrays are there.
    - The report buffer overlaps no input, and nothing else writes to the inputs or touches the buffer
      during the call. The inputs may overlap.
 

@@ -20,7 +20,7 @@ from random_meshes import random_mesh
 # The stored results: the status, and the most that each part may be off the result's load, relative to it. They were
 # written by tools/claim_from_solver.py MESH --keep RESULT, for footing and bedded with --margin 0.00003.
 STORED = {"worked": (0, 0, 0), "footing": (3, 1e-4, 1e-2), "bedded": (0, 1e-4, 1e-3)}
-RANDOM = (0, 1, 5, 12, 18, 31, 32, 41)  # small meshes of several kinds, by number
+RANDOM = (0, 5, 18, 31)  # small meshes of several kinds, by number
 
 
 def ends(what, done):
