@@ -8,7 +8,10 @@ use native.Mathlib.Decide.{dec_lt}
 use native.Mathlib.Nat.{le_trans, mod-eq_of_lt, mod_self}
 use native.Mathlib.Omega.{arith}
 use native.Mathlib.Numerals.{add-one}
-use lib.IntN.{ℤ, pos, nat_abs}
+use lib.IntN.{ℤ, pos, negsuc, nat_abs}
+use mir.Syntax.{w32}
+use mir.Val.{SFits, to_z, of_z}
+use mir.Facts.{to_z-of_z}
 use lib.ListN.{length, get_or, length-map, length-append, get_or-append}
 use lib.Seq.{get_or-append_seam}
 use Rattle.std.proofs.lemmas.List.{get_or_past, get_or-map, ext_get_or}
@@ -322,3 +325,13 @@ shown = tt
 pub last_listed : {n : ℕ} → Listed n → ¬ (n ≡ 12) → ¬ (n ≡ 20) → ¬ (n ≡ 36) → n ≡ 108
 last_listed l a b c =
     ⊎_elim (λ e. absurd (a e)) (⊎_elim (λ e. absurd (b e)) (⊎_elim (λ e. absurd (c e)) (λ e. e))) l.listed
+
+-- ---- in 32 bits
+
+fits_32 : {z : ℤ} → Within most_cross z → SFits w32 z
+fits_32 {z = pos n} h = record { sfits = omega (arith, h.within) }
+fits_32 {z = negsuc n} h = record { sfits = omega (arith, h.within) }
+
+-- a number of a side is what it was once it has been through 32 bits
+pub narrowed : {v z : ℤ} → v ≡ z → Within most_cross z → to_z w32 (of_z w32 v) ≡ z
+narrowed e h = ap (λ n. to_z w32 (of_z w32 n)) e ∙ to_z-of_z (fits_32 h)

@@ -2,7 +2,7 @@
 ghost use Rattle.std.specs.Prelude.{◌≡◌, ◌<◌, length};
 ghost use Rattle.std.proofs.Props.{props};
 ghost use Rattle.integer.specs.Bounds.{Within};
-ghost use Rattle.scope.specs.Bounds.{most_radius};
+ghost use Rattle.scope.specs.Bounds.{most_radius, most_cross};
 ghost use Rattle.scope.specs.Polygon.{polygon_of};
 ghost use Rattle.criterion.specs.StrengthContracts.{
   Listed,
@@ -207,6 +207,14 @@ const ONE_HUNDRED_EIGHT: [(i64, i64); 108] = [
     (1104, -47),
 ];
 
+// A number of a side in 32 bits, which hold each of them.
+fn narrow(number: i64) -> i32
+    requires { Within most_cross number }
+    ensures { result ≡ number }
+{
+    number as i32
+}
+
 // "Side k runs from corner (a, b) to the next, (c, d)": after the last corner comes the first.
 fn step_of(corners: &[(i64, i64)], k: usize) -> Step
     requires corners { Corners corners.now }
@@ -216,9 +224,9 @@ fn step_of(corners: &[(i64, i64)], k: usize) -> Step
     let (a, b) = corners[k];
     let (c, d) = corners[(k + 1) % corners.len()];
     Step {
-        run: c - a,
-        rise: d - b,
-        cross: a * d - b * c,
+        run: narrow(c - a),
+        rise: narrow(d - b),
+        cross: narrow(a * d - b * c),
     }
 }
 

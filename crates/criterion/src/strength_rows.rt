@@ -49,7 +49,7 @@ pub fn pair_numbers(soil: SoilNumbers, x: &[i64], v: usize, n: i64) -> PairNumbe
 pub fn side_slack(step: &Step, pair: &PairNumbers) -> i64
     ensures { Is result (side_slack pair.now step.now) most_slack }
 {
-    step.cross * pair.reserve - pair.lever * (step.rise * pair.spread - step.run * pair.twist)
+    step.cross() * pair.reserve - pair.lever * (step.rise() * pair.spread - step.run() * pair.twist)
 }
 
 // The strength row of a side holds: its right side is not below its left.

@@ -90,9 +90,9 @@ fn add_side(sums: SideSums, side: &Step, w: i64) -> SideSums
         return sums;
     }
     SideSums {
-        run: sums.run + w * side.run,
-        rise: sums.rise + w * side.rise,
-        cross: sums.cross + w * side.cross,
+        run: sums.run + w * side.run(),
+        rise: sums.rise + w * side.rise(),
+        cross: sums.cross + w * side.cross(),
     }
 }
 
