@@ -21,10 +21,10 @@ NOTHING = 1e-6  # a load below this is none
 
 
 def kind_of(number):
-    """Kinds in turn, so that each word of each comes as often; sizes by chance, 12 to 100 nodes."""
+    """Kinds in turn, all 180 once before any comes again; sizes and steps by chance, 12 to 100 nodes."""
     chance = random.Random(number)
-    words = [names[number // step % len(names)] for names, step in ((SHAPES, 1), (SOILS, 3), (FORMS, 15), (SIDES, 45))]
-    shape, soils, form, sides = words
+    shape, form = SHAPES[number % 3], FORMS[number // 3 % 3]
+    soils, sides = SOILS[number % 5], SIDES[number % 4]
     if soils == "bedded" and sides == 108:
         sides = 36
     columns, rows = chance.choice([(4, 3), (5, 5), (6, 5), (7, 6), (8, 7), (9, 9)])

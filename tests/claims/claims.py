@@ -20,7 +20,8 @@ from random_meshes import random_mesh
 # The stored results: the status, and the most that each part may be off the result's load, relative to it. They were
 # written by tools/claim_from_solver.py MESH --keep RESULT, for footing and bedded with --margin 0.00003.
 STORED = {"worked": (0, 0, 0), "footing": (3, 1e-4, 1e-2), "bedded": (0, 1e-4, 1e-3)}
-RANDOM = (0, 5, 18, 31)  # small meshes of several kinds, by number
+# Random meshes by number, small ones: a field alone is made, or both parts.
+FIELDS, BOTH = (4, 8, 11), (2, 28)
 
 
 def ends(what, done):
@@ -142,13 +143,14 @@ def solved(folder, programs):
 
 
 def random_meshes(folder):
-    """From glpsol on random meshes: a field within 0.1 % of the optimum, or so said."""
+    """From glpsol on random meshes: each field is within 0.1 % of the optimum, and what multipliers there are fit.
+    Returns how many there are."""
     multipliers = 0
-    for number in RANDOM:
+    for number in FIELDS + BOTH:
         texts = [exact.text_of(lines) for lines in random_mesh(kind_of(number), number)]
         mesh, table = (write(folder, name, text) for name, text in zip(("m.mesh", "m.table"), texts))
-        claim = os.path.join(folder, f"{number}.claim")
-        done = run(mesh, claim, "--table", table, "--seconds", "1")
+        claim, part = os.path.join(folder, f"{number}.claim"), "field" if number in FIELDS else "both"
+        done = run(mesh, claim, "--table", table, "--part", part, "--seconds", "1")
         warned = [line for line in done.stderr.splitlines() if "multipliers" not in line]
         if done.returncode not in (0, 3) or warned or "checked by" not in done.stdout:
             ends(f"random mesh {number}", done)
@@ -174,7 +176,7 @@ def main():
             return
         solved(folder, texts)
         multipliers = random_meshes(folder)
-        print(f"{len(RANDOM)} random meshes with glpsol: {len(RANDOM)} fields, {multipliers} with multipliers")
+        print(f"{len(FIELDS + BOTH)} random meshes with glpsol, of them {multipliers} with multipliers")
 
 
 if __name__ == "__main__":
