@@ -102,7 +102,8 @@ class Maker:
         where = f"{100 * away:.1e} % {side} the solver's optimum" if away > SAME else "the solver's optimum"
         self.notes.append(f"{what} {load:.9g}, {where}{how}")
         if optimal and away > FAR:
-            self.warnings.append(f"{what} {load:.9g}: {100 * away:.2g} % {side} the solver's optimum, {optimum:.9g}")
+            far = f"{100 * away:.2g} % {side} the solver's optimum, {optimum:.9g}"
+            self.warnings.append(f"{what} {load:.9g}: {far}")
 
     def missing(self, part, why):
         self.notes.append(f"no {part}: {why}")
@@ -156,7 +157,7 @@ def may_be_written(paths, inputs):
 
 
 def write(path, text):
-    """A whole file or none: written beside the old one, then renamed. What is no file, such as a pipe, is written to."""
+    """A whole file or none: written beside the old one, then renamed. What is no file, such as a pipe, is written."""
     beside = path if os.path.exists(path) and not stat.S_ISREG(os.stat(path).st_mode) else path + ".part"
     try:
         with open(beside, "wb") as file:
@@ -179,7 +180,8 @@ def checked(mesh_text, table, claim_text):
     if answer and answer != (verdict.number, verdict.place, line):
         raise SystemExit(f"the archive answers {answer[:2]}, rows.py {verdict[:2]}: nothing written")
     if verdict.number:
-        raise SystemExit(f"the claim is refused with {verdict.number} at {verdict.kind} {verdict.place}: nothing written")
+        at = f"{verdict.number} at {verdict.kind} {verdict.place}"
+        raise SystemExit(f"the claim is refused with {at}: nothing written")
     by = "the archive" if answer else "rows.py alone: there is no archive here (bash tests/archive makes it)"
     return f"checked by {by}: {' '.join(line.decode('ascii').split())}"
 

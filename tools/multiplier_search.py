@@ -341,11 +341,11 @@ class Finder:
                 break
 
     def search(self, seconds):
-        """(multipliers, how they were found), or (None, why not)."""
+        """(multipliers, how they were found), or None."""
         tried = [(motions, self.round_with_room(motions, count)) for motions, count in self.motions()]
         ranked = sorted(tried, key=lambda pair: limit(self.rows, pair[1][0]) if pair[1] else math.inf)
         for motions, found in ranked[:1] if self.best else ranked:
             self.improve(motions, found, seconds)
             if self.best:
-                return self.best
-        return None, "rounding and the search found none within the limits"
+                break
+        return self.best

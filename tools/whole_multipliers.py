@@ -16,6 +16,7 @@ from whole_numbers import Equalities, common_denominator
 
 SPREADS = (1e-8, 1e-7, 3e-7, 1e-6, 3e-6, 1e-5, 3e-5, 1e-4, 3e-4, 1e-3)
 FILLINGS = (0.95, 0.8, 0.6, 0.4, 0.2)
+USELESS = 1.0  # multipliers whose limit is farther than this from the optimum, relative to it, are none
 NEAR = 1e-5  # a limit so near to the optimum, relative to it, is not searched for a better one
 
 
@@ -129,6 +130,23 @@ def quick_multipliers(mesh, rows, spread, tries):
     return None
 
 
+def useful(rows, made, load):
+    """What was made, or None and why not."""
+    if made is None:
+        return None, "neither rounding nor a search found any within the limits"
+    if limit(rows, made[0]) > load + USELESS * abs(load):
+        return None, f"the best that were found allow {float(limit(rows, made[0])):.6g}, more than twice the optimum"
+    return made
+
+
+def near_multipliers(mesh, rows, solution, seconds, best):
+    """The best of those that are there and those that the lattice has."""
+    if best and limit(rows, best[0]) <= solution.load + NEAR * abs(solution.load):
+        return best
+    found = Finder(mesh, rows, solution).search(seconds)
+    return min(filter(None, (best, found)), key=lambda pair: limit(rows, pair[0]), default=None)
+
+
 def make_multipliers(mesh, rows, solution, spread=0.0, tries=0, seconds=0):
     """(multipliers, how they were made), or (None, why not). solution: glpsol's, with this spread; seconds: of each
     search, none with 0."""
@@ -136,13 +154,9 @@ def make_multipliers(mesh, rows, solution, spread=0.0, tries=0, seconds=0):
     if whole:
         return whole, "the vertex itself"
     best = quick_multipliers(mesh, rows, spread, tries)
-    if seconds and (best is None or limit(rows, best[0]) > solution.load + NEAR * abs(solution.load)):
-        found = Finder(mesh, rows, solution).search(seconds)
-        if found[0] is None:
-            return best or found
-        if best is None or limit(rows, found[0]) < limit(rows, best[0]):
-            best = found
-    return best or (None, "none within the limits by quick rounding")
+    if not seconds:
+        return best or (None, "none within the limits by quick rounding")
+    return useful(rows, near_multipliers(mesh, rows, solution, seconds, best), solution.load)
 
 
 def given_multipliers(mesh, rows, solution):
@@ -151,8 +165,6 @@ def given_multipliers(mesh, rows, solution):
     if whole:
         return whole, "the vertex itself"
     quick = filled_multipliers(mesh, rows, solution.multipliers, 0)
-    found = [(quick[1], f"rounded, filling {quick[0]:g}")] if quick else []
-    near = Finder(mesh, rows, solution).rounded()
-    found += [near] if near else []
-    best = min(found, key=lambda pair: limit(rows, pair[0]), default=None)
-    return best or (None, "none within the limits by rounding")
+    found = quick and (quick[1], f"rounded, filling {quick[0]:g}"), Finder(mesh, rows, solution).rounded()
+    best = min(filter(None, found), key=lambda pair: limit(rows, pair[0]), default=None)
+    return useful(rows, best, solution.load)
