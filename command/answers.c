@@ -1,3 +1,4 @@
+/* What the archive answers, in words: numbers, kinds of place, refusals. */
 #include "answers.h"
 
 #include <inttypes.h>

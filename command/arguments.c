@@ -1,3 +1,4 @@
+/* The arguments of a command, its options among them. */
 #include "arguments.h"
 
 #include <stddef.h>

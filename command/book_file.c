@@ -1,3 +1,4 @@
+/* A book in a file, written anew beside the old one and renamed. */
 #define _XOPEN_SOURCE 700
 
 #include "book_file.h"

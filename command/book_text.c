@@ -1,3 +1,4 @@
+/* A book as text, and back. */
 #include "book_text.h"
 
 #include <inttypes.h>

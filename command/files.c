@@ -1,3 +1,4 @@
+/* A file's bytes, whole. */
 #define _POSIX_C_SOURCE 200809L
 
 #include "files.h"

@@ -1,3 +1,4 @@
+/* JSON on standard output. */
 #include "json.h"
 
 #include <inttypes.h>

@@ -1,3 +1,4 @@
+/* What goes to standard error. */
 #include "say.h"
 
 #include <errno.h>

@@ -1,3 +1,4 @@
+/* Whole numbers as text, and back. */
 #include "whole.h"
 
 #include <inttypes.h>
