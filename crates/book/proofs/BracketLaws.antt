@@ -1,4 +1,5 @@
--- On the same mesh the bounds of a book are a bracket: each is that of an accepted part of a claim that was committed, and the bracket of two such parts is known.
+-- On the same mesh the bounds of a book are a bracket: each is that of an accepted part of a claim that was committed,
+-- and the bracket of two such parts is known.
 use mathlib.Core.Path.{◌≡◌, refl, sym, ◌∙◌, subst, subst₂}
 use mathlib.Core.Logic.{◌⊎◌, inl, inr}
 use mathlib.Core.Bool.{Bool, true, false, not, ◌&&◌, cond}

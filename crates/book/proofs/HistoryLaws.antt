@@ -1,4 +1,5 @@
--- After any calls the book is the best of the accepted claims committed: one claim more moves a bound to the first best of the longer list, by one law over a way to be no better.
+-- After any calls the book is the best of the accepted claims committed: one claim more moves a bound to the first best
+-- of the longer list, by one law over a way to be no better.
 use mathlib.Core.Path.{◌≡◌, refl, sym, ap, ◌∙◌, subst}
 use mathlib.Core.Logic.{◌↔◌, ◌⊎◌, inl, inr, ◌≢◌}
 use mathlib.Core.Bool.{Bool, true, false, not, ◌&&◌, cond, true≢false}

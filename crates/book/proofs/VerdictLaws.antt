@@ -1,4 +1,5 @@
--- The loads of every verdict of the check have denominators above 0: n of an accepted field, m of accepted multipliers. With a table the verdict came early and has no loads, or is the one on the mesh that is read.
+-- The loads of every verdict of the check have denominators above 0: n of an accepted field, m of accepted multipliers.
+-- With a table the verdict came early and has no loads, or is the one on the mesh that is read.
 use mathlib.Core.Path.{◌≡◌, refl, sym, ◌∙◌, ap, ap₂}
 use mathlib.Core.Logic.{inl, inr}
 use mathlib.Core.Bool.{Bool, true, false, not, ◌&&◌, cond}

@@ -1,6 +1,6 @@
 // An equality row as numbers: whether it holds at a field, and the row times its multiplier added to the columns.
 ghost use Rattle.std.specs.Prelude.{◌≡◌, ◌<◌, ◌+◌, ◌+ℤ◌, ◌*ℤ◌, neg_ℤ, length, set};
-ghost use Rattle.integer.specs.Bounds.{Within, AllWithin, Is};
+ghost use Rattle.integer.specs.Bounds.{Within, AllWithin};
 ghost use Rattle.scope.specs.Columns.{at};
 ghost use Rattle.scope.specs.Bounds.{
   most_stress,

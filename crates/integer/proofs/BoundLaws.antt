@@ -1,10 +1,12 @@
--- Bounds of whole numbers (`Within`, `AllWithin`): laws for sums, differences, signs, products, quotients, remainders, and sums over lists; a bound from two inequalities and back.
+-- Bounds of whole numbers (`Within`, `AllWithin`): laws for sums, differences, signs, products, quotients, remainders,
+-- and sums over lists; a bound from two inequalities and back.
 -- What a bound is for, the goals of 64-bit arithmetic, is `Machine.antt`.
 -- `linear` takes bounds among its facts, and proves one, with the set `bounds` for `facts`.
--- Example (`example_middle`, checked after `bounds`): y is within 1010, from h : x within 1000, k : x < y and l : y ≤ x + 10:
+-- Example (`example_middle`, checked after `bounds`): y is within 1010, from h : x within 1000, k : x < y and l : y ≤ x
+-- + 10:
 --     linear (h & k & l) (search bounds depth 40) (omega arith)
-use mathlib.Core.Path.{refl, sym}
-use mathlib.Core.List.{List, [], ◌∷◌, Memᴰ}
+use mathlib.Core.Path.{sym}
+use mathlib.Core.List.{List, []}
 use Prim.Native.Nat.{ℕ, suc, ◌+◌, ◌*◌, ◌/◌, ◌%◌, ◌≤◌, ◌<◌, zero-le}
 use native.Mathlib.Nat.{le_trans, mul-le-mul, le_refl, div-le_self, mod-le}
 use native.Mathlib.Decide.{dec_lt}
@@ -16,7 +18,6 @@ use Rattle.integer.specs.Bounds.{Within, AllWithin}
 use Rattle.integer.proofs.RingLaws.{nat_abs_neg_ℤ, nat_abs_*ℤ, nat_abs_+ℤ}
 use Rattle.integer.proofs.Order.{≤ℤ_pos}
 use Rattle.integer.proofs.Linear.{linear, facts, Fact, Lin, levels, ◌&◌, nothing, Both, ≤ℤ_parts, parts_≤ℤ}
-use Rattle.integer.specs.Sum.{sum_of}
 
 -- ---- a number within a bound
 
@@ -103,8 +104,3 @@ all_within_lem {B} l h = record { each = λ i. go i (dec_lt i (length l)) }
 
 pub AllWithin-le : {A B : ℕ} {l : List ℤ} → AllWithin A l → A ≤ B → AllWithin B l
 AllWithin-le h k = record { each = λ i. Within-le (h.each i) k }
-
--- the sum over a list
-pub sum_of_Within : {A : Type 0} {B : ℕ} (f : A → ℤ) (l : List A) → ((a : A) → Memᴰ a l → Within B (f a)) → Within (length l * B) (sum_of f l)
-sum_of_Within f [] h = record { within = zero-le }
-sum_of_Within f (a ∷ l) h = Within-le (Within-+ℤ (h a (Memᴰ.head refl)) (sum_of_Within f l (λ b m. h b (Memᴰ.tail m)))) (omega arith)

@@ -1,5 +1,7 @@
--- Laws of decimal digits: what is written is read back, and what is read was written. Both go digit by digit: one more digit d after a value a makes 10·a + d.
--- Example (`example_one_number`, checked after `value_digits`): two numbers with the same digits, h : digits j ≡ digits k, are equal:
+-- Laws of decimal digits: what is written is read back, and what is read was written. Both go digit by digit: one more
+-- digit d after a value a makes 10·a + d.
+-- Example (`example_one_number`, checked after `value_digits`): two numbers with the same digits, h : digits j ≡ digits
+-- k, are equal:
 --     sym (value_digits j) ∙ ap (value_after 0) h ∙ value_digits k
 use mathlib.Core.Path.{◌≡◌, refl, sym, ap, ◌∙◌}
 use mathlib.Core.Bool.{true, ◌&&◌}

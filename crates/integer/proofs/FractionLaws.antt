@@ -1,6 +1,7 @@
 -- The order of fractions by cross products: `≤ᶠ` is reflexive, total, decidable, transitive between positive
 -- denominators, and two fractions are each at most the other exactly when their cross products are equal.
--- Example (`example_third_below`, checked after `≤ᶠ_trans`): f ≤ 2/5, from p : f has a denominator above 0 and h : f ≤ 1/3, where literals are compared by `le_z_yes tt`:
+-- Example (`example_third_below`, checked after `≤ᶠ_trans`): f ≤ 2/5, from p : f has a denominator above 0 and h : f ≤
+-- 1/3, where literals are compared by `le_z_yes tt`:
 --     ≤ᶠ_trans p (record { positive = lt_z_yes tt }) (record { positive = lt_z_yes tt }) h (record { cross-≤ = le_z_yes tt })
 use mathlib.Core.Path.{refl, sym}
 use mathlib.Core.List.{[], ◌∷◌}
@@ -9,15 +10,12 @@ use lib.IntN.{ℤ, pos, ◌*ℤ◌}
 use lib.Signed.{≤ℤ_refl, <ℤ_irrefl, <ℤ-≤ℤ_trans, le_z_yes, lt_z_yes}
 use Rattle.integer.specs.Fraction.{Frac, ◌over◌, ◌≤ᶠ◌, ◌<ᶠ◌, ◌≈ᶠ◌, Positive}
 use Rattle.integer.proofs.Ring.{ring, terms}
-use Rattle.integer.proofs.Order.{≤ℤ_antisym, ≤ℤ_total, <ℤ_or_≤ℤ, ≡→≤ℤ, <ℤ→≤ℤ, by_nn, nn_diff, +ℤ_mono, *ℤ_mono, *ℤ_cancel_≤}
+use Rattle.integer.proofs.Order.{≤ℤ_antisym, <ℤ_or_≤ℤ, ≡→≤ℤ, <ℤ→≤ℤ, by_nn, nn_diff, +ℤ_mono, *ℤ_mono, *ℤ_cancel_≤}
 
 -- ---- the order
 
 pub ≤ᶠ_refl : (f : Frac) → f ≤ᶠ f
 ≤ᶠ_refl f = record { cross-≤ = ≤ℤ_refl (f.num *ℤ f.den) }
-
-pub ≤ᶠ_total : (f g : Frac) → (f ≤ᶠ g) ⊎ (g ≤ᶠ f)
-≤ᶠ_total f g = ⊎_elim (λ h. inl (record { cross-≤ = h })) (λ h. inr (record { cross-≤ = h })) (≤ℤ_total (f.num *ℤ g.den) (g.num *ℤ f.den))
 
 pub <ᶠ_or_≤ᶠ : (f g : Frac) → (f <ᶠ g) ⊎ (g ≤ᶠ f)
 <ᶠ_or_≤ᶠ f g = ⊎_elim (λ h. inl (record { cross-< = h })) (λ h. inr (record { cross-≤ = h })) (<ℤ_or_≤ℤ (f.num *ℤ g.den) (g.num *ℤ f.den))
@@ -52,7 +50,3 @@ pub ≈ᶠ_sym : {f g : Frac} → f ≈ᶠ g → g ≈ᶠ f
 pub ≈ᶠ_trans : {f g h : Frac} → Positive f → Positive g → Positive h → f ≈ᶠ g → g ≈ᶠ h → f ≈ᶠ h
 ≈ᶠ_trans pf pg ph d e =
     ≤ᶠ_antisym (≤ᶠ_trans pf pg ph (≈ᶠ→≤ᶠ d) (≈ᶠ→≤ᶠ e)) (≤ᶠ_trans ph pg pf (≈ᶠ→≤ᶠ (≈ᶠ_sym e)) (≈ᶠ→≤ᶠ (≈ᶠ_sym d)))
-
--- a fraction does not change when both its parts are multiplied
-pub ≈ᶠ_scale : (k a m : ℤ) → (k *ℤ a) over (k *ℤ m) ≈ᶠ a over m
-≈ᶠ_scale k a m = record { cross-≡ = ring (k ∷ a ∷ m ∷ []) (search terms depth 100) refl }

@@ -1,9 +1,12 @@
 -- Linear consequences in ℤ, handed to `omega`.
 -- At a goal `a ≤ℤ b`, `a <ℤ b`, `a ≡ b` over ℤ, the negation of one, or `⊥`, with facts h and k of these kinds, write
 --     linear (h & k) (search facts depth 40) (omega arith)
--- and `linear nothing ..` where no such fact is needed. Facts on natural numbers need no mention: `omega` reads them where they stand.
--- Each number is read as a difference of two natural numbers, by a rule for each operator; `search` finds the readings, and `omega` proves what the goal then says of natural numbers.
--- A product of unknowns is multiplied out, and each monomial is one more unknown to `omega`. Readings go 12 operators deep; a search that stops at its count wants `fits 10000` after `depth 40`.
+-- and `linear nothing ..` where no such fact is needed. Facts on natural numbers need no mention: `omega` reads them
+-- where they stand.
+-- Each number is read as a difference of two natural numbers, by a rule for each operator; `search` finds the readings,
+-- and `omega` proves what the goal then says of natural numbers.
+-- A product of unknowns is multiplied out, and each monomial is one more unknown to `omega`. Readings go 12 operators
+-- deep; a search that stops at its count wants `fits 10000` after `depth 40`.
 -- Example (`example_order`, checked after `linear`): a + 3 ≤ c, from h : a + 2 ≤ b and k : b < c - 3n:
 --     linear (h & k) (search facts depth 40) (omega arith)
 use mathlib.Core.Path.{◌≡◌, refl, sym, ◌∙◌, ap, ap₂}

@@ -1,10 +1,13 @@
--- Signed 64-bit arithmetic in a function's proof: that an operation fits, the exact value of its result, its bound, and what a test says.
+-- Signed 64-bit arithmetic in a function's proof: that an operation fits, the exact value of its result, its bound, and
+-- what a test says.
 --
--- How numbers stand there. In a contract and in an invariant an `i64` is a ℤ. In a goal it may stand as the machine reads it back from bits: a parameter is `to_z w64 (of_z w64 a)`, a sum
--- `to_z w64 (of_z w64 (x +ℤ y))`, an element `to_z w64 (of_z w64 (get_or l i (pos 0)))`, a variable that a loop changes `s` itself, and -x is `pos 0 -ℤ x`.
+-- How numbers stand there. In a contract and in an invariant an `i64` is a ℤ. In a goal it may stand as the machine
+-- reads it back from bits: a parameter is `to_z w64 (of_z w64 a)`, a sum `to_z w64 (of_z w64 (x +ℤ y))`, an element
+-- `to_z w64 (of_z w64 (get_or l i (pos 0)))`, a variable that a loop changes `s` itself, and -x is `pos 0 -ℤ x`.
 --
--- How a function is proved. Its `requires` bounds the numbers, `Within B a` and `AllWithin B s.now`. Its `ensures` says `Is r z B`: r is the number z, within B. An invariant
--- says `Is l.s z B`, where B may name a counter, as `l.i * 1000000`. Then each goal is one line. With S for `(search machine depth 30)`, which reads the machine's terms
+-- How a function is proved. Its `requires` bounds the numbers, `Within B a` and `AllWithin B s.now`. Its `ensures` says
+-- `Is r z B`: r is the number z, within B. An invariant says `Is l.s z B`, where B may name a counter, as
+-- `l.i * 1000000`. Then each goal is one line. With S for `(search machine depth 30)`, which reads the machine's terms
 -- from the facts in reach, and `(omega arith)` for what is left of the bounds:
 --     an operation fits          fits S (omega arith)
 --     `Is v z B`                 is S (omega arith) e, where e : (the value as it was computed) ≡ z, often `refl`
@@ -17,12 +20,15 @@
 --     a division                 (meets S (omega arith) n, fits S (omega arith)), where n : ¬ (divisor ≡ pos 0)
 --     a cast to unsigned         (meets S (omega arith) p, meets S (omega arith) (omega arith)), where p : pos 0 ≤ℤ value
 --     what a callee requires     search limits, or record { fact_1 = search limits; .. } for several clauses
--- For a number with no bound S is `(search (machine, unbounded) depth 30)`, and for an unsigned number that was cast to `i64` it is `(search (machine, casts) depth 30)`.
+-- For a number with no bound S is `(search (machine, unbounded) depth 30)`, and for an unsigned number that was cast to
+-- `i64` it is `(search (machine, casts) depth 30)`.
 -- A callee's `ensures` speaks of its arguments as the machine read them: there e is `search unread`.
--- Where z is a definition of `specs/` the answer says `unfolding` of it. Where `search` stops at its count, it wants `fits 10000` after `depth 30`; where it breaks off, among many calls,
--- bind its facts first: `let h = c.f.ensures in fits S (omega arith)`.
+-- Where z is a definition of `specs/` the answer says `unfolding` of it. Where `search` stops at its count, it wants
+-- `fits 10000` after `depth 30`; where it breaks off, among many calls, bind its facts first:
+-- `let h = c.f.ensures in fits S (omega arith)`.
 --
--- Example (`example_fits`, checked after `fits`): the difference of a·b and c, as the machine has it, fits 64 bits, from bounds of a, b and c:
+-- Example (`example_fits`, checked after `fits`): the difference of a·b and c, as the machine has it, fits 64 bits,
+-- from bounds of a, b and c:
 --     fits (search machine depth 30) (omega arith)
 use mathlib.Core.Path.{◌≡◌, refl, sym, ◌∙◌, ap, ap₂, subst}
 use mathlib.Core.List.{List}
@@ -169,7 +175,9 @@ of_quot_z h k = record { plain = quot_z h.plain k.plain; bound = h.bound; peak =
 abbrev pub of_rem_z : {v w : ℤ} → Machine v → Machine w → Machine (rem_z v w)
 of_rem_z h k = record { plain = rem_z h.plain k.plain; bound = h.bound; peak = peaks h k; says = λ o. Is-rem_z (both_say h k o).one (both_say h k o).two }
 
--- a parameter, or an element of a slice, of which no bound is known. `search` takes first what needs no number that the goal does not show, then the shallowest way, then the rule of fewer premises: m and `Fallback` put these behind `of_read` of a bounded number
+-- a parameter, or an element of a slice, of which no bound is known. `search` takes first what needs no number that the
+-- goal does not show, then the shallowest way, then the rule of fewer premises: m and `Fallback` put these behind
+-- `of_read` of a bounded number
 pub data Fallback : Type 0 where
   fallback : Unit {0} → Fallback
 
@@ -362,7 +370,8 @@ element_SFits i h t = within-SFits (h.each i) t
 
 pub ruleset unread = (to_z-of_z, within-SFits, element_SFits, mag_SFits)
 
--- what a callee requires of its arguments: bounds of literals, of parameters, of elements and of results, as they stand or wider
+-- what a callee requires of its arguments: bounds of literals, of parameters, of elements and of results, as they stand
+-- or wider
 pub within_literal : {B : ℕ} {z : ℤ} → T (leb (nat_abs z) B) → Within B z
 within_literal {B} {z} t = record { within = leb→le (nat_abs z) B t }
 

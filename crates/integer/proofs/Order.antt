@@ -1,6 +1,8 @@
--- The order of ℤ: laws of `◌≤ℤ◌` and `◌<ℤ◌` of `lib.Signed`, which has `≤ℤ_refl`, `<ℤ_irrefl`, `<ℤ-≤ℤ_trans` and `clash_ℤ`.
+-- The order of ℤ: laws of `◌≤ℤ◌` and `◌<ℤ◌` of `lib.Signed`, which has `≤ℤ_refl`, `<ℤ_irrefl`, `<ℤ-≤ℤ_trans` and
+-- `clash_ℤ`.
 -- `≤ℤ` and `<ℤ` bind tighter than `+ℤ`: put brackets around a side that is a sum or a product.
--- A linear consequence of facts is one line of `Linear.antt`. For what is not linear there are certificates: `by_nn` reduces `a ≤ℤ b` to a number that is not negative and an identity for `ring`.
+-- A linear consequence of facts is one line of `Linear.antt`. For what is not linear there are certificates: `by_nn`
+-- reduces `a ≤ℤ b` to a number that is not negative and an identity for `ring`.
 -- Example (`example_mean`, checked after `by_nn`): 2ab ≤ a² + b², since the difference is a square:
 --     by_nn (square_nonneg (a -ℤ b)) (ring (a ∷ b ∷ []) (search terms depth 100) refl)
 use mathlib.Core.Path.{◌≡◌, refl, sym, ◌∙◌, ap, ap₂, subst}

@@ -2,11 +2,14 @@
 -- At a goal `x ≡ y` over ℤ write
 --     ring (a ∷ b ∷ []) (search terms depth 100) refl
 -- where the list has the atoms: what the two sides are made of by sums, differences, products and signs.
--- Literals have no place in the list. Of an unknown number n of ℕ the atom is `pos n`; `pos (m + n)`, `pos (m * n)`, `pos (suc n)`, `suc_ℤ x` and `pred_ℤ x` are taken apart, and so is an `abbrev`.
+-- Literals have no place in the list. Of an unknown number n of ℕ the atom is `pos n`; `pos (m + n)`, `pos (m * n)`,
+-- `pos (suc n)`, `suc_ℤ x` and `pred_ℤ x` are taken apart, and so is an `abbrev`.
 -- Over ℕ it is the same line with `ringℕ` and a list of natural numbers.
 -- `ring_from k h (ring ..)` uses an equation h, k times, and `ring_from k h (ring_from l g (ring ..))` two of them.
--- `search` finds the expressions that stand for the two sides, one rule of `terms` an operator. `refl` has antt compute the polynomial of their difference, which must be 0.
--- If `search` fails, an atom is missing from the list, or it stopped at its count and wants `fits 10000` after `depth 100`.
+-- `search` finds the expressions that stand for the two sides, one rule of `terms` an operator. `refl` has antt compute
+-- the polynomial of their difference, which must be 0.
+-- If `search` fails, an atom is missing from the list, or it stopped at its count and wants `fits 10000` after
+-- `depth 100`.
 -- If `refl` fails, write `?` for it: the goal shows the polynomial that is left, `node i p q` for xᵢ · p + q.
 -- Example (`example_square_of_sum`, checked after `ring`): (a + b)² = a² + 2ab + b² is
 --     ring (a ∷ b ∷ []) (search terms depth 100) refl

@@ -1,6 +1,8 @@
--- The laws of ℤ as a commutative ring that `lib.IntN` does not have: products regroup, distribute over sums and carry signs; ℤ has no divisors of zero.
+-- The laws of ℤ as a commutative ring that `lib.IntN` does not have: products regroup, distribute over sums and carry
+-- signs; ℤ has no divisors of zero.
 -- Any other identity of sums, differences, products and signs is one line of the solver in `Ring.antt`.
--- Example (`example_signs`, checked after `*ℤ_neg_ℤ`): two signs cancel in a product, (-a)·(-b) = a·b, once each stands in front of it:
+-- Example (`example_signs`, checked after `*ℤ_neg_ℤ`): two signs cancel in a product, (-a)·(-b) = a·b, once each stands
+-- in front of it:
 --     simp (*ℤ-negℤ, negℤ-*ℤ, neg_ℤ-neg_ℤ)
 use mathlib.Core.Path.{◌≡◌, refl, sym, ◌∙◌, ap, ap₂}
 use Prim.Native.Nat.{ℕ, zero, suc, ◌+◌, ◌*◌, ◌-◌, ◌≤◌, ◌<◌}

@@ -1,5 +1,6 @@
 -- `Floor z d q` and `Ceil z d q` each hold of one number q only: the one that `floor_div` or `ceil_div` computes.
--- Example (`example_half`, checked after `floor_unique`): to show that k is the floor of (2k + 1)/2 show its two inequalities:
+-- Example (`example_half`, checked after `floor_unique`): to show that k is the floor of (2k + 1)/2 show its two
+-- inequalities:
 --     floor_unique (floor_div_is (pos 2 *ℤ k +ℤ pos 1) (omega arith)) (record { at_most = ..; next_above = .. })
 use mathlib.Core.Path.{◌≡◌}
 use Prim.Native.Nat.{ℕ, ◌+◌, ◌*◌, ◌/◌, ◌%◌, ◌<◌}

@@ -1,9 +1,10 @@
 -- Sums over lists: of a list put together from parts, of a mapped list, of a sum and a multiple of functions, of a sum
 -- within a sum, and comparison member by member.
--- Example (`example_taken_apart`, checked after `sum_of_*ℤ`): Σ(k·f + c·g) + c = k·Σf + c·(Σg + 1), taken apart by `simp` and closed by `ring`:
+-- Example (`example_taken_apart`, checked after `sum_of_*ℤ`): Σ(k·f + c·g) + c = k·Σf + c·(Σg + 1), taken apart by
+-- `simp` and closed by `ring`:
 --     simp (sum_of_+ℤ, sum_of_*ℤ) (ring (k ∷ c ∷ sum_of f l ∷ sum_of g l ∷ []) (search terms depth 100) refl)
 use mathlib.Core.Path.{◌≡◌, refl, sym, ◌∙◌, ap, ap₂}
-use mathlib.Core.List.{List, [], ◌∷◌, ◌++◌, map, Memᴰ}
+use mathlib.Core.List.{List, [], ◌∷◌, ◌++◌, Memᴰ}
 use Prim.Native.Nat.{ℕ}
 use lib.IntN.{ℤ, pos, ◌+ℤ◌, ◌*ℤ◌, +ℤ_idl, +ℤ_assoc, *ℤ-zero}
 use lib.Signed.{◌≤ℤ◌, ≤ℤ_refl}
@@ -45,10 +46,6 @@ module _ {A : Type 0} where
       +ℤ_mono (h a (Memᴰ.head refl)) (sum_of_mono f g l (λ b m. h b (Memᴰ.tail m)))
 
 module _ {A B : Type 0} where
-  pub sum_of_map : (f : B → ℤ) (g : A → B) (l : List A) → sum_of f (map g l) ≡ sum_of (λ a. f (g a)) l
-  sum_of_map f g [] = refl
-  sum_of_map f g (a ∷ l) = ap (λ x. f (g a) +ℤ x) (sum_of_map f g l)
-
   -- two sums may change places
   pub sum_of_exchange : (f : A → B → ℤ) (l : List A) (m : List B) → sum_of (λ a. sum_of (f a) m) l ≡ sum_of (λ b. sum_of (λ a. f a b) l) m
   sum_of_exchange f [] m = sym (sum_of_zero m)

@@ -1,5 +1,5 @@
--- The Boolean tests `eq_z`, `le_z` and `lt_z` of whole numbers: what each says when it passes (`_yes`) and when it fails
--- (`_no`), and which way it goes (`yes_`, `no_`). `lib.Signed` has `le_z_yes`, `lt_z_yes` and `lt_z_no`.
+-- The Boolean tests `eq_z`, `le_z` and `lt_z` of whole numbers: what each says when it passes (`_yes`) and when it
+-- fails (`_no`), and which way it goes (`yes_`, `no_`). `lib.Signed` has `le_z_yes`, `lt_z_yes` and `lt_z_no`.
 use mathlib.Core.Path.{◌≡◌, refl, ap, subst}
 use mathlib.Core.Bool.{Bool, true, false, not}
 use lib.Dec.{T, eqb→eq, eqb_refl, lt→ltb, nleb→lt, T_not, not_T}

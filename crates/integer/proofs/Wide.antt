@@ -1,6 +1,7 @@
 -- Numbers in 128 bits, as the machine has them: a product of two 64-bit numbers is exact.
 --
--- Example (`example_product`, checked after `wide_product`): the product of two parameters, each cast to 128 bits, is their product.
+-- Example (`example_product`, checked after `wide_product`): the product of two parameters, each cast to 128 bits, is
+-- their product.
 use mathlib.Core.Path.{◌≡◌, refl, ◌∙◌, ap, ap₂}
 use Prim.Native.Nat.{◌*◌, ◌^◌, ◌≤◌, ◌<◌}
 use native.Mathlib.Nat.{mul-le-mul}

@@ -1,6 +1,6 @@
 -- Floor and ceiling of z / d, for a whole number z and a natural number d above 0.
--- `Floor z d q` and `Ceil z d q` say what q is; `floor_div` and `ceil_div` compute it (`floor_div_is` and `ceil_div_is` of
--- proofs/RoundLaws.antt).
+-- `Floor z d q` and `Ceil z d q` say what q is; `floor_div` and `ceil_div` compute it (`floor_div_is` and `ceil_div_is`
+-- of proofs/RoundLaws.antt).
 use Rattle.std.specs.Prelude.{◌≡◌, refl, ℕ, ◌/◌, ℤ, pos, negsuc, ◌+ℤ◌, ◌-ℤ◌, ◌*ℤ◌, neg_ℤ, ◌≤ℤ◌, ◌<ℤ◌}
 
 -- q·d ≤ z < (q + 1)·d

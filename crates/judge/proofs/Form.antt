@@ -1,4 +1,5 @@
--- A refusal with 1 or 11 is one of the form of a line, of the mesh, of its table or of the claim, for no other check has these numbers; and so the verdict says what the bytes are.
+-- A refusal with 1 or 11 is one of the form of a line, of the mesh, of its table or of the claim, for no other check
+-- has these numbers; and so the verdict says what the bytes are.
 use mathlib.Core.Path.{◌≡◌, refl, sym, ap, ◌∙◌, subst}
 use mathlib.Core.Logic.{◌↔◌, ◌⊎◌, inl, inr}
 use mathlib.Core.Bool.{Bool, true, false, cond}
@@ -187,7 +188,8 @@ module _ (w : ℕ) (mesh table claim : List ℕ) (j : ℕ) where
   m : List ℤ
   m = mesh_numbers w mesh
 
-  -- 1 at line j: the form of the mesh file, or, from line 1,001 on, that of the table file once the mesh's lines have passed
+  -- 1 at line j: the form of the mesh file, or, from line 1,001 on, that of the table file once the mesh's lines have
+  -- passed
   pub mesh_form : (files_verdict w mesh table claim ≡ Refused 1 (Line (suc j))) ↔ MeshFormFails w mesh table j
   unfolding files_verdict t m
   mesh_form = (λ e. to (one_form t m (Line (suc j)) read e), λ h. form_one t m (Line (suc j)) read (from h))

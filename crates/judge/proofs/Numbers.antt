@@ -1,4 +1,5 @@
--- "Numbers handed to it get the refusals that a file of them, with columns as wide as needed, would get": a file is checked as its numbers are, and where no check of its lines fails its numbers are read back.
+-- "Numbers handed to it get the refusals that a file of them, with columns as wide as needed, would get": a file is
+-- checked as its numbers are, and where no check of its lines fails its numbers are read back.
 use mathlib.Core.Path.{◌≡◌, refl, sym, ap, ◌∙◌, subst}
 use mathlib.Core.Bool.{Bool, true, false, true≢false}
 use mathlib.Core.List.{List, [], ◌∷◌}

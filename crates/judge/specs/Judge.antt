@@ -1,5 +1,6 @@
--- The verdict on the bytes of a mesh file, a table file and a claim file (document 01, 'What the product does'; document
--- 02, N8: "Every call that takes a mesh takes the table too"): the verdict on their numbers. An empty file is no table.
+-- The verdict on the bytes of a mesh file, a table file and a claim file (document 01, 'What the product does';
+-- document 02, N8: "Every call that takes a mesh takes the table too"): the verdict on their numbers. An empty file is
+-- no table.
 use Rattle.std.specs.Prelude.{List, ℕ, ℤ}
 use Rattle.scope.specs.Cases.Outcome.{Outcome}
 use Rattle.scope.specs.Cases.Verdict.{Verdict}

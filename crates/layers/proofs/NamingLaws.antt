@@ -1,4 +1,5 @@
--- A mesh in which the first elements with soil 0 have soil 1: one element more is one number set, where it is there, and after the last it is the mesh as its lines are judged.
+-- A mesh in which the first elements with soil 0 have soil 1: one element more is one number set, where it is there,
+-- and after the last it is the mesh as its lines are judged.
 use mathlib.Core.Path.{◌≡◌, refl, sym, ◌∙◌, ap, ap₂}
 use mathlib.Core.Bool.{Bool, true, false, cond, ◌&&◌}
 use mathlib.Core.List.{List}

@@ -1,5 +1,5 @@
 // One line at a time: the limits of its columns, and the lines of a mesh that have rules of their own.
-ghost use Rattle.std.specs.Prelude.{◌≡◌, ◌<◌, ◌≤◌, ◌^◌, true, length, ◌+ℤ◌, ◌*ℤ◌};
+ghost use Rattle.std.specs.Prelude.{◌≡◌, ◌<◌, ◌^◌, true, length, ◌+ℤ◌, ◌*ℤ◌};
 ghost use Rattle.integer.specs.Bounds.{Within};
 ghost use Rattle.integer.specs.Tests.{eq_z};
 ghost use Rattle.scope.specs.Answer.{outcome_of};

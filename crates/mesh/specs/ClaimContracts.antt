@@ -10,8 +10,8 @@ pub record Counted (m : List ℤ) (s : ClaimSizes) : Type 0 where
   pub sizes : SizesAre m s.sizes
   pub pairs_are : s.pairs ≡ pair_count m
 
--- counts so small that no place of a number leaves 64 bits: what the ghost fields of `ClaimSizes` and of `Sizes` say, so
--- that it is true of every value of the type (law `few_things`)
+-- counts so small that no place of a number leaves 64 bits: what the ghost fields of `ClaimSizes` and of `Sizes` say,
+-- so that it is true of every value of the type (law `few_things`)
 pub record FewThings (s : ClaimSizes) : Type 0 where
   pub few_soils : s.sizes.soils ≤ most_soils
   pub few_nodes : s.sizes.nodes ≤ most_nodes

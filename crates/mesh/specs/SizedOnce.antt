@@ -1,4 +1,5 @@
--- A mesh has its sizes in one way, as the fact of a ghost field must: each part of the fact can be shown in one way only.
+-- A mesh has its sizes in one way, as the fact of a ghost field must: each part of the fact can be shown in one way
+-- only.
 use mathlib.Core.Path.{ap, sym, ◌∙◌}
 use mathlib.Core.Logic.{inl, inr}
 use native.Mathlib.Omega.{arith}

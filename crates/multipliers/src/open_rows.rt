@@ -76,7 +76,8 @@ fn open_in_pair(field: &Field, rows: &WeightedRows, a: usize) -> u64
     }
 }
 
-// The same, where its soil is by direction. For speed it stands apart: the table of its rows is room that each call pays.
+// The same, where its soil is by direction. For speed it stands apart: the table of its rows is room that each call
+// pays.
 #[inline(never)]
 fn open_by_planes(field: &Field, rows: &WeightedRows, a: usize) -> u64
     requires same_mesh { field.now.mesh.mesh.numbers.now ≡ rows.now.mesh.mesh.numbers.now }

@@ -1,6 +1,6 @@
--- What a caller that hands over a table too may rely on (document 02, N8): demands 2 and 3 for `check`, which C calls as
--- `pechuvo_check_numbers`. A table is refused with its own numbers before 5; where it fits, or where there is none, the
--- answer is the one for the filled mesh, so that each promise of `Promises` holds of that mesh.
+-- What a caller that hands over a table too may rely on (document 02, N8): demands 2 and 3 for `check`, which C calls
+-- as `pechuvo_check_numbers`. A table is refused with its own numbers before 5; where it fits, or where there is none,
+-- the answer is the one for the filled mesh, so that each promise of `Promises` holds of that mesh.
 use Rattle.std.specs.Prelude.{◌≡◌, ◌↔◌, ◌⊎◌, ◌≢◌, List, [], ℕ, ◌≤◌, ◌<◌, ℤ}
 use Rattle.scope.specs.Answer.{place_for, number_of, place_of}
 use Rattle.scope.specs.Columns.{has_field}

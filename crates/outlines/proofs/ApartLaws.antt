@@ -1,5 +1,5 @@
--- What the checks of 47 go by: boxes that are apart have elements that lie apart, and so the test by sides passes; and one
--- element against those below it, from the nearest down.
+-- What the checks of 47 go by: boxes that are apart have elements that lie apart, and so the test by sides passes; and
+-- one element against those below it, from the nearest down.
 use mathlib.Core.Path.{◌≡◌, sym, ◌∙◌, ap, subst}
 use mathlib.Core.Bool.{Bool, true, false, not, ◌||◌, or-true, or-false}
 use mathlib.Core.List.{List}

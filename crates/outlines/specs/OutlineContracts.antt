@@ -1,5 +1,5 @@
--- What is handed on of elements as polygons: that all turn left, once 5 has passed, and boxes around them, which 47 asks
--- first (document 02, N10).
+-- What is handed on of elements as polygons: that all turn left, once 5 has passed, and boxes around them, which 47
+-- asks first (document 02, N10).
 use Rattle.std.specs.Prelude.{◌≡◌, Bool, ◌||◌, List, ℕ, ◌≤◌, ◌<◌, ℤ, pos, ◌≤ℤ◌, length, get_or}
 use Rattle.std.specs.Int.Signed.{le_z}
 use Rattle.plane.specs.Boxes.{Box, Around}

@@ -1,6 +1,5 @@
 // Boxes around the elements, which for speed 47 asks before their sides (document 02, N10).
 ghost use Rattle.std.specs.Prelude.{◌≡◌, ◌||◌, ◌<◌, ◌≤◌, ◌≤ℤ◌};
-ghost use Rattle.std.specs.Int.Signed.{le_z};
 ghost use Rattle.plane.specs.Points.{Corner};
 ghost use Rattle.plane.specs.Boxes.{InBox, Around};
 ghost use Rattle.scope.specs.Mesh.{elements};

@@ -1,5 +1,6 @@
--- The whole check (document 01, 'What the product does' and 'Verdict and report'; document 02, N5 and N8): from the bytes
--- of a mesh, a table and a claim, a number of decimals and a buffer to what is returned and what the buffer then holds.
+-- The whole check (document 01, 'What the product does' and 'Verdict and report'; document 02, N5 and N8): from the
+-- bytes of a mesh, a table and a claim, a number of decimals and a buffer to what is returned and what the buffer then
+-- holds.
 use Rattle.std.specs.Prelude.{true, false, List, ◌++◌, ℕ, ltb, ℤ, nat_abs, length, drop}
 use Rattle.scope.specs.Cases.Verdict.{Verdict}
 use Rattle.scope.specs.Answer.{number_of, place_of}

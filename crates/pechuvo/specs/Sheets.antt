@@ -118,8 +118,8 @@ seam_fault =
     "1 0 1 60 / 0 -60 0 / 0 -60 0 / 0 -60 0 / 0 -60 0 / 0 -60 0 / 0 -60 0 / 0 -60 0 / 0 -60 0"
     "                          22                          37                        none                        none\n"
 
--- two blocks on a joint, with shared nodes and with a jump (document 02, N6): the left one is loaded, the right one's top
--- is free, and sy jumps from -40 to 0 where both press on the joint with 20
+-- two blocks on a joint, with shared nodes and with a jump (document 02, N6): the left one is loaded, the right one's
+-- top is free, and sy jumps from -40 to 0 where both press on the joint with 20
 unfoldable pub joint_mesh : String
 joint_mesh = "8 2 1 6 12 1 / 0 1 1 10 0 0 0 0 0 0 / 0 0 / 10 0 / 10 0 / 20 0 / 0 10 / 10 10 / 10 10 / 20 10 / 1 2 6 5 1 / 3 4 8 7 1 / 1 2 2 0 0 0 0 / 6 5 3 0 0 -1 0 / 5 1 2 0 0 0 0 / 3 4 2 0 0 0 0 / 4 8 2 0 0 0 0 / 8 7 3 0 0 0 0 / 2 6 3 7"
 

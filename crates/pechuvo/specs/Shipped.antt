@@ -1,6 +1,6 @@
 -- The files of sheets/ that document 01 stars, those that show the fault of document 02, N2, those of two blocks on a
--- joint (N6) and three with bedded clay (N14), byte for byte, so that they can be compared with what the definition of a
--- written file gives. tests/sheets compares these bytes with the files.
+-- joint (N6) and three with bedded clay (N14), byte for byte, so that they can be compared with what the definition of
+-- a written file gives. tests/sheets compares these bytes with the files.
 use Rattle.std.specs.Prelude.{List, [], ◌∷◌, ◌++◌, ℕ, take, drop}
 use Rattle.pechuvo.specs.Bytes.{bytes}
 use Rattle.pechuvo.specs.Sheets.{Sheet, starred, seam_fault, joint_blocks}

@@ -1,5 +1,5 @@
--- Triangles and quadrilaterals with a left turn at each corner are convex: a left turn at b from a to c is one at c from b
--- to a too, so each other corner is strictly left of a side, whose own two corners are on its line.
+-- Triangles and quadrilaterals with a left turn at each corner are convex: a left turn at b from a to c is one at c
+-- from b to a too, so each other corner is strictly left of a side, whose own two corners are on its line.
 use mathlib.Core.Path.{◌≡◌, refl, sym}
 use mathlib.Core.List.{List, [], ◌∷◌}
 use lib.IntN.{pos}

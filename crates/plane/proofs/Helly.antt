@@ -1,5 +1,5 @@
--- Helly's theorem for open half-planes with whole-number coefficients: if each three of a list have a common point, then
--- all have one, with fractions.
+-- Helly's theorem for open half-planes with whole-number coefficients: if each three of a list have a common point,
+-- then all have one, with fractions.
 -- By induction on the list, for regions of dimension 2, 1 and 0 alike. Let all lines but g be above 0 at v, and g not.
 -- Where few lines are above 0 at w together with g, they are so too where the way from v to w crosses g. So on g itself
 -- any one fewer have a common point, and all have one there, a dimension down. From it a small step towards w goes left

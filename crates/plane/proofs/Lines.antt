@@ -1,5 +1,5 @@
--- A line is the function p·x + q·y + r, above 0 on the line's left; it is linear in the three numbers of a point, and so
--- is what is left of a side.
+-- A line is the function p·x + q·y + r, above 0 on the line's left; it is linear in the three numbers of a point, and
+-- so is what is left of a side.
 use mathlib.Core.Path.{◌≡◌, refl, sym, ◌∙◌}
 use mathlib.Core.List.{List, [], ◌∷◌}
 use lib.IntN.{ℤ, pos, ◌+ℤ◌, ◌-ℤ◌, ◌*ℤ◌}

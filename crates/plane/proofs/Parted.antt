@@ -1,7 +1,7 @@
--- A line that no corner of a polygon is left of has no inner point of it on its left: the inner point lies in a triangle
--- of the fan from the first corner, and by Cramer's rule the line's value there is a mean of its values at the triangle's
--- corners. So polygons that a side parts share no inner point, and polygons that any line parts share none, since an
--- inner point may be moved a little across the line.
+-- A line that no corner of a polygon is left of has no inner point of it on its left: the inner point lies in a
+-- triangle of the fan from the first corner, and by Cramer's rule the line's value there is a mean of its values at the
+-- triangle's corners. So polygons that a side parts share no inner point, and polygons that any line parts share none,
+-- since an inner point may be moved a little across the line.
 use mathlib.Core.Path.{◌≡◌, refl, sym}
 use mathlib.Core.List.Memᴰ
 use mathlib.Core.List.{List, [], ◌∷◌, map}
@@ -139,7 +139,8 @@ pub turned_value : (g : Line) (v : Point) → value (turned g) v ≡ neg_ℤ (va
 unfolding turned value
 turned_value g v = ring (g.p ∷ g.q ∷ g.r ∷ v.x ∷ v.y ∷ v.e ∷ []) (search terms depth 100 fits 10000) refl
 
--- no corner of A is left of g and none of B right of it, and the step d goes left of g: the shared point, moved along d, stays in A
+-- no corner of A is left of g and none of B right of it, and the step d goes left of g: the shared point, moved along
+-- d, stays in A
 pub line_parts : {A B : List Corner} → Convex A → Convex B → (g : Line) (d : Point) → pos 0 <ℤ value g d → d.e ≡ pos 0
     → NotLeft g A → NotLeft (turned g) B → Shared A B → ⊥
 line_parts {A} {B} a b g d left level na nb shared =

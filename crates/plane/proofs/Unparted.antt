@@ -1,6 +1,6 @@
--- Polygons that no side parts share an inner point. For each side of B some corner of A is left of it, so a point next to
--- that corner is inside A and left of that side. So any three of all the sides have a common point on their left, since
--- two at least are of one polygon, and by Helly's theorem all have one.
+-- Polygons that no side parts share an inner point. For each side of B some corner of A is left of it, so a point next
+-- to that corner is inside A and left of that side. So any three of all the sides have a common point on their left,
+-- since two at least are of one polygon, and by Helly's theorem all have one.
 use mathlib.Core.Path.{◌≡◌, refl, ◌∙◌}
 use mathlib.Core.List.Memᴰ
 use mathlib.Core.List.{List, [], ◌∷◌, ◌++◌}

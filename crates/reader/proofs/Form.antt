@@ -1,4 +1,5 @@
--- A file is refused for its form where a line isn't well formed or bytes are left over, after lines that are good: from the front, line by line, and then by the lines' numbers.
+-- A file is refused for its form where a line isn't well formed or bytes are left over, after lines that are good: from
+-- the front, line by line, and then by the lines' numbers.
 use mathlib.Core.Path.{◌≡◌, refl, sym, ap, ◌∙◌}
 use mathlib.Core.Logic.{◌↔◌, ◌⊎◌, inl, inr}
 use mathlib.Core.List.{List, [], ◌∷◌, map}
@@ -246,6 +247,7 @@ form_failed w f r bs j x =
     ∙ failed w f (file_lines f h) (columns_of (groups f h) (r.some_columns h)) bs 0 j y
     ∙ ap (λ i. Refused f.form_number (Line (suc i))) (omega arith)
 
--- a file is refused for its form at line j exactly when lines 0 to j - 1 are well formed and pass their own checks, and line j isn't well formed, or all lines are there and bytes follow the last
+-- a file is refused for its form at line j exactly when lines 0 to j - 1 are well formed and pass their own checks, and
+-- line j isn't well formed, or all lines are there and bytes follow the last
 pub form_refused : (w : ℕ) (f : Layout) → Regular f → (bs : List ℕ) (j : ℕ) → (lines_check f (numbers_of w f bs) ≡ Refused f.form_number (Line (suc j))) ↔ FormFails w f bs j
 form_refused w f r bs j = (form_fails w f r bs j, form_failed w f r bs j)

@@ -1,4 +1,5 @@
--- The layouts of a mesh and of a claim are regular: what lines follow the header is told by numbers that stand in the header.
+-- The layouts of a mesh and of a claim are regular: what lines follow the header is told by numbers that stand in the
+-- header.
 use mathlib.Core.Path.{◌≡◌, refl}
 use mathlib.Core.Logic.{◌≢◌}
 use mathlib.Core.Bool.{Bool, false}

@@ -1,4 +1,5 @@
--- A column means a number exactly when it is that number's spelling right-justified in spaces: spaces go off one by one, then the minus, and the digits by the laws of decimal digits.
+-- A column means a number exactly when it is that number's spelling right-justified in spaces: spaces go off one by
+-- one, then the minus, and the digits by the laws of decimal digits.
 use mathlib.Core.Path.{◌≡◌, refl, ap, ◌∙◌}
 use mathlib.Core.Logic.{◌↔◌}
 use mathlib.Core.Bool.{Bool, true, false, cond}

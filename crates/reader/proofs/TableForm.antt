@@ -1,4 +1,5 @@
--- A table's numbers are judged line by line as its lines are read; so it is refused for its form where a line that has a byte isn't well formed or is the 33rd, and a table written from numbers is judged as they are.
+-- A table's numbers are judged line by line as its lines are read; so it is refused for its form where a line that has
+-- a byte isn't well formed or is the 33rd, and a table written from numbers is judged as they are.
 use mathlib.Core.Path.{◌≡◌, refl, sym, ap, ap₂, ◌∙◌}
 use mathlib.Core.Logic.{◌↔◌, ◌⊎◌, inl, inr}
 use mathlib.Core.Bool.{Bool, true, false, cond, not}
@@ -360,7 +361,8 @@ module _ (w : ℕ) (m : List ℤ) where
       ∙ ap raised (table_in_order m (table_numbers_of w bs) ∙ failed m w most_layers bs 0 j (from_front m w most_layers bs j (x.most, x.before, x.begun, x.here)))
       ∙ ap (λ (k : ℕ). Refused 1 (Line k)) here
 
-  -- a table gets 1 at line 1,001 + j exactly when lines 0 to j - 1 are well formed and pass their own checks, a byte of line j is there, and it isn't well formed or is the 33rd
+  -- a table gets 1 at line 1,001 + j exactly when lines 0 to j - 1 are well formed and pass their own checks, a byte of
+  -- line j is there, and it isn't well formed or is the 33rd
   pub table_form : (bs : List ℕ) (j : ℕ) → (check_phases (table_line_phases (table_numbers_of w bs) m) ≡ Refused 1 (Line (1001 + j))) ↔ TableFormFails w m bs j
   table_form bs j = (form_fails bs j, form_failed bs j)
 

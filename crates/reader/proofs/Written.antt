@@ -1,4 +1,5 @@
--- A file written from a list of numbers gets the refusal that the list gets, and is read as the list where it gets none: each whole line is read back, and a line that isn't whole is refused either way.
+-- A file written from a list of numbers gets the refusal that the list gets, and is read as the list where it gets
+-- none: each whole line is read back, and a line that isn't whole is refused either way.
 use mathlib.Core.Path.{◌≡◌, refl, sym, ap, ◌∙◌}
 use mathlib.Core.Logic.{◌⊎◌, inl, inr}
 use mathlib.Core.List.{List, [], ◌∷◌, ◌++◌, map, append-nil, append_assoc}

@@ -54,7 +54,8 @@ pub record FormFails (w : ℕ) (f : Layout) (bs : List ℕ) (j : ℕ) : Type 0 w
   pub header : List ℤ
   pub is_header : 0 < j → WellFormedLine w (width f.header) header (take (line_bytes w (width f.header)) bs)
   pub before : (i : ℕ) → i < j → GoodLine w (group_at f header i) (drop (line_start w f header i) bs)
-  pub here : ((j < line_count (groups f header)) × IllFormed w (group_at f header j) (drop (line_start w f header j) bs))
+  pub here :
+      ((j < line_count (groups f header)) × IllFormed w (group_at f header j) (drop (line_start w f header j) bs))
       ⊎ ((j ≡ line_count (groups f header)) × (line_start w f header j < length bs))
 
 -- ---- what the layouts of a mesh and of a claim have in common

@@ -1,5 +1,5 @@
--- The next claim's own bytes: its header stands in the first bytes that are left, and with the mesh it says how many are
--- its own.
+-- The next claim's own bytes: its header stands in the first bytes that are left, and with the mesh it says how many
+-- are its own.
 use mathlib.Core.Path.{◌≡◌, sym, ap, ◌∙◌}
 use mathlib.Core.List.{List}
 use Prim.Native.Nat.{ℕ, min, ◌+◌, ◌*◌, ◌≤◌, ◌<◌}

@@ -90,7 +90,8 @@ module _ (f : List ℕ → List ℕ) (k : ℕ) (each : (x : List ℕ) → length
 
 -- ---- so far
 
--- the claims `done` on a mesh that passes have their reports: `at` bytes of the claims are taken, and the bytes before `from` are written
+-- the claims `done` on a mesh that passes have their reports: `at` bytes of the claims are taken, and the bytes before
+-- `from` are written
 pub record SoFar (m : List ℤ) (claims before : List ℕ) (at from count : ℕ) (buffer : List ℕ) : Type 0 where
   pub done : List (List ℕ)
   pub all : claims_judged (length before / report_bytes) Passed m claims ≡ done ++ claims_judged ((length before - from) / report_bytes) Passed m (drop at claims)

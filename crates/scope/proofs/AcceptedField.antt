@@ -1,4 +1,5 @@
--- An accepted field meets the criterion, or the strength of each plane, and tractions agree on joints: its rows are the printed ones, and the soil of a pair is a soil of the mesh.
+-- An accepted field meets the criterion, or the strength of each plane, and tractions agree on joints: its rows are the
+-- printed ones, and the soil of a pair is a soil of the mesh.
 use mathlib.Core.Path.{refl, sym}
 use mathlib.Core.Logic.{⊎_elim}
 use mathlib.Core.List.{List}

@@ -1,4 +1,5 @@
--- Fields in fractions on a mesh: the laws for any rows, at the mesh's rows and columns; and the bracket over the denominator that a field is written over.
+-- Fields in fractions on a mesh: the laws for any rows, at the mesh's rows and columns; and the bracket over the
+-- denominator that a field is written over.
 use mathlib.Core.List.{List}
 use Prim.Native.Nat.{◌*◌}
 use lib.IntN.{ℤ}

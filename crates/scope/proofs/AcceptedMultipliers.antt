@@ -1,4 +1,5 @@
--- Accepted multipliers in printed terms: a sound mesh has a listed number of sides, and for these the columns are the printed ones.
+-- Accepted multipliers in printed terms: a sound mesh has a listed number of sides, and for these the columns are the
+-- printed ones.
 use mathlib.Core.Path.{ap₂}
 use mathlib.Core.List.{List}
 use lib.IntN.{ℤ}

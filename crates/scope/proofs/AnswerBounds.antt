@@ -1,4 +1,5 @@
--- Every number and place of a refusal is small: a place is a line, row, column, node or element of a mesh whose header has passed, or the first line.
+-- Every number and place of a refusal is small: a place is a line, row, column, node or element of a mesh whose header
+-- has passed, or the first line.
 use mathlib.Core.Path.{◌≡◌, refl}
 use mathlib.Core.Logic.{◌⊎◌, inl, inr}
 use mathlib.Core.List.{List, ◌++◌}

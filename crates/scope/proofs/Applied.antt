@@ -1,4 +1,5 @@
--- The theorems applied to document 01's sheet, to fill over clay and to two blocks on a joint: antt computes what passes, and the theorems say the rest.
+-- The theorems applied to document 01's sheet, to fill over clay and to two blocks on a joint: antt computes what
+-- passes, and the theorems say the rest.
 use mathlib.Core.Path.{◌≡◌, refl, sym, ◌∙◌, ap}
 use mathlib.Core.List.{List, [], ◌∷◌}
 use Prim.Native.Nat.{ℕ, suc, ◌*◌}
@@ -97,7 +98,8 @@ pub nineteen_field : FieldAccepted worked_mesh sheet19
 unfolding computed zeros worked_mesh worked_stresses worked_multipliers worked_claim multipliers_alone sheet sheet19 sheet29
 nineteen_field = field_accepted worked_mesh sheet19 refl refl refl refl
 
--- the strength rows 25 and 36, sides 1 and 12 of node 3, each with multiplier 1 and 15 to spare; they follow 14 equality rows
+-- the strength rows 25 and 36, sides 1 and 12 of node 3, each with multiplier 1 and 15 to spare; they follow 14
+-- equality rows
 pub nineteen_spare : (to_spare (stress worked_mesh sheet19) (l sheet19) (n sheet19) (row_at (strength_rows worked_mesh) 24) ≡ pos 15) × (to_spare (stress worked_mesh sheet19) (l sheet19) (n sheet19) (row_at (strength_rows worked_mesh) 35) ≡ pos 15)
 unfolding computed zeros worked_mesh worked_stresses worked_multipliers worked_claim multipliers_alone sheet sheet19 sheet29 to_spare
 nineteen_spare = (refl, refl)
@@ -207,7 +209,8 @@ pub clay_passed_before : field_check (equality_rows fill_over_clay) (rows_before
 unfolding computed zeros fill_over_clay over_clay soil_before rows_before
 clay_passed_before = refl
 
--- at 20 the first row that fails is side 1 of the fourth pair, node 3 with the clay: (4-1)·12 + 1; at 10 the clay holds too
+-- at 20 the first row that fails is side 1 of the fourth pair, node 3 with the clay: (4-1)·12 + 1; at 10 the clay holds
+-- too
 pub clay_refused : verdict fill_over_clay (over_clay 20) ≡ Refused 22 (PlaceRow 37)
 unfolding computed zeros fill_over_clay over_clay
 clay_refused = refl

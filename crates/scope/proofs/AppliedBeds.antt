@@ -1,4 +1,5 @@
--- Strength by direction applied to bedded clay (document 02, N14): antt computes what passes, and the theorems say the rest.
+-- Strength by direction applied to bedded clay (document 02, N14): antt computes what passes, and the theorems say the
+-- rest.
 use mathlib.Core.Path.{◌≡◌, refl}
 use lib.IntN.{pos}
 use Rattle.integer.specs.Fraction.{◌≈ᶠ◌}

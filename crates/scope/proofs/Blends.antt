@@ -1,4 +1,5 @@
--- Blends: over the product of the two denominators each side of a row is a·e times the first field's and b·d times the second's, so what both meet the blend meets.
+-- Blends: over the product of the two denominators each side of a row is a·e times the first field's and b·d times the
+-- second's, so what both meet the blend meets.
 use mathlib.Core.Path.{◌≡◌, refl, sym, ◌∙◌, ap, ap₂, subst₂}
 use mathlib.Core.List.{List, [], ◌∷◌}
 use Prim.Native.Nat.{ℕ, ◌+◌, ◌*◌, ◌<◌}

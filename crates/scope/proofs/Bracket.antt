@@ -1,4 +1,5 @@
--- The bracket: a field's left sides, weighed by multipliers, add up column by column, and each column is 0; so only l's column m is left, and W·n - l·m is what the rows have to spare.
+-- The bracket: a field's left sides, weighed by multipliers, add up column by column, and each column is 0; so only l's
+-- column m is left, and W·n - l·m is what the rows have to spare.
 use mathlib.Core.Path.{◌≡◌, refl, sym, ◌∙◌, ap, subst}
 use mathlib.Core.Logic.{◌↔◌, ◌≢◌, ⊎_elim}
 use mathlib.Core.Bool.{Bool, false, ◌&&◌}

@@ -1,4 +1,5 @@
--- Sound lines say what each number of a claim is: a number of a group whose columns have one limit is within it, by its line and its column.
+-- Sound lines say what each number of a claim is: a number of a group whose columns have one limit is within it, by its
+-- line and its column.
 use mathlib.Core.Path.{◌≡◌, refl, sym, ◌∙◌, ap, subst, subst₂, subst₃}
 use mathlib.Core.Logic.{◌⊎◌, inl, inr}
 use mathlib.Core.List.{List}

@@ -1,6 +1,8 @@
 -- Stresses that meet the rows of a polygon inside the circle meet the criterion.
--- With P = (h·(sx - sy), h·2t) and R = 2qCn - p(sx+sy) the row of the side v to w says r·(cross(P, w) + cross(v, P)) ≤ cross(v, w)·R.
--- Along the half of the polygon on P's side there is a side with P between its corners: both products on the left are not below 0 there.
+-- With P = (h·(sx - sy), h·2t) and R = 2qCn - p(sx+sy) the row of the side v to w says r·(cross(P, w) + cross(v, P)) ≤
+-- cross(v, w)·R.
+-- Along the half of the polygon on P's side there is a side with P between its corners: both products on the left are
+-- not below 0 there.
 -- There cross(v, w)²·|P|² + cross(P, w)·cross(v, P)·|v - w|² = r²·(cross(P, w) + cross(v, P))², so |P|² ≤ R².
 use mathlib.Core.Path.{◌≡◌, refl, ◌∙◌, ap}
 use mathlib.Core.Logic.{⊎_elim}

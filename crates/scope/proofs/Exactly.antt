@@ -1,4 +1,5 @@
--- The verdict on numbers: accepted exactly when the claim is, and refused with a number and a place exactly when document 01's table says. The parts' laws joined in its order.
+-- The verdict on numbers: accepted exactly when the claim is, and refused with a number and a place exactly when
+-- document 01's table says. The parts' laws joined in its order.
 use mathlib.Core.Path.{◌≡◌, refl, sym, ◌∙◌, ap, subst}
 use mathlib.Core.Logic.{◌↔◌, ◌⊎◌, inl, inr}
 use mathlib.Core.Bool.{Bool, true, false}
@@ -80,7 +81,8 @@ module _ (m c : List ℤ) where
 
 -- ---- what is returned
 
--- the numbers of lines, 1 to 13; of a mesh and of lines, with those from 42 to 47 besides; of a claim's parts; of its multipliers
+-- the numbers of lines, 1 to 13; of a mesh and of lines, with those from 42 to 47 besides; of a claim's parts; of its
+-- multipliers
 abbrev pub OfLines : ℕ → Type 0
 OfLines c = (0 < c) × (c ≤ 13)
 

@@ -1,4 +1,6 @@
--- What stands in a mesh whose elements with soil 0 were given soils: at the place of such a soil the one that was given, and everywhere else what stood there. So all that sound lines say stays, and each element's height is in one layer.
+-- What stands in a mesh whose elements with soil 0 were given soils: at the place of such a soil the one that was
+-- given, and everywhere else what stood there. So all that sound lines say stays, and each element's height is in one
+-- layer.
 use mathlib.Core.Path.{◌≡◌, refl, sym, ◌∙◌, ap, ap₂, subst, subst₂, subst₃}
 use mathlib.Core.Bool.{Bool, true, false, cond, ◌&&◌, and-false}
 use mathlib.Core.List.{List}

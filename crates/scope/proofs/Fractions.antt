@@ -1,4 +1,5 @@
--- Fields in fractions: over the product of all denominators each numerator is multiplied by the other denominators; two ways of writing one field differ by a factor, which cancels in every row.
+-- Fields in fractions: over the product of all denominators each numerator is multiplied by the other denominators; two
+-- ways of writing one field differ by a factor, which cancels in every row.
 use mathlib.Core.Path.{◌≡◌, refl, sym, ◌∙◌, ap, ap₂, subst₂}
 use mathlib.Core.Logic.{⊎_elim}
 use mathlib.Core.Bool.{cond}

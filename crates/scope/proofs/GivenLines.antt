@@ -1,4 +1,5 @@
--- A mesh whose lines are sound with soil 0 allowed, and in which each soil 0 is given a soil of the mesh: its lines are sound. Line by line: only the soil of an element is another number.
+-- A mesh whose lines are sound with soil 0 allowed, and in which each soil 0 is given a soil of the mesh: its lines are
+-- sound. Line by line: only the soil of an element is another number.
 use mathlib.Core.Path.{◌≡◌, refl, sym, ◌∙◌, ap, subst}
 use mathlib.Core.Logic.{◌⊎◌, inl, inr}
 use mathlib.Core.Bool.{Bool, true, false}

@@ -1,4 +1,5 @@
--- The checks of a file's lines, one line after the other: what `line_of` finds by the line's number is what is met on the way from the front.
+-- The checks of a file's lines, one line after the other: what `line_of` finds by the line's number is what is met on
+-- the way from the front.
 use mathlib.Core.Path.{◌≡◌, refl, sym, ap, ap₂, ◌∙◌}
 use mathlib.Core.Logic.{◌⊎◌, inl, inr}
 use mathlib.Core.List.{List, [], ◌∷◌, ◌++◌}

@@ -1,4 +1,5 @@
--- What jump rows mean: normal and shear are the traction turned by the step, whose length is not 0 where the mesh turns left; the sides of a joint by what 44 asks.
+-- What jump rows mean: normal and shear are the traction turned by the step, whose length is not 0 where the mesh turns
+-- left; the sides of a joint by what 44 asks.
 use mathlib.Core.Path.{◌≡◌, refl, sym, ◌∙◌, ap, ap₂, subst, subst₂}
 use mathlib.Core.Logic.{◌⊎◌, inl, inr}
 use mathlib.Core.List.{List, [], ◌∷◌, ◌++◌, append-nil}

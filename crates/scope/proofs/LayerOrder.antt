@@ -1,4 +1,5 @@
--- "in any order": where the lines of a table stand in another order, each height has the same soil, and the table passes as before; line by line, by the order's own maps.
+-- "in any order": where the lines of a table stand in another order, each height has the same soil, and the table
+-- passes as before; line by line, by the order's own maps.
 use mathlib.Core.Path.{◌≡◌, sym, ◌∙◌, ap, subst}
 use mathlib.Core.List.{List}
 use Prim.Native.Nat.{ℕ, ◌<◌}

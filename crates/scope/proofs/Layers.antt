@@ -1,4 +1,5 @@
--- 46 and 45: each test decides its plain statement, so each refusal comes exactly when it is said; where both pass, each height from the lowest node to the highest is in exactly one layer.
+-- 46 and 45: each test decides its plain statement, so each refusal comes exactly when it is said; where both pass,
+-- each height from the lowest node to the highest is in exactly one layer.
 use mathlib.Core.Path.{◌≡◌, refl, sym, ap, subst}
 use mathlib.Core.Logic.{◌↔◌, inl, inr}
 use mathlib.Core.Bool.{Bool, true, false, not}
@@ -150,7 +151,8 @@ module _ (t m : List ℤ) where
     ),
   )
 
-  -- both pass exactly when "The table has no gap and no overlap at any quarter unit from the lowest node to the highest"
+  -- both pass exactly when "The table has no gap and no overlap at any quarter unit from the lowest node to the
+  -- highest"
   pub layers_passed : (check_phases (layer_phases t m) ≡ Passed) ↔ TableSound t (lowest m) (highest m)
   layers_passed = (λ e. sound_of (layers_exact.passes.says e), λ s. layers_exact.passes.passed (of_sound s))
 

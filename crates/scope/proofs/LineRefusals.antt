@@ -1,4 +1,5 @@
--- Refusals of a line among all refusals: those of the mesh's lines, those of the claim's lines on a mesh that passes, and all others by their number.
+-- Refusals of a line among all refusals: those of the mesh's lines, those of the claim's lines on a mesh that passes,
+-- and all others by their number.
 use mathlib.Core.Path.{refl, sym, ◌∙◌}
 use mathlib.Core.Logic.{◌⊎◌, inl, inr, ◌≢◌}
 use mathlib.Core.List.{List}

@@ -1,4 +1,5 @@
--- 47 names the higher element of a pair that shares a point: by the row of the table. Absent such a pair there is no 47.
+-- 47 names the higher element of a pair that shares a point: by the row of the table. Absent such a pair there is no
+-- 47.
 use mathlib.Core.Path.{◌≡◌, refl}
 use mathlib.Core.Logic.{◌≢◌}
 use mathlib.Core.List.{List}

@@ -1,5 +1,5 @@
--- The pairs of a node and a soil: those of the nodes below k by induction on k, and at a node the soils below n that are
--- around it by induction on n.
+-- The pairs of a node and a soil: those of the nodes below k by induction on k, and at a node the soils below n that
+-- are around it by induction on n.
 -- A list that is in order stays so when all that is joined at its end comes after all in it.
 use mathlib.Core.Path.{◌≡◌, refl, sym, ◌∙◌, ap, ap₂, subst}
 use mathlib.Core.Logic.{◌↔◌, inl, inr, ⊎_elim}

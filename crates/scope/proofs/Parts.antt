@@ -1,4 +1,5 @@
--- The bracket for accepted parts: an accepted field meets the rows and accepted multipliers meet the columns in the sense of the bracket, row by row.
+-- The bracket for accepted parts: an accepted field meets the rows and accepted multipliers meet the columns in the
+-- sense of the bracket, row by row.
 use mathlib.Core.Path.{◌≡◌, refl, sym, ◌∙◌, ap, subst}
 use mathlib.Core.Logic.{◌⊎◌, inl, inr}
 use mathlib.Core.Bool.{true}

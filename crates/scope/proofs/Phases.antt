@@ -1,4 +1,5 @@
--- Phases in order: what is tested is refused exactly as is said. One law for a check after another, where the second need be decided only if the first passes.
+-- Phases in order: what is tested is refused exactly as is said. One law for a check after another, where the second
+-- need be decided only if the first passes.
 use mathlib.Core.Path.{◌≡◌, refl, sym, ◌∙◌, ap, subst}
 use mathlib.Core.Logic.{◌⊎◌, inl, inr}
 use mathlib.Core.Bool.{Bool, true, false}
@@ -127,7 +128,8 @@ unfolding check_phases
 phases_cons f [] = sym (then_Passed (check_phase f))
 phases_cons f (g ∷ fs) = refl
 
--- the one law: phases are refused with a number and a place exactly when all phases before hold everywhere, all lower places of this one hold, and this place fails
+-- the one law: phases are refused with a number and a place exactly when all phases before hold everywhere, all lower
+-- places of this one hold, and this place fails
 pub phases_exact : (fs : List Phase) → Decided fs → Exact (check_phases fs) (AllPass fs) (RefusedBy fs)
 unfolding check_phases
 phases_exact [] d = record {
@@ -141,7 +143,8 @@ phases_exact (f ∷ fs) d =
 pub one_step : {b : Bool} {A : Type 0} → Decides b A → Decides b A × (A → Unit {0})
 one_step d = (d, λ h. tt)
 
--- example: a test that decides its statement only where the phase before it holds: a is at most b (1); then a is b, tested by b ≤ a (2)
+-- example: a test that decides its statement only where the phase before it holds: a is at most b (1); then a is b,
+-- tested by b ≤ a (2)
 abbrev two_phases : (a b : ℕ) (p q : Place) → List Phase
 two_phases a b p q = phase 1 1 (λ k. a ≤ b) (λ k. leb a b) (λ k. p) ∷ phase 2 1 (λ k. a ≡ b) (λ k. leb b a) (λ k. q) ∷ []
 

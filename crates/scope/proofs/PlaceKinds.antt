@@ -1,4 +1,5 @@
--- Which kind of place a refusal's number has: phase by phase. And so the number and the place, as two numbers, say which refusal it is.
+-- Which kind of place a refusal's number has: phase by phase. And so the number and the place, as two numbers, say
+-- which refusal it is.
 use mathlib.Core.Path.{◌≡◌, refl, sym, ◌∙◌, ap, subst, subst₂}
 use mathlib.Core.Logic.{◌⊎◌, inl, inr}
 use mathlib.Core.Bool.{Bool, true, false, cond, ◌||◌}

@@ -1,5 +1,6 @@
 -- The four polygons satisfy the rule: one computed test of a table, and one lemma that turns the test into the rule.
--- That no point is left out is a walk along the circle's first quadrant: from (0, r) one step right while inside or on the circle, one step down where outside.
+-- That no point is left out is a walk along the circle's first quadrant: from (0, r) one step right while inside or on
+-- the circle, one step down where outside.
 use mathlib.Core.Path.{◌≡◌, refl, sym, ◌∙◌, ap, ap₂, subst}
 use mathlib.Core.Bool.{Bool, true, false, not, ◌&&◌, ◌||◌}
 use mathlib.Core.Logic.{◌⊎◌, inl, inr, ⊎_elim}
@@ -121,7 +122,8 @@ listed_yes a b c t = let (v, m, e) = some_yes (is_point a b) c t in Memᴰ.cast 
 square_< : {a b : ℕ} → a < b → a * a < b * b
 square_< h = omega (arith, mul-le-mul h h)
 
--- a point of the circle right of a and not above b: where (a, b) is not outside, it is beyond a or is (a, b); where (a, b) is outside, it is below b
+-- a point of the circle right of a and not above b: where (a, b) is not outside, it is beyond a or is (a, b); where (a,
+-- b) is outside, it is below b
 not_outside : {a b x y : ℕ} → a ≤ x → y ≤ b → a * a + b * b ≤ x * x + y * y → (a < x) ⊎ ((x ≡ a) × (y ≡ b))
 not_outside {a} {b} {x} {y} hx hy h = by (dec_lt a x) (dec_lt y b)
   where

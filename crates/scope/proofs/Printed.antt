@@ -1,4 +1,5 @@
--- Each row's data says what document 01 prints: the two differ by moving l to the left and n out of the right side, which the ring solver sees.
+-- Each row's data says what document 01 prints: the two differ by moving l to the left and n out of the right side,
+-- which the ring solver sees.
 use mathlib.Core.Path.{◌≡◌, refl, sym, ◌∙◌}
 use mathlib.Core.Bool.{Bool, true, false, cond, ◌||◌}
 use mathlib.Core.Logic.{◌↔◌, ◌⊎◌}

@@ -1,4 +1,5 @@
--- The columns of the printed rows are those of the rows' data: both sums run over the rows by number, and each row's left minus right is the printed one.
+-- The columns of the printed rows are those of the rows' data: both sums run over the rows by number, and each row's
+-- left minus right is the printed one.
 use mathlib.Core.Path.{◌≡◌, refl, sym, ◌∙◌, ap, ap₂}
 use mathlib.Core.Logic.{◌↔◌, ◌⊎◌, inl, inr}
 use mathlib.Core.Bool.{Bool, true, false, cond, ◌||◌}

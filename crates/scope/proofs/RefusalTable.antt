@@ -1,4 +1,5 @@
--- Each refusal is a row of document 01's table, and each row a refusal: phase by phase, each with what the phases before it say.
+-- Each refusal is a row of document 01's table, and each row a refusal: phase by phase, each with what the phases
+-- before it say.
 use mathlib.Core.Path.{◌≡◌, refl, subst}
 use mathlib.Core.Logic.{◌↔◌, ◌⊎◌, inl, inr}
 use mathlib.Core.List.{List, ◌++◌}

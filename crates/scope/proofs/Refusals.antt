@@ -1,4 +1,5 @@
--- Each refusal with its place comes exactly when document 01's table says: each phase's test decides its statement, and one law (`phases_exact`) says the rest.
+-- Each refusal with its place comes exactly when document 01's table says: each phase's test decides its statement, and
+-- one law (`phases_exact`) says the rest.
 use mathlib.Core.Path.{◌≡◌, refl, sym, subst}
 use mathlib.Core.Logic.{inl, inr}
 use mathlib.Core.List.Memᴰ

@@ -1,4 +1,5 @@
--- The row of a refusal by its number, as it is printed: the phase's row, the row of that number, and the printed row are one.
+-- The row of a refusal by its number, as it is printed: the phase's row, the row of that number, and the printed row
+-- are one.
 -- The node of 42 by the row of the table.
 use mathlib.Core.Path.{◌≡◌, refl, sym, ap, subst}
 use mathlib.Core.Logic.{◌⊎◌, inl, inr, ◌≢◌}

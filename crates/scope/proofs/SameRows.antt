@@ -15,9 +15,6 @@ use Rattle.scope.specs.Tests.{row_at}
 
 -- ---- one row
 
-two_kinds : {X : Type 0} {k : Kind} → k ≡ unfixed → k ≡ asked → X
-two_kinds e f = let z : ◌≡◌ {A = ℕ} 0 1 = cc in absurd (omega arith)
-
 row_judged : (s : ℕ → ℤ) (l n : ℤ) (r : Row) → RowMet s l n r ↔ RowMet s l n (judged r)
 unfolding judged judged_as
 row_judged s l n r = by r.kind refl

@@ -1,4 +1,5 @@
--- The limits by number of sides are those of the definitions, by whether there are 108; a header over its limit of nodes fails its limits or its rule.
+-- The limits by number of sides are those of the definitions, by whether there are 108; a header over its limit of
+-- nodes fails its limits or its rule.
 use mathlib.Core.Path.{◌≡◌, refl, ap, subst}
 use mathlib.Core.Logic.{◌↔◌, ◌⊎◌, inl, inr}
 use mathlib.Core.Bool.{Bool, true, false, cond}

@@ -1,4 +1,5 @@
--- W fits 64 bits: each row's right side is bounded by the mesh's limits, each multiplier by the claim's, and the rows are counted.
+-- W fits 64 bits: each row's right side is bounded by the mesh's limits, each multiplier by the claim's, and the rows
+-- are counted.
 use mathlib.Core.Path.{◌≡◌, refl, sym, ◌∙◌, ap, subst, fun_ext}
 use mathlib.Core.List.Memᴰ
 use mathlib.Core.List.{List, [], ◌∷◌, ◌++◌}

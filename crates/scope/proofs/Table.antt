@@ -1,4 +1,6 @@
--- A table whose lines are sound has layers, each within its limits and with a soil of the mesh; a mesh with a table is refused exactly as its phases say, and where all pass the filled mesh has all that sound lines say. Without a table a mesh is judged as before.
+-- A table whose lines are sound has layers, each within its limits and with a soil of the mesh; a mesh with a table is
+-- refused exactly as its phases say, and where all pass the filled mesh has all that sound lines say. Without a table a
+-- mesh is judged as before.
 use mathlib.Core.Path.{◌≡◌, refl, sym, ◌∙◌, ap, subst}
 use mathlib.Core.Bool.{Bool, true, cond}
 use mathlib.Core.List.{List, [], ◌++◌}
@@ -92,7 +94,8 @@ module _ (t m : List ℤ) where
       (decided_part (has_table t) (table_line_phases t m ++ layer_phases t m) (decided_join (table_line_phases t m) (layer_phases t m) table_lines_decided (λ table. layers_decided t m)))
       (λ table. shape_decided (mesh_read t m)))
 
-  -- a mesh with a table is refused with a number and a place exactly when all before holds and this place is the lowest that fails
+  -- a mesh with a table is refused with a number and a place exactly when all before holds and this place is the lowest
+  -- that fails
   pub tabled_exact : Exact (tabled_check t m) (AllPass (tabled_phases t m)) (RefusedBy (tabled_phases t m))
   unfolding tabled_check
   tabled_exact = phases_exact (tabled_phases t m) tabled_decided

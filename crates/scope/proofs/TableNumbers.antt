@@ -1,4 +1,5 @@
--- The numbers of document 01's table: a number of a line tells its step, since no two steps of a file have one number; and phase by phase each number is in the table.
+-- The numbers of document 01's table: a number of a line tells its step, since no two steps of a file have one number;
+-- and phase by phase each number is in the table.
 use mathlib.Core.Path.{◌≡◌, refl, sym, ◌∙◌, ap, subst}
 use mathlib.Core.Logic.{◌↔◌, ◌⊎◌, inl, inr, ⊎_elim}
 use mathlib.Core.Bool.{Bool, false, ◌||◌}

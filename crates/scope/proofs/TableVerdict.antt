@@ -1,4 +1,5 @@
--- The verdict with a table: what comes before 5 refuses with its own numbers, and where it passes the verdict is that on the filled mesh, whose lines are sound. So every theorem about a mesh and a claim is one about the filled mesh.
+-- The verdict with a table: what comes before 5 refuses with its own numbers, and where it passes the verdict is that
+-- on the filled mesh, whose lines are sound. So every theorem about a mesh and a claim is one about the filled mesh.
 use mathlib.Core.Path.{◌≡◌, refl, sym, ◌∙◌, ap, subst}
 use mathlib.Core.Logic.{◌↔◌, ◌⊎◌, inl, inr}
 use mathlib.Core.Bool.{Bool, true, false, cond}

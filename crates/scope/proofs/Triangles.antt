@@ -1,4 +1,5 @@
--- An element has three corners or four, by whether its third and fourth node are the same; a turn at two equal nodes is 0, so no other repeat turns left.
+-- An element has three corners or four, by whether its third and fourth node are the same; a turn at two equal nodes is
+-- 0, so no other repeat turns left.
 use mathlib.Core.Path.{◌≡◌, refl, sym, ◌∙◌, ap, subst}
 use mathlib.Core.List.{List, [], ◌∷◌}
 use Prim.Native.Nat.{ℕ, zero, suc, ◌+◌, ◌-◌, ◌%◌, ◌<◌, ◌≤◌}

@@ -15,8 +15,8 @@ use Rattle.scope.specs.Cases.OpenRows.{OpenRows, Absent as NoCount, Count}
 use Rattle.scope.specs.Cases.Verdict.{Verdict}
 use Rattle.scope.specs.Cases.Verdict as V
 
--- "A place is a line, a row, a column, a node or an element", and from document 02, N8, a height in quarters: the number
--- that is printed and returned for it
+-- "A place is a line, a row, a column, a node or an element", and from document 02, N8, a height in quarters: the
+-- number that is printed and returned for it
 abbrev pub place_number : Place → ℕ
 place_number (Line k) = k
 place_number (Row k) = k
@@ -26,8 +26,8 @@ place_number (Element k) = k
 place_number (Height k) = k
 
 -- the table's "What is returned", "1, line" to "33, column 0", and document 02's 42, "with the node", 44, "with the
--- line", 46, "with the first line", 45, "with the lowest such height", and 47, "with the higher element": what the place
--- j of a refusal with the number k is
+-- line", 46, "with the first line", 45, "with the lowest such height", and 47, "with the higher element": what the
+-- place j of a refusal with the number k is
 unfoldable pub place_for : ℕ → ℕ → Place
 place_for k j =
     cond (eqb k 5 || eqb k 6 || eqb k 47) (Element j)

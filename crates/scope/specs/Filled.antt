@@ -33,7 +33,7 @@ given f m = map (given_number f m) (count_from 0 (length m))
 unfoldable pub filled : List ℤ → List ℤ → List ℤ
 filled t m = given (λ e. soil_at t (height_of m e)) m
 
--- with soil 1, which every mesh has, for each soil 0: a mesh whose lines have passed with soil 0 allowed, as heights and
--- sizes are read from it
+-- with soil 1, which every mesh has, for each soil 0: a mesh whose lines have passed with soil 0 allowed, as heights
+-- and sizes are read from it
 unfoldable pub with_soils : List ℤ → List ℤ
 with_soils m = given (λ e. pos 1) m

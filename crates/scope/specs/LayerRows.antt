@@ -1,5 +1,5 @@
--- What 46 and 45 say, and what a filled mesh is, in plain statements (document 02, N8): each refusal with all before it,
--- each height in exactly one layer, lines in another order, the soil of each element.
+-- What 46 and 45 say, and what a filled mesh is, in plain statements (document 02, N8): each refusal with all before
+-- it, each height in exactly one layer, lines in another order, the soil of each element.
 use Rattle.std.specs.Prelude.{◌≡◌, ◌↔◌, ◌⊎◌, List, ℕ, ◌+◌, ◌*◌, ◌≤◌, ◌<◌, ℤ, pos, ◌≤ℤ◌, length}
 use Rattle.scope.specs.declared.Place.{Place}
 use Rattle.scope.specs.declared.Place.TheVariants.{Height}

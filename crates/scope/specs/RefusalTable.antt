@@ -1,6 +1,6 @@
 -- Document 01's table of refusals row by row ('Verdict and report'), with document 02's 47, 44 and 42: a number, a
--- place, and what is so where they are returned, all before it in the order among it. Elements, nodes, edges, jumps, rows
--- and columns are counted from 0 here. The rows of lines are said one by one at the end of `Refusals`.
+-- place, and what is so where they are returned, all before it in the order among it. Elements, nodes, edges, jumps,
+-- rows and columns are counted from 0 here. The rows of lines are said one by one at the end of `Refusals`.
 use Rattle.std.specs.Prelude.{◌≡◌, List, ℕ, suc, ◌*◌, ◌<◌, ℤ, pos, ◌<ℤ◌, length}
 use Rattle.scope.specs.declared.Place.{Place}
 use Rattle.scope.specs.declared.Place.TheVariants.{Line, Row, Column, Node, Element}

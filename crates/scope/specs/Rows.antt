@@ -67,7 +67,8 @@ twice_area m e = cross_at m e 0 +ℤ cross_at m e 1 +ℤ cross_at m e 2 +ℤ cro
 unfoldable pub balance_x : List ℤ → ℕ → Row
 balance_x m e = record {
   kind = asked;
-  entries = joined (λ i. (rise_across m e i, sx (node m e i)) ∷ (run_across m e i, t (node m e i)) ∷ []) (count_from 0 4);
+  entries = joined (λ i. (rise_across m e i, sx (node m e i)) ∷ (run_across m e i, t (node m e i)) ∷ [])
+      (count_from 0 4);
   live = twice_area m e *ℤ live_x m (element_soil m e);
   right = neg_ℤ (twice_area m e *ℤ dead_x m (element_soil m e));
 }
@@ -76,7 +77,8 @@ balance_x m e = record {
 unfoldable pub balance_y : List ℤ → ℕ → Row
 balance_y m e = record {
   kind = asked;
-  entries = joined (λ i. (run_across m e i, sy (node m e i)) ∷ (rise_across m e i, t (node m e i)) ∷ []) (count_from 0 4);
+  entries = joined (λ i. (run_across m e i, sy (node m e i)) ∷ (rise_across m e i, t (node m e i)) ∷ [])
+      (count_from 0 4);
   live = twice_area m e *ℤ live_y m (element_soil m e);
   right = neg_ℤ (twice_area m e *ℤ dead_y m (element_soil m e));
 }
@@ -162,11 +164,13 @@ agree_row first facing = record { kind = asked; entries = first ++ minus facing;
 -- likewise", at a node v and the one that faces it
 unfoldable pub jump_normal : List ℤ → ℕ → ℕ → ℕ → Row
 jump_normal m j v facing =
-    agree_row (normal_entries (jump_step_x m j) (jump_step_y m j) v) (normal_entries (jump_step_x m j) (jump_step_y m j) facing)
+    agree_row (normal_entries (jump_step_x m j) (jump_step_y m j) v)
+    (normal_entries (jump_step_x m j) (jump_step_y m j) facing)
 
 unfoldable pub jump_shear : List ℤ → ℕ → ℕ → ℕ → Row
 jump_shear m j v facing =
-    agree_row (shear_entries (jump_step_x m j) (jump_step_y m j) v) (shear_entries (jump_step_x m j) (jump_step_y m j) facing)
+    agree_row (shear_entries (jump_step_x m j) (jump_step_y m j) v)
+    (shear_entries (jump_step_x m j) (jump_step_y m j) facing)
 
 -- "four rows after the edge rows, in an edge's order": normal and shear at from, then at to
 unfoldable pub jump_rows : List ℤ → List Row

@@ -118,9 +118,9 @@ pub record OuterEdge (m : List ℤ) (g : ℕ) : Type 0 where
   pub outer : OuterSide m (from_node m g) (to_node m g)
   pub is_first : (k : ℕ) → k < g → ¬ ((from_node m k ≡ from_node m g) × (to_node m k ≡ to_node m g))
 
--- "A mesh is refused if two elements share a point inside both, fractions included; touching along sides or at corners is
--- fine" (document 02, N10): element e shares none with an element below it, that is, no point in fractions lies strictly
--- left of every side of both
+-- "A mesh is refused if two elements share a point inside both, fractions included; touching along sides or at corners
+-- is fine" (document 02, N10): element e shares none with an element below it, that is, no point in fractions lies
+-- strictly left of every side of both
 abbrev pub NoneShared : List ℤ → ℕ → Type 0
 NoneShared m e = (d : ℕ) → d < e → ¬ Shared (outline m d) (outline m e)
 

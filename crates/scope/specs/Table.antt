@@ -28,8 +28,8 @@ layer_lines n ss = record {
 unfoldable pub table_lines : List ℤ → ℕ
 table_lines t = min ((length t + 2) / layer_columns) most_layers
 
--- "The table's own form, limits and soil numbers are judged as a mesh's, with 1, 2 and 4": it has no header, and numbers
--- after the 32nd line are left over
+-- "The table's own form, limits and soil numbers are judged as a mesh's, with 1, 2 and 4": it has no header, and
+-- numbers after the 32nd line are left over
 unfoldable pub table_layout : List ℤ → Layout
 table_layout m = record {
   form_number = 1;

@@ -1,5 +1,5 @@
--- The verdict on a mesh with a borehole table and a claim (document 02, N8), and when each refusal comes: "Every call that
--- takes a mesh takes the table too"; an empty list is no table. A claim is judged against the filled mesh.
+-- The verdict on a mesh with a borehole table and a claim (document 02, N8), and when each refusal comes: "Every call
+-- that takes a mesh takes the table too"; an empty list is no table. A claim is judged against the filled mesh.
 use Rattle.std.specs.Prelude.{◌≡◌, true, List, ◌++◌, ℕ, ℤ}
 use Rattle.scope.specs.declared.Place.{Place}
 use Rattle.scope.specs.Cases.Verdict.{Verdict}

@@ -67,7 +67,8 @@ outer_edge m g =
 
 -- the side from a to b is one of the two that jump k uses: from to to, facing to back to facing from
 unfoldable pub used_by_jump : List ℤ → ℕ → ℕ → ℕ → Bool
-used_by_jump m a b k = (eqb (jump_from m k) a && eqb (jump_to m k) b) || (eqb (facing_to m k) a && eqb (facing_from m k) b)
+used_by_jump m a b k =
+    (eqb (jump_from m k) a && eqb (jump_to m k) b) || (eqb (facing_to m k) a && eqb (facing_from m k) b)
 
 -- the side from a to b is an outer side "used by no edge or earlier jump", earlier than jump j
 unfoldable pub free_side : List ℤ → ℕ → ℕ → ℕ → Bool

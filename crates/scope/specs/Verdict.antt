@@ -59,7 +59,8 @@ lower_load m c = cond (has_field c && not (some_by_direction m)) (Exact (l c) (n
 
 unfoldable pub upper_load : List ℤ → List ℤ → Load
 upper_load m c =
-    cond (has_multipliers c) (Exact (limit_sum (multiplier m c) (rows_of m)) (live_sum (multiplier m c) (rows_of m))) Absent
+    cond (has_multipliers c) (Exact (limit_sum (multiplier m c) (rows_of m)) (live_sum (multiplier m c) (rows_of m)))
+    Absent
 
 -- "open rows need both parts"
 unfoldable pub open_count : List ℤ → List ℤ → OpenRows

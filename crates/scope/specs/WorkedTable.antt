@@ -41,10 +41,12 @@ pub record TableSheets : Type 0 where
   pub line_33 : tabled_check (joined (λ l. l) (replicate 32 (layer (pos 0) (pos 2) (pos 1))) ++ pos 0 ∷ []) worked_mesh
       ≡ Refused 1 (Line 1033)
   -- 46: a top that is its bottom, wherever it stands, comes before an overlap; an overlap at the highest node's height
-  pub flat : tabled_check (layer (pos 0) (pos 2) (pos 1) ++ layer (pos 0) (pos 2) (pos 1) ++ layer (pos 5) (pos 5) (pos 1))
+  pub flat : tabled_check
+      (layer (pos 0) (pos 2) (pos 1) ++ layer (pos 0) (pos 2) (pos 1) ++ layer (pos 5) (pos 5) (pos 1))
       worked_mesh ≡ Refused 46 (Line 1003)
   pub overlap : tabled_check (layer (pos 0) (pos 2) (pos 1) ++ layer (pos 1) (pos 3) (pos 1)) worked_mesh
       ≡ Refused 46 (Line 1002)
   -- layers that overlap or gape above the highest node pass
-  pub above_nodes : tabled_check (layer (pos 5) (pos 9) (pos 1) ++ layer (pos 6) (pos 8) (pos 1) ++ layer (pos 0) (pos 2) (pos 1))
+  pub above_nodes : tabled_check
+      (layer (pos 5) (pos 9) (pos 1) ++ layer (pos 6) (pos 8) (pos 1) ++ layer (pos 0) (pos 2) (pos 1))
       worked_mesh ≡ Passed

@@ -7,8 +7,8 @@ ghost use Rattle.std.specs.Prelude.{◌≡◌};
 ghost use Rattle.scope.specs.Answer.{outcome_of, place_number, reason_number};
 ghost use Rattle.scope.specs.Checks.{demand};
 
-// "A place is a line, a row, a column, a node or an element", each counted from 1; "counted in quarters, a sixth kind of
-// place" (document 02, N8), a height, counted from 0.
+// "A place is a line, a row, a column, a node or an element", each counted from 1; "counted in quarters, a sixth kind
+// of place" (document 02, N8), a height, counted from 0.
 #[derive(Clone, Copy)]
 pub enum Place {
     Line(u32),
@@ -97,8 +97,8 @@ pub struct Load {
     pub den: i64,
 }
 
-// What an accepted claim says: how many strength rows are open, where it has both parts, the lower load l/n, where it has
-// a field, and the upper load W/m, where it has multipliers.
+// What an accepted claim says: how many strength rows are open, where it has both parts, the lower load l/n, where it
+// has a field, and the upper load W/m, where it has multipliers.
 #[derive(Clone, Copy)]
 pub struct Accepted {
     pub open_rows: Option<u64>,

@@ -1,5 +1,5 @@
-// The shape of a mesh whose lines have passed: refusals 5 to 8, 47, 44 and 42 in their order, and the pairs of a mesh that
-// passes.
+// The shape of a mesh whose lines have passed: refusals 5 to 8, 47, 44 and 42 in their order, and the pairs of a mesh
+// that passes.
 ghost use Rattle.std.specs.Prelude.{◌≡◌, [], ◌∷◌, IfOk};
 ghost use Rattle.scope.specs.Answer.{outcome_of};
 ghost use Rattle.scope.specs.Mesh.{elements};

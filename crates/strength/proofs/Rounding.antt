@@ -117,8 +117,8 @@ gap_is true a false b =
     ap nat_abs e ∙ nat_abs_neg_ℤ (pos (a + b))
 
 -- ---- a rounded number against another, in units
--- y units with the sign t are no nearer to ±n / den than x units with the sign s; and where they are as near, they are x
--- units, or e holds
+-- y units with the sign t are no nearer to ±n / den than x units with the sign s; and where they are as near, they are
+-- x units, or e holds
 record Nearer (s : Bool) (n den x : ℕ) (e : Type 0) (t : Bool) (y : ℕ) : Type 0 where
   pub nearest : gap s (x * den) s n ≤ gap t (y * den) s n
   pub tie : gap t (y * den) s n ≡ gap s (x * den) s n → (signed t y ≡ signed s x) ⊎ e
@@ -176,8 +176,8 @@ module _ (n den m j : ℕ) (D : 0 < den) (small : m < 2 ^ 53) where
       record { nearest = omega arith; tie = other_sign true false (λ a e. ap (signed false) e) }
 
 -- ---- back to fractions
--- with X / dx equal to ±x units, and the fraction N / d equal to ±num / den, the distance of the two is dx · d times the
--- gap, over 2 ^ 1074 · den
+-- with X / dx equal to ±x units, and the fraction N / d equal to ±num / den, the distance of the two is dx · d times
+-- the gap, over 2 ^ 1074 · den
 scaled : (X dx z N d A den l : ℤ) → X *ℤ l ≡ z *ℤ dx → A *ℤ d ≡ N *ℤ den
     → (X *ℤ d -ℤ N *ℤ dx) *ℤ (l *ℤ den) ≡ (dx *ℤ d) *ℤ (z *ℤ den -ℤ A *ℤ l)
 scaled X dx z N d A den l e f =

@@ -25,8 +25,8 @@ use mesh::sizes::Sizes;
 use scope::{Refusal, Verdict};
 use shape::mesh_checks::mesh_shape;
 
-// The numbers of a mesh that has no table, judged: what they are refused for, 1 to 8, 42, 44 and 47, or the mesh's pairs
-// of a node and a soil. These are made once a mesh, and lent to the judging of each claim on it.
+// The numbers of a mesh that has no table, judged: what they are refused for, 1 to 8, 42, 44 and 47, or the mesh's
+// pairs of a node and a soil. These are made once a mesh, and lent to the judging of each claim on it.
 pub fn judge_mesh(m: &[i64]) -> Result<Pairs, Refusal>
     ensures outcome { outcome_of result ≡ mesh_check m.now }
     ensures pairs { IfOk result (λ p. PairsAre m.now p.items) }

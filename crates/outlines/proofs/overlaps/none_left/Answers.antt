@@ -1,4 +1,5 @@
--- `none_left` meets its contract: `all` over the corners is each corner below as many, none of which is left of the line.
+-- `none_left` meets its contract: `all` over the corners is each corner below as many, none of which is left of the
+-- line.
 use Rattle.std.proofs.Common.{rules, tests, refl, ap, arith, ◌∙◌}
 use Rattle.std.proofs.lemmas.Iterator.{YieldsList-from_range}
 use Rattle.std.proofs.lemmas.Iterator.Search.{all_from_yields_List}

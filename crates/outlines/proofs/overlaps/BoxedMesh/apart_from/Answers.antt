@@ -1,4 +1,5 @@
--- `apart_from` meets its contract: the boxes are apart, or a side of the higher element parts the two, or one of the lower.
+-- `apart_from` meets its contract: the boxes are apart, or a side of the higher element parts the two, or one of the
+-- lower.
 use mathlib.Core.Path.{◌∙◌, refl, sym}
 use Rattle.integer.proofs.Machine.{is_true}
 use Rattle.outlines.proofs.ApartLaws.{by_boxes, by_higher, by_lower}

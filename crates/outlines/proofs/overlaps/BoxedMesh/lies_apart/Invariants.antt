@@ -1,4 +1,5 @@
--- `lies_apart` meets its contract. The invariant: the element is apart from those passed, which are the nearest below it.
+-- `lies_apart` meets its contract. The invariant: the element is apart from those passed, which are the nearest below
+-- it.
 use Rattle.outlines.proofs.ApartLaws.{ApartDownTo}
 use Rattle.outlines.proofs.overlaps.BoxedMesh.lies_apart.Given as goal
 
