@@ -47,7 +47,8 @@ use Rattle.criterion.specs.StrengthContracts.{run_of, rise_of, cross_of}
 use Rattle.multipliers.specs.MultiplierContracts.{part_sum, Multipliers, SideWeighted}
 use Rattle.multipliers.specs.MultiplierContracts.{SideMultipliers, SideSumsFit, SideAdded, side_sum}
 use Rattle.multipliers.specs.MultiplierContracts.{SideSumsAre, PairSumsAre, pair_first, PairPart}
-use Rattle.multipliers.proofs.SumLaws.{sum_below-next, sum_below_cong}
+use Rattle.scope.proofs.SumBelow.{sum_below_cong}
+use Rattle.multipliers.proofs.SumLaws.{sum_below-next}
 use Rattle.criterion.proofs.SideLaws.{run-within, rise_within, cross-within, side_step}
 use Rattle.criterion.proofs.StrengthLaws.{sides_counted}
 use Rattle.criterion.proofs.RowLaws.{row_of_pair, strength_at, direction_at, strength_among}

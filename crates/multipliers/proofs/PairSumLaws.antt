@@ -31,7 +31,7 @@ use Rattle.equality.specs.EqualityContracts.{SumsAre}
 use Rattle.multipliers.specs.MultiplierContracts.{row_sum, part_sum, NoSums, SummedTo, Summed, PairsSummed}
 use Rattle.multipliers.specs.MultiplierContracts.{pair_first, PairPart, three_added, WholeSumsFit}
 use Rattle.equality.proofs.EntryLaws.{unit-within, sums_within, sums_add, sums_of, sums_as}
-use Rattle.multipliers.proofs.SumLaws.{sum_below_add}
+use Rattle.scope.proofs.SumBelow.{sum_below_add}
 use Rattle.multipliers.proofs.PairLaws.{read}
 
 -- ---- three columns, one after the other

@@ -37,7 +37,8 @@ use Rattle.multipliers.specs.declared.sums.PairSums.{PairSums}
 use Rattle.multipliers.specs.declared.sums.PlaneSums.{PlaneSums}
 use Rattle.multipliers.specs.MultiplierContracts.{Multipliers, part_sum, side_sum, pair_first, PairPart}
 use Rattle.multipliers.specs.PlaneSumContracts.{PlaneSumsFit, PlaneAdded, PlaneSumsAre}
-use Rattle.multipliers.proofs.SumLaws.{sum_below-next, sum_below_cong}
+use Rattle.scope.proofs.SumBelow.{sum_below_cong}
+use Rattle.multipliers.proofs.SumLaws.{sum_below-next}
 use Rattle.multipliers.proofs.MultiplierLaws.{grown_by, grown_is}
 use Rattle.multipliers.proofs.PairLaws.{plane_row_at, pair_length, pair_weight}
 

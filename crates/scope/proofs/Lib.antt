@@ -35,6 +35,7 @@ pub mod Bracket
 pub mod Fractions
 pub mod RowCounts
 pub mod RowNumbers
+pub mod SumBelow
 pub mod PrintedColumns
 pub mod RefusedRows
 pub mod OverlapRefused

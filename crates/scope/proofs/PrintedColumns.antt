@@ -5,10 +5,10 @@ use mathlib.Core.Logic.{◌↔◌, ◌⊎◌, inl, inr}
 use mathlib.Core.Bool.{Bool, true, false, cond, ◌||◌}
 use mathlib.Core.List.{List, [], ◌∷◌}
 use Prim.Native.Nat.{ℕ, zero, suc, ◌+◌, ◌*◌, ◌-◌, ◌/◌, ◌%◌, ◌<◌}
-use native.Mathlib.Nat.{add-zero, add-suc, zero-mul, suc-mul, div-add-mod', mod-lt}
+use native.Mathlib.Nat.{zero-mul, suc-mul, div-add-mod', mod-lt}
 use native.Mathlib.Decide.{dec_lt}
 use native.Mathlib.Omega.{arith}
-use lib.IntN.{ℤ, pos, negsuc, ◌+ℤ◌, ◌-ℤ◌, ◌*ℤ◌, neg_ℤ, +ℤ_assoc, +ℤ_idl, +ℤ_idr}
+use lib.IntN.{ℤ, pos, negsuc, ◌+ℤ◌, ◌-ℤ◌, ◌*ℤ◌, neg_ℤ, +ℤ_idl}
 use lib.ListN.{length}
 use Rattle.integer.proofs.Ring.{ring, terms}
 use Rattle.integer.specs.Tests.{eq_z}
@@ -21,32 +21,14 @@ use Rattle.scope.specs.RowNumbers.{side_at, corner_at}
 use Rattle.scope.specs.Printed.{FixesNormal, FixesShear}
 use Rattle.scope.specs.PrintedColumns.{less_x, less_y, less_normal, less_shear, less_jump_normal, less_jump_shear, sum_below, of_element, of_edge, of_jump, of_pair, weighed_rows, ColumnsPrinted, MultipliersAsPrinted, MultipliersPrinted, less_plus, less_minus, weighed_sides, weighed_planes, weighed_pair}
 use Rattle.scope.proofs.Decides.{Decides, either, equalℤ}
+use Rattle.scope.proofs.SumBelow.{sum_below_cong, sum_below_front, sum_below_add}
 use Rattle.scope.proofs.Weighted.{weighted_same, weighted_zero, weighted_multiple}
 use Rattle.scope.proofs.Printed.{rows_printed}
 use Rattle.scope.proofs.RowCounts.{equality_count_lem}
 use Rattle.scope.proofs.RowNumbers.{element_rows, edge_rows, rows_of_jump, balance_at, side_at_lem, jump_at, equality_among, strength_among, strength_at, row_count, even_sides, plus_at, minus_at}
 use Rattle.scope.specs.Tests.{row_at}
 
--- ---- sums below a number
-
-sum_same : (f g : ℕ → ℤ) (n : ℕ) → ((k : ℕ) → k < n → f k ≡ g k) → sum_below f n ≡ sum_below g n
-unfolding sum_below
-sum_same f g zero h = refl
-sum_same f g (suc n) h = ap₂ ◌+ℤ◌ (sum_same f g n (λ k l. h k (omega arith))) (h n (omega arith))
-
-sum_first : (f : ℕ → ℤ) (n : ℕ) → sum_below f (suc n) ≡ f 0 +ℤ sum_below (λ k. f (suc k)) n
-unfolding sum_below
-sum_first f zero = ring (f 0 ∷ []) (search terms depth 100) refl
-sum_first f (suc n) = ap (λ z. z +ℤ f (suc n)) (sum_first f n) ∙ +ℤ_assoc (f 0) (sum_below (λ k. f (suc k)) n) (f (suc n))
-
--- a + b terms are a terms and b more
-sum_add : (f : ℕ → ℤ) (a b : ℕ) → sum_below f (a + b) ≡ sum_below f a +ℤ sum_below (λ k. f (a + k)) b
-unfolding sum_below
-sum_add f a zero = ap (sum_below f) (add-zero a) ∙ sym (+ℤ_idr (sum_below f a))
-sum_add f a (suc b) =
-    ap (sum_below f) (add-suc a b)
-    ∙ ap (λ z. z +ℤ f (a + b)) (sum_add f a b)
-    ∙ +ℤ_assoc (sum_below f a) (sum_below (λ k. f (a + k)) b) (f (a + b))
+-- ---- sums below a number, in pieces
 
 -- n pieces of b terms
 sum_pieces : (f : ℕ → ℤ) (b n : ℕ) → sum_below f (n * b) ≡ sum_below (λ i. sum_below (λ j. f (i * b + j)) b) n
@@ -54,7 +36,7 @@ unfolding sum_below
 sum_pieces f b zero = ap (sum_below f) (zero-mul b)
 sum_pieces f b (suc n) =
     ap (sum_below f) (suc-mul n b)
-    ∙ sum_add f (n * b) b
+    ∙ sum_below_add f (n * b) b
     ∙ ap (λ z. z +ℤ sum_below (λ j. f (n * b + j)) b) (sum_pieces f b n)
 
 -- a sum of four terms
@@ -68,7 +50,7 @@ unfolding weighted_sum weighed sum_below row_at
 by_number f w [] = refl
 by_number f w (r ∷ rs) =
     ap (λ z. w 0 *ℤ f r +ℤ z) (by_number f (λ k. w (suc k)) rs)
-    ∙ sym (sum_first (λ k. w k *ℤ f (row_at (r ∷ rs) k)) (length rs))
+    ∙ sym (sum_below_front (λ k. w k *ℤ f (row_at (r ∷ rs) k)) (length rs))
 
 -- ---- the rows of a mesh
 
@@ -109,14 +91,14 @@ module _ (m : List ℤ) (listed : SidesListed (sides m)) (w : ℕ → ℤ) (s : 
     by_sides : by_direction m (pair_at m a).soil ≡ false → sum_below of_row (sides m) ≡ weighed_sides m w s l n a
     unfolding of_row weighed_sides
     by_sides e =
-        sum_same _ _ (sides m) (λ k j. strength_term (a * sides m + k) (strength_at m listed a k h j e) ((rows_printed m s l n).strength (pair_at m a) (side_at (polygon_of (sides m)) k)))
+        sum_below_cong _ _ (sides m) (λ k j. strength_term (a * sides m + k) (strength_at m listed a k h j e) ((rows_printed m s l n).strength (pair_at m a) (side_at (polygon_of (sides m)) k)))
 
     by_planes : by_direction m (pair_at m a).soil ≡ true → sum_below of_row (sides m) ≡ weighed_planes m w s l n a
     unfolding of_row weighed_planes sum_below
     by_planes e =
         ap (sum_below of_row) (sym (even_sides m listed))
         ∙ sum_pieces of_row 2 (sides m / 2)
-        ∙ sum_same _ _ (sides m / 2) (λ j i.
+        ∙ sum_below_cong _ _ (sides m / 2) (λ j i.
         let v = corner_at (polygon_of (sides m)) j in
         let low : 2 * j + 1 < sides m = omega (arith, even_sides m listed) in
         let first = of_pair m w a (2 * j) *ℤ less_plus m s l n (pair_at m a) v in
@@ -138,17 +120,17 @@ module _ (m : List ℤ) (listed : SidesListed (sides m)) (w : ℕ → ℤ) (s : 
   weighed_rows_lem =
       by_number less w (rows_of m)
       ∙ ap (sum_below term) (row_count m listed)
-      ∙ sum_add term (elements m * 2 + edges m * 4 + jumps m * 4) (pair_count m * sides m)
+      ∙ sum_below_add term (elements m * 2 + edges m * 4 + jumps m * 4) (pair_count m * sides m)
       ∙ ap₂ ◌+ℤ◌
-      (sum_add term (elements m * 2 + edges m * 4) (jumps m * 4)
+      (sum_below_add term (elements m * 2 + edges m * 4) (jumps m * 4)
       ∙ ap₂ ◌+ℤ◌
-      (sum_add term (elements m * 2) (edges m * 4)
+      (sum_below_add term (elements m * 2) (edges m * 4)
       ∙ ap₂ ◌+ℤ◌
-      (sum_pieces term 2 (elements m) ∙ sum_same _ _ (elements m) of_element_lem)
-      (sum_pieces (λ k. term (elements m * 2 + k)) 4 (edges m) ∙ sum_same _ _ (edges m) of_edge_lem))
-      (sum_pieces (λ k. term (elements m * 2 + edges m * 4 + k)) 4 (jumps m) ∙ sum_same _ _ (jumps m) of_jump_lem))
+      (sum_pieces term 2 (elements m) ∙ sum_below_cong _ _ (elements m) of_element_lem)
+      (sum_pieces (λ k. term (elements m * 2 + k)) 4 (edges m) ∙ sum_below_cong _ _ (edges m) of_edge_lem))
+      (sum_pieces (λ k. term (elements m * 2 + edges m * 4 + k)) 4 (jumps m) ∙ sum_below_cong _ _ (jumps m) of_jump_lem))
       (sum_pieces (λ k. term (elements m * 2 + edges m * 4 + jumps m * 4 + k)) (sides m) (pair_count m)
-      ∙ sum_same _ _ (pair_count m) pair_terms)
+      ∙ sum_below_cong _ _ (pair_count m) pair_terms)
     where
       of_element_lem : (e : ℕ) → e < elements m → sum_below (λ i. term (e * 2 + i)) 2 ≡ of_element m w e 0 *ℤ less_x m s l n e +ℤ of_element m w e 1 *ℤ less_y m s l n e
       of_element_lem e h =
