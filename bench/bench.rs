@@ -1,153 +1,146 @@
-//! Times of the proved program and of the independent implementation on the same sheets.
-//! bench time SHEET.. prints nanoseconds a check, of a grid with 108 sides too; bench runs SHEET.. the
-//! same for fifty claims on one mesh, in one call and in fifty; bench once SHEET makes one check of
-//! each, for a tool that counts instructions inside `archive_check` and `independent_check`.
+//! The proved program beside the independent implementation, entry by entry and sheet by sheet.
+//! bench times: nanoseconds of each entry on each sheet, and their ratio. bench once ENTRY: the entry once by each
+//! program on each sheet, and the names of the sheets. bench growth: the same for a check on sheets that grow.
+//! bench only ENTRY SHEET: the same on one sheet, for a tool that counts instructions.
 
-use independent::Answer;
-use std::hint::black_box;
-use std::time::{Duration, Instant};
-
-// The test of the archive has the entries; not each of them is timed.
-#[allow(dead_code)]
+// The test of the archive has the entries and the random numbers.
 #[path = "../tests/independent/programs/compare/archive.rs"]
 mod archive;
-// The grids of the comparison; one of them is timed.
-#[allow(dead_code)]
-#[path = "../tests/independent/programs/compare/grids/mod.rs"]
-mod grids;
+mod entries;
+mod full_claims;
+mod grounds;
+mod made;
 #[allow(dead_code)]
 #[path = "../tests/independent/programs/compare/random.rs"]
 mod random;
+mod sheets;
+mod times;
 
-/// The bytes of a report, and the claims of a run.
-const LINE: usize = 113;
-const CLAIMS: usize = 50;
+use entries::{independent_call, proved_call, Entry, BLANK};
+use sheets::{Timed, CLAIMS};
+use times::Timing;
 
-struct Sheet {
-    name: String,
-    mesh: Vec<u8>,
-    table: Vec<u8>,
-    claim: Vec<u8>,
-    /// The claim fifty times.
-    claims: Vec<u8>,
+/// The sheets of `sheets/` that are timed.
+const SHIPPED: [&str; 6] = [
+    "worked",
+    "footing_20",
+    "largest",
+    "table_slope",
+    "bedded_slope",
+    "footing_largest_108",
+];
+
+/// What the proved program may take of the independent one's time.
+const GOAL: f64 = 0.8;
+
+const PASSES: usize = 5;
+
+fn all_sheets() -> Vec<Timed> {
+    let shipped = SHIPPED.iter().map(|name| Timed::shipped(name));
+    shipped.chain(made::all()).collect()
 }
 
-#[no_mangle]
-#[inline(never)]
-extern "C" fn archive_check(sheet: &Sheet, line: &mut [u8; LINE]) -> Answer {
-    archive::check(&sheet.mesh, &sheet.table, &sheet.claim, 6, line)
+/// Every entry on every sheet; the next strength, which reads no mesh, once. The best of some passes over all, so that
+/// other work that comes and goes slows none of them each time.
+fn all_timings(sheets: &[Timed]) -> Vec<Timing<'_>> {
+    let mut all = Vec::new();
+    for entry in Entry::ALL {
+        let count = if entry == Entry::Strength {
+            1
+        } else {
+            sheets.len()
+        };
+        all.extend(
+            sheets[..count]
+                .iter()
+                .map(|sheet| Timing::new(entry, sheet)),
+        );
+    }
+    for _ in 0..PASSES {
+        all.iter_mut().for_each(Timing::pass);
+    }
+    all
 }
 
-#[no_mangle]
-#[inline(never)]
-extern "C" fn independent_check(sheet: &Sheet, line: &mut [u8; LINE]) -> Answer {
-    independent::check(&sheet.mesh, &sheet.table, &sheet.claim, 6, line)
+/// A line for each, with a mark where the goal is missed.
+fn print_timings(all: &[Timing]) {
+    println!(
+        "{:<14} {:<20} {:>12} {:>12} {:>6}",
+        "entry", "sheet", "proved, ns", "indep., ns", "ratio"
+    );
+    for timing in all {
+        let reads_mesh = timing.entry != Entry::Strength;
+        let sheet = if reads_mesh { &timing.sheet.name } else { "-" };
+        let ([proved, independent], ratio) = (timing.nanoseconds, timing.ratio());
+        let mark = if ratio > GOAL { "  over" } else { "" };
+        println!(
+            "{:<14} {sheet:<20} {proved:>12.0} {independent:>12.0} {ratio:>6.2}{mark}",
+            timing.entry.name()
+        );
+    }
+    let over = all.iter().filter(|timing| timing.ratio() > GOAL).count();
+    println!("{over} of {} over {GOAL}", all.len());
 }
 
-/// Nanoseconds a call: the best of nine rounds, each of a twentieth of a second or more.
-fn nanoseconds<T>(mut call: impl FnMut() -> T) -> f64 {
-    let mut best = f64::INFINITY;
-    for _ in 0..9 {
-        let (start, mut calls) = (Instant::now(), 0u32);
-        while start.elapsed() < Duration::from_millis(50) {
-            for _ in 0..10 {
-                black_box(call());
-            }
-            calls += 10;
+/// What a run takes of the time of as many single checks, by each program.
+fn print_runs(all: &[Timing]) {
+    println!(
+        "\n{:<35} {:>12} {:>12}",
+        "a run over its single checks", "proved", "indep."
+    );
+    let of = |entry: Entry| all.iter().filter(move |timing| timing.entry == entry);
+    for (run, check) in of(Entry::Run).zip(of(Entry::Check)) {
+        let over = |k: usize| run.nanoseconds[k] / (CLAIMS as f64 * check.nanoseconds[k]);
+        println!("{:<35} {:>12.2} {:>12.2}", run.sheet.name, over(0), over(1));
+    }
+}
+
+fn times() {
+    let sheets = all_sheets();
+    let all = all_timings(&sheets);
+    print_timings(&all);
+    print_runs(&all);
+}
+
+/// The entry by each program, which answer and write the same. Twice, and the second time is the one to count: the
+/// first also binds symbols and asks for memory that later calls find there.
+fn once(entry: Entry, sheet: &Timed) {
+    for _ in 0..2 {
+        let [mut by_proved, mut by_independent] = [BLANK; 2];
+        let proved = proved_call(entry, sheet, &mut by_proved);
+        let independent = independent_call(entry, sheet, &mut by_independent);
+        assert_eq!(proved, independent, "{}", sheet.name);
+        assert_eq!(by_proved, by_independent, "{}", sheet.name);
+    }
+}
+
+fn growth() {
+    for series in made::series() {
+        for (nodes, sheet) in &series.sheets {
+            let sheet = Timed::of(series.name, sheet);
+            once(Entry::Check, &sheet);
+            println!("{}\t{nodes}\t{}", sheet.name, sheet.bytes());
         }
-        best = best.min(start.elapsed().as_nanos() as f64 / f64::from(calls));
     }
-    best
-}
-
-fn read(name: &str) -> Sheet {
-    let part = |ending: &str| std::fs::read(format!("{name}.{ending}")).expect("a sheet's file");
-    let claim = part("claim");
-    Sheet {
-        name: name.to_string(),
-        mesh: part("mesh"),
-        table: std::fs::read(format!("{name}.table")).unwrap_or_default(),
-        claims: claim.repeat(CLAIMS),
-        claim,
-    }
-}
-
-/// A grid of 40 nodes, the most that 108 sides may have.
-fn many_sides() -> Sheet {
-    let mut random = random::Random::new(0x9E37_79B9_7F4A_7C15);
-    let files = grids::accepted(&mut random, 7, 4, 108).files();
-    Sheet {
-        name: "40 nodes with 108 sides".to_string(),
-        mesh: files.mesh,
-        table: files.table,
-        claims: files.claim.repeat(CLAIMS),
-        claim: files.claim,
-    }
-}
-
-fn time(sheet: &Sheet) {
-    let mut line = [0; LINE];
-    let proved = nanoseconds(|| archive_check(black_box(sheet), &mut line));
-    let independent = nanoseconds(|| independent_check(black_box(sheet), &mut line));
-    let bytes = sheet.mesh.len() + sheet.table.len() + sheet.claim.len();
-    let ratio = proved / independent;
-    println!(
-        "{:<28} {bytes:>7} {proved:>12.0} {independent:>12.0} {ratio:>7.2}",
-        sheet.name
-    );
-}
-
-/// Fifty claims in one call and in fifty, by each program, and one call of the proved against fifty
-/// of the independent.
-fn time_run(sheet: &Sheet) {
-    let mut lines = [0; CLAIMS * LINE];
-    let (mesh, table, claims) = (&sheet.mesh, &sheet.table, &sheet.claims);
-    let proved = nanoseconds(|| archive::check_run(mesh, table, claims, &mut lines));
-    let independent = nanoseconds(|| independent::check_run(mesh, table, claims, &mut lines));
-    let mut line = [0; LINE];
-    let fifty = |call: extern "C" fn(&Sheet, &mut [u8; LINE]) -> Answer, line: &mut [u8; LINE]| {
-        CLAIMS as f64 * nanoseconds(|| call(black_box(sheet), line))
-    };
-    let (proved_calls, independent_calls) = (
-        fifty(archive_check, &mut line),
-        fifty(independent_check, &mut line),
-    );
-    println!(
-        "{:<28} {proved:>12.0} {proved_calls:>12.0} {independent:>12.0} {independent_calls:>12.0} {:>7.2}",
-        sheet.name,
-        proved / independent_calls
-    );
-}
-
-fn once(sheet: &Sheet) {
-    let (mut proved, mut independent) = ([0; LINE], [0; LINE]);
-    assert_eq!(
-        archive_check(sheet, &mut proved),
-        independent_check(sheet, &mut independent)
-    );
-    assert_eq!(proved, independent);
 }
 
 fn main() {
     let words: Vec<String> = std::env::args().skip(1).collect();
-    let sheets = words[1..].iter().map(|name| read(name));
-    match words[0].as_str() {
-        "once" => sheets.for_each(|sheet| once(&sheet)),
-        "runs" => {
-            println!(
-                "{:<28} {:>12} {:>12} {:>12} {:>12} {:>7}",
-                "fifty claims, ns", "proved run", "calls", "indep. run", "calls", "ratio"
-            );
-            sheets
-                .chain([many_sides()])
-                .for_each(|sheet| time_run(&sheet));
+    let words: Vec<&str> = words.iter().map(String::as_str).collect();
+    match words[..] {
+        ["times"] => times(),
+        ["growth"] => growth(),
+        ["once", entry] => {
+            for sheet in all_sheets() {
+                once(Entry::named(entry), &sheet);
+                println!("{}\t{}", sheet.name, sheet.bytes());
+            }
         }
-        _ => {
-            println!(
-                "{:<28} {:>7} {:>12} {:>12} {:>7}",
-                "sheet", "bytes", "proved, ns", "indep., ns", "ratio"
-            );
-            sheets.chain([many_sides()]).for_each(|sheet| time(&sheet));
+        ["only", entry, name] => {
+            let is_named = |sheet: &Timed| sheet.name == name;
+            let sheet = all_sheets().into_iter().find(is_named);
+            once(Entry::named(entry), &sheet.expect("a sheet"));
         }
+        _ => panic!("times, growth, once ENTRY or only ENTRY SHEET"),
     }
 }
