@@ -50,11 +50,10 @@ fn all_timings(sheets: &[Timed]) -> Vec<Timing<'_>> {
         } else {
             sheets.len()
         };
-        all.extend(
-            sheets[..count]
-                .iter()
-                .map(|sheet| Timing::new(entry, sheet)),
-        );
+        for sheet in &sheets[..count] {
+            once(entry, sheet);
+            all.push(Timing::new(entry, sheet));
+        }
     }
     for _ in 0..PASSES {
         all.iter_mut().for_each(Timing::pass);
