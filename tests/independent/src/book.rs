@@ -48,20 +48,38 @@ impl Book {
         self.count < FULL && bounds.iter().flatten().all(|bound| bound.denominator > 0)
     }
 
-    /// The book after an accepted claim with these loads.
-    fn after(mut self, carried: Option<Load>, limit: Option<Load>) -> Book {
-        if let Some(load) = carried.filter(|&load| self.lower().is_none_or(|b| is_below(b, load))) {
-            self.lower_there = 1;
-            self.lower_numerator = load.numerator;
-            self.lower_denominator = load.denominator;
+    /// The book after an accepted claim with these loads. A bound that is there is marked by 1, whatever
+    /// marked it before, and one that is not has zeros.
+    fn after(self, carried: Option<Load>, limit: Option<Load>) -> Book {
+        let lower = better(self.lower(), carried, |load, bound| is_below(bound, load));
+        let upper = better(self.upper(), limit, is_below);
+        let parts = |bound: Option<Load>| {
+            bound.map_or((0, 0, 0), |load| (1, load.numerator, load.denominator))
+        };
+        let (lower_there, lower_numerator, lower_denominator) = parts(lower);
+        let (upper_there, upper_numerator, upper_denominator) = parts(upper);
+        Book {
+            lower_there,
+            upper_there,
+            lower_numerator,
+            lower_denominator,
+            upper_numerator,
+            upper_denominator,
+            count: self.count + 1,
         }
-        if let Some(load) = limit.filter(|&load| self.upper().is_none_or(|b| is_below(load, b))) {
-            self.upper_there = 1;
-            self.upper_numerator = load.numerator;
-            self.upper_denominator = load.denominator;
-        }
-        self.count += 1;
-        self
+    }
+}
+
+/// The load if it is strictly better than the bound; any is better than none.
+fn better(
+    bound: Option<Load>,
+    load: Option<Load>,
+    is_better: fn(Load, Load) -> bool,
+) -> Option<Load> {
+    match (bound, load) {
+        (Some(bound), Some(load)) if !is_better(load, bound) => Some(bound),
+        (_, Some(load)) => Some(load),
+        (bound, None) => bound,
     }
 }
 

@@ -39,31 +39,56 @@ pub fn printed(text: &str) -> Lines {
     text.split('/').map(line).collect()
 }
 
-/// The bytes of a file; a number that is wider than its column makes the line longer.
+/// A number at the end of a column; one that is wider makes the line longer.
+fn push_column(bytes: &mut Vec<u8>, number: i64) {
+    let mut rest = number.unsigned_abs();
+    if rest > 99_999_999_999 {
+        return bytes.extend(format!("{number:>WIDTH$}").into_bytes());
+    }
+    let mut column = [b' '; WIDTH];
+    let mut at = WIDTH;
+    while at == WIDTH || rest > 0 {
+        at -= 1;
+        column[at] = b'0' + (rest % 10) as u8;
+        rest /= 10;
+    }
+    if number < 0 {
+        column[at - 1] = b'-';
+    }
+    bytes.extend(column);
+}
+
+/// The bytes of a file.
 pub fn file(lines: &Lines) -> Vec<u8> {
     let mut bytes = Vec::new();
     for line in lines {
-        for number in line {
-            bytes.extend(format!("{number:>WIDTH$}").into_bytes());
-        }
+        line.iter()
+            .for_each(|&number| push_column(&mut bytes, number));
         bytes.push(b'\n');
     }
     bytes
 }
 
-/// The numbers of a well-formed file, line by line.
-pub fn read(bytes: &[u8]) -> Lines {
-    let line = |line: &[u8]| {
-        let column = |c: &[u8]| std::str::from_utf8(c).ok()?.trim_start().parse().ok();
-        line.chunks(WIDTH)
-            .map(|c| column(c).expect("a number"))
-            .collect()
-    };
+/// The numbers of a file, line by line; none where a column is none or a line does not end.
+fn read(bytes: &[u8]) -> Option<Lines> {
     if bytes.is_empty() {
-        return Lines::new();
+        return Some(Lines::new());
     }
-    let body = bytes.strip_suffix(b"\n").expect("a last line");
+    let column = |c: &[u8]| std::str::from_utf8(c).ok()?.trim_start().parse().ok();
+    let line = |line: &[u8]| line.chunks(WIDTH).map(column).collect();
+    let body = bytes.strip_suffix(b"\n")?;
     body.split(|&byte| byte == b'\n').map(line).collect()
+}
+
+impl Files {
+    /// The sheet that these are the files of.
+    pub fn sheet(&self) -> Option<Sheet> {
+        Some(Sheet {
+            mesh: read(&self.mesh)?,
+            table: read(&self.table)?,
+            claim: read(&self.claim)?,
+        })
+    }
 }
 
 impl Sheet {

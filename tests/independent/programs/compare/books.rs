@@ -190,6 +190,42 @@ fn holds_best(book: &Book, committed: &[Accepted]) -> bool {
         && is_best(upper, &limits, is_below)
 }
 
+/// A bound that is none, near the loads of a claim, next to the ends of 64 bits, or any numbers at all.
+fn any_bound(random: &mut Random) -> Option<(i64, i64)> {
+    match random.below(5) {
+        0 => None,
+        1 => Some((random.between(-400, 400), random.between(1, 20))),
+        2 => Some((
+            random.between(-100_000_000, 100_000_000),
+            random.between(1, 100_000),
+        )),
+        3 => Some((
+            random.pick(&[i64::MIN, -1, 0, 1, MOST]),
+            random.pick(&[MOST, MOST / 20, 1]),
+        )),
+        _ => {
+            let shift = random.below(16).min(1);
+            Some((random.next() as i64, (random.next() >> shift) as i64))
+        }
+    }
+}
+
+/// A book from before, sound or not, with any mark for a bound that is there.
+pub fn any(random: &mut Random) -> Book {
+    let count = match random.below(4) {
+        0 => 0,
+        1 => random.pick(&[1, 7, 999_998, 999_999, 999_999, 1_000_000, u64::MAX]),
+        _ => random.below(1_000_000) as u64,
+    };
+    let (lower, upper) = (any_bound(random), any_bound(random));
+    let mut book = book(lower, upper, count);
+    if random.one_in(8) {
+        book.lower_there = random.next() as u32;
+        book.upper_there = random.next() as u32;
+    }
+    book
+}
+
 /// Asks and commits on one mesh, from an empty book, some with a count that is not the book's.
 pub fn at_random(tally: &mut Tally, random: &mut Random) {
     let (mesh, table, claims) = grids::family(random, 8);

@@ -66,7 +66,7 @@ fn line(random: &mut Random, lines: &mut Lines) {
 }
 
 /// Where a mesh's soils, nodes, elements, edges and jumps begin, if earlier damage left them in place.
-fn groups(mesh: &Lines) -> Option<[usize; 6]> {
+pub fn groups(mesh: &Lines) -> Option<[usize; 6]> {
     let [nodes, elements, soils, edges, _, jumps] = mesh[0][..] else {
         return None;
     };
@@ -250,17 +250,35 @@ fn any_byte(random: &mut Random) -> u8 {
     }
 }
 
+/// The bytes of two lines exchanged, or those of one line moved along it, at times by whole columns.
+fn line_of_bytes(random: &mut Random, bytes: &mut Vec<u8>) {
+    let mut lines: Vec<&[u8]> = bytes.split_inclusive(|&byte| byte == b'\n').collect();
+    if lines.is_empty() {
+        return;
+    }
+    let (a, b) = (random.below(lines.len()), random.below(lines.len()));
+    let mut moved = lines[a].to_vec();
+    moved.rotate_right(random.pick(&[1, 11, 12, 13, 24]) % lines[a].len());
+    if random.one_in(2) {
+        lines.swap(a, b);
+    } else {
+        lines[a] = &moved;
+    }
+    *bytes = lines.concat();
+}
+
 /// A change to the bytes of a file.
 pub fn bytes(random: &mut Random, bytes: &mut Vec<u8>) {
     let at = random.below(bytes.len() + 1);
     let byte = any_byte(random);
-    match random.below(8) {
+    match random.below(9) {
         0..=1 if at < bytes.len() => bytes[at] = byte,
         2 => bytes.insert(at, byte),
         3 if at < bytes.len() => drop(bytes.remove(at)),
         4 => bytes.truncate(at),
         5 => bytes.extend_from_within(at..),
         6 => bytes.extend(std::iter::repeat(byte).take(random.below(30))),
+        7 => line_of_bytes(random, bytes),
         _ => spell(random, bytes),
     }
 }

@@ -1,7 +1,8 @@
 //! Holds the proved program against the independent implementation, on sheets, on grids and on
 //! damaged ones of both: answer, line and every byte of the buffer, for files and for numbers.
-//! Arguments: a folder of inputs that fuzzing found, each a mesh, a claim and a table with a byte 0
-//! between; then the sheets, each as a .mesh, a .claim and perhaps a .table file of one name.
+//! Arguments: `all`, or `many` for nothing but inputs by the million; how many of these, their seed, and the threads
+//! that make them; a folder of inputs that fuzzing found; then the sheets, each as a .mesh, a .claim and perhaps a
+//! .table file of one name.
 
 mod archive;
 mod blends;
@@ -10,16 +11,22 @@ mod causes;
 mod columns;
 mod damage;
 mod exact;
+mod found;
 // The bench takes an accepted grid of a given size.
 #[allow(dead_code)]
 mod grids;
+mod late;
+mod many;
 mod overlaps;
 mod random;
 mod runs;
 mod strengths;
+mod symmetry;
 mod tally;
 
-use independent::sheet::{self, Files, Sheet};
+use found::Found;
+use independent::sheet::{Files, Sheet};
+use many::{Amount, Sources};
 use random::Random;
 use tally::{How, Tally};
 
@@ -119,22 +126,6 @@ fn every_form(tally: &mut Tally, whole: &Files) {
     }
 }
 
-/// Every input that fuzzing found.
-fn every_found(tally: &mut Tally, folder: &str) {
-    let mut found = 0;
-    for entry in std::fs::read_dir(folder).expect("the folder of found inputs") {
-        let bytes = std::fs::read(entry.expect("an entry").path()).expect("a found input");
-        let mut parts = bytes.splitn(3, |&byte| byte == 0);
-        let mut next = || parts.next().unwrap_or_default().to_vec();
-        let (mesh, claim, table) = (next(), next(), next());
-        let files = Files { mesh, table, claim };
-        tally.file(&files, How::PLAIN);
-        tally.run(&files, 400, b'#');
-        found += 1;
-    }
-    println!("inputs found by fuzzing: {found}");
-}
-
 /// One sheet with up to three changes to its numbers, then to its bytes, then to its lists.
 fn damaged(tally: &mut Tally, random: &mut Random, seed: &Sheet) {
     let mut sheet = seed.clone();
@@ -157,46 +148,74 @@ fn damaged(tally: &mut Tally, random: &mut Random, seed: &Sheet) {
 
 fn read_sheet(name: &str) -> Sheet {
     let part = |ending: &str| std::fs::read(format!("{name}.{ending}")).expect("a sheet's file");
-    Sheet {
-        mesh: sheet::read(&part("mesh")),
-        table: sheet::read(&std::fs::read(format!("{name}.table")).unwrap_or_default()),
-        claim: sheet::read(&part("claim")),
+    let files = Files {
+        mesh: part("mesh"),
+        table: std::fs::read(format!("{name}.table")).unwrap_or_default(),
+        claim: part("claim"),
+    };
+    files.sheet().expect("a sheet's numbers")
+}
+
+/// The comparison that the gate makes, but for inputs by the million.
+fn all(tally: &mut Tally, random: &mut Random, from: &Sources) {
+    from.found.iter().for_each(|found| found.put(tally));
+    from.sheets
+        .iter()
+        .for_each(|sheet| tally.sheet(random, sheet));
+    every_cause(tally, random);
+    every_call(tally, &Sheet::worked());
+    every_byte(tally, random, &Sheet::worked());
+    every_byte(tally, random, &causes::tower());
+    for _ in 0..30_000 {
+        let grid = grids::sheet(random);
+        tally.sheet(random, &grid);
+        damaged(tally, random, &grid);
     }
+    columns::all(tally, random);
+    (0..20_000).for_each(|_| overlaps::at_random(tally, random));
+    (0..2_000).for_each(|_| blends::at_random(tally, random));
+    books::by_hand(tally);
+    (0..2_000).for_each(|_| books::at_random(tally, random));
+    runs::by_hand(tally);
+    (0..6_000).for_each(|_| runs::at_random(tally, random));
+    for _ in 0..500 {
+        from.sheets
+            .iter()
+            .for_each(|sheet| damaged(tally, random, sheet));
+    }
+    strengths::all(tally, random);
 }
 
 fn main() {
-    let mut random = Random::new(0x9E37_79B9_7F4A_7C15);
-    let mut tally = Tally::default();
     let mut arguments = std::env::args().skip(1);
-    every_found(&mut tally, &arguments.next().expect("a folder"));
-    let mut seeds: Vec<Sheet> = arguments.map(|name| read_sheet(&name)).collect();
-    println!("sheets: {}", seeds.len());
-    seeds.push(Sheet::worked());
-    seeds
-        .iter()
-        .for_each(|sheet| tally.sheet(&mut random, sheet));
-    every_cause(&mut tally, &mut random);
-    every_call(&mut tally, &Sheet::worked());
-    every_byte(&mut tally, &mut random, &Sheet::worked());
-    every_byte(&mut tally, &mut random, &causes::tower());
-    for _ in 0..30_000 {
-        let grid = grids::sheet(&mut random);
-        tally.sheet(&mut random, &grid);
-        damaged(&mut tally, &mut random, &grid);
+    let mut next = || arguments.next().expect("an argument");
+    let what = next();
+    let [inputs, seed, threads] = [0; 3].map(|_| next().parse::<u64>().expect("a whole number"));
+    let found = Found::all(&next());
+    let mut sheets: Vec<Sheet> = arguments.map(|name| read_sheet(&name)).collect();
+    println!(
+        "sheets: {}, found by fuzzing: {}",
+        sheets.len(),
+        found.len()
+    );
+    sheets.push(Sheet::worked());
+    let mut from = Sources { sheets, found };
+    let mut tally = Tally::default();
+    if what == "all" {
+        all(&mut tally, &mut Random::new(0x9E37_79B9_7F4A_7C15), &from);
     }
-    columns::all(&mut tally, &mut random);
-    (0..20_000).for_each(|_| overlaps::at_random(&mut tally, &mut random));
-    (0..2_000).for_each(|_| blends::at_random(&mut tally, &mut random));
-    books::by_hand(&mut tally);
-    (0..2_000).for_each(|_| books::at_random(&mut tally, &mut random));
-    runs::by_hand(&mut tally);
-    (0..6_000).for_each(|_| runs::at_random(&mut tally, &mut random));
-    for _ in 0..500 {
-        seeds
-            .iter()
-            .for_each(|sheet| damaged(&mut tally, &mut random, sheet));
-    }
-    strengths::all(&mut tally, &mut random);
+    let of_causes = causes::tables().into_iter().map(|(sheet, _)| sheet);
+    let of_found = from.found.iter().filter_map(|found| found.files.sheet());
+    let with_claims = of_causes
+        .chain(of_found)
+        .filter(|sheet| !sheet.claim.is_empty());
+    from.sheets.extend(with_claims);
+    let amount = Amount {
+        inputs: inputs as usize,
+        seed,
+        threads: threads as usize,
+    };
+    many::all(&mut tally, &amount, &from);
     tally.print();
     std::process::exit(if tally.good() { 0 } else { 1 });
 }

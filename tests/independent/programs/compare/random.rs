@@ -9,6 +9,16 @@ impl Random {
         Random { state: seed }
     }
 
+    /// A generator of its own for each block of inputs of a seed (splitmix64 of both).
+    pub fn of_block(seed: u64, block: u64) -> Self {
+        let mut state = seed
+            .wrapping_add(1 + block)
+            .wrapping_mul(0x9E37_79B9_7F4A_7C15);
+        state = (state ^ state >> 30).wrapping_mul(0xBF58_476D_1CE4_E5B9);
+        state = (state ^ state >> 27).wrapping_mul(0x94D0_49BB_1331_11EB);
+        Random::new((state ^ state >> 31) | 1)
+    }
+
     pub fn next(&mut self) -> u64 {
         self.state ^= self.state >> 12;
         self.state ^= self.state << 25;

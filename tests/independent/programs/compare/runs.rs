@@ -4,12 +4,9 @@ use crate::causes::{changed, Change};
 use crate::damage;
 use crate::grids;
 use crate::random::Random;
-use crate::tally::Tally;
+use crate::tally::{Tally, LINE};
 use independent::sheet::{file, Files, Sheet};
 use independent::Run;
-
-/// The bytes of a report.
-const LINE: usize = 113;
 
 /// A mesh, claims as they stand one after another, the bytes of the buffer, and what comes of it.
 type Listed<'a> = (&'a [u8], &'a [&'a [u8]], usize, u64, usize);

@@ -61,22 +61,33 @@ pub fn all(tally: &mut Tally, random: &mut Random) {
         let inputs = [at(0), at(1), at(2), at(3)];
         hold(tally, inputs, by_whole_numbers(inputs));
     }
-    for _ in 0..2_000_000 {
-        let shift = random.below(8).min(1);
-        let inputs = [0; 4].map(|_| f64::from_bits(random.next() >> shift));
-        hold(tally, inputs, by_whole_numbers(inputs));
-        let mut near_one =
-            [0; 4].map(|_| f64::from_bits(0x3FE8_0000_0000_0000 + (random.next() >> 11)));
-        if random.one_in(4) {
-            near_one[3] = near_one[1].next_up();
+    (0..6_000_000).for_each(|_| at_random(tally, random));
+}
+
+/// Any bits, numbers around 1, or whole 64ths.
+pub fn at_random(tally: &mut Tally, random: &mut Random) {
+    match random.below(3) {
+        0 => {
+            let shift = random.below(8).min(1);
+            let inputs = [0; 4].map(|_| f64::from_bits(random.next() >> shift));
+            hold(tally, inputs, by_whole_numbers(inputs));
         }
-        hold(tally, near_one, by_whole_numbers(near_one));
-        let wholes = [0; 4].map(|_| random.between(1, 1024));
-        let inputs = wholes.map(|number| number as f64 / 64.0);
-        let expected = by_whole_numbers(inputs);
-        if expected.map(f64::to_bits) != of_64ths(wholes).map(f64::to_bits) {
-            tally.disagree_on(&format!("{inputs:?}: the division isn't the only rounding"));
+        1 => {
+            let mut near_one =
+                [0; 4].map(|_| f64::from_bits(0x3FE8_0000_0000_0000 + (random.next() >> 11)));
+            if random.one_in(4) {
+                near_one[3] = near_one[1].next_up();
+            }
+            hold(tally, near_one, by_whole_numbers(near_one));
         }
-        hold(tally, inputs, expected);
+        _ => {
+            let wholes = [0; 4].map(|_| random.between(1, 1024));
+            let inputs = wholes.map(|number| number as f64 / 64.0);
+            let expected = by_whole_numbers(inputs);
+            if expected.map(f64::to_bits) != of_64ths(wholes).map(f64::to_bits) {
+                tally.disagree_on(&format!("{inputs:?}: the division isn't the only rounding"));
+            }
+            hold(tally, inputs, expected);
+        }
     }
 }

@@ -6,11 +6,50 @@ use independent::sheet::{Files, Lists, Sheet};
 use independent::{Answer, Book, BookAnswer, Run, Trial};
 use std::collections::BTreeMap;
 
-/// Every number that a file can get, and those that have to do with the call.
-const NUMBERS: [u32; 22] = [
-    0, 1, 2, 3, 4, 46, 45, 5, 6, 7, 47, 8, 44, 42, 11, 12, 13, 21, 22, 31, 32, 33,
+/// Every number in the order of the checks: 0, those of a mesh and its table, those of a claim, and those that have to
+/// do with the call.
+const ACCEPTED: [u32; 1] = [0];
+const OF_MESH: [u32; 13] = [1, 2, 3, 4, 46, 45, 5, 6, 7, 47, 8, 44, 42];
+const OF_CLAIM: [u32; 8] = [11, 12, 13, 21, 22, 31, 32, 33];
+const OF_CHECK: [u32; 2] = [41, 43];
+const OF_BOOK: [u32; 1] = [48];
+const OF_NEXT: [u32; 1] = [49];
+const NUMBERS: [&[u32]; 6] = [
+    &ACCEPTED, &OF_MESH, &OF_CLAIM, &OF_CHECK, &OF_BOOK, &OF_NEXT,
 ];
-const CALLS: [u32; 2] = [41, 43];
+
+/// The calls, each a column of what is printed. A run has the number of each of its reports.
+#[derive(Clone, Copy)]
+enum Call {
+    Check,
+    Numbers,
+    Run,
+    Sizes,
+    Ask,
+    Commit,
+    Next,
+}
+
+/// Each call's name, and the numbers that it can get.
+const CALLS: [(&str, &[&[u32]]); 7] = [
+    ("check", &[&ACCEPTED, &OF_MESH, &OF_CLAIM, &OF_CHECK]),
+    ("numbers", &[&ACCEPTED, &OF_MESH, &OF_CLAIM]),
+    ("run", &[&ACCEPTED, &OF_MESH, &OF_CLAIM]),
+    ("sizes", &[&ACCEPTED, &OF_MESH]),
+    ("ask", &[&ACCEPTED, &OF_MESH, &OF_CLAIM, &OF_BOOK]),
+    ("commit", &[&ACCEPTED, &OF_MESH, &OF_CLAIM, &OF_BOOK]),
+    ("next", &[&ACCEPTED, &OF_NEXT]),
+];
+
+/// The bytes of a report, and of a column of it.
+pub const LINE: usize = 113;
+const COLUMN: usize = 28;
+
+/// The number that a report begins with.
+fn first_number(report: &[u8]) -> u32 {
+    let text = std::str::from_utf8(&report[..COLUMN]).unwrap_or_default();
+    text.trim_start().parse().unwrap_or(u32::MAX)
+}
 
 /// How a check is called: decimals, and a buffer of `room` bytes, filled with `fill` before.
 #[derive(Clone, Copy, Debug)]
@@ -23,15 +62,15 @@ pub struct How {
 impl How {
     pub const PLAIN: How = How {
         decimals: 6,
-        room: 113,
+        room: LINE,
         fill: b'#',
     };
 
-    fn at_random(random: &mut Random) -> How {
+    pub fn at_random(random: &mut Random) -> How {
         let room = match random.below(16) {
-            0 => random.below(113),
-            1..=3 => 113 + random.below(8),
-            _ => 113,
+            0 => random.below(LINE),
+            1..=3 => LINE + random.below(8),
+            _ => LINE,
         };
         let decimals = match random.below(32) {
             0 => random.pick(&[-1, 8, i64::MIN, i64::MAX, 1 << 32]),
@@ -49,23 +88,41 @@ impl How {
 /// How often each number came, and how often the two disagreed.
 #[derive(Default)]
 pub struct Tally {
-    files: BTreeMap<u32, u64>,
-    lists: BTreeMap<u32, u64>,
+    /// By number, then call.
+    counts: BTreeMap<u32, [u64; CALLS.len()]>,
     /// Runs by how many reports they wrote.
     runs: BTreeMap<u64, u64>,
-    /// Meshes whose sizes were told, and claims whose lengths were held to them.
-    sizes: u64,
+    /// Claims whose lengths were held to the sizes told.
     lengths: u64,
     /// Blends of accepted fields.
     pub blends: u64,
-    /// Books by the number that a call on them gave.
-    books: BTreeMap<u32, u64>,
-    /// Next strengths by number.
-    strengths: BTreeMap<u32, u64>,
+    /// Sheets changed so that the report has to stay, and did.
+    pub changed: u64,
     disagreements: u64,
 }
 
 impl Tally {
+    fn count(&mut self, call: Call, number: u32) {
+        self.counts.entry(number).or_default()[call as usize] += 1;
+    }
+
+    /// What another one counted is added.
+    pub fn add(&mut self, other: Tally) {
+        for (number, row) in other.counts {
+            let sums = self.counts.entry(number).or_default();
+            sums.iter_mut()
+                .zip(row)
+                .for_each(|(sum, more)| *sum += more);
+        }
+        for (reports, more) in other.runs {
+            *self.runs.entry(reports).or_default() += more;
+        }
+        self.lengths += other.lengths;
+        self.blends += other.blends;
+        self.changed += other.changed;
+        self.disagreements += other.disagreements;
+    }
+
     pub fn disagree_on(&mut self, what: &str) {
         self.disagreements += 1;
         if self.disagreements <= 3 {
@@ -89,7 +146,7 @@ impl Tally {
         let mut independent = proved.clone();
         let theirs = archive::check(mesh, table, claim, how.decimals, &mut proved);
         let ours = independent::check(mesh, table, claim, how.decimals, &mut independent);
-        *self.files.entry(ours.number).or_default() += 1;
+        self.count(Call::Check, ours.number);
         if theirs != ours || proved != independent {
             let line = String::from_utf8_lossy(&proved).into_owned();
             self.disagree(&format!("{theirs:?} not {ours:?}, {how:?}: {line}"), files);
@@ -110,7 +167,7 @@ impl Tally {
         let Lists { mesh, table, claim } = lists;
         let theirs = archive::check_numbers(mesh, table, claim);
         let ours = independent::check_numbers(mesh, table, claim);
-        *self.lists.entry(ours.number).or_default() += 1;
+        self.count(Call::Numbers, ours.number);
         if theirs != ours {
             let text = |list: &[i64]| format!("{list:?}").into_bytes();
             let files = Files {
@@ -130,6 +187,8 @@ impl Tally {
         let theirs = archive::check_run(mesh, table, claim, &mut proved);
         let ours = independent::check_run(mesh, table, claim, &mut independent);
         *self.runs.entry(ours.reports).or_default() += 1;
+        let written = independent.chunks(LINE).take(ours.reports as usize);
+        written.for_each(|report| self.count(Call::Run, first_number(report)));
         if theirs != ours || proved != independent {
             self.disagree(
                 &format!("{theirs:?} not {ours:?}, a run, room {room}"),
@@ -146,10 +205,10 @@ impl Tally {
         if theirs != ours {
             self.disagree(&format!("{theirs:?} not {ours:?}"), files);
         }
+        self.count(Call::Sizes, ours.number);
         if ours.number != 0 {
             return;
         }
-        self.sizes += 1;
         let verdict = independent::judge_files(&files.mesh, &files.table, &files.claim);
         if verdict.is_err_and(|refusal| refusal.number < 20) {
             return;
@@ -165,8 +224,8 @@ impl Tally {
         }
     }
 
-    fn book(&mut self, theirs: BookAnswer, ours: BookAnswer, files: &Files) -> BookAnswer {
-        *self.books.entry(ours.number).or_default() += 1;
+    fn book(&mut self, call: Call, [theirs, ours]: [BookAnswer; 2], files: &Files) -> BookAnswer {
+        self.count(call, ours.number);
         if theirs != ours {
             self.disagree(&format!("{theirs:?} not {ours:?}"), files);
         }
@@ -178,7 +237,7 @@ impl Tally {
         let Files { mesh, table, claim } = files;
         let theirs = archive::book_ask(book, mesh, table, claim);
         let ours = independent::book_ask(book, mesh, table, claim);
-        self.book(theirs, ours, files)
+        self.book(Call::Ask, [theirs, ours], files)
     }
 
     /// Both books after a commit.
@@ -186,14 +245,38 @@ impl Tally {
         let Files { mesh, table, claim } = files;
         let theirs = archive::book_commit(book, count, mesh, table, claim);
         let ours = independent::book_commit(book, count, mesh, table, claim);
-        self.book(theirs, ours, files)
+        self.book(Call::Commit, [theirs, ours], files)
+    }
+
+    /// An accepted sheet that was changed exactly has the report that it had.
+    pub fn same(&mut self, before: &Sheet, after: &Sheet) {
+        let report = |files: &Files| {
+            let mut line = [0; LINE];
+            let answer = independent::check(&files.mesh, &files.table, &files.claim, 7, &mut line);
+            (answer.number == 0).then_some(line)
+        };
+        let Some(kept) = report(&before.files()) else {
+            return;
+        };
+        self.changed += 1;
+        let files = after.files();
+        if report(&files) != Some(kept) {
+            self.disagree("another report after an exact change", &files);
+        }
+    }
+
+    /// Both next strengths, whatever they are.
+    pub fn any_strength(&mut self, first: Trial, second: Trial) {
+        let ours = independent::next_strength(first, second);
+        let expected = (ours.number == 0).then_some(ours.strength);
+        self.strength(first, second, expected);
     }
 
     /// Both next strengths, and the one that is expected; none where the trials are refused.
     pub fn strength(&mut self, first: Trial, second: Trial, expected: Option<f64>) {
         let theirs = archive::next_strength(first, second);
         let ours = independent::next_strength(first, second);
-        *self.strengths.entry(ours.number).or_default() += 1;
+        self.count(Call::Next, ours.number);
         let number = if expected.is_some() { 0 } else { 49 };
         let bits = expected.map_or(0, f64::to_bits);
         for found in [theirs, ours] {
@@ -213,41 +296,48 @@ impl Tally {
         self.list(&sheet.lists());
     }
 
+    /// A row for each number, with how often each call gave it; `-` where it can't.
     pub fn print(&self) {
-        println!("number      files    numbers");
-        for number in NUMBERS.iter().chain(&CALLS) {
-            let count = |of: &BTreeMap<u32, u64>| of.get(number).copied().unwrap_or(0);
-            println!(
-                "{number:>6} {:>10} {:>10}",
-                count(&self.files),
-                count(&self.lists)
-            );
+        println!(
+            "number{}",
+            CALLS.map(|(name, _)| format!(" {name:>10}")).concat()
+        );
+        for number in NUMBERS.concat() {
+            let row = self.counts.get(&number).copied().unwrap_or_default();
+            let cells = CALLS.iter().zip(row).map(|((_, can), count)| {
+                let is_there = count > 0 || can.concat().contains(&number);
+                let text = if is_there {
+                    count.to_string()
+                } else {
+                    "-".into()
+                };
+                format!(" {text:>10}")
+            });
+            println!("{number:>6}{}", cells.collect::<String>());
         }
         println!("runs by reports: {:?}", self.runs);
+        println!("claims of the lengths told: {}", self.lengths);
         println!(
-            "sizes: {}, claims of these lengths: {}",
-            self.sizes, self.lengths
+            "blends: {}, sheets changed exactly: {}",
+            self.blends, self.changed
         );
-        println!("blends: {}", self.blends);
-        println!("books by number: {:?}", self.books);
-        println!("next strengths by number: {:?}", self.strengths);
         println!("disagreements: {}", self.disagreements);
     }
 
-    /// Every number and every call came, and the two agreed each time.
-    pub fn good(&self) -> bool {
-        let in_files = |n: &u32| self.files.contains_key(n);
-        let every_call = self.runs.keys().any(|&reports| reports > 2)
-            && self.lengths > 0
-            && self.blends > 0
-            && [0, 22, 48].iter().all(|n| self.books.contains_key(n))
-            && [0, 49].iter().all(|n| self.strengths.contains_key(n));
+    pub fn agrees(&self) -> bool {
         self.disagreements == 0
-            && every_call
-            && NUMBERS
-                .iter()
-                .all(|n| in_files(n) && self.lists.contains_key(n))
-            && CALLS.iter().all(in_files)
-            && [0, 49].iter().all(|n| self.strengths.contains_key(n))
+    }
+
+    /// Every call gave every number that it can, and the two agreed each time.
+    pub fn good(&self) -> bool {
+        let came =
+            |call: usize, number: &u32| self.counts.get(number).is_some_and(|row| row[call] > 0);
+        let every_number = (CALLS.iter().enumerate())
+            .all(|(call, (_, can))| can.concat().iter().all(|n| came(call, n)));
+        self.agrees()
+            && every_number
+            && self.runs.keys().any(|&reports| reports > 2)
+            && self.lengths > 0
+            && self.changed > 0
     }
 }
