@@ -1,30 +1,38 @@
 /* libFuzzer harness: the archive against the independent implementation, every entry of both.
-   An input is a mesh file, a claim file, or several claims one after another, and a table, with a byte
-   0 between. */
-#include <stdint.h>
+   An input is a mesh file, a claim file, or several claims one after another, a table, and the rest of what the calls
+   take (rest.h), with a byte 0 between. */
 #include <stdio.h>
 #include <stdlib.h>
 #include <string.h>
 
 #include "entries.h"
 #include "memory.h"
+#include "mutate.h"
+#include "rest.h"
 
-enum { LINE = 113, ROOM = 3 * LINE + 7, COLUMN = 12, MOST = 8192 };
-
-size_t LLVMFuzzerMutate(uint8_t *data, size_t size, size_t largest);
+enum { COLUMN = 12, MOST = 8192 };
 
 struct file {
   const uint8_t *bytes;
   size_t length;
 };
 
-/* The files of one input. */
-struct input {
-  struct file mesh, table, claim;
+/* The numbers of a file. */
+struct list {
+  int64_t numbers[MOST];
+  size_t length;
 };
 
-/* A file or a block as a call's two arguments. */
+/* The files of one input, and the rest of what the calls take. */
+struct input {
+  struct file mesh, table, claim;
+  struct rest rest;
+};
+
+/* A file, a block or a list as a call's two arguments. */
 #define GIVEN(file) (file).bytes, (file).length
+#define NUMBERS(list) (list).numbers, (list).length
+#define LIST(block) (const int64_t *)(void *)(block).bytes, (block).length / sizeof(int64_t)
 
 static void must(int good, const char *what) {
   if (!good) {
@@ -33,136 +41,136 @@ static void must(int good, const char *what) {
   }
 }
 
-/* What is lent to the archive for one call. It has no counters and no sanitizer of its own, so each
-   block ends, or begins, at a closed page: a byte read or written outside is a crash. */
+/* What is lent to the archive. It has no counters and no sanitizer of its own, so each block ends, or begins, at a
+   closed page: a byte read or written outside is a crash. */
 struct lent {
-  struct block mesh, table, claim, report;
+  struct block mesh, table, claim;
+  enum lending how;
 };
 
-static struct lent lend_all(struct input in, const uint8_t *report, size_t room) {
-  enum lending how = (in.mesh.length + in.claim.length) % 4 == 0 ? AT_START : AT_END;
-  struct lent all = {lend(GIVEN(in.mesh), how), lend(GIVEN(in.table), how), lend(GIVEN(in.claim), how),
-                     lend(report, room, how)};
+static struct lent lend_files(const struct input *in) {
+  enum lending how = (in->mesh.length + in->claim.length) % 2 ? AT_START : AT_END;
+  struct lent all = {lend(GIVEN(in->mesh), how), lend(GIVEN(in->table), how), lend(GIVEN(in->claim), how), how};
   close_for_writing(all.mesh);
   close_for_writing(all.table);
   close_for_writing(all.claim);
   return all;
 }
 
-static void give_all_back(struct lent all) {
+static void give_back_all(struct lent all) {
   give_back(all.mesh);
   give_back(all.table);
   give_back(all.claim);
-  give_back(all.report);
 }
 
-static void compare_files(struct input in, int64_t decimals, size_t room) {
+/* The place of an answer has the answer of the other make, and is given back. */
+static void must_be(struct block answer, const void *other, const char *what) {
+  must(memcmp(answer.bytes, other, answer.length) == 0, what);
+  give_back(answer);
+}
+
+static void compare_files(const struct input *in, struct lent on, int64_t decimals, size_t room) {
   uint8_t report[ROOM];
   memset(report, 0xA5, sizeof report);
-  struct lent on = lend_all(in, report, room);
-  struct answer a = pechuvo_check(GIVEN(on.mesh), GIVEN(on.table), GIVEN(on.claim), decimals, GIVEN(on.report));
-  struct answer b = independent_check(GIVEN(in.mesh), GIVEN(in.table), GIVEN(in.claim), decimals, report, room);
+  struct block lent = lend(report, room, on.how);
+  struct pechuvo_answer a = pechuvo_check(GIVEN(on.mesh), GIVEN(on.table), GIVEN(on.claim), decimals, GIVEN(lent));
+  struct pechuvo_answer b =
+      independent_check(GIVEN(in->mesh), GIVEN(in->table), GIVEN(in->claim), decimals, report, room);
   must(a.number == b.number && a.place == b.place, "the answer");
-  must(memcmp(on.report.bytes, report, room) == 0, "the buffer");
-  give_all_back(on);
+  must_be(lent, report, "the buffer");
 }
 
-static void compare_run(struct input in, size_t room) {
+static void compare_run(const struct input *in, struct lent on, size_t room) {
   uint8_t reports[ROOM];
   memset(reports, 0xA5, sizeof reports);
-  struct lent on = lend_all(in, reports, room);
-  struct run a = pechuvo_check_run(GIVEN(on.mesh), GIVEN(on.table), GIVEN(on.claim), GIVEN(on.report));
-  struct run b = independent_check_run(GIVEN(in.mesh), GIVEN(in.table), GIVEN(in.claim), reports, room);
+  struct block lent = lend(reports, room, on.how);
+  struct pechuvo_run a = pechuvo_check_run(GIVEN(on.mesh), GIVEN(on.table), GIVEN(on.claim), GIVEN(lent));
+  struct pechuvo_run b = independent_check_run(GIVEN(in->mesh), GIVEN(in->table), GIVEN(in->claim), reports, room);
   must(a.reports == b.reports && a.bytes == b.bytes, "the run");
-  must(memcmp(on.report.bytes, reports, room) == 0, "the reports");
-  give_all_back(on);
+  must_be(lent, reports, "the reports");
 }
 
-static void compare_sizes(struct input in) {
-  struct lent on = lend_all(in, NULL, 0);
-  struct sizes a = pechuvo_mesh_sizes(GIVEN(on.mesh), GIVEN(on.table));
-  struct sizes b = independent_mesh_sizes(GIVEN(in.mesh), GIVEN(in.table));
-  must(memcmp(&a, &b, sizeof a) == 0, "the sizes");
-  give_all_back(on);
+static void compare_sizes(const struct input *in, struct lent on) {
+  struct block lent = lend(NULL, sizeof(struct pechuvo_sizes), on.how);
+  mesh_sizes_into((struct pechuvo_sizes *)(void *)lent.bytes, GIVEN(on.mesh), GIVEN(on.table));
+  struct pechuvo_sizes b = independent_mesh_sizes(GIVEN(in->mesh), GIVEN(in->table));
+  must_be(lent, &b, "the sizes");
 }
 
-/* Books to begin with: an empty one, bounds to better, a full one, a bound that is no fraction. */
-static const struct book books[] = {
-    {0, 0, 0, 0, 0, 0, 0},
-    {1, 1, 41, 2, 39, 2, 7},
-    {1, 0, INT64_MIN, INT64_MAX, 0, 0, 999999},
-    {0, 1, 0, 0, INT64_MAX, 1, 1000000},
-    {1, 1, 1, 0, 1, 1, 0},
-};
-
-static void compare_books(struct input in, size_t seed) {
-  struct book book = books[seed % (sizeof books / sizeof books[0])];
-  uint64_t count = seed % 7 == 0 ? book.count + 1 : book.count;
-  struct lent on = lend_all(in, NULL, 0);
-  struct book_answer a = pechuvo_book_ask(book, GIVEN(on.mesh), GIVEN(on.table), GIVEN(on.claim));
-  struct book_answer b = independent_book_ask(book, GIVEN(in.mesh), GIVEN(in.table), GIVEN(in.claim));
-  must(memcmp(&a, &b, sizeof a) == 0, "the book that is asked");
-  a = pechuvo_book_commit(book, count, GIVEN(on.mesh), GIVEN(on.table), GIVEN(on.claim));
-  b = independent_book_commit(book, count, GIVEN(in.mesh), GIVEN(in.table), GIVEN(in.claim));
-  must(memcmp(&a, &b, sizeof a) == 0, "the book after a commit");
-  give_all_back(on);
+/* An ask, a commit, and a commit on the book that comes of it. */
+static void compare_books(const struct input *in, struct lent on) {
+  struct pechuvo_book book = in->rest.book;
+  struct block lent = lend(NULL, sizeof(struct pechuvo_book_answer), on.how);
+  struct pechuvo_book_answer *place = (struct pechuvo_book_answer *)(void *)lent.bytes;
+  book_ask_into(place, book, GIVEN(on.mesh), GIVEN(on.table), GIVEN(on.claim));
+  struct pechuvo_book_answer b = independent_book_ask(book, GIVEN(in->mesh), GIVEN(in->table), GIVEN(in->claim));
+  must(memcmp(place, &b, sizeof b) == 0, "the book that is asked");
+  uint64_t count = in->rest.named;
+  for (int k = 0; k < 2; k++) {
+    book_commit_into(place, book, count, GIVEN(on.mesh), GIVEN(on.table), GIVEN(on.claim));
+    b = independent_book_commit(book, count, GIVEN(in->mesh), GIVEN(in->table), GIVEN(in->claim));
+    must(memcmp(place, &b, sizeof b) == 0, "the book after a commit");
+    book = b.book;
+    count = book.count;
+  }
+  give_back(lent);
 }
 
-/* The first bytes of an input as two trials. */
-static void compare_strengths(const uint8_t *data, size_t size) {
-  double n[4] = {1.0, 0.5, 2.0, 0.25};
-  memcpy(n, data, size < sizeof n ? size : sizeof n);
-  struct next_strength a = pechuvo_next_strength(n[0], n[1], n[2], n[3]);
-  struct next_strength b = independent_next_strength(n[0], n[1], n[2], n[3]);
+static void compare_strengths(const struct rest *rest) {
+  struct pechuvo_next a = pechuvo_next_strength(rest->k1, rest->l1, rest->k2, rest->l2);
+  struct pechuvo_next b = independent_next_strength(rest->k1, rest->l1, rest->k2, rest->l2);
   must(memcmp(&a, &b, sizeof a) == 0, "the next strength");
 }
 
 /* The numbers of a file as far as its columns go; what is no number counts as strtoll says. */
-static size_t numbers_of(struct file file, int64_t *numbers) {
-  size_t count = 0, at = 0;
-  while (at + COLUMN <= file.length && count < MOST) {
+static void take_numbers(struct list *list, struct file file) {
+  size_t at = 0;
+  list->length = 0;
+  while (at + COLUMN <= file.length && list->length < MOST) {
     char column[COLUMN + 1] = {0};
     memcpy(column, file.bytes + at, COLUMN);
-    numbers[count++] = strtoll(column, NULL, 10);
+    list->numbers[list->length++] = strtoll(column, NULL, 10);
     at += COLUMN;
     at += at < file.length && file.bytes[at] == '\n';
   }
-  return count;
 }
 
-/* A list that ends at a closed page. */
-struct list {
-  const int64_t *bytes;
-  size_t length;
-  struct block block;
-};
-
-static struct list lend_list(const int64_t *numbers, size_t length) {
-  struct block block = lend(numbers, length * sizeof numbers[0], AT_END);
-  struct list list = {(const int64_t *)(void *)block.bytes, length, block};
-  return list;
+/* The number at a place of the lists one after another becomes another one, that no column may hold. */
+static void put_number(struct list *lists, size_t count, uint64_t place, int64_t number) {
+  for (size_t k = 0; k < count; k++) {
+    if (place < lists[k].length) {
+      lists[k].numbers[place] = number;
+      return;
+    }
+    place -= lists[k].length;
+  }
 }
 
-static void compare_numbers(struct input in) {
-  static int64_t m[MOST], t[MOST], c[MOST];
-  size_t m_len = numbers_of(in.mesh, m), t_len = numbers_of(in.table, t), c_len = numbers_of(in.claim, c);
-  struct list mesh = lend_list(m, m_len), table = lend_list(t, t_len), claim = lend_list(c, c_len);
-  struct numbers a = pechuvo_check_numbers(GIVEN(mesh), GIVEN(table), GIVEN(claim));
-  give_back(mesh.block);
-  give_back(table.block);
-  give_back(claim.block);
-  struct numbers b = independent_check_numbers(m, m_len, t, t_len, c, c_len);
-  must(a.number == b.number && a.place == b.place, "the answer on numbers");
-  must(a.field == b.field && a.multipliers == b.multipliers, "the parts");
-  must(a.l == b.l && a.n == b.n && a.w == b.w && a.m == b.m, "the loads");
-  must(a.open_rows == b.open_rows, "the open rows");
+static void compare_numbers(const struct input *in, enum lending how) {
+  static struct list of[3];
+  struct block on[3];
+  take_numbers(&of[0], in->mesh);
+  take_numbers(&of[1], in->table);
+  take_numbers(&of[2], in->claim);
+  put_number(of, 3, in->rest.place, in->rest.number);
+  for (size_t k = 0; k < 3; k++) {
+    on[k] = lend(of[k].numbers, of[k].length * sizeof of[k].numbers[0], how);
+    close_for_writing(on[k]);
+  }
+  struct block lent = lend(NULL, sizeof(struct pechuvo_numbers), how);
+  check_numbers_into((struct pechuvo_numbers *)(void *)lent.bytes, LIST(on[0]), LIST(on[1]), LIST(on[2]));
+  for (size_t k = 0; k < 3; k++) {
+    give_back(on[k]);
+  }
+  struct pechuvo_numbers b = independent_check_numbers(NUMBERS(of[0]), NUMBERS(of[1]), NUMBERS(of[2]));
+  must_be(lent, &b, "the answer on numbers");
 }
 
 /* The next file of what is left, up to a byte 0. */
 static struct file next_file(struct file *left) {
-  const uint8_t *end = left->length ? memchr(left->bytes, 0, left->length) : NULL;
-  struct file file = {left->bytes, end ? (size_t)(end - left->bytes) : left->length};
-  size_t taken = file.length + (end != NULL);
+  size_t length = part_length(left->bytes, left->length);
+  struct file file = {left->bytes, length};
+  size_t taken = length + (length < left->length);
   left->bytes += taken;
   left->length -= taken;
   return file;
@@ -174,44 +182,23 @@ static struct input cut(const uint8_t *data, size_t size) {
   in.mesh = next_file(&left);
   in.claim = next_file(&left);
   in.table = next_file(&left);
+  in.rest = usual;
+  if (left.length > 0) {
+    memcpy(&in.rest, left.bytes, left.length < sizeof in.rest ? left.length : sizeof in.rest);
+  }
   return in;
 }
 
 int LLVMFuzzerTestOneInput(const uint8_t *data, size_t size) {
   struct input in = cut(data, size);
-  compare_files(in, (int64_t)(size / 8 % 10) - 1, size % 16 == 0 ? size / 16 % LINE : LINE + size % 8);
-  compare_run(in, size % 16 == 0 ? size / 16 % LINE : 3 * LINE + size % 8);
-  compare_sizes(in);
-  compare_books(in, size);
-  compare_strengths(data, size);
-  compare_numbers(in);
+  struct lent on = lend_files(&in);
+  size_t room = in.rest.room % (ROOM + 1);
+  compare_files(&in, on, in.rest.decimals, room);
+  compare_run(&in, on, room);
+  compare_sizes(&in, on);
+  compare_books(&in, on);
+  compare_strengths(&in.rest);
+  give_back_all(on);
+  compare_numbers(&in, on.how);
   return 0;
-}
-
-static const int64_t limits[] = {0,      1,       2,        3,         4,         12,
-                                 16,     20,      36,       40,        60,        100,
-                                 108,    300,     1000,     2000,      1001,      32,
-                                 10000,  100000,  100000000, 1000000000, -1000,   -10000,
-                                 -100000, -100000000, -1000000000, 999999999998, -99999999998};
-
-/* Rewrites one column of one line, so that the file stays well formed; else mutates as usual. */
-size_t LLVMFuzzerCustomMutator(uint8_t *data, size_t size, size_t largest, unsigned int seed) {
-  srand(seed);
-  if (size < COLUMN || rand() % 3 == 0) {
-    return LLVMFuzzerMutate(data, size, largest);
-  }
-  size_t at = (size_t)rand() % size;
-  while (at > 0 && data[at - 1] != '\n' && data[at - 1] != 0) {
-    at -= 1;
-  }
-  at += COLUMN * (size_t)(rand() % 5);
-  if (at + COLUMN > size) {
-    return size;
-  }
-  char column[COLUMN + 1] = {0}, text[32];
-  memcpy(column, data + at, COLUMN);
-  int64_t number = rand() % 2 ? strtoll(column, NULL, 10) : limits[rand() % (sizeof limits / sizeof limits[0])];
-  snprintf(text, sizeof text, "%12lld", (long long)number + rand() % 3 - 1);
-  memcpy(data + at, text, COLUMN);
-  return size;
 }

@@ -3,17 +3,17 @@
 #ifndef REST_H
 #define REST_H
 
-#include "entries.h"
+#include "pechuvo.h"
 
-enum { LINE = 113, ROOM = 3 * LINE + 7, WORDS = 15 };
+enum { ROOM = 3 * PECHUVO_REPORT + 7, WORDS = 15 };
 
 struct rest {
   double k1, l1, k2, l2;
-  struct book book;
-  uint64_t named;    /* the count that a commit names */
+  struct pechuvo_book book;
+  uint64_t named; /* the count that a commit names */
   int64_t decimals;
-  uint64_t room;     /* bytes of the buffer, up to ROOM */
-  uint64_t place;    /* which number of the lists is another one */
+  uint64_t room;  /* bytes of the buffer, up to ROOM */
+  uint64_t place; /* which number of the lists is another one */
   int64_t number;
 };
 
