@@ -8,8 +8,12 @@ use crate::tally::{How, Tally, LINE};
 use crate::{books, damage, grids, late, strengths, symmetry};
 use independent::sheet::{file, Files, Lists, Sheet};
 
-/// Inputs that one generator makes; threads take blocks of them in turn.
+/// Inputs that one generator makes, and of these the inputs made from one grid or sheet. Threads take blocks in turn.
 const BLOCK: usize = 500;
+const OF_ONE: usize = 5;
+
+/// How often the counts so far are printed.
+const STEP: usize = 1_000_000;
 
 /// What inputs are made from.
 pub struct Sources {
@@ -36,19 +40,30 @@ fn listed<'a>(random: &mut Random, sheets: &'a [Sheet]) -> &'a Sheet {
     }
 }
 
-/// A sheet, changed exactly at times, then at times by changes that the shape passes or by any.
-fn made(tally: &mut Tally, random: &mut Random, from: &Sources) -> Sheet {
-    let mut sheet = if random.one_in(2) {
+/// A grid or a listed sheet, changed exactly at times.
+fn whole(tally: &mut Tally, random: &mut Random, from: &Sources) -> Sheet {
+    let sheet = if random.one_in(2) {
         grids::sheet(random)
     } else {
         listed(random, &from.sheets).clone()
     };
-    if random.one_in(2) {
-        if let Some(changed) = symmetry::changed(random, &sheet) {
+    let changed = if random.one_in(2) {
+        symmetry::changed(random, &sheet)
+    } else {
+        None
+    };
+    match changed {
+        Some(changed) => {
             tally.same(&sheet, &changed);
-            sheet = changed;
+            changed
         }
+        None => sheet,
     }
+}
+
+/// The sheet, at times with changes that the shape passes, at times with any.
+fn damaged(random: &mut Random, whole: &Sheet) -> Sheet {
+    let mut sheet = whole.clone();
     match random.below(6) {
         0..=1 => (),
         2..=3 => (0..1 + random.below(2)).for_each(|_| late::change(random, &mut sheet)),
@@ -68,13 +83,13 @@ fn more_claims(random: &mut Random, sheet: &Sheet) -> Vec<u8> {
     more
 }
 
-fn one(tally: &mut Tally, random: &mut Random, from: &Sources) {
+fn one(tally: &mut Tally, random: &mut Random, from: &Sources, whole: &Sheet) {
     let (mut files, mut lists, more) = if random.one_in(16) {
         let files = from.found[random.below(from.found.len())].files.clone();
         let lists = found::lists(&files);
         (files, lists, Vec::new())
     } else {
-        let sheet = made(tally, random, from);
+        let sheet = damaged(random, whole);
         let more = more_claims(random, &sheet);
         (sheet.files(), sheet.lists(), more)
     };
@@ -119,13 +134,16 @@ fn put(tally: &mut Tally, random: &mut Random, mut files: Files, lists: Lists, m
     tally.run(&files, room + random.below(3), random.below(256) as u8);
 }
 
-/// The blocks that one thread makes: every one whose number is `first` more than a multiple of the threads.
-fn blocks(amount: &Amount, from: &Sources, first: usize) -> Tally {
+/// The blocks from one number to another that one thread makes: every one that is `first` more than a multiple of the
+/// threads.
+fn blocks(amount: &Amount, [start, end]: [usize; 2], from: &Sources, first: usize) -> Tally {
     let mut tally = Tally::default();
-    for block in (first..amount.inputs.div_ceil(BLOCK)).step_by(amount.threads) {
+    for block in (start..end).filter(|block| block % amount.threads == first) {
         let mut random = Random::of_block(amount.seed, block as u64);
-        let left = amount.inputs - block * BLOCK;
-        (0..left.min(BLOCK)).for_each(|_| one(&mut tally, &mut random, from));
+        for _ in 0..BLOCK / OF_ONE {
+            let whole = whole(&mut tally, &mut random, from);
+            (0..OF_ONE).for_each(|_| one(&mut tally, &mut random, from, &whole));
+        }
         if !tally.agrees() {
             println!("in block {block} of seed {}", amount.seed);
             break;
@@ -134,13 +152,26 @@ fn blocks(amount: &Amount, from: &Sources, first: usize) -> Tally {
     tally
 }
 
+/// As many inputs as are said, up to whole blocks; the first difference ends the run.
 pub fn all(tally: &mut Tally, amount: &Amount, from: &Sources) {
-    let tallies: Vec<Tally> = std::thread::scope(|scope| {
-        let start = |first| scope.spawn(move || blocks(amount, from, first));
-        let threads: Vec<_> = (0..amount.threads).map(start).collect();
-        (threads.into_iter())
-            .map(|thread| thread.join().expect("a thread"))
-            .collect()
-    });
-    tallies.into_iter().for_each(|other| tally.add(other));
+    let end = amount.inputs.div_ceil(BLOCK);
+    let steps: Vec<usize> = (0..end).step_by(STEP / BLOCK).chain([end]).collect();
+    for step in steps.windows(2) {
+        let tallies: Vec<Tally> = std::thread::scope(|scope| {
+            let start =
+                |first| scope.spawn(move || blocks(amount, [step[0], step[1]], from, first));
+            let threads: Vec<_> = (0..amount.threads).map(start).collect();
+            (threads.into_iter())
+                .map(|thread| thread.join().expect("a thread"))
+                .collect()
+        });
+        tallies.into_iter().for_each(|other| tally.add(other));
+        if !tally.agrees() {
+            break;
+        }
+        if step[1] < end {
+            println!("after {} inputs:", step[1] * BLOCK);
+            tally.print();
+        }
+    }
 }
