@@ -6,6 +6,7 @@
 #include <stdlib.h>
 #include <string.h>
 
+#include "into.h"
 #include "memory.h"
 #include "pechuvo.h"
 
@@ -133,8 +134,30 @@ static void call_run(struct block mesh, struct block table, struct block claim, 
   give_back(twice);
 }
 
-/* The sizes of a mesh from memory lent in one way: the refusal that a check of it gets and no sizes, or the
-   sizes told before. */
+/* A run on claims that may be cut short anywhere, from memory lent in one way: what comes of it from other memory, and
+   in the buffer no byte of another. */
+static void call_cut_run(struct block mesh, struct block table, struct block claims, enum lending how) {
+  unsigned char before[RUN], written[RUN];
+  memset(before, 0xA5, sizeof before);
+  memset(written, 0xA5, sizeof written);
+  struct pechuvo_run one = pechuvo_check_run(GIVEN(mesh), GIVEN(table), GIVEN(claims), written, RUN);
+  struct block m = lend(GIVEN(mesh), how), t = lend(GIVEN(table), how), c = lend(GIVEN(claims), how);
+  struct block reports = lend(before, RUN, how);
+  close_for_writing(m);
+  close_for_writing(t);
+  close_for_writing(c);
+  struct pechuvo_run got = pechuvo_check_run(GIVEN(m), GIVEN(t), GIVEN(c), GIVEN(reports));
+  expect(got.reports == one.reports && got.bytes == one.bytes, "a run on files cut short");
+  expect(memcmp(reports.bytes, written, RUN) == 0, "the reports of files cut short");
+  expect(memcmp(written + LINE * one.reports, before, RUN - LINE * one.reports) == 0, "bytes beyond them are kept");
+  give_back(m);
+  give_back(t);
+  give_back(c);
+  give_back(reports);
+}
+
+/* The sizes of a mesh from memory lent in one way, into a place lent so too: the refusal that a check of it gets and no
+   sizes, or the sizes told before. */
 static void call_sizes(struct block mesh, struct block table, enum lending how) {
   unsigned char line[LINE];
   struct pechuvo_answer one = pechuvo_check(GIVEN(mesh), GIVEN(table), NULL, 0, DECIMALS, line, LINE);
@@ -143,12 +166,15 @@ static void call_sizes(struct block mesh, struct block table, enum lending how) 
   struct block m = lend(GIVEN(mesh), how), t = lend(GIVEN(table), how);
   close_for_writing(m);
   close_for_writing(t);
-  struct pechuvo_sizes got = pechuvo_mesh_sizes(GIVEN(m), GIVEN(t));
+  struct block answer = lend(NULL, sizeof before, how);
+  struct pechuvo_sizes *got = (struct pechuvo_sizes *)(void *)answer.bytes;
+  mesh_sizes_into(got, GIVEN(m), GIVEN(t));
   none.number = one.number;
   none.place = one.place;
-  expect(memcmp(&got, passed ? &before : &none, sizeof got) == 0, "the sizes");
-  expect(got.number == (passed ? 0 : one.number), "the refusal of a mesh");
+  expect(memcmp(got, passed ? &before : &none, sizeof before) == 0, "the sizes");
+  expect(got->number == (passed ? 0 : one.number), "the refusal of a mesh");
   expect(mesh.length == 0 || memcmp(m.bytes, mesh.bytes, mesh.length) == 0, "the mesh is kept");
+  give_back(answer);
   give_back(m);
   give_back(t);
 }
@@ -160,7 +186,7 @@ static int same_book(struct pechuvo_book a, struct pechuvo_book b) {
          a.count == b.count;
 }
 
-/* Asks and commits from memory lent in one way: the number and place of a check, an ask and its commit agree, a
+/* Asks and commits from memory lent in one way, into a place lent so too: the number and place of a check, an ask and its commit agree, a
    refused claim and 48 hand the very book back. */
 static void call_book(struct block mesh, struct block table, struct block claim, enum lending how) {
   unsigned char line[LINE];
@@ -172,8 +198,12 @@ static void call_book(struct block mesh, struct block table, struct block claim,
   close_for_writing(m);
   close_for_writing(t);
   close_for_writing(c);
-  struct pechuvo_book_answer asked = pechuvo_book_ask(before, GIVEN(m), GIVEN(t), GIVEN(c));
-  struct pechuvo_book_answer got = pechuvo_book_commit(before, before.count, GIVEN(m), GIVEN(t), GIVEN(c));
+  struct block answer = lend(NULL, sizeof(struct pechuvo_book_answer), how);
+  struct pechuvo_book_answer *place = (struct pechuvo_book_answer *)(void *)answer.bytes;
+  book_ask_into(place, before, GIVEN(m), GIVEN(t), GIVEN(c));
+  struct pechuvo_book_answer asked = *place;
+  book_commit_into(place, before, before.count, GIVEN(m), GIVEN(t), GIVEN(c));
+  struct pechuvo_book_answer got = *place;
   expect(asked.number == one.number && asked.place == one.place, "the number and place of an ask");
   expect(got.number == asked.number && got.place == asked.place, "an ask and its commit agree");
   expect(same_book(got.book, asked.book), "an ask and its commit tell one book");
@@ -185,6 +215,7 @@ static void call_book(struct block mesh, struct block table, struct block claim,
   expect(got.number == 48 && got.place == 0 && same_book(got.book, full), "a full book gets 48");
   got = pechuvo_book_ask(broken, GIVEN(m), GIVEN(t), GIVEN(c));
   expect(got.number == 48 && got.place == 0 && same_book(got.book, broken), "a bound over 0 gets 48");
+  give_back(answer);
   give_back(m);
   give_back(t);
   give_back(c);
@@ -200,23 +231,36 @@ static void claim_length(struct block mesh, struct block table, struct block cla
   expect(claim.length == said, "the length of the claim");
 }
 
-/* The files cut short at every `step`th byte: nothing behind the cut is read. */
+/* Every call that takes files. */
+static void call_all(struct block mesh, struct block table, struct block claim, int heap) {
+  enum lending how = heap ? ON_HEAP : AT_END;
+  call_each_way(mesh, table, claim, LINE, heap);
+  call_cut_run(mesh, table, claim, how);
+  call_sizes(mesh, table, how);
+  call_book(mesh, table, claim, how);
+}
+
+/* The files cut short at every `step`th byte, and a run of two claims: nothing behind the cut is read. */
 static void cut_files(struct block mesh, struct block table, struct block claim, size_t step, int heap) {
-  struct block part = mesh;
+  struct block part = mesh, twice = lend(NULL, 2 * claim.length, ON_HEAP);
   for (part.length = 0; part.length < mesh.length; part.length += step) {
-    call_each_way(part, table, claim, LINE, heap);
-    call_sizes(part, table, heap ? ON_HEAP : AT_END);
+    call_all(part, table, claim, heap);
   }
   part = table;
   for (part.length = 0; part.length < table.length; part.length += step) {
-    call_each_way(mesh, part, claim, LINE, heap);
-    call_sizes(mesh, part, heap ? ON_HEAP : AT_END);
+    call_all(mesh, part, claim, heap);
   }
   part = claim;
   for (part.length = 0; part.length < claim.length; part.length += step) {
-    call_each_way(mesh, table, part, LINE, heap);
-    call_book(mesh, table, part, heap ? ON_HEAP : AT_END);
+    call_all(mesh, table, part, heap);
   }
+  memcpy(twice.bytes, claim.bytes, claim.length);
+  memcpy(twice.bytes + claim.length, claim.bytes, claim.length);
+  part = twice;
+  for (part.length = claim.length; part.length <= twice.length; part.length += step) {
+    call_cut_run(mesh, table, part, heap ? ON_HEAP : AT_END);
+  }
+  give_back(twice);
 }
 
 /* A length of 0 goes with any pointer. */
@@ -246,7 +290,8 @@ static void empty_slices(struct block mesh, struct block table, struct block cla
     struct pechuvo_book empty = {0};
     struct pechuvo_book_answer told = pechuvo_book_ask(empty, any, 0, GIVEN(table), GIVEN(claim));
     expect(told.number == 1 && told.place == 1, "a book on an empty mesh gets 1, line 1");
-    struct pechuvo_numbers numbers = pechuvo_check_numbers((int64_t *)(void *)any, 0, NULL, 0, NULL, 0);
+    int64_t *list = (int64_t *)(void *)any;
+    struct pechuvo_numbers numbers = pechuvo_check_numbers(list, 0, list, 0, list, 0);
     expect(numbers.number == 1 && numbers.place == 1, "an empty list gets 1, line 1");
   }
   give_back(closed);
@@ -289,34 +334,45 @@ static int same(struct pechuvo_numbers a, struct pechuvo_numbers b) {
          a.open_rows == b.open_rows;
 }
 
-/* Three lists, each cut after `length` of its numbers, from memory lent in one way. */
+/* Three lists, each cut after `length` of its numbers, from memory lent in one way, into a place lent so too. */
 static void call_lists(struct block mesh, struct block table, struct block claim, enum lending how) {
   struct block m = lend(GIVEN(mesh), how), t = lend(GIVEN(table), how);
   struct block c = lend(GIVEN(claim), how);
   close_for_writing(m);
   close_for_writing(t);
   close_for_writing(c);
-  expect(same(check_lists(m, t, c), check_lists(mesh, table, claim)), "the answer on numbers");
+  struct block answer = lend(NULL, sizeof(struct pechuvo_numbers), how);
+  struct pechuvo_numbers *place = (struct pechuvo_numbers *)(void *)answer.bytes;
+  check_numbers_into(place, LIST(m), LIST(t), LIST(c));
+  expect(same(*place, check_lists(mesh, table, claim)), "the answer on numbers");
+  give_back(answer);
   give_back(m);
   give_back(t);
   give_back(c);
+}
+
+static void call_lists_each_way(struct block mesh, struct block table, struct block claim, int heap) {
+  call_lists(mesh, table, claim, heap ? ON_HEAP : AT_END);
+  if (!heap) {
+    call_lists(mesh, table, claim, AT_START);
+  }
 }
 
 static void lists(struct block mesh_file, struct block table_file, struct block claim_file, size_t step, int heap) {
   struct block mesh = numbers_of(mesh_file), table = numbers_of(table_file), claim = numbers_of(claim_file);
   struct block part = mesh;
   for (part.length = 0; part.length <= mesh.length; part.length += step * sizeof(int64_t)) {
-    call_lists(part, table, claim, heap ? ON_HEAP : AT_END);
+    call_lists_each_way(part, table, claim, heap);
   }
   part = table;
   for (part.length = 0; part.length <= table.length; part.length += sizeof(int64_t)) {
-    call_lists(mesh, part, claim, heap ? ON_HEAP : AT_END);
+    call_lists_each_way(mesh, part, claim, heap);
   }
   part = claim;
   for (part.length = 0; part.length <= claim.length; part.length += step * sizeof(int64_t)) {
-    call_lists(mesh, table, part, heap ? ON_HEAP : AT_END);
+    call_lists_each_way(mesh, table, part, heap);
   }
-  call_lists(mesh, table, claim, heap ? ON_HEAP : AT_START);
+  call_lists_each_way(mesh, table, claim, heap);
   give_back(mesh);
   give_back(table);
   give_back(claim);
