@@ -40,6 +40,21 @@ const fn across(jump: &'static [i64]) -> [Change; 7] {
     [a, b, c, d, e, f, MeshLine(18, jump)]
 }
 
+/// A field alone with this stress at all nodes of the right square, and up to two changes of what edges ask.
+const fn leap(column: usize, stress: i64, edges: [Change; 2]) -> [Change; 8] {
+    let [first, second] = edges;
+    [
+        NoMultipliers,
+        Claim(1, 2, 0),
+        first,
+        second,
+        Claim(6, column, stress),
+        Claim(7, column, stress),
+        Claim(8, column, stress),
+        Claim(9, column, stress),
+    ]
+}
+
 const CAUSES: &[Listed] = &[
     (&[], 0, 0),
     // Inner sides are no outer ones, not even one that faces itself.
@@ -98,33 +113,8 @@ const CAUSES: &[Listed] = &[
         5,
     ),
     // The rows: normal at from, shear at from, normal at to.
-    (
-        &[
-            NoMultipliers,
-            Claim(1, 2, 0),
-            Mesh(15, 3, 2),
-            Claim(6, 1, 1),
-            Claim(7, 1, 1),
-            Claim(8, 1, 1),
-            Claim(9, 1, 1),
-        ],
-        21,
-        21,
-    ),
-    (
-        &[
-            NoMultipliers,
-            Claim(1, 2, 0),
-            Mesh(13, 3, 1),
-            Mesh(15, 3, 1),
-            Claim(6, 3, 1),
-            Claim(7, 3, 1),
-            Claim(8, 3, 1),
-            Claim(9, 3, 1),
-        ],
-        21,
-        22,
-    ),
+    (&leap(1, 1, [Mesh(15, 3, 2), Mesh(15, 3, 2)]), 21, 21),
+    (&leap(3, 1, [Mesh(13, 3, 1), Mesh(15, 3, 1)]), 21, 22),
     (
         &[
             NoMultipliers,
@@ -137,19 +127,7 @@ const CAUSES: &[Listed] = &[
         23,
     ),
     // Stress along the joint may jump: sy is 5 less on the right, and so is its dead load.
-    (
-        &[
-            NoMultipliers,
-            Claim(1, 2, 0),
-            Mesh(13, 4, 5),
-            Claim(6, 2, -15),
-            Claim(7, 2, -15),
-            Claim(8, 2, -15),
-            Claim(9, 2, -15),
-        ],
-        0,
-        0,
-    ),
+    (&leap(2, -15, [Mesh(13, 4, 5), Mesh(13, 4, 5)]), 0, 0),
     // A jump's multipliers enter the columns of its first nodes, and of the facing ones with a minus.
     (&[Claim(16, 1, 1)], 32, 4),
     (&[Claim(16, 2, 1)], 32, 6),
