@@ -328,14 +328,27 @@ impl Tally {
         self.disagreements == 0
     }
 
+    /// The numbers that a call can give and never gave.
+    fn missing(&self) -> Vec<String> {
+        let came =
+            |call: usize, number: u32| self.counts.get(&number).is_some_and(|row| row[call] > 0);
+        let of_call = |(call, (name, can)): (usize, &(&str, &[&[u32]]))| {
+            let never = can.concat().into_iter().filter(move |&n| !came(call, n));
+            never
+                .map(|number| format!("{name} {number}"))
+                .collect::<Vec<_>>()
+        };
+        CALLS.iter().enumerate().flat_map(of_call).collect()
+    }
+
     /// Every call gave every number that it can, and the two agreed each time.
     pub fn good(&self) -> bool {
-        let came =
-            |call: usize, number: &u32| self.counts.get(number).is_some_and(|row| row[call] > 0);
-        let every_number = (CALLS.iter().enumerate())
-            .all(|(call, (_, can))| can.concat().iter().all(|n| came(call, n)));
+        let missing = self.missing();
+        if !missing.is_empty() {
+            println!("never came: {}", missing.join(", "));
+        }
         self.agrees()
-            && every_number
+            && missing.is_empty()
             && self.runs.keys().any(|&reports| reports > 2)
             && self.lengths > 0
             && self.changed > 0
