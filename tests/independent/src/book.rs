@@ -28,31 +28,8 @@ pub struct BookAnswer {
 }
 
 impl Book {
-    fn lower(&self) -> Option<Load> {
-        (self.lower_there != 0).then_some(Load {
-            numerator: self.lower_numerator,
-            denominator: self.lower_denominator,
-        })
-    }
-
-    fn upper(&self) -> Option<Load> {
-        (self.upper_there != 0).then_some(Load {
-            numerator: self.upper_numerator,
-            denominator: self.upper_denominator,
-        })
-    }
-
-    /// It can be asked: not full, and its bounds are fractions.
-    fn is_sound(&self) -> bool {
-        let bounds = [self.lower(), self.upper()];
-        self.count < FULL && bounds.iter().flatten().all(|bound| bound.denominator > 0)
-    }
-
-    /// The book after an accepted claim with these loads. A bound that is there is marked by 1, whatever
-    /// marked it before, and one that is not has zeros.
-    fn after(self, carried: Option<Load>, limit: Option<Load>) -> Book {
-        let lower = better(self.lower(), carried, |load, bound| is_below(bound, load));
-        let upper = better(self.upper(), limit, is_below);
+    /// A bound that is there is marked by 1; one that is not has zeros.
+    pub fn of(lower: Option<Load>, upper: Option<Load>, count: u64) -> Book {
         let parts = |bound: Option<Load>| {
             bound.map_or((0, 0, 0), |load| (1, load.numerator, load.denominator))
         };
@@ -65,8 +42,35 @@ impl Book {
             lower_denominator,
             upper_numerator,
             upper_denominator,
-            count: self.count + 1,
+            count,
         }
+    }
+
+    pub fn lower(&self) -> Option<Load> {
+        (self.lower_there != 0).then_some(Load {
+            numerator: self.lower_numerator,
+            denominator: self.lower_denominator,
+        })
+    }
+
+    pub fn upper(&self) -> Option<Load> {
+        (self.upper_there != 0).then_some(Load {
+            numerator: self.upper_numerator,
+            denominator: self.upper_denominator,
+        })
+    }
+
+    /// It can be asked: not full, and its bounds are fractions.
+    fn is_sound(&self) -> bool {
+        let bounds = [self.lower(), self.upper()];
+        self.count < FULL && bounds.iter().flatten().all(|bound| bound.denominator > 0)
+    }
+
+    /// The book after an accepted claim with these loads, whatever marked a bound before.
+    fn after(self, carried: Option<Load>, limit: Option<Load>) -> Book {
+        let lower = better(self.lower(), carried, |load, bound| is_below(bound, load));
+        let upper = better(self.upper(), limit, is_below);
+        Book::of(lower, upper, self.count + 1)
     }
 }
 

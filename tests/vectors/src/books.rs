@@ -2,40 +2,36 @@
 //! after. A book is lower, upper, count; a bound is numerator/denominator or none.
 
 use crate::{answers, file, number, Tally, MAKES};
-use independent::{Book, BookAnswer};
+use independent::{Book, BookAnswer, Load};
 
-fn bound(text: &str) -> (u32, i64, i64) {
-    match text.split_once('/') {
-        Some((numerator, denominator)) => (1, number(numerator), number(denominator)),
-        None => (0, 0, 0),
-    }
+fn bound(text: &str) -> Option<Load> {
+    let (numerator, denominator) = text.split_once('/')?;
+    Some(Load {
+        numerator: number(numerator),
+        denominator: number(denominator),
+    })
 }
 
 fn book(text: &str) -> Book {
     let parts: Vec<&str> = text.split(',').collect();
-    let (lower_there, lower_numerator, lower_denominator) = bound(parts[0]);
-    let (upper_there, upper_numerator, upper_denominator) = bound(parts[1]);
-    Book {
-        lower_there,
-        upper_there,
-        lower_numerator,
-        lower_denominator,
-        upper_numerator,
-        upper_denominator,
-        count: number(parts[2]),
-    }
+    Book::of(bound(parts[0]), bound(parts[1]), number(parts[2]))
 }
 
 /// The same bound as a fraction, or the very same numbers.
-fn same((there, a, b): (u32, i64, i64), (expected, c, d): (u32, i64, i64)) -> bool {
-    let [p, q, r, s] = [a, b, c, d].map(i128::from);
-    there == expected && ((a, b) == (c, d) || b > 0 && d > 0 && p * s == r * q)
+fn same(found: Option<Load>, expected: Option<Load>) -> bool {
+    let (Some(a), Some(b)) = (found, expected) else {
+        return found == expected;
+    };
+    let product = |a: Load, b: Load| i128::from(a.numerator) * i128::from(b.denominator);
+    a == b || a.denominator > 0 && b.denominator > 0 && product(a, b) == product(b, a)
 }
 
-fn same_book(a: &Book, b: &Book) -> bool {
-    let lower = |k: &Book| (k.lower_there, k.lower_numerator, k.lower_denominator);
-    let upper = |k: &Book| (k.upper_there, k.upper_numerator, k.upper_denominator);
-    a.count == b.count && same(lower(a), lower(b)) && same(upper(a), upper(b))
+/// The book as expected, with 1 for a bound that is there and zeros for one that is not.
+fn same_book(book: &Book, expected: &Book) -> bool {
+    let (lower, upper) = (book.lower(), book.upper());
+    *book == Book::of(lower, upper, expected.count)
+        && same(lower, expected.lower())
+        && same(upper, expected.upper())
 }
 
 /// Cases of a request before N12 have no books.

@@ -10,17 +10,11 @@ use independent::sheet::{file, Files, Sheet};
 use independent::{Accepted, Book, Load};
 
 fn book(lower: Option<(i64, i64)>, upper: Option<(i64, i64)>, count: u64) -> Book {
-    let (lower_numerator, lower_denominator) = lower.unwrap_or((0, 0));
-    let (upper_numerator, upper_denominator) = upper.unwrap_or((0, 0));
-    Book {
-        lower_there: lower.is_some() as u32,
-        upper_there: upper.is_some() as u32,
-        lower_numerator,
-        lower_denominator,
-        upper_numerator,
-        upper_denominator,
-        count,
-    }
+    let load = |(numerator, denominator)| Load {
+        numerator,
+        denominator,
+    };
+    Book::of(lower.map(load), upper.map(load), count)
 }
 
 const MOST: i64 = i64::MAX;
@@ -167,27 +161,11 @@ fn is_best(bound: Option<Load>, loads: &[Load], is_better: fn(Load, Load) -> boo
 }
 
 fn holds_best(book: &Book, committed: &[Accepted]) -> bool {
-    let there = |there: u32, numerator: i64, denominator: i64| {
-        (there == 1).then_some(Load {
-            numerator,
-            denominator,
-        })
-    };
-    let lower = there(
-        book.lower_there,
-        book.lower_numerator,
-        book.lower_denominator,
-    );
-    let upper = there(
-        book.upper_there,
-        book.upper_numerator,
-        book.upper_denominator,
-    );
     let carried: Vec<Load> = committed.iter().filter_map(|claim| claim.carried).collect();
     let limits: Vec<Load> = committed.iter().filter_map(|claim| claim.limit).collect();
     book.count == committed.len() as u64
-        && is_best(lower, &carried, |a, b| is_below(b, a))
-        && is_best(upper, &limits, is_below)
+        && is_best(book.lower(), &carried, |a, b| is_below(b, a))
+        && is_best(book.upper(), &limits, is_below)
 }
 
 /// A bound that is none, near the loads of a claim, next to the ends of 64 bits, or any numbers at all.
