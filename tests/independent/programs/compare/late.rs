@@ -28,6 +28,40 @@ fn one_not_zero<'a>(random: &mut Random, lines: &'a mut [Vec<i64>]) -> Option<&'
     Some(&mut lines[line][random.pick(&there)])
 }
 
+/// The live loads the other way, the field's with them.
+fn turn_live_loads(soils: &mut [Vec<i64>], edges: &mut [Vec<i64>], header: &mut [i64]) {
+    let of_soils = soils.iter_mut().flat_map(|line| &mut line[6..8]);
+    let of_edges = edges.iter_mut().flat_map(|line| &mut line[5..7]);
+    of_soils
+        .chain(of_edges)
+        .chain(&mut header[3..])
+        .for_each(|load| *load = -*load);
+}
+
+/// One stress of one node.
+fn change_stress(random: &mut Random, field: &mut [Vec<i64>]) {
+    let node = random.below(field.len());
+    let column = random.below(field[node].len().max(1));
+    if let Some(stress) = field[node].get_mut(column) {
+        *stress += random.pick(&[-1, 1]);
+    }
+}
+
+/// All multipliers are 0, or those of the first lines.
+fn leave_out(random: &mut Random, multipliers: &mut [Vec<i64>]) {
+    let all = multipliers.len();
+    if all > 0 {
+        let count = if random.one_in(2) {
+            all
+        } else {
+            random.below(all)
+        };
+        multipliers[..count]
+            .iter_mut()
+            .for_each(|line| line.fill(0));
+    }
+}
+
 /// One change; none where earlier ones have left no mesh or no claim.
 pub fn change(random: &mut Random, sheet: &mut Sheet) {
     let Some([soils, nodes, _, edges, jumps, _]) = groups(&sheet.mesh) else {
@@ -38,54 +72,26 @@ pub fn change(random: &mut Random, sheet: &mut Sheet) {
     }
     let field = field_lines(sheet);
     let soil = soils + random.below(nodes - soils);
-    let (mesh, claim) = (&mut sheet.mesh, &mut sheet.claim);
+    let mesh = &mut sheet.mesh;
+    let (header, lines) = sheet.claim.split_at_mut(1);
+    let (field, multipliers) = lines.split_at_mut(field);
     match random.below(7) {
-        // A weaker soil, or one that is stronger one way.
+        // A weaker soil, or another strength across its beds.
         0 => mesh[soil][3] = random.between(0, mesh[soil][3].clamp(0, 10_000)),
         1 => mesh[soil][9] = random.between(0, 10_000),
-        // Fewer parts of an edge are fixed.
+        // Other parts of an edge are fixed.
         2 if edges < jumps => mesh[edges + random.below(jumps - edges)][2] = random.between(1, 3),
-        // The live loads the other way, the field's with them.
         3 => {
-            mesh[soils..nodes]
-                .iter_mut()
-                .for_each(|line| turn(&mut line[6..8]));
-            mesh[edges..jumps]
-                .iter_mut()
-                .for_each(|line| turn(&mut line[5..7]));
-            turn(&mut claim[0][3..]);
+            let (before, from_edges) = mesh.split_at_mut(edges);
+            let edges = &mut from_edges[..jumps - edges];
+            turn_live_loads(&mut before[soils..nodes], edges, &mut header[0]);
         }
-        // One number of the field, one multiplier.
-        4 if field > 0 => {
-            let node = 1 + random.below(field);
-            let column = random.below(claim[node].len().max(1));
-            if let Some(stress) = claim[node].get_mut(column) {
-                *stress += random.pick(&[-1, 1]);
-            }
-        }
+        4 if !field.is_empty() => change_stress(random, field),
         5 => {
-            if let Some(number) = one_not_zero(random, &mut claim[1 + field..]) {
+            if let Some(number) = one_not_zero(random, multipliers) {
                 *number += random.pick(&[-1, 1]);
             }
         }
-        // No multiplier of one line, or none at all.
-        _ => {
-            let first = 1 + field;
-            let all = claim[first..].len();
-            if all > 0 {
-                let count = if random.one_in(2) {
-                    all
-                } else {
-                    random.below(all)
-                };
-                claim[first..first + count]
-                    .iter_mut()
-                    .for_each(|line| line.fill(0));
-            }
-        }
+        _ => leave_out(random, multipliers),
     }
-}
-
-fn turn(numbers: &mut [i64]) {
-    numbers.iter_mut().for_each(|number| *number = -*number);
 }
