@@ -4,23 +4,22 @@ use crate::damage::groups;
 use crate::random::Random;
 use independent::sheet::Sheet;
 
-/// Which lines of a claim, after its header, are the field's.
+/// How many lines of a claim, after its header, are the field's.
 fn field_lines(sheet: &Sheet) -> usize {
     let has_field = sheet.claim[0].first() == Some(&1);
     let nodes = sheet.mesh[0][0] as usize;
     if has_field { nodes } else { 0 }.min(sheet.claim.len() - 1)
 }
 
-/// A number of the lines that isn't 0, if there is one in the lines that are tried.
+/// A number that isn't 0, of the first line that has any from one at random on.
 fn one_not_zero<'a>(random: &mut Random, lines: &'a mut [Vec<i64>]) -> Option<&'a mut i64> {
     if lines.is_empty() {
         return None;
     }
     let line = random.below(lines.len());
     let count = lines.len();
-    let tried = (0..count).map(|k| (line + k) % count);
-    let line = tried
-        .into_iter()
+    let line = (line..line + count)
+        .map(|k| k % count)
         .find(|&k| lines[k].iter().any(|&n| n != 0))?;
     let there: Vec<usize> = (0..lines[line].len())
         .filter(|&k| lines[line][k] != 0)

@@ -40,8 +40,10 @@ impl Groups {
     fn of(sheet: &Sheet) -> Option<Groups> {
         let files = sheet.files();
         let mesh = Mesh::read(&files.mesh[..], &files.table[..]).ok()?;
-        independent::judge_files(&files.mesh, &files.table, &files.claim)
-            .map_or_else(|refusal| (refusal.number > 20).then_some(()), |_| Some(()))?;
+        let verdict = independent::judge_files(&files.mesh, &files.table, &files.claim);
+        if verdict.is_err_and(|refusal| refusal.number < 20) {
+            return None;
+        }
         let mut lines = sheet.mesh.iter().cloned();
         let mut claim = sheet.claim.iter().cloned();
         let (header, claim_header) = (lines.next()?, claim.next()?);
