@@ -13,6 +13,7 @@ PAGES = (
     "docs/FILES.md",
     "docs/LINKING.md",
     "docs/SPEED.md",
+    "docs/OTHER-MAKES.md",
     "tests/README.md",
     "tools/README.md",
     "bindings/README.md",
@@ -21,7 +22,7 @@ PAGES = (
 # Words of commands that aren't run here: they take long, want a tool or a file of the reader's, or leave something.
 LEFT_OUT = (
     "rt run", ".ci/run", "make install", "make ", "apt-get", "glpsol", "cargo", "program.c", "MESH", "FOLDER",
-    "make_sheets", "measure_claims", "fuzz/run", "bench/run", "docs/pictures/make",
+    "make_sheets", "measure_claims", "fuzz/run", "bench/run", "docs/pictures/make", "independent/many",
 )
 
 # A part of a command, the status that it ends with, and what it prints or leaves.
