@@ -18,7 +18,8 @@ use Rattle.scope.proofs.Applied.{sheet_multipliers}
 use Rattle.scope.proofs.Blends.{blended_claims}
 use Rattle.numbers.specs.declared.numbers_answer.NumbersAnswer.{NumbersAnswer}
 use Rattle.numbers.specs.Promises.{TellsField, BlendedAnswers}
-use Rattle.numbers.proofs.Promises.{returned, field_exactly, field_in_fractions}
+use Rattle.numbers.proofs.Promises.{returned, field_exactly}
+use Rattle.numbers.proofs.Reported.{field_in_fractions}
 use Rattle.numbers.proofs.PromisesApplied.{answer19, sheet-answered, nineteen_answered, refused_answered, tells_field}
 
 pub blended_answers : {m c d k : List ℤ} {r s : NumbersAnswer} → BlendedAnswers m c d k r s

@@ -3,13 +3,13 @@
 use mathlib.Core.Path.{refl}
 use mathlib.Core.List.{[]}
 use lib.IntN.{pos}
-use Rattle.scope.specs.Worked.{zeros, blocks, block_edges, joint, two_blocks, on_joint, crossing_bars}
+use Rattle.scope.specs.Worked.{zeros, two_blocks, crossing_bars}
 use Rattle.scope.specs.Overlaps.{NoneOnEachOther, OnEachOther}
 use Rattle.scope.proofs.Computed.{computed}
 use Rattle.numbers.specs.declared.numbers_answer.NumbersAnswer.{NumbersAnswer}
 use Rattle.numbers.specs.Promises.{Answers}
 use Rattle.numbers.proofs.Promises.{returned, returns_zero_exactly, overlaps_asked}
-use Rattle.numbers.proofs.PromisesApplied.{joint_claim, joint_answer, joint-answered}
+use Rattle.numbers.proofs.ShapesApplied.{joint_claim, joint_answer, joint-answered}
 
 pub crossing_answer : NumbersAnswer
 crossing_answer = record {

@@ -17,7 +17,8 @@ use Rattle.scope.specs.Worked.{zeros, worked_mesh, worked_stresses, worked_multi
 use Rattle.scope.proofs.Computed.{computed}
 use Rattle.numbers.specs.declared.numbers_answer.NumbersAnswer.{NumbersAnswer}
 use Rattle.numbers.specs.Promises.{Answers, Returned}
-use Rattle.numbers.proofs.Promises.{returned, criterion_for_each_pair, directions_asked, field-reported, open_rows_reported}
+use Rattle.numbers.proofs.Promises.{returned, criterion_for_each_pair, directions_asked}
+use Rattle.numbers.proofs.Reported.{field-reported, open_rows_reported}
 
 -- ---- ch = cv = 10: 125/6 is carried and not told; 500/24 is allowed, and no row is open
 

@@ -1,8 +1,9 @@
 -- What a caller that hands over numbers may rely on: demands 2 and 3 for `check`, which C calls as
 -- `pechuvo_check_numbers`, each promise a plain statement about the answer r to the numbers m of a mesh and c of a
 -- claim.
--- Each is proved of every answer (`proofs/Promises.antt`) and applied to document 01's sheet
--- (`proofs/PromisesApplied.antt`). Those about the number and the place alone serve the check of two files too.
+-- Each is proved of every answer (`proofs/Promises.antt`, `Reported.antt`), applied to document 01's sheet
+-- (`proofs/PromisesApplied.antt`) and to one that has all that document 02 adds (`MixedApplied.antt`). Those about the
+-- number and the place alone serve the check of two files too.
 use Rattle.std.specs.Prelude.{◌≡◌, ◌↔◌, ◌⊎◌, ◌≢◌, List, ◌∷◌, ℕ, ◌+◌, ◌*◌, ◌≤◌, ◌<◌, ℤ, pos, ◌<ℤ◌, length, Result}
 use Rattle.integer.specs.Fraction.{Frac, ◌over◌, ◌≈ᶠ◌, ◌≤ᶠ◌}
 use Rattle.integer.specs.Members.{◌∈◌}
