@@ -51,16 +51,16 @@ opened = tt
 
 -- what antt computes of the mesh
 pub record Facts (m : List ℤ) : Type 0 where
-  three : elements m ≡ 3
-  repeats : (corner m 0 2 ≡ corner m 0 3) × (corner m 1 2 ≡ corner m 1 3)
-  four_different : ¬ (corner m 2 2 ≡ corner m 2 3)
-  turns : FourLeftTurns m 2
-  edge : (1 < corner_count m 1) × (2 < corner_count m 1) × (from_node m 0 ≡ around m 1 1) × (to_node m 0 ≡ around m 1 2) × (around m 1 3 ≡ 0)
-  around_3 : (corner m 1 1 ≡ 2) × (corner m 0 2 ≡ 2)
-  soils_there : (element_soil m 1 ≡ 0) × (element_soil m 0 ≡ 1)
-  five_pairs : 4 < pair_count m
-  fill_kind : ¬ ByDirection m 0
-  one_jump : 0 < jumps m
+  pub three : elements m ≡ 3
+  pub repeats : (corner m 0 2 ≡ corner m 0 3) × (corner m 1 2 ≡ corner m 1 3)
+  pub four_different : ¬ (corner m 2 2 ≡ corner m 2 3)
+  pub turns : FourLeftTurns m 2
+  pub edge : (1 < corner_count m 1) × (2 < corner_count m 1) × (from_node m 0 ≡ around m 1 1) × (to_node m 0 ≡ around m 1 2) × (around m 1 3 ≡ 0)
+  pub around_3 : (corner m 1 1 ≡ 2) × (corner m 0 2 ≡ 2)
+  pub soils_there : (element_soil m 1 ≡ 0) × (element_soil m 0 ≡ 1)
+  pub five_pairs : 4 < pair_count m
+  pub fill_kind : ¬ ByDirection m 0
+  pub one_jump : 0 < jumps m
 
 -- by the promises of any call on the mesh, on numbers or on files
 module _ (m : List ℤ) (number place : ℕ) (sound : MeshSound m) (facts : Facts m) (pairs : PairsAsked m number place) (overlaps : OverlapsAsked m number place) (joints : JumpsAsked m) (polygons : SidesAsked m number place) where
@@ -391,7 +391,7 @@ beyond_108 : TableAnswers two_layers (unfilled 108 0) (claim_108 65 even) (refus
 unfolding opened
 beyond_108 = refl
 
-many_kinds : (¬ ByDirection (soils_written 108 0) 1) × (¬ ListsDirection (soils_written 108 0))
+pub many_kinds : (¬ ByDirection (soils_written 108 0) 1) × (¬ ListsDirection (soils_written 108 0))
 unfolding opened
 many_kinds = (λ e. let z : ◌≡◌ {A = ℕ} 0 1 = cc in omega arith, none)
   where

@@ -1,6 +1,6 @@
--- One small sheet with all that document 02 adds: two triangles in two soils, which share two nodes, beside a block on a
--- joint, and a borehole table that gives the triangles their soils; with 12 or 108 sides, and its clay of either kind.
--- And what each promise says of it.
+-- One small sheet with all that document 02 adds to a mesh: two triangles in two soils, which share two nodes, beside a
+-- block on a joint, and a borehole table that gives the triangles their soils; with 12 or 108 sides, and clay of either
+-- kind. And what each promise says of it.
 use Rattle.std.specs.Prelude.{◌≡◌, ◌≢◌, List, [], ◌∷◌, ◌++◌, ℕ, ◌+◌, ◌*◌, ◌≤◌, ◌<◌, ℤ, pos, negsuc, neg_ℤ, ◌<ℤ◌, length}
 use Rattle.integer.specs.Fraction.{◌over◌, ◌≈ᶠ◌}
 use Rattle.integer.specs.Members.{◌∈◌}

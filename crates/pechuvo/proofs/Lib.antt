@@ -12,6 +12,7 @@ pub mod Promises
 pub mod TablePromises
 pub mod FilePromises
 pub mod PromisesApplied
+pub mod LoadsApplied
 pub mod PromisesApplied108
 pub mod PromisesAppliedBeds
 pub mod TableApplied
@@ -20,6 +21,7 @@ pub mod RunApplied
 pub mod SizesPromises
 pub mod SizesApplied
 pub mod Blends
+pub mod MixedApplied
 pub mod BookPromises
 pub mod BookApplied
 pub mod NextStrength

@@ -22,7 +22,8 @@ use Rattle.scope.proofs.Refusals.{mesh_passed}
 use Rattle.scope.proofs.TableVerdict.{table_phases, OfTable, Came, early, late, came, table_exact, in_two, fits_late, early_number, no_table_verdict, read_as_it_was}
 use Rattle.numbers.specs.Promises.{returned_numbers, Returned, TellsField}
 use Rattle.numbers.specs.TablePromises.{TableReturned}
-use Rattle.numbers.proofs.Promises.{field_exactly, multipliers_exactly, fractions_allowed}
+use Rattle.numbers.proofs.Promises.{field_exactly, multipliers_exactly}
+use Rattle.numbers.proofs.Reported.{fractions_allowed}
 use Rattle.numbers.proofs.TablePromises.{table_returned, table_exactly, filled_mesh}
 use Rattle.report.specs.Report.{report_line, is_decimals, usual_decimals}
 use Rattle.report.proofs.BufferLaws.{these_decimals}
