@@ -9,4 +9,5 @@ pub mod OverlapsApplied
 pub mod TablePromises
 pub mod Blends
 pub mod PromisesAppliedBeds
+pub mod MixedSays
 pub mod MixedApplied

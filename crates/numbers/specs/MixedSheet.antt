@@ -23,7 +23,7 @@ use Rattle.scope.specs.Jumps.{SoundJumps, SameTraction}
 use Rattle.scope.specs.Overlaps.{NoneOnEachOther}
 use Rattle.scope.specs.PolygonRule.{ListedPolygon}
 use Rattle.scope.specs.Bracket.{Open, NoneOpen}
-use Rattle.scope.specs.Parts.{carried, NumberOf}
+use Rattle.scope.specs.Parts.{carried, NumberOf, PartsBracket}
 use Rattle.scope.specs.Blends.{BlendedClaims}
 use Rattle.scope.specs.Tests.{row_at}
 use Rattle.scope.specs.LayerRows.{OneLayer}
@@ -146,8 +146,9 @@ pub record ClaimSays (m c : List ℤ) (r : NumbersAnswer) : Type 0 where
   -- `CriterionForEachPair`, `TractionsOnJoints`
   pub fill : MeetsCriterion m c (record { at = 2; soil = 0 })
   pub joint : SameTraction m (stress m c) 0
-  -- `CallsBracket`, `OpenRowsReported`
+  -- `TwoAnswers`, `AnswerAndMultipliers`, `OpenRowsReported`
   pub bracket : CallsBracket m c m c r r
+  pub parts : PartsBracket m c m c
   pub none_open : NoneOpen (stress m c) (l c) (n c) (multiplier m c) (rows_of m)
   pub open_rows : NumberOf (λ k. Open (stress m c) (l c) (n c) (multiplier m c k) (row_at (rows_of m) k))
       (length (rows_of m)) r.open_rows
