@@ -22,6 +22,7 @@ pub mod SizesPromises
 pub mod SizesApplied
 pub mod Blends
 pub mod MixedApplied
+pub mod MixedCalls
 pub mod BookPromises
 pub mod BookApplied
 pub mod NextStrength

@@ -1,12 +1,12 @@
 -- The promises of the check of files applied to one sheet with triangles, pairs, a joint and a table, with 12 and with 108 sides and with bedded clay: antt computes the verdict of the three files, and the promises say the rest.
 use mathlib.Core.Path.{◌≡◌, refl, sym, ◌∙◌, ap, subst, subst₂}
-use mathlib.Core.Logic.{inl, inr}
-use mathlib.Core.List.{List}
+use mathlib.Core.Logic.{inl, inr, ◌≢◌}
+use mathlib.Core.List.{List, ◌++◌}
 use mathlib.Core.Option.{some}
-use Prim.Native.Nat.{ℕ, ◌+◌, ◌*◌, ◌<◌}
+use Prim.Native.Nat.{ℕ, suc, ◌+◌, ◌*◌, ◌<◌}
 use native.Mathlib.Omega.{arith}
 use lib.IntN.{ℤ, pos}
-use lib.ListN.{take}
+use lib.ListN.{take, replicate, length-replicate}
 use Rattle.scope.specs.Cases.Load.{Absent, Exact}
 use Rattle.scope.specs.Cases.OpenRows.{Count}
 use Rattle.scope.specs.Cases.Verdict.{Verdict}
@@ -24,8 +24,9 @@ use Rattle.scope.specs.Statements.{MeshSound, HasField, HasMultipliers}
 use Rattle.scope.specs.Answer.{place_for}
 use Rattle.scope.specs.TableVerdict.{TableFits}
 use Rattle.numbers.specs.Promises.{TellsField}
-use Rattle.numbers.specs.MixedSheet.{mixed, two_layers, lower_layer, soils_written, mixed_field, mixed_multipliers, mixed_claim, claim_108, bedded_claim, even, MeshSays, ClayFails, GapRefused}
-use Rattle.numbers.proofs.MixedApplied.{Facts, facts_lem, mesh_says, mixed_parts, mixed_kinds, many_parts, many_kinds, bedded_parts, bedded_kind}
+use Rattle.numbers.specs.MixedSheet.{mixed, two_layers, lower_layer, soils_written, mixed_field, mixed_multipliers, mixed_claim, claim_108, bedded_claim, even, MeshSays, ClayFails, GapRefused, unfilled}
+use Rattle.numbers.proofs.MixedSays.{Facts, facts_lem, mesh_says, answer}
+use Rattle.numbers.proofs.MixedApplied.{mixed_answered, mixed_parts, mixed_kinds, many_answered, many_parts, many_kinds, bedded_answered, bedded_parts, bedded_kind}
 use Rattle.scope.specs.Worked.{zeros}
 use Rattle.reader.specs.File.{file_width}
 use Rattle.report.specs.Text.{word, number as shows, said}
@@ -34,19 +35,26 @@ use Rattle.report.specs.Says.{column_of}
 use Rattle.judge.specs.Judge.{files_verdict}
 use Rattle.judge.specs.Handed.{Handed, files, mesh_of, claim_of, HasAcceptedMultipliers}
 use Rattle.pechuvo.specs.Sheets.{Sheet}
+use Rattle.scope.specs.Mesh.{mesh_layout}
+use Rattle.scope.specs.Claim.{claim_layout}
+use Rattle.reader.specs.File.{file_of}
+use Rattle.reader.specs.WellFormed.{FormFails}
+use Rattle.report.specs.Report.{report_line, usual_decimals}
+use Rattle.pechuvo.specs.Check.{check}
+use lib.ListN.{length-append}
 use Rattle.pechuvo.specs.Answers.{Answers, AnswersFor, AnswersOn}
-use Rattle.pechuvo.specs.Promises.{mesh_in, table_in, mesh_with, claim_in, AcceptedFiles, OnTable, OnMesh, Prints, OpenRowsPrinted, LowerPrinted, Call, on_files}
-use Rattle.pechuvo.specs.MixedFiles.{mixed_sheet, mixed_files, beyond_files, gap_files, many_files, bedded_files, CallSays, FilesSay}
+use Rattle.pechuvo.specs.Promises.{mesh_in, table_in, mesh_with, claim_in, AcceptedFiles, OnTable, OnMesh, Prints, OpenRowsPrinted, LowerPrinted, Call, on_files, NoTable, AsAFile, Written, MeshAccepted}
+use Rattle.pechuvo.specs.MixedFiles.{cut_claim, mixed_sheet, mixed_files, beyond_files, gap_files, many_files, bedded_files, CallSays, FilesSay}
 use Rattle.pechuvo.proofs.Promises.{on_mesh, prints_columns, prints_open_rows, millionths, texts_fit}
-use Rattle.pechuvo.proofs.TablePromises.{any_files, as_read, on_table, calls_bracket, accepted_parts, fractions_bracket}
-use Rattle.pechuvo.proofs.FilePromises.{accepted_files}
+use Rattle.pechuvo.proofs.TablePromises.{no_table_file, any_files, as_read, on_table, calls_bracket, accepted_parts, fractions_bracket}
+use Rattle.pechuvo.proofs.FilePromises.{accepted_files, long_files, form_exactly, as_a_file}
 use Rattle.pechuvo.proofs.Blends.{blended_calls}
 use Rattle.pechuvo.proofs.PromisesApplied as Sheets
 use Rattle.pechuvo.proofs.PromisesApplied.{room, fits}
 
 -- for proofs by computation: besides the definitions that make a line, those of the sheet
-unfoldable opened : Unit {0}
-unfolding Sheets.opened zeros mixed two_layers lower_layer mixed_field mixed_multipliers mixed_claim claim_108 bedded_claim mixed_sheet mixed_files beyond_files gap_files many_files bedded_files
+unfoldable pub opened : Unit {0}
+unfolding Sheets.opened zeros mixed two_layers lower_layer mixed_field mixed_multipliers mixed_claim claim_108 bedded_claim mixed_sheet mixed_files beyond_files gap_files many_files bedded_files cut_claim
 opened = tt
 
 -- ---- what the promises say of a call whose verdict is v, on files that read as the numbers m and c
@@ -123,6 +131,7 @@ module _ (s : Sheet) (m c : List ℤ) (h : Answers s.mesh s.table s.claim (pos 6
   pub files_say : FilesSay s (files s.mesh s.table s.claim)
   files_say = record {
     line = (any_files s.mesh s.table s.claim (pos 6) room 0 0 s.line h).says fits;
+    as_read = (as_read s.mesh s.table s.claim (pos 6) room 0 0 s.line h).fits table_fits;
     mesh_accepted = record { fits = table_fits; sound = subst MeshSound (sym mesh_is) sound };
     listed = on.listed;
     mesh_file = own.mesh_file refl;
@@ -154,6 +163,28 @@ answers_lem : (s : Sheet) {v : Verdict} {number place : ℕ} → files_verdict f
 answers_lem s {v} {number} {place} e h =
     subst (λ (x : Verdict). AnswersFor x (pos 6) room number place s.line) (sym e) h
 
+written_lem : (s : Sheet) {v : Verdict} → files_verdict file_width s.mesh s.table s.claim ≡ v → report_line 6 v ≡ s.line → Written s
+unfolding usual_decimals
+written_lem s e line before after number place h long =
+    (any_files s.mesh s.table s.claim (pos 6) before number place after h).line (record { decimals = fits.decimals; bytes = long })
+    ∙ ap (report_line 6) e
+    ∙ line
+
+-- a mesh file with 65,537 spaces after it is too long
+pub longer_refused : (s : Sheet) (number place : ℕ) (after : List ℕ) → Answers (s.mesh ++ replicate 65537 32) s.table s.claim (pos 6) room number place after → number ≢ 0
+longer_refused s number place after h =
+    (long_files (s.mesh ++ replicate 65537 32) s.table s.claim (pos 6) room number place after h).never_accepted
+    (inl (omega (arith, length-append s.mesh (replicate 65537 32), length-replicate {A = ℕ} 65537 32)))
+
+-- with its soils written and no table it is the call on two files
+pub untabled : (side_count kind : ℕ) → NoTable (file_of file_width mesh_layout (soils_written side_count kind))
+untabled side_count kind = no_table_file (file_of file_width mesh_layout (soils_written side_count kind))
+
+-- a claim that lacks its last byte, refused at line j + 1
+cut_form : (s : Sheet) (j : ℕ) {after : List ℕ} → Answers s.mesh s.table (cut_claim s) (pos 6) room 11 (suc j) after
+    → MeshAccepted s.mesh s.table × FormFails file_width (claim_layout (mesh_with s.mesh s.table)) (cut_claim s) j
+cut_form s j {after} h = ((form_exactly s.mesh s.table (cut_claim s) (pos 6) room 11 (suc j) after h fits).claim_form j).0 (refl, refl)
+
 -- ---- 12 sides
 
 abbrev mixed_carried : Verdict
@@ -170,7 +201,7 @@ mixed_line = record { number_is = refl; place_is = refl; buffer_is = refl }
 mixed_answers : Answers mixed_files.mesh mixed_files.table mixed_files.claim (pos 6) room 0 0 mixed_files.line
 mixed_answers = answers_lem mixed_files mixed_verdict mixed_line
 
-mixed_reads : (mesh_with mixed_files.mesh mixed_files.table ≡ soils_written 12 0) × (claim_in (soils_written 12 0) mixed_files.claim ≡ mixed_claim 64 even)
+pub mixed_reads : (mesh_with mixed_files.mesh mixed_files.table ≡ soils_written 12 0) × (claim_in (soils_written 12 0) mixed_files.claim ≡ mixed_claim 64 even)
 unfolding opened
 mixed_reads = (refl, refl)
 
@@ -186,6 +217,23 @@ mixed_lower = (accepted_prints mixed_files (soils_written 12 0) (mixed_claim 64 
 
 pub mixed_files_say : FilesSay mixed_files (files mixed_files.mesh mixed_files.table mixed_files.claim)
 mixed_files_say = files_say mixed_files (soils_written 12 0) (mixed_claim 64 even) mixed_answers mixed_reads.0 mixed_reads.1 (facts_lem 12 0) mixed_parts.0 mixed_parts.1
+
+mixed_report : report_line 6 mixed_carried ≡ mixed_files.line
+unfolding opened
+mixed_report = refl
+
+pub mixed_written : Written mixed_files
+mixed_written = written_lem mixed_files mixed_verdict mixed_report
+
+mixed_cut : Answers mixed_files.mesh mixed_files.table (cut_claim mixed_files) (pos 6) room 11 25 (check mixed_files.mesh mixed_files.table (cut_claim mixed_files) (pos 6) room).buffer
+unfolding opened
+mixed_cut = record { number_is = refl; place_is = refl; buffer_is = refl }
+
+pub mixed_cut_form : MeshAccepted mixed_files.mesh mixed_files.table × FormFails file_width (claim_layout (mesh_with mixed_files.mesh mixed_files.table)) (cut_claim mixed_files) 24
+mixed_cut_form = cut_form mixed_files 24 mixed_cut
+
+pub mixed_as_a_file : AsAFile two_layers (unfilled 12 0) (mixed_claim 64 even) (answer 64 1 15360 240)
+mixed_as_a_file = as_a_file mixed_answered
 
 mixed_fits : TableFits (table_in mixed_files.table) (mesh_in mixed_files.mesh)
 mixed_fits = mixed_files_say.mesh_accepted.fits
@@ -203,6 +251,20 @@ beyond_call : OnMesh (soils_written 12 0) (mixed_claim 65 even) 22 13
 beyond_call =
     call beyond_files (soils_written 12 0) (mixed_claim 65 even) 22 13 beyond_answers
     (subst₂ TableFits (sym same_files.1) (sym same_files.0) mixed_fits) same_files.2 same_files.3
+
+-- its line has the number and the place, and none twice
+beyond_prints : Prints 6 (soils_written 12 0) (mixed_claim 65 even) 22 13 (take report_bytes beyond_files.line)
+beyond_prints =
+    printed beyond_files (soils_written 12 0) (mixed_claim 65 even) 22 13 beyond_answers
+    (subst₂ TableFits (sym same_files.1) (sym same_files.0) mixed_fits) same_files.2 same_files.3
+
+pub beyond_columns : (said (column_of 0 (take report_bytes beyond_files.line)) ≡ some (shows (pos 22) 0)) × (said (column_of 1 (take report_bytes beyond_files.line)) ≡ some (shows (pos 13) 0)) × (said (column_of 2 (take report_bytes beyond_files.line)) ≡ some word) × (said (column_of 3 (take report_bytes beyond_files.line)) ≡ some word)
+beyond_columns = (
+  beyond_prints.first,
+  beyond_prints.refused (λ e. omega arith),
+  beyond_prints.lower_none.1 (inl (λ e. omega arith)),
+  beyond_prints.upper_none.1 (inl (λ e. omega arith)),
+)
 
 row_13 : (1 < pair_count (soils_written 12 0)) × (0 < sides (soils_written 12 0)) × (¬ ByDirection (soils_written 12 0) (pair_at (soils_written 12 0) 1).soil) × (13 ≡ 1 * sides (soils_written 12 0) + 1) × (pair_at (soils_written 12 0) 1 ≡ record { at = 0; soil = 1 })
 unfolding opened
@@ -237,7 +299,7 @@ many_line = record { number_is = refl; place_is = refl; buffer_is = refl }
 many_answers : Answers many_files.mesh many_files.table many_files.claim (pos 6) room 0 0 many_files.line
 many_answers = answers_lem many_files many_verdict many_line
 
-many_reads : (mesh_with many_files.mesh many_files.table ≡ soils_written 108 0) × (claim_in (soils_written 108 0) many_files.claim ≡ claim_108 64 even)
+pub many_reads : (mesh_with many_files.mesh many_files.table ≡ soils_written 108 0) × (claim_in (soils_written 108 0) many_files.claim ≡ claim_108 64 even)
 unfolding opened
 many_reads = (refl, refl)
 
@@ -254,6 +316,23 @@ many_lower = (accepted_prints many_files (soils_written 108 0) (claim_108 64 eve
 pub many_files_say : FilesSay many_files (files many_files.mesh many_files.table many_files.claim)
 many_files_say = files_say many_files (soils_written 108 0) (claim_108 64 even) many_answers many_reads.0 many_reads.1 (facts_lem 108 0) many_parts.0 many_parts.1
 
+many_report : report_line 6 (Accepted (Count 0) (Exact (pos 64) (pos 1)) (Exact (pos 53181440) (pos 830960))) ≡ many_files.line
+unfolding opened
+many_report = refl
+
+pub many_written : Written many_files
+many_written = written_lem many_files many_verdict many_report
+
+many_cut : Answers many_files.mesh many_files.table (cut_claim many_files) (pos 6) room 11 25 (check many_files.mesh many_files.table (cut_claim many_files) (pos 6) room).buffer
+unfolding opened
+many_cut = record { number_is = refl; place_is = refl; buffer_is = refl }
+
+pub many_cut_form : MeshAccepted many_files.mesh many_files.table × FormFails file_width (claim_layout (mesh_with many_files.mesh many_files.table)) (cut_claim many_files) 24
+many_cut_form = cut_form many_files 24 many_cut
+
+pub many_as_a_file : AsAFile two_layers (unfilled 108 0) (claim_108 64 even) (answer 64 1 53181440 830960)
+many_as_a_file = as_a_file many_answered
+
 -- ---- bedded clay
 
 pub bedded_verdict : files_verdict file_width bedded_files.mesh bedded_files.table bedded_files.claim ≡ Accepted (Count 0) Absent (Exact (pos 15600) (pos 240))
@@ -267,7 +346,7 @@ bedded_line = record { number_is = refl; place_is = refl; buffer_is = refl }
 bedded_answers : Answers bedded_files.mesh bedded_files.table bedded_files.claim (pos 6) room 0 0 bedded_files.line
 bedded_answers = answers_lem bedded_files bedded_verdict bedded_line
 
-bedded_reads : (mesh_with bedded_files.mesh bedded_files.table ≡ soils_written 12 1) × (claim_in (soils_written 12 1) bedded_files.claim ≡ bedded_claim 65 even)
+pub bedded_reads : (mesh_with bedded_files.mesh bedded_files.table ≡ soils_written 12 1) × (claim_in (soils_written 12 1) bedded_files.claim ≡ bedded_claim 65 even)
 unfolding opened
 bedded_reads = (refl, refl)
 
@@ -291,3 +370,20 @@ pub bedded_plane : PlaneHoldsAt (soils_written 12 1) (stress (soils_written 12 1
 bedded_plane =
     (accepted_call bedded_files (soils_written 12 1) (bedded_claim 65 even) bedded_answers bedded_reads.0 bedded_reads.1 (facts_lem 12 1) bedded_parts.0 bedded_parts.1).directions.accepted
     (bedded_parts.0, inl refl) (record { at = 2; soil = 1 }) bedded_call_says.mesh.clay_pair bedded_kind.0 (point (pos 4) (pos 3)) bedded_kind.2
+
+bedded_report : report_line 6 (Accepted (Count 0) Absent (Exact (pos 15600) (pos 240))) ≡ bedded_files.line
+unfolding opened
+bedded_report = refl
+
+pub bedded_written : Written bedded_files
+bedded_written = written_lem bedded_files bedded_verdict bedded_report
+
+bedded_cut : Answers bedded_files.mesh bedded_files.table (cut_claim bedded_files) (pos 6) room 11 25 (check bedded_files.mesh bedded_files.table (cut_claim bedded_files) (pos 6) room).buffer
+unfolding opened
+bedded_cut = record { number_is = refl; place_is = refl; buffer_is = refl }
+
+pub bedded_cut_form : MeshAccepted bedded_files.mesh bedded_files.table × FormFails file_width (claim_layout (mesh_with bedded_files.mesh bedded_files.table)) (cut_claim bedded_files) 24
+bedded_cut_form = cut_form bedded_files 24 bedded_cut
+
+pub bedded_as_a_file : AsAFile two_layers (unfilled 12 1) (bedded_claim 65 even) (answer 0 0 15600 240)
+bedded_as_a_file = as_a_file bedded_answered

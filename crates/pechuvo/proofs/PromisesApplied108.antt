@@ -1,15 +1,17 @@
--- The promise about sides (document 02, N9) at a sheet with 108 sides and at document 01's sheet, which has 12.
+-- The promises about sides (document 02, N9) and about 42 at sheets with 108 sides, and at document 01's sheet, which has 12.
 use mathlib.Core.Path.{◌≡◌, refl}
 use mathlib.Core.List.{List, []}
 use Prim.Native.Nat.{ℕ, ◌≤◌}
 use native.Mathlib.Omega.{arith}
 use lib.IntN.{pos}
 use lib.Signed.{◌<ℤ◌, lt_z_yes}
-use lib.ListN.{length}
+use lib.ListN.{length, get_or}
 use Rattle.scope.specs.Columns.{at}
 use Rattle.scope.specs.Mesh.{mesh_header_columns, sides}
 use Rattle.scope.specs.Rows.{pair_count}
-use Rattle.pechuvo.specs.Sheets108.{many_nodes}
+use Rattle.scope.specs.RefusedRows.{PairsFail}
+use Rattle.pechuvo.specs.Sheets.{Sheet, sheet}
+use Rattle.pechuvo.specs.Sheets108.{many_nodes, sheets_108}
 use Rattle.pechuvo.specs.Answers.{Answers}
 use Rattle.pechuvo.specs.Promises.{mesh_in}
 use Rattle.pechuvo.proofs.Sheets.{computed_line}
@@ -37,3 +39,16 @@ sheet_pairs =
     let answered = plain (A.at 0).mesh (A.at 0).claim sheet-answered in
     let call = on_mesh (mesh_in (A.at 0).mesh) (A.at 0).claim (pos 6) room 0 0 (A.at 0).line answered fits in
     (call.sides.limits.with_fewer twelve).pairs_few (call.returns_zero.exactly.0 refl).mesh
+
+-- a strip of elements whose soils alternate: 42 at node 22, which brings the 41st pair
+abbrev strip : Sheet
+strip = get_or sheets_108 7 (sheet "" "" "")
+
+strip_answered : Answers strip.mesh [] strip.claim (pos 6) room 42 22 strip.line
+unfolding A.opened many_nodes sheets_108
+strip_answered = record { number_is = refl; place_is = refl; buffer_is = refl }
+
+pub pair_41 : PairsFail (mesh_in strip.mesh) 22
+pair_41 =
+    (on_mesh (mesh_in strip.mesh) strip.claim (pos 6) room 42 22 strip.line (plain strip.mesh strip.claim strip_answered) fits).pairs.refused
+    refl

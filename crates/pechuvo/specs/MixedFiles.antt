@@ -1,6 +1,6 @@
 -- The sheet of `numbers/specs/MixedSheet.antt` as three files, and what each promise says of a call on them: triangles,
 -- pairs, a joint and a table, with 12 or 108 sides and clay of either kind.
-use Rattle.std.specs.Prelude.{◌≡◌, List, ◌∷◌, ℕ, ℤ, take}
+use Rattle.std.specs.Prelude.{◌≡◌, ◌≢◌, ◌⊎◌, List, [], ◌∷◌, ℕ, ◌-◌, ℤ, pos, length, take, replicate}
 use Prim.Native.String.{String}
 use Rattle.integer.specs.Fraction.{◌≈ᶠ◌}
 use Rattle.integer.specs.Members.{◌∈◌}
@@ -16,11 +16,17 @@ use Rattle.scope.specs.Parts.{carried, allowed}
 use Rattle.numbers.specs.MixedSheet.{MeshSays, unfilled, soils_written, two_layers, lower_layer, mixed_claim, claim_108, bedded_claim, even}
 use Rattle.numbers.specs.Promises.{returned_numbers, FractionsBracket}
 use Rattle.reader.specs.File.{file_of, table_of, file_width}
-use Rattle.judge.specs.Handed.{Handed, mesh_of, claim_of, HandedBracket, HandedBlends}
+use Rattle.judge.specs.Handed.{Handed, files, mesh_of, claim_of, HandedBracket, HandedBlends}
 use Rattle.report.specs.Report.{report_bytes}
 use Rattle.report.specs.Says.{LineSays}
 use Rattle.judge.specs.Judge.{files_verdict}
+use Rattle.book.specs.History.{asks, commits, Shut}
+use Rattle.pechuvo.specs.declared.books.BookForC.{BookForC}
+use Rattle.pechuvo.specs.declared.books.BookAnswer.{BookAnswer}
+use Rattle.pechuvo.specs.BookInC.{book_of}
+use Rattle.pechuvo.specs.BookPromises.{CommitAnswers, BookCall, KeepsTheBest}
 use Rattle.pechuvo.specs.Bytes.{bytes}
+use Rattle.pechuvo.specs.Answers.{AnswersOn}
 use Rattle.pechuvo.specs.Sheets.{Sheet}
 use Rattle.pechuvo.specs.Promises.{mesh_in, table_in, mesh_with, claim_in, MeshAccepted, UpperPrinted, Millionths, TextsFit, OpenRowsPrinted}
 
@@ -61,6 +67,14 @@ bedded_files =
     mixed_sheet 12 1 two_layers (bedded_claim 65 even)
     "                           0                           0                        none                   65.000000\n"
 
+-- a claim that lacks its last byte
+unfoldable pub cut_claim : Sheet → List ℕ
+cut_claim s = take (length s.claim - 1) s.claim
+
+-- the answer to an ask or a commit that keeps the book b
+abbrev pub told : BookForC → BookAnswer
+told b = record { number = 0; place = 0; book = b }
+
 -- ---- what the promises say
 
 -- of an accepted call on the mesh m, as it is read, and the claim c, that wrote this line
@@ -81,8 +95,9 @@ pub record CallSays (m c : List ℤ) (line : List ℕ) : Type 0 where
 
 -- of the three files s, handed over as f, that a call accepts
 pub record FilesSay (s : Sheet) (f : Handed) : Type 0 where
-  -- `AnyCall`, `OnTable`
+  -- `AnyCall`, `AsRead`, `OnTable`
   pub line : LineSays 6 (files_verdict file_width s.mesh s.table s.claim) (take report_bytes s.line)
+  pub as_read : AnswersOn (mesh_with s.mesh s.table) s.claim (pos 6) (replicate report_bytes 0) 0 0 s.line
   pub mesh_accepted : MeshAccepted s.mesh s.table
   pub listed : 0 ∈ 45 ∷ 46 ∷ returned_numbers
   -- `AcceptedFiles`
@@ -95,3 +110,11 @@ pub record FilesSay (s : Sheet) (f : Handed) : Type 0 where
   pub parts_bracket : HandedBracket f f
   pub fractions : FractionsBracket (mesh_of f) (mesh_of f) (claim_of f) (allowed (mesh_of f) (claim_of f))
   pub blended : HandedBlends 1 2 f f
+
+-- of an empty book that is asked, and then told to commit: it keeps b (`BookAsked`, `BookCommitted`, `AskThenCommit`,
+-- `AfterAnyCalls`)
+pub record BookSays (s : Sheet) (c b : BookForC) : Type 0 where
+  pub asked : BookCall c s.mesh s.table s.claim (Shut (book_of c)) (told b)
+  pub committed : BookCall c s.mesh s.table s.claim ((0 ≢ c.count) ⊎ Shut (book_of c)) (told b)
+  pub agree : (r : BookAnswer) → CommitAnswers c 0 s.mesh s.table s.claim r → told b ≡ r
+  pub kept : KeepsTheBest (asks (files s.mesh s.table s.claim) ∷ commits 0 (files s.mesh s.table s.claim) ∷ []) b
