@@ -1,14 +1,16 @@
 -- The promises applied to one sheet with triangles, pairs, a joint and a table, with 12 and with 108 sides and with
 -- bedded clay: antt computes the answers, and `MixedSays` says the rest.
 use mathlib.Core.Path.{◌≡◌, refl, subst}
+use mathlib.Core.Logic.{◌⊎◌}
 use mathlib.Core.List.Memᴰ
-use Prim.Native.Nat.{ℕ, zero, suc, ◌+◌, ◌*◌, ◌<◌}
+use Prim.Native.Nat.{ℕ, zero, suc, ◌+◌, ◌*◌, ◌<◌, ◌≤◌}
 use native.Mathlib.Omega.{arith}
 use lib.IntN.{pos, neg_ℤ}
 use Rattle.std.specs.Prelude.{Result}
 use Rattle.scope.specs.declared.Refusal as Answered
 use Rattle.scope.specs.Mesh.{soils, sides, ByDirection, ListsDirection}
 use Rattle.integer.specs.Members.{◌∈◌}
+use Rattle.scope.specs.Layers.{Has}
 use Rattle.scope.specs.Polygon.{point, half_turn, polygon_of}
 use Rattle.scope.specs.Rows.{Pair, pair_count, pair_at}
 use Rattle.scope.specs.Claim.{stress}
@@ -119,6 +121,20 @@ unfolding place_for
 gap_refused =
     ((table_exactly lower_layer (unfilled 12 0) (mixed_claim 64 even) 45 12 (table_returned gap_answered)).refuses 45 12
     (λ e. omega arith)).0 (refl, refl)
+
+lower_unfit : ¬ TableFits lower_layer (unfilled 12 0)
+unfolding opened
+lower_unfit f = let top = (f refl).sound.once 16 (omega arith) (omega arith) in above top.layer top.there top.has
+  where
+    above : (i : ℕ) → i < 1 → Has lower_layer 16 i → ⊥
+    above zero l h = h.1.lt
+    above (suc i) l h = absurd (omega (arith, l))
+
+-- and any answer with that table has the number of a line or of the table
+pub gap_numbers : {r : NumbersAnswer} → TableAnswers lower_layer (unfilled 12 0) (mixed_claim 64 even) r
+    → (r.number ≤ 4) ⊎ ((r.number ≡ 45) ⊎ (r.number ≡ 46))
+gap_numbers {r} h =
+    (table_exactly lower_layer (unfilled 12 0) (mixed_claim 64 even) r.number r.place (table_returned h)).unfit lower_unfit
 
 -- ---- 108 sides: 64 is carried, 53,181,440/830,960 allowed, no row open
 

@@ -269,4 +269,6 @@ table_facts side_count kind fits =
       lower = mesh.one_layer 0 (omega arith);
       upper = mesh.one_layer 1 (omega arith);
       any_order = mesh.order layers_turned turned;
+      lines = mesh.lines;
+      only_soils = mesh.filled_from;
     }

@@ -6,7 +6,7 @@ use Rattle.integer.specs.Fraction.{◌over◌, ◌≈ᶠ◌}
 use Rattle.integer.specs.Members.{◌∈◌}
 use Rattle.scope.specs.declared.Place.TheVariants.{Height}
 use Rattle.scope.specs.Columns.{n, l}
-use Rattle.scope.specs.Mesh.{nodes, elements, sides, corner}
+use Rattle.scope.specs.Mesh.{mesh_layout, nodes, elements, sides, corner}
 use Rattle.scope.specs.Polygon.{point, polygon_of}
 use Rattle.scope.specs.Rows.{rows_of, strength_pairs, pair_count, pair_at, twice_area}
 use Rattle.scope.specs.Claim.{stress, multiplier}
@@ -26,7 +26,8 @@ use Rattle.scope.specs.Bracket.{Open, NoneOpen}
 use Rattle.scope.specs.Parts.{carried, NumberOf, PartsBracket}
 use Rattle.scope.specs.Blends.{BlendedClaims}
 use Rattle.scope.specs.Tests.{row_at}
-use Rattle.scope.specs.LayerRows.{OneLayer}
+use Rattle.scope.specs.LayerRows.{OneLayer, FilledFrom}
+use Rattle.scope.specs.Statements.{LinesSound}
 use Rattle.scope.specs.Filled.{height_of, filled}
 use Rattle.scope.specs.TableVerdict.{TabledRefusal, TableFits}
 use Rattle.scope.specs.Worked.{zeros}
@@ -175,12 +176,14 @@ pub record FewNodes (m : List ℤ) : Type 0 where
   pub few_pairs : pair_count m ≤ 40
 
 -- of the table t and the mesh m with soil 0 (`TableExactly`, `FilledMesh`): it fits, each triangle's height is in one
--- layer, and its lines in another order fill the mesh the same way
+-- layer, its lines in another order fill the mesh the same way, and nothing but soil 0 changes
 pub record TableSays (t u m : List ℤ) : Type 0 where
   pub fits : TableFits t m
   pub lower : OneLayer t (height_of m 0)
   pub upper : OneLayer t (height_of m 1)
   pub any_order : filled t m ≡ filled u m
+  pub lines : LinesSound mesh_layout (filled t m)
+  pub only_soils : FilledFrom t m (filled t m)
 
 -- of an answer that refuses a claim: no part is reported and no row counted
 pub record RefusedSays (r : NumbersAnswer) : Type 0 where
