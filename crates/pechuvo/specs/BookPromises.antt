@@ -1,6 +1,7 @@
 -- What a caller of `pechuvo_book_ask` and `pechuvo_book_commit` may rely on (document 02, N12), by what they answer;
--- and after any calls, by the book that the last one left. Each is proved of every call (`proofs/BookPromises.antt`)
--- and applied to document 01's sheet and its neighbours (`proofs/BookApplied.antt`).
+-- and after any calls, by the book that the last one left. Each is proved of every call (`proofs/BookPromises.antt`),
+-- applied to document 01's sheet and its neighbours (`proofs/BookApplied.antt`) and to one sheet that has all that
+-- document 02 adds to a mesh (`MixedCalls.antt`).
 use Rattle.std.specs.Prelude.{◌≡◌, ◌↔◌, ◌⊎◌, ◌≢◌, List, [], ◌∷◌, ◌++◌, map, ℕ, ℤ}
 use Rattle.scope.specs.Mesh.{ListsDirection}
 use Rattle.numbers.specs.TablePromises.{TableReturned}

@@ -4,8 +4,8 @@
 -- Each is proved of every call (`proofs/Promises.antt`, `TablePromises.antt`, `FilePromises.antt`, `RunPromises.antt`,
 -- `SizesPromises.antt`) and applied to document 01's sheet (`proofs/PromisesApplied.antt`, `LoadsApplied.antt`,
 -- `TableApplied.antt`, `RunApplied.antt`, `SizesApplied.antt`) and to one that has all that document 02 adds
--- (`MixedApplied.antt`). What number and place say of the files' numbers is said as for numbers handed over
--- (`numbers/specs/Promises.antt`, `TablePromises.antt`).
+-- (`MixedApplied.antt`, `MixedCalls.antt`). What number and place say of the files' numbers is said as for numbers
+-- handed over (`numbers/specs/Promises.antt`, `TablePromises.antt`).
 -- A table is refused before 5 with its own numbers; where it fits, and without one, a call is one on the mesh as it is
 -- read (`AsRead`), and what the promises say of a mesh with the numbers m they say of that one.
 use Rattle.std.specs.Prelude.{◌≡◌, ◌↔◌, ◌⊎◌, ◌≢◌, List, [], ◌∷◌, ◌++◌, ℕ, suc, ◌+◌, ◌*◌, ◌/◌, ◌^◌, ◌≤◌, ◌<◌, ℤ, pos, nat_abs, ◌+ℤ◌, ◌-ℤ◌, ◌<ℤ◌, length, take, drop, replicate}
