@@ -1,11 +1,15 @@
 -- The promises of runs, of sizes and of books applied to the sheet of `MixedFiles`, with 12 and with 108 sides and with bedded clay: antt computes what is told, or takes the verdict that `MixedApplied` has, and the promises say the rest.
 use mathlib.Core.Path.{◌≡◌, refl, sym, ◌∙◌, ap, subst}
-use mathlib.Core.List.{List, [], ◌++◌, flat_map, flatten}
-use Prim.Native.Nat.{ℕ}
+use mathlib.Core.Logic.{⊎_elim}
+use mathlib.Core.List.Memᴰ
+use mathlib.Core.List.{List, [], ◌∷◌, ◌++◌, map, flat_map, flatten}
+use Prim.Native.Nat.{ℕ, ◌/◌}
 use native.Mathlib.Omega.{arith}
 use lib.IntN.{ℤ, pos}
 use lib.ListN.{length, replicate}
 use Rattle.scope.specs.Cases.Verdict.{Verdict}
+use Rattle.scope.specs.Rows.{rows_of, judged as judged_row}
+use Rattle.scope.specs.Parts.{SameRows}
 use Rattle.scope.specs.Mesh.{ListsDirection}
 use Rattle.scope.specs.Claim.{claim_layout}
 use Rattle.scope.specs.Statements.{LinesSound, HasField, HasMultipliers}
@@ -17,21 +21,24 @@ use Rattle.judge.specs.declared.room.MeshSizes.{MeshSizes}
 use Rattle.judge.specs.ClaimBytes.{claim_bytes}
 use Rattle.judge.specs.Judge.{files_verdict}
 use Rattle.judge.specs.Room.{sizes_for, mesh_sizes}
+use Rattle.report.specs.Report.{report_bytes}
+use Rattle.judge.specs.Handed.{Handed, files, mesh_of}
+use Rattle.book.specs.History.{Call, asks, commits, handed_of, OnMesh}
 use Rattle.run.specs.declared.RunAnswer.{RunAnswer}
 use Rattle.run.specs.Run.{own_bytes, verdict_on, ends_run, taken_of, line_of, claims_judged, ran, run}
-use Rattle.run.specs.InTurn.{claim_at}
+use Rattle.run.specs.InTurn.{claim_at, InTurn}
 use Rattle.book.specs.Book.{proper, takes_ask, takes_commit, better, moved, followed, unjudged, judged, asked, committed}
 use Rattle.pechuvo.specs.declared.books.BookForC.{BookForC}
 use Rattle.pechuvo.specs.BookInC.{bound_of, book_of, told_book, book_answer}
 use Rattle.pechuvo.specs.Sheets.{Sheet}
 use Rattle.pechuvo.specs.MixedFiles.{told, BookSays, mixed_files, many_files, bedded_files}
-use Rattle.pechuvo.specs.Promises.{mesh_with, claim_in, RunAsked, RunCall, SingleCall, judged_in, report_at, SizesAsked, SizesOf}
-use Rattle.pechuvo.specs.BookPromises.{AskAnswers, CommitAnswers, Made, begun, then_ask, then_commit}
+use Rattle.pechuvo.specs.Promises.{mesh_with, claim_in, RunAsked, RunCall, SingleCall, judged_in, report_at, SizesAsked, SizesOf, MeshAccepted}
+use Rattle.pechuvo.specs.BookPromises.{AskAnswers, CommitAnswers, Made, begun, then_ask, then_commit, KeepsTheBest}
 use Rattle.pechuvo.proofs.RunPromises.{run_call}
 use Rattle.pechuvo.proofs.SizesPromises.{sizes_told}
 use Rattle.pechuvo.proofs.BookPromises.{book_asked, book_committed, ask_then_commit, after_any_calls}
 use Rattle.pechuvo.proofs.MixedApplied as Mixed
-use Rattle.pechuvo.proofs.MixedApplied.{mixed_verdict, mixed_reads, mixed_call_says, many_verdict, many_reads, many_call_says, bedded_verdict, bedded_reads, bedded_call_says}
+use Rattle.pechuvo.proofs.MixedApplied.{mixed_verdict, mixed_reads, mixed_call_says, many_verdict, many_reads, many_call_says, bedded_verdict, bedded_reads, bedded_call_says, mixed_files_say, many_files_say, bedded_files_say}
 
 -- for proofs by computation: the definitions of a run, of sizes and of a book too
 unfoldable opened : Unit {0}
@@ -142,14 +149,27 @@ empty_made : Made [] empty_for_c
 unfolding bound_of
 empty_made = begun empty_for_c refl
 
+-- both calls are on one mesh
+both_on : (s : Sheet) → OnMesh (mesh_of (files s.mesh s.table s.claim)) (asks (files s.mesh s.table s.claim) ∷ commits 0 (files s.mesh s.table s.claim) ∷ [])
+both_on s k there =
+    ⊎_elim (λ e. same e refl) (λ later. ⊎_elim (λ e. same e refl) (λ none. absurd (Memᴰ.not-nil none)) (Memᴰ.cases_cons later))
+    (Memᴰ.cases_cons there)
+  where
+    same : {q : Call Handed} → k ≡ q → mesh_of (handed_of q) ≡ mesh_of (files s.mesh s.table s.claim) → SameRows (mesh_of (handed_of k)) (mesh_of (files s.mesh s.table s.claim))
+    same e f = ap (λ (x : List ℤ). map judged_row (rows_of x)) (ap (λ (x : Call Handed). mesh_of (handed_of x)) e ∙ f)
+
 book_says : (s : Sheet) (b : BookForC) → AskAnswers empty_for_c s.mesh s.table s.claim (told b)
     → CommitAnswers empty_for_c 0 s.mesh s.table s.claim (told b) → BookSays s empty_for_c b
 book_says s b h g = record {
   asked = book_asked empty_for_c s.mesh s.table s.claim h;
   committed = book_committed empty_for_c s.mesh s.table s.claim 0 g;
   agree = λ r k. ask_then_commit empty_for_c s.mesh s.table s.claim h k;
-  kept = after_any_calls (then_commit (then_ask empty_made s.mesh s.table s.claim (told b) h) 0 s.mesh s.table s.claim (told b) g);
+  kept = kept;
+  bracket = kept.bracket (mesh_of (files s.mesh s.table s.claim)) (both_on s);
 }
+  where
+    kept : KeepsTheBest (asks (files s.mesh s.table s.claim) ∷ commits 0 (files s.mesh s.table s.claim) ∷ []) b
+    kept = after_any_calls (then_commit (then_ask empty_made s.mesh s.table s.claim (told b) h) 0 s.mesh s.table s.claim (told b) g)
 
 mixed_asked : AskAnswers empty_for_c mixed_files.mesh mixed_files.table mixed_files.claim (told (book_with 15360 240))
 unfolding opened
@@ -207,26 +227,35 @@ ran_once bytes = record { reports = 1; bytes = bytes }
 abbrev judged_of : Sheet → List (List ℕ)
 judged_of s = judged_in s.mesh s.table s.claim lent
 
+-- the report is that of a single call on the claim's own bytes, and the claim is taken in its turn
+abbrev RunSays : Sheet → ℕ → Type 0
+RunSays s bytes =
+    RunCall s.mesh s.table s.claim lent (judged_of s) 1 bytes (left s)
+    × SingleCall s.mesh s.table (claim_at (judged_of s) 0) (report_at 0 (left s))
+    × InTurn (mesh_with s.mesh s.table) (length lent / report_bytes) s.claim (judged_of s) bytes
+
+run_says : (s : Sheet) (bytes : ℕ) → RunAsked s.mesh s.table s.claim lent (ran_once bytes) (left s) → MeshAccepted s.mesh s.table → RunSays s bytes
+run_says s bytes h accepted =
+    let made = run_call s.mesh s.table s.claim lent (ran_once bytes) (left s) h in
+    (made, made.single_calls 0 (omega arith), made.in_turn accepted)
+
 mixed_ran : RunAsked mixed_files.mesh mixed_files.table mixed_files.claim lent (ran_once 2017) (left mixed_files)
 unfolding opened
 mixed_ran = record { reports_are = refl; bytes_are = refl; buffer_is = refl }
 
-pub mixed_run : RunCall mixed_files.mesh mixed_files.table mixed_files.claim lent (judged_of mixed_files) 1 2017 (left mixed_files)
-mixed_run = run_call mixed_files.mesh mixed_files.table mixed_files.claim lent (ran_once 2017) (left mixed_files) mixed_ran
-
-pub mixed_single : SingleCall mixed_files.mesh mixed_files.table (claim_at (judged_of mixed_files) 0) (report_at 0 (left mixed_files))
-mixed_single = mixed_run.single_calls 0 (omega arith)
+pub mixed_run : RunSays mixed_files 2017
+mixed_run = run_says mixed_files 2017 mixed_ran mixed_files_say.mesh_accepted
 
 many_ran : RunAsked many_files.mesh many_files.table many_files.claim lent (ran_once 13537) (left many_files)
 unfolding opened
 many_ran = record { reports_are = refl; bytes_are = refl; buffer_is = refl }
 
-pub many_run : RunCall many_files.mesh many_files.table many_files.claim lent (judged_of many_files) 1 13537 (left many_files)
-many_run = run_call many_files.mesh many_files.table many_files.claim lent (ran_once 13537) (left many_files) many_ran
+pub many_run : RunSays many_files 13537
+many_run = run_says many_files 13537 many_ran many_files_say.mesh_accepted
 
 bedded_ran : RunAsked bedded_files.mesh bedded_files.table bedded_files.claim lent (ran_once 2017) (left bedded_files)
 unfolding opened
 bedded_ran = record { reports_are = refl; bytes_are = refl; buffer_is = refl }
 
-pub bedded_run : RunCall bedded_files.mesh bedded_files.table bedded_files.claim lent (judged_of bedded_files) 1 2017 (left bedded_files)
-bedded_run = run_call bedded_files.mesh bedded_files.table bedded_files.claim lent (ran_once 2017) (left bedded_files) bedded_ran
+pub bedded_run : RunSays bedded_files 2017
+bedded_run = run_says bedded_files 2017 bedded_ran bedded_files_say.mesh_accepted

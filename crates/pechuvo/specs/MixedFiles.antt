@@ -20,7 +20,7 @@ use Rattle.judge.specs.Handed.{Handed, files, mesh_of, claim_of, HandedBracket, 
 use Rattle.report.specs.Report.{report_bytes}
 use Rattle.report.specs.Says.{LineSays}
 use Rattle.judge.specs.Judge.{files_verdict}
-use Rattle.book.specs.History.{asks, commits, Shut}
+use Rattle.book.specs.History.{asks, commits, Shut, InOrder}
 use Rattle.pechuvo.specs.declared.books.BookForC.{BookForC}
 use Rattle.pechuvo.specs.declared.books.BookAnswer.{BookAnswer}
 use Rattle.pechuvo.specs.BookInC.{book_of}
@@ -118,3 +118,4 @@ pub record BookSays (s : Sheet) (c b : BookForC) : Type 0 where
   pub committed : BookCall c s.mesh s.table s.claim ((0 ≢ c.count) ⊎ Shut (book_of c)) (told b)
   pub agree : (r : BookAnswer) → CommitAnswers c 0 s.mesh s.table s.claim r → told b ≡ r
   pub kept : KeepsTheBest (asks (files s.mesh s.table s.claim) ∷ commits 0 (files s.mesh s.table s.claim) ∷ []) b
+  pub bracket : InOrder (book_of b).lower (book_of b).upper
