@@ -107,6 +107,37 @@ week =
     let third = then_commit second 2 (at 4).mesh [] (at 4).claim _ refused_committed in
     after_any_calls (then_commit third 2 (with_table 0).mesh (with_table 0).table (with_table 0).claim _ tabled_committed)
 
+-- the last commit that a book takes leaves it full
+pub last_committed : CommitAnswers (sheet_book 999999) 999999 (at 1).mesh [] (at 1).claim (record { number = 0; place = 0; book = sheet_book 1000000 })
+unfolding with_book
+last_committed = refl
+
+-- a book with these two bounds
+abbrev bounds : (lower lower_over upper upper_over count : ℕ) → BookForC
+bounds lower lower_over upper upper_over count = record {
+  lower_there = 1;
+  upper_there = 1;
+  lower_numerator = pos lower;
+  lower_denominator = pos lower_over;
+  upper_numerator = pos upper;
+  upper_denominator = pos upper_over;
+  count = count;
+}
+
+-- the sheet's 20/1 and 600/30 move 39/2 and 601/30, and neither 40/2 nor 20/1, which equal them
+pub both_moved : CommitAnswers (bounds 39 2 601 30 7) 7 (at 0).mesh [] (at 0).claim (record { number = 0; place = 0; book = bounds 20 1 600 30 8 })
+unfolding with_book
+both_moved = refl
+
+pub neither_moved : CommitAnswers (bounds 40 2 20 1 7) 7 (at 0).mesh [] (at 0).claim (record { number = 0; place = 0; book = bounds 40 2 20 1 8 })
+unfolding with_book
+neither_moved = refl
+
+-- a bound is there where its first number is any but 0
+pub there_as_2 : AskAnswers (record { lower_there = 2; upper_there = 0; lower_numerator = pos 21; lower_denominator = pos 1; upper_numerator = pos 0; upper_denominator = pos 0; count = 7 }) (at 0).mesh [] (at 0).claim (record { number = 0; place = 0; book = bounds 21 1 600 30 8 })
+unfolding with_book
+there_as_2 = refl
+
 -- a commit that names the count before: 48, since the named count differs
 pub stale : {r : BookAnswer} → CommitAnswers (sheet_book 1) 0 (at 1).mesh [] (at 1).claim r → r.number ≡ 48
 stale h = (book_committed (sheet_book 1) (at 1).mesh [] (at 1).claim 0 h).exactly.1 (inl (λ e. omega arith))

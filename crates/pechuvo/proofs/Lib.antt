@@ -2,6 +2,9 @@
 pub mod Sheets
 pub mod Sheets108
 pub mod SheetsBeds
+pub mod SheetsOrder
+pub mod SheetsJoints
+pub mod SheetsLimits
 pub mod TableFile
 pub mod Check
 pub mod Answers

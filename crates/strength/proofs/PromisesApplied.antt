@@ -100,7 +100,7 @@ pub refused_by_exact_values : ◌≡◌ {A = ℕ} 192 128 ⊎ (exact_strength (i
 refused_by_exact_values =
     (exact_on_64ths steep flat refusal refusal_answered 256 192 64 128 steep_64ths flat_64ths).refuses.0 refl
 
--- ---- refused: L1 = L2, an infinity, -0
+-- ---- refused: L1 = L2, an infinity, -0, 0
 
 same_load : Answers high (trial low.k high.l) refusal
 unfolding next_answer next_strength accepted usable hyperbola term eq sub mul div
@@ -114,6 +114,11 @@ minus_zero : Answers high (trial low.k (fin true 0 (pos 0))) refusal
 unfolding next_answer next_strength accepted usable hyperbola term eq sub mul div
 minus_zero = refl
 
+-- K 0 at L 2 and K 1 at L 0.5: eq. 23 alone would give 1/3
+no_strength : Answers (trial zero high.l) low refusal
+unfolding next_answer next_strength accepted usable hyperbola term eq sub mul div
+no_strength = refl
+
 -- ---- K 1.1 at L 1.3 and K 0.9 at L 0.7, none of them 64ths: every operation is rounded
 
 rounded_each :
@@ -125,3 +130,15 @@ rounded_each :
     ≡ 0x3ff07ae147ae147b
 unfolding next_answer next_strength accepted usable hyperbola term eq sub mul div to_bits of_bits
 rounded_each = refl
+
+-- K 0.1 at L 0.2 and K 0.1 at L 0.3: with K before L the last digit would be f, with L·K first a, with two quotients and
+-- then their difference c
+order_told :
+    to_bits binary64
+    ((next_answer
+    (next_strength
+    (trial (of_bits binary64 0x3fb999999999999a) (of_bits binary64 0x3fc999999999999a))
+    (trial (of_bits binary64 0x3fb999999999999a) (of_bits binary64 0x3fd3333333333333)))).strength)
+    ≡ 0x3fb999999999999d
+unfolding next_answer next_strength accepted usable hyperbola term eq sub mul div to_bits of_bits
+order_told = refl
