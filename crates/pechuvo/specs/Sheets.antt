@@ -348,6 +348,34 @@ tabled_sheets =
     "0 31 1"
     seam_claim
     "                          22                          37                        none                        none\n"
+    -- nodes from 5 to 6 high: what is below 5 needs no layer, and 24 quarters do
+    ∷ sheet_with "4 1 1 0 12 0 / 0 1 1 10 0 0 0 0 0 0 / 2 5 / 3 5 / 3 6 / 2 6 / 1 2 3 4 0"
+    "5 7 1"
+    "1 0 1 0 / 0 0 0 / 0 0 0 / 0 0 0 / 0 0 0"
+    "                           0                        none                    0.000000                        none\n"
+    ∷ sheet_with "4 1 1 0 12 0 / 0 1 1 10 0 0 0 0 0 0 / 2 5 / 3 5 / 3 6 / 2 6 / 1 2 3 4 0"
+    "5 6 1"
+    ""
+    "                          45                          24                        none                        none\n"
+    -- corners 0, 0, 2 and 1 high: three quarters, in the lower layer, whose soil holds; 0, 0, 3 and 2: five, in the upper one,
+    -- whose soil does not: 22, row 1; and a triangle of 0, 1 and twice 2: five too
+    ∷ sheet_with "4 1 2 0 12 0 / 0 1 1 10 0 0 0 0 0 0 / 0 1 1 5 0 0 0 0 0 0 / 0 0 / 2 0 / 2 2 / 0 1 / 1 2 3 4 0"
+    "0 1 1 / 1 4 2"
+    "1 0 1 0 / 0 -15 0 / 0 -15 0 / 0 -15 0 / 0 -15 0"
+    "                           0                        none                    0.000000                        none\n"
+    ∷ sheet_with "4 1 2 0 12 0 / 0 1 1 10 0 0 0 0 0 0 / 0 1 1 5 0 0 0 0 0 0 / 0 0 / 2 0 / 2 3 / 0 2 / 1 2 3 4 0"
+    "0 1 1 / 1 4 2"
+    "1 0 1 0 / 0 -15 0 / 0 -15 0 / 0 -15 0 / 0 -15 0"
+    "                          22                           1                        none                        none\n"
+    ∷ sheet_with "4 2 2 0 12 0 / 0 1 1 10 0 0 0 0 0 0 / 0 1 1 5 0 0 0 0 0 0 / 0 0 / 2 1 / 0 2 / 2 3 / 1 2 3 3 0 / 2 4 3 3 0"
+    "0 1 1 / 1 4 2"
+    "1 0 1 0 / 0 -15 0 / 0 -15 0 / 0 -15 0 / 0 -15 0"
+    "                          22                           1                        none                        none\n"
+    -- the lowest bottom and the highest top
+    ∷ sheet_with "4 1 1 0 12 0 / 0 1 1 10 0 0 0 0 0 0 / 2 5 / 3 5 / 3 6 / 2 6 / 1 2 3 4 0"
+    "-1000 2000 1"
+    "1 0 1 0 / 0 0 0 / 0 0 0 / 0 0 0 / 0 0 0"
+    "                           0                        none                    0.000000                        none\n"
     ∷ []
 
 -- ---- other decimals (document 02, N5)

@@ -1,5 +1,6 @@
 -- Sheets at limits that document 02's requests brought, and one beyond each.
 use Rattle.std.specs.Prelude.{List, [], ◌∷◌, ℤ, pos, negsuc, replicate}
+use Prim.Native.String.{String}
 use Rattle.report.specs.Report.{report_bytes}
 use Rattle.pechuvo.specs.Sheets.{Sheet, sheet, sheet_with}
 
@@ -39,3 +40,10 @@ other_decimals =
     (negsuc 0, record { mesh = []; table = []; claim = []; line = replicate report_bytes 0 })
     ∷ (pos 8, record { mesh = []; table = []; claim = []; line = replicate report_bytes 0 })
     ∷ []
+
+-- the same 33 lines as numbers that are handed over
+unfoldable pub table_of_33 : String
+table_of_33 = "0 2 1 / 0 2 1 / 0 2 1 / 0 2 1 / 0 2 1 / 0 2 1 / 0 2 1 / 0 2 1 / 0 2 1 / 0 2 1 / 0 2 1 / 0 2 1 / 0 2 1 / 0 2 1 / 0 2 1 / 0 2 1 / 0 2 1 / 0 2 1 / 0 2 1 / 0 2 1 / 0 2 1 / 0 2 1 / 0 2 1 / 0 2 1 / 0 2 1 / 0 2 1 / 0 2 1 / 0 2 1 / 0 2 1 / 0 2 1 / 0 2 1 / 0 2 1 / 0 2 1"
+
+unfoldable pub mesh_of_33 : String
+mesh_of_33 = "4 1 1 0 12 0 / 0 1 1 10 0 0 0 0 0 0 / 0 0 / 1 0 / 1 1 / 0 1 / 1 2 3 4 1"
