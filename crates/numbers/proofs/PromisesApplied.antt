@@ -1,7 +1,7 @@
 -- The promises of the call on numbers applied to document 01's sheet and its neighbours: antt computes the answer, and
 -- the promise says the rest. Those of document 02 are applied in `ShapesApplied`, `OverlapsApplied`, `Blends`,
 -- `PromisesAppliedBeds` and, to one sheet with all of it, `MixedApplied`.
-use mathlib.Core.Path.{◌≡◌, refl, ap}
+use mathlib.Core.Path.{◌≡◌, refl, ap, ◌∙◌}
 use mathlib.Core.Logic.{inr}
 use mathlib.Core.List.{List, [], ◌∷◌, ◌++◌}
 use Prim.Native.Nat.{ℕ, suc}
@@ -19,9 +19,10 @@ use Rattle.integer.specs.Members.{◌∈◌}
 use Rattle.scope.specs.Rows.{rows_of}
 use Rattle.scope.specs.Sums.{live_sum, limit_sum}
 use Rattle.scope.specs.Claim.{stress, multiplier}
-use Rattle.scope.specs.Answer.{outcome_of, place_for, mesh_number_of, mesh_place_of}
+use Rattle.scope.specs.Answer.{outcome_of, place_for, number_of, mesh_number_of, mesh_place_of}
 use Rattle.scope.proofs.Computed.{computed}
 use Rattle.scope.specs.Refusals.{MeshRefusal, Refusal}
+use Rattle.scope.specs.Verdict.{verdict}
 use Rattle.scope.specs.Accepted.{FieldAccepted, MultipliersAccepted, ClaimAccepted}
 use Rattle.scope.specs.Printed.{MeetsPrinted}
 use Rattle.scope.specs.AcceptedField.{MeetsCriterion}
@@ -144,6 +145,28 @@ refused_column-7 = ((refuses_exactly worked_mesh sheet29 32 7 (returned refused_
 
 pub listed_32 : 32 ∈ returned_numbers
 listed_32 = (numbers_listed worked_mesh sheet29 32 7 (returned refused_answered)).listed
+
+-- 13 has line 1: a claim of neither part
+neither_part : number_of (verdict worked_mesh (zeros 4)) ≡ 13
+unfolding computed zeros worked_mesh
+neither_part = refl
+
+pub thirteen_at_line_1 : (r : NumbersAnswer) → Answers worked_mesh (zeros 4) r → r.place ≡ 1
+thirteen_at_line_1 r a =
+    (numbers_listed worked_mesh (zeros 4) r.number r.place (returned a)).line_one ((returned a).number_is ∙ neither_part)
+
+-- 33 has column 0: multipliers that are all 0
+unfoldable pub no_multipliers : List ℤ
+no_multipliers = (pos 0 ∷ pos 1 ∷ pos 0 ∷ pos 0 ∷ []) ++ zeros 62
+
+none_above_0 : number_of (verdict worked_mesh no_multipliers) ≡ 33
+unfolding computed zeros worked_mesh no_multipliers
+none_above_0 = refl
+
+pub thirty_three_at_column_0 : (r : NumbersAnswer) → Answers worked_mesh no_multipliers r → r.place ≡ 0
+thirty_three_at_column_0 r a =
+    (numbers_listed worked_mesh no_multipliers r.number r.place (returned a)).column_zero
+    ((returned a).number_is ∙ none_above_0)
 
 -- the field of the refused claim
 pub tells_field : TellsField sheet29 32
