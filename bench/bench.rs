@@ -1,5 +1,5 @@
 //! The proved program beside the independent implementation, entry by entry and sheet by sheet.
-//! bench times: nanoseconds of each entry on each sheet, and their ratio. bench once ENTRY: the entry once by each
+//! bench times: nanoseconds of each entry on each sheet. bench once ENTRY: the entry once by each
 //! program on each sheet, and the names of the sheets. bench growth: the same for a check on sheets that grow.
 //! bench only ENTRY SHEET: the same on one sheet, for a tool that counts instructions.
 
@@ -17,7 +17,7 @@ mod sheets;
 mod times;
 
 use entries::{independent_call, proved_call, Entry, BLANK};
-use sheets::{Timed, CLAIMS};
+use sheets::Timed;
 use times::Timing;
 
 /// The sheets of `sheets/` that are timed.
@@ -29,9 +29,6 @@ const SHIPPED: [&str; 6] = [
     "bedded_slope",
     "footing_largest_108",
 ];
-
-/// What the proved program may take of the independent one's time.
-const GOAL: f64 = 0.8;
 
 const PASSES: usize = 5;
 
@@ -61,44 +58,14 @@ fn all_timings(sheets: &[Timed]) -> Vec<Timing<'_>> {
     all
 }
 
-/// A line for each, with a mark where the goal is missed.
-fn print_timings(all: &[Timing]) {
-    println!(
-        "{:<14} {:<20} {:>12} {:>12} {:>6}",
-        "entry", "sheet", "proved, ns", "indep., ns", "ratio"
-    );
-    for timing in all {
+fn times() {
+    for timing in all_timings(&all_sheets()) {
         let reads_mesh = timing.entry != Entry::Strength;
         let sheet = if reads_mesh { &timing.sheet.name } else { "-" };
-        let ([proved, independent], ratio) = (timing.nanoseconds, timing.ratio());
-        let mark = if ratio > GOAL { "  over" } else { "" };
-        println!(
-            "{:<14} {sheet:<20} {proved:>12.0} {independent:>12.0} {ratio:>6.2}{mark}",
-            timing.entry.name()
-        );
+        let [proved, independent] = timing.nanoseconds;
+        let entry = timing.entry.name();
+        println!("{entry}\t{sheet}\t{proved:.1}\t{independent:.1}");
     }
-    let over = all.iter().filter(|timing| timing.ratio() > GOAL).count();
-    println!("{over} of {} over {GOAL}", all.len());
-}
-
-/// What a run takes of the time of as many single checks, by each program.
-fn print_runs(all: &[Timing]) {
-    println!(
-        "\n{:<35} {:>12} {:>12}",
-        "a run over its single checks", "proved", "indep."
-    );
-    let of = |entry: Entry| all.iter().filter(move |timing| timing.entry == entry);
-    for (run, check) in of(Entry::Run).zip(of(Entry::Check)) {
-        let over = |k: usize| run.nanoseconds[k] / (CLAIMS as f64 * check.nanoseconds[k]);
-        println!("{:<35} {:>12.2} {:>12.2}", run.sheet.name, over(0), over(1));
-    }
-}
-
-fn times() {
-    let sheets = all_sheets();
-    let all = all_timings(&sheets);
-    print_timings(&all);
-    print_runs(&all);
 }
 
 /// The entry by each program, which answer and write the same. Twice, and the second time is the one to count: the

@@ -63,8 +63,4 @@ impl Timing<'_> {
             batches += 1;
         }
     }
-
-    pub fn ratio(&self) -> f64 {
-        self.nanoseconds[0] / self.nanoseconds[1]
-    }
 }
