@@ -1,0 +1,13 @@
+-- `pechuvo_book_ask` meets its contract: the ask of the book that C hands over, as C is answered.
+use mathlib.Core.Path.{ap, ◌∙◌}
+use Rattle.reader.specs.File.{file_width}
+use Rattle.judge.specs.Judge.{files_verdict}
+use Rattle.book.specs.Book.{asked}
+use Rattle.pechuvo.specs.BookInC.{book_answer}
+use Rattle.pechuvo.proofs.pechuvo_book_ask.Goals as goal
+
+pub returns : goal.returns
+returns c =
+    let verdict = files_verdict file_width c.args.mesh.now c.args.table.now c.args.claim.now in
+    c.book_answer.ensures
+    ∙ ap (book_answer c.args.book) (c.ask.ensures ∙ ap (λ b. asked b verdict) c.from.ensures)
