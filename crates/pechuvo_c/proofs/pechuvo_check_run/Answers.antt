@@ -1,0 +1,6 @@
+-- `pechuvo_check_run` meets its contract: it hands the call on.
+use Rattle.pechuvo_c.proofs.pechuvo_check_run.Goals as goal
+
+pub returns : goal.returns
+returns c =
+    c.pechuvo_check_run.ensures
