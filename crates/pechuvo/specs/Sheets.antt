@@ -280,6 +280,13 @@ noticing =
     ∷ sheet "8 2 1 0 12 0 / 0 1 1 10 0 0 0 0 0 0 / 0 2 / 6 2 / 6 4 / 0 4 / 2 0 / 4 0 / 4 6 / 2 6 / 1 2 3 4 1 / 5 6 7 8 1"
     ""
     "                          47                           2                        none                        none\n"
+    -- a square on its corner and a bar that it touches, in both orders: only a side of the bar parts them, and they pass
+    ∷ sheet "8 2 1 0 12 0 / 0 1 1 10 0 0 0 0 0 0 / 2 0 / 4 2 / 2 4 / 0 2 / 4 0 / 6 0 / 6 4 / 4 4 / 1 2 3 4 1 / 5 6 7 8 1"
+    ""
+    "                          11                           1                        none                        none\n"
+    ∷ sheet "8 2 1 0 12 0 / 0 1 1 10 0 0 0 0 0 0 / 2 0 / 4 2 / 2 4 / 0 2 / 4 0 / 6 0 / 6 4 / 4 4 / 5 6 7 8 1 / 1 2 3 4 1"
+    ""
+    "                          11                           1                        none                        none\n"
     -- document 01's header, of five columns: 1, line 1
     ∷ record {
       mesh = bytes "           4           1           1           3          12\n";
