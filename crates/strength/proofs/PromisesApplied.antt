@@ -119,6 +119,11 @@ no_strength : Answers (trial zero high.l) low refusal
 unfolding next_answer next_strength accepted usable hyperbola term eq sub mul div
 no_strength = refl
 
+-- the strength of a refusal is 0, with no sign
+no_bits : to_bits binary64 refusal.strength ≡ 0
+unfolding to_bits
+no_bits = refl
+
 -- ---- K 1.1 at L 1.3 and K 0.9 at L 0.7, none of them 64ths: every operation is rounded
 
 rounded_each :
