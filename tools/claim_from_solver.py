@@ -22,7 +22,6 @@ import whole_multipliers
 
 FAR = 1e-3  # a part farther than this from the optimum, relative to it, isn't written silently
 SAME = 1e-9  # nearer than this floats don't tell the two apart
-ROOM = 4.0  # strength of a tightened program is tighter by so many rounding errors
 
 # The parts that were made, None where they weren't; a line for each part; what is to be said on standard error.
 Made = namedtuple("Made", "claim notes warnings")
@@ -67,7 +66,6 @@ class Maker:
     def field(self, margin, near):
         if self.given:
             field, how = whole_field.given_field(self.mesh, self.rows, self.given)
-            how += "" if field else "; --lp beside --solution writes a program that leaves it"
         else:
             solution = glpsol.solve(self.rows, self.columns, margin)
             field, how = whole_field.make_field(self.mesh, self.rows, solution, margin, near)
@@ -186,17 +184,16 @@ def checked(mesh_text, table, claim_text):
     return f"checked by {by}: {' '.join(line.decode('ascii').split())}"
 
 
-def write_programs(words, mesh, rows, given):
-    """The program as LP and as MPS, with a result tightened by what rounding it moves; and glpsol's own result."""
+def write_programs(words, mesh, rows):
+    """The program as LP and as MPS, and glpsol's own result."""
     columns = 3 * len(mesh.nodes)
-    margins = whole_field.FieldRounding(mesh, rows, given).margins(ROOM) if given else {}
-    lines = list(linear_program.program_lines(rows, columns, words.margin, margins))
+    lines = list(linear_program.program_lines(rows, columns, words.margin))
     for path, text_of in ((words.lp, linear_program.lp_text), (words.mps, linear_program.mps_text)):
         if path:
             write(path, text_of(lines, columns).encode("ascii"))
             print(f"{path}: {len(lines)} rows, {columns + 1} unknowns")
     if words.keep:
-        solution = glpsol.solve(rows, columns, words.margin, margins)
+        solution = glpsol.solve(rows, columns, words.margin)
         write(words.keep, linear_program.solution_text(rows, solution).encode("ascii"))
         print(f"{words.keep}: load {solution.load:.9g}")
 
@@ -232,7 +229,7 @@ def main():
     mesh, rows = judged_mesh(*texts, words.mesh)
     try:
         solution = given and linear_program.read_solution(*given, rows, 3 * len(mesh.nodes))
-        write_programs(words, mesh, rows, solution)
+        write_programs(words, mesh, rows)
         if not words.claim:
             return
         how = words.part, words.margin, words.spread, words.tries, words.seconds

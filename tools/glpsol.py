@@ -45,10 +45,10 @@ def optimum(text):
     return columns, {name: float(line[4]) for line, name in named if line[0] == "i" and name}
 
 
-def solve(rows, columns, margin=0.0, margins=None, spread=0.0, spreads=None):
+def solve(rows, columns, margin=0.0, spread=0.0, spreads=None):
     """The optimum of a mesh's program. spread: least multiplier of each strength row; spreads: number of a row -> its
     own."""
-    lines = program_lines(rows, columns, margin, margins, row_scale)
+    lines = program_lines(rows, columns, margin, row_scale)
     values, prices = optimum(lp_text(lines, columns, room_cost(rows, spread, spreads)))
     *stresses, load = (values.get(name, 0.0) for name in unknown_names(columns))
     multipliers = [prices.get(row_name(row), 0.0) / row_scale(row) for row in rows]
@@ -56,27 +56,6 @@ def solve(rows, columns, margin=0.0, margins=None, spread=0.0, spreads=None):
         if row.kind == "strength" and row.fixed:
             multipliers[number] += spreads.get(number, 0.0) if spreads else spread
     return Solution(stresses, load, multipliers)
-
-
-def rows_with_room(rows, columns, margins, load):
-    """The strength rows that some field near the optimum leaves room in: each gets as much room e, up to its margin,
-    as all together can have while the load keeps 999/1000 of the optimum."""
-    text, room = [], {}
-    numbers = {row_name(row): number for number, row in enumerate(rows)}
-    for line in lp_text(program_lines(rows, columns, scale=row_scale), columns).split("\n"):
-        number = numbers.get(line.split(":")[0].strip())
-        if margins.get(number, 0) > 0:
-            line = line.replace("<=", f"+ {margins[number] / row_scale(rows[number]):.17g} room_{number} <=")
-            room[number] = f"room_{number}"
-        text.append(line)
-    text = "\n".join(text).replace(" load: l", " load: " + "\n + ".join(room.values()), 1)
-    least = load - 0.001 * abs(load)
-    bounds = "\n".join(f" 0 <= {name} <= 1" for name in room.values())
-    try:
-        values, _ = optimum(text.replace(" l free", f" l >= {least:.17g}\n{bounds}", 1))
-    except NoOptimum:
-        return set(margins)
-    return {number for number in margins if number not in room or values[room[number]] > 1e-4}
 
 
 def solve_whole(text, seconds, options):

@@ -36,16 +36,15 @@ def as_it_stands(_row):
     return 1
 
 
-def program_lines(rows, columns, margin=0.0, margins=None, scale=as_it_stands):
-    """The rows that ask something. Strength rows are tightened by `margin`, a fraction of their right side, and by
-    what `margins` has for their number among all rows."""
-    for number, row in enumerate(rows):
+def program_lines(rows, columns, margin=0.0, scale=as_it_stands):
+    """The rows that ask something. Strength rows are tightened by `margin`, a fraction of their right side."""
+    for row in rows:
         entries = {k: c for k, c in row.entries.items() if c}
         if row.live:
             entries[columns] = row.live
         if row.fixed and entries:
             strength = row.kind == "strength"
-            right = row.right * (1 - margin if strength else 1) - (margins or {}).get(number, 0)
+            right = row.right * (1 - margin if strength else 1)
             entries = {k: c / scale(row) for k, c in entries.items()}
             yield Line(row_name(row), entries, not strength, right / scale(row))
 

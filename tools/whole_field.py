@@ -8,10 +8,10 @@ The equality rows hold exactly or not at all, so rounding must not disturb any. 
   rounding moves them."""
 
 import math
-from fractions import Fraction
 
 import glpsol
 import rows as exact
+from central_path import CentralPath
 from lattice import Lattice, Measure, kernel
 from whole_numbers import Equalities, common_denominator
 
@@ -20,8 +20,12 @@ LARGEST_LOAD = exact.CLAIM_HEADER[3][-1]
 LARGEST_STRESS = exact.STRESS[-1]
 # Margins that are tried: of the quick way as fractions of the right side, of the near one in rounding errors.
 MARGINS = (1e-4, 3e-4, 1e-3, 3e-3, 1e-2, 3e-2)
-FACTORS = (0.5, 0.7, 1.0, 1.4, 1.8, 2.3, 3.0, 4.0, 6.0, 10.0, 20.0, 40.0)
+# Of the near way, gaps as parts of the load: the first, the smallest, and by how much the next one differs.
+FIRST_GAP, SMALLEST_GAP, STEP = 0.3, 1e-9, 1.5
+ERRORS = 1.5  # rounding errors, as a part of the room, of the first search
 TRIALS = 120  # roundings of one target
+FINE = 2.0**22  # the largest factor of a measure
+N_MOVES = 0.1  # how far rounding may move n, as a part of it
 USELESS = 0.1  # a field farther than this from the wanted one, relative to its load, is none
 
 
@@ -101,27 +105,35 @@ def equations_of(rows, columns):
     return sorted(equations, key=along_the_mesh)
 
 
-def measure_of(mesh, stresses, load):
-    """What rounding errors cost: stress differences most, the trace as friction makes it count, all relative to the
-    wanted field, so that n itself may move."""
-    fine, l, n = 8, 3 * len(mesh.nodes), 3 * len(mesh.nodes) + 1
-    friction = [0.0] * len(mesh.nodes)
-    for node, soil in exact.strength_pairs(mesh):
-        friction[node] = max(friction[node], mesh.soils[soil].p / mesh.soils[soil].h)
-    columns, drift = {}, {"n": 1}
-    for node, sine in enumerate(friction):
-        sx, sy, t = 3 * node, 3 * node + 1, 3 * node + 2
-        trace = max(1, round(fine * sine))
-        columns[sx] = {("d", node): fine, ("s", node): trace}
-        columns[sy] = {("d", node): -fine, ("s", node): trace}
-        columns[t] = {("t", node): 2 * fine}
-        drift["d", node] = -round(fine * (stresses[sx] - stresses[sy]))
-        drift["s", node] = -round(trace * (stresses[sx] + stresses[sy]))
-        drift["t", node] = -round(2 * fine * stresses[t])
-    columns[l] = {"l": 2}
-    drift["l"] = -round(2 * load)
-    columns[n] = {place: c for place, c in drift.items() if c}
-    return Measure(columns)
+def root(curvature):
+    """The upper triangle R of a node's second derivatives, Rᵀ·R, by rows."""
+    h00, h01, h02, h11, h12, h22 = curvature
+    a = math.sqrt(h00)
+    b, c = h01 / a, h02 / a
+    d = math.sqrt(max(h11 - b * b, 1e-12 * h11))
+    e = (h12 - b * c) / d
+    return (a, b, c), (0.0, d, e), (0.0, 0.0, math.sqrt(max(h22 - c * c - e * e, 1e-12 * h22)))
+
+
+def measure_of(path, field, gap):
+    """(measure, its unit): what a whole solution's distance from the real field costs. A stress costs by the room that
+    strength rows have, the load by its gap to the optimum, all relative to the field, so that n itself may move. Where
+    the length is below the unit times n, every strength row still has room."""
+    roots = [root(node.slopes(here, 0.0)[1]) for node, here in zip(path.nodes, path.by_node(field.stresses))]
+    unit = FINE / max(c for rows in roots for row in rows for c in map(abs, row))
+    columns, drift = {}, {"n": max(1, round(unit / N_MOVES))}
+    for node, (rows, here) in enumerate(zip(roots, path.by_node(field.stresses))):
+        for i, row in enumerate(rows):
+            whole = [round(unit * c) for c in row]
+            whole[i] = whole[i] or 1
+            for j, c in enumerate(whole):
+                if c:
+                    columns.setdefault(3 * node + j, {})[node, i] = c
+            drift[node, i] = -round(sum(c * stress for c, stress in zip(whole, here)))
+    columns[path.columns] = {"l": max(1, round(unit / gap))}
+    drift["l"] = -round(columns[path.columns]["l"] * field.load)
+    columns[path.columns + 1] = {place: c for place, c in drift.items() if c}
+    return Measure(columns), unit
 
 
 def better(field, best):
@@ -132,84 +144,78 @@ class FieldRounding:
     """Roundings of fields of one mesh. tight: numbers of strength rows without room in any field (a free surface
     without cohesion); they are kept as equalities."""
 
-    def __init__(self, mesh, rows, solution, tight=()):
+    def __init__(self, mesh, rows, solution, margin=0.0, tight=()):
         self.rows, self.columns = rows, 3 * len(mesh.nodes)
-        loose = [(k, row) for k, row in enumerate(rows) if row.kind == "strength" and k not in tight]
-        self.strength = [(number, list(row.entries.items())) for number, row in loose]
+        strength = [(number, row) for number, row in enumerate(rows) if row.kind == "strength" and number not in tight]
         equal = asked_equalities(rows) + [rows[number] for number in sorted(tight)]
         unknowns = range(self.columns + 2)
         plain = Measure({k: {k: 1} for k in unknowns})
-        vectors = kernel(unknowns, equations_of(equal, self.columns), plain)
-        self.lattice = Lattice(vectors, measure_of(mesh, solution.stresses, solution.load))
-        self.errors, self.top = self.rounding_errors(solution, 12)
+        self.vectors = kernel(unknowns, equations_of(equal, self.columns), plain)
+        box = max(LARGEST_STRESS / LARGEST_N, 2 * max(map(abs, solution.stresses)))
+        self.path = CentralPath(self.columns, strength, self.vectors, box, margin)
+        self.optimum, self.size = solution.load, max(abs(solution.load), 1e-9)
+        self.field, self.tight = self.path.inside(solution, self.weight(FIRST_GAP))
 
-    def largest_n(self, solution):
-        sizes = [abs(value) for value in solution.stresses] + [10 * abs(solution.load), 1e-9]
-        return min(LARGEST_N, LARGEST_STRESS / max(sizes))
+    def weight(self, gap):
+        return self.path.count / (gap * self.size)
 
-    def round(self, solution, n):
-        """A whole solution of the equality rows near n times the field."""
-        wanted = {k: n * value for k, value in enumerate([*solution.stresses, solution.load])}
+    def move(self, gap):
+        """Goes along the path, so far that the load can't be below the optimum by more than this part of it, and makes
+        the basis short there."""
+        self.field = self.path.centred(self.field, self.weight(gap))
+        away = max(self.optimum - self.field.load, 1e-9 * self.size)
+        measure, self.unit = measure_of(self.path, self.field, away)
+        self.lattice = Lattice(self.vectors, measure)
+        sizes = [LARGEST_STRESS / max(map(abs, self.field.stresses)), LARGEST_LOAD / max(abs(self.field.load), 1e-9)]
+        self.top = 0.999 * min(LARGEST_N, *sizes)
+
+    def error(self):
+        """What rounding moves a field by, where strength rows are met below 1 and a little above it."""
+        return math.sqrt(sum(self.lattice.squares) / 12) / (self.unit * self.top)
+
+    def rounded(self, n):
+        """(n, l, stresses): a whole solution of the equality rows near n times the field."""
+        wanted = {k: n * value for k, value in enumerate([*self.field.stresses, self.field.load])}
         wanted[self.columns + 1] = float(n)
         whole = self.lattice.nearest(wanted)
-        stresses = [whole.get(k, 0) for k in range(self.columns)]
-        return whole.get(self.columns + 1, 0), whole.get(self.columns, 0), stresses
+        return whole.get(self.columns + 1, 0), whole.get(self.columns, 0), [whole.get(k, 0) for k in range(self.columns)]
 
-    def rounding_errors(self, solution, trials):
-        """How far rounding moves each strength row, root mean square over some n, and the n they belong to."""
-        top = 0.97 * self.largest_n(solution)
-        totals = dict.fromkeys((number for number, _ in self.strength), 0.0)
-        for trial in range(trials):
-            n, _, whole = self.round(solution, top * (1 - 0.003 * trial))
-            moved = [x - n * s for x, s in zip(whole, solution.stresses)]
-            for number, entries in self.strength:
-                totals[number] += sum(c * moved[k] for k, c in entries) ** 2
-        return {number: math.sqrt(total / trials) for number, total in totals.items()}, top
-
-    def margins(self, factor):
-        """What so many rounding errors are, for each strength row at n = 1."""
-        return {number: factor * error / self.top for number, error in self.errors.items()}
-
-    def search(self, solution):
-        """The best field that fits among roundings of this target at different n, or None. n itself is rounded, on some
-        meshes by thousands, so the n that are tried lie far apart."""
-        top, best = self.largest_n(solution), None
+    def search(self):
+        """The best of the roundings at different n that fit, or None."""
+        best = None
         for trial in range(TRIALS):
-            field = self.round(solution, top * (0.99 - 0.4 * trial / TRIALS))
-            if field[0] > 0 and field_fits(self.rows, field) and better(field, best):
+            field = self.rounded(self.top * (0.99 - 0.3 * trial / TRIALS))
+            if field[0] > 0 and better(field, best) and field_fits(self.rows, field):
                 best = field
         return best
 
-    def near_field(self, margin):
-        """(field, how) by rounding with growing margins, the best of those that are worth a try, or None."""
-        best = None
-        for factor in FACTORS:
-            try:
-                solution = glpsol.solve(self.rows, self.columns, margin, self.margins(factor))
-            except glpsol.NoOptimum:
-                break
-            if best and Fraction(best[0][1], best[0][0]) >= Fraction(solution.load):
-                break
-            field = self.search(solution)
-            if field and better(field, best and best[0]):
-                best = field, f"rounded, strength tighter by {factor:g} rounding errors"
-        return best
+
+def rounding_of(mesh, rows, solution, margin):
+    """A rounding from a field with room in each strength row that can have room, or None where none is found."""
+    rounding = FieldRounding(mesh, rows, solution, margin)
+    if rounding.tight:
+        rounding = FieldRounding(mesh, rows, solution, margin, rounding.tight)
+    return rounding if rounding.field else None
 
 
-def rounding_with_room(mesh, rows, solution, rounding):
-    """A rounding that keeps strength rows without room in any field as equalities, or None where there are none."""
-    room = glpsol.rows_with_room(rows, rounding.columns, rounding.margins(FACTORS[0]), solution.load)
-    tight = {number for number in rounding.errors if number not in room}
-    return FieldRounding(mesh, rows, solution, tight) if tight else None
-
-
-def near_field(mesh, rows, solution, margin):
-    rounding = FieldRounding(mesh, rows, solution)
-    best = rounding.near_field(margin)
-    if best is None:
-        rounding = rounding_with_room(mesh, rows, solution, rounding)
-        best = rounding and rounding.near_field(margin)
-    return best
+def near_field(mesh, rows, solution, margin=0.0):
+    """(field, how), or None: roundings from where a few rounding errors are the room that there is, then nearer to the
+    optimum for as long as fields fit, or farther from it until one does."""
+    rounding = rounding_of(mesh, rows, solution, margin)
+    if rounding is None:
+        return None
+    rounding.move(FIRST_GAP)
+    gap, best, nearer = FIRST_GAP * rounding.error() / ERRORS, None, None
+    while SMALLEST_GAP < gap < 1:
+        rounding.move(gap)
+        field = rounding.search()
+        if field and better(field, best):
+            best = field
+        nearer = bool(field) if nearer is None else nearer
+        if nearer != bool(field):
+            break
+        gap = gap / STEP if nearer else gap * STEP
+    return best and (best, "rounded with room in the strength rows")
 
 
 def useful(made, load):
@@ -233,11 +239,8 @@ def make_field(mesh, rows, solution, margin=0.0, near=True):
 
 
 def given_field(mesh, rows, solution):
-    """The same for a result from elsewhere, where no solver is asked again: the result itself must leave room."""
+    """The same for a result from elsewhere, where no solver is asked again."""
     field = vertex_field(rows, *solution[:2])
     if field:
         return field, "the vertex itself"
-    field = FieldRounding(mesh, rows, solution).search(solution)
-    if field is None:
-        return None, "rounding needs room in the strength rows that this result doesn't leave"
-    return useful((field, "rounded"), solution.load)
+    return useful(near_field(mesh, rows, solution), solution.load)
