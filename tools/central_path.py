@@ -11,9 +11,10 @@ from linear_program import Solution
 STEPS = 60  # of Newton's method at most
 CENTRED = 1e-3  # a Newton step that gains less than this ends it
 STAY = 0.9  # how much of the way to the first row without room a step goes
-SHIFT = 1e-2  # rooms are widened by this part of the stresses to begin with
-NO_SHIFT = 1e-7  # where so little widening is still needed, no field has room in every row
-NO_ROOM = 3e-5  # such a row has less room than this then, as a part of the stresses
+ROUNDS = 100  # in which the search for a field with room in every row must come to an end
+SHIFT = 1e-5  # rooms are widened by this part of the stresses to begin with
+NO_SHIFT = 1e-8  # where so little widening is still needed, no field has room in every row
+NO_ROOM = 1e-6  # such a row has less room than this then, as a part of the stresses
 
 
 def products(a, b):
@@ -158,23 +159,25 @@ class CentralPath:
         Rooms are widened by a shift, which falls as far as the middle of the widened ones lets it."""
         size = sum(map(abs, field.stresses)) / self.columns or 1.0
         shift = SHIFT * size - min(0.0, self.least_room(field, 0.0))
-        while True:
+        for _ in range(ROUNDS):
             field = self.centred(field, weight, shift)
             least = self.least_room(field, shift)
             if least > shift:
                 return field, ()
             if shift < NO_SHIFT * size:
-                return None, self.without_room(field, NO_ROOM * size)
+                break
             shift -= STAY * least
+        return None, self.without_room(field, NO_ROOM * size)
 
-    def relative_rooms(self, field, shift):
-        """(number, room as a stress) of each row."""
+    def rooms(self, field, shift=0.0):
+        """(number, room, the row's length) of each row."""
         for node, here, numbers in zip(self.nodes, self.by_node(field.stresses), self.numbers):
             for number, room, row in zip(numbers, node.rooms(here, shift), node.rows):
-                yield number, room / row[-1]
+                yield number, room, row[-1]
 
     def least_room(self, field, shift):
-        return min(room for _, room in self.relative_rooms(field, shift))
+        """As a stress."""
+        return min(room / size for _, room, size in self.rooms(field, shift))
 
     def without_room(self, field, least):
-        return {number for number, room in self.relative_rooms(field, 0.0) if room < least}
+        return {number for number, room, size in self.rooms(field) if room < least * size}

@@ -63,12 +63,12 @@ class Maker:
             self.least, self.most = min(self.least, bound), max(self.most, bound)
         self.notes, self.warnings = [], []
 
-    def field(self, margin, near):
+    def field(self, margin, seconds):
         if self.given:
             field, how = whole_field.given_field(self.mesh, self.rows, self.given)
         else:
             solution = glpsol.solve(self.rows, self.columns, margin)
-            field, how = whole_field.make_field(self.mesh, self.rows, solution, margin, near)
+            field, how = whole_field.make_field(self.mesh, self.rows, solution, margin, seconds)
         if field is None:
             self.missing("field", how)
             return 0, 0, None
@@ -112,7 +112,7 @@ def make_claim(mesh, rows, part="both", margin=0.0, spread=0.0, tries=0, seconds
     """What is made for a mesh. seconds: of each search for something nearer to the optimum; with 0 there is none, and
     the field has the quick way alone. given: another solver's result."""
     maker = Maker(mesh, rows, given)
-    n, l, stresses = maker.field(margin, seconds > 0) if part != "multipliers" else (0, 0, None)
+    n, l, stresses = maker.field(margin, seconds) if part != "multipliers" else (0, 0, None)
     multipliers = maker.multipliers(spread, tries, seconds) if part != "field" else None
     return Made(exact.Claim(n, l, stresses, multipliers), maker.notes, maker.warnings)
 

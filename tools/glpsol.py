@@ -58,9 +58,9 @@ def solve(rows, columns, margin=0.0, spread=0.0, spreads=None):
     return Solution(stresses, load, multipliers)
 
 
-def solve_whole(text, seconds, options):
-    """An integer program over x0, x1, ..: ({i: whole value}, proved), or (None, proved) where no solution was found;
-    proved says that glpsol finished the search."""
+def solve_whole(text, seconds, options=()):
+    """A program with whole numbers: (name -> value, proved), or (None, proved) where no solution was found; proved
+    says that glpsol finished the search."""
     try:
         values, names = run(text, ["--tmlim", str(seconds), *options], 3 * seconds + 60)
     except NoOptimum:
@@ -68,5 +68,4 @@ def solve_whole(text, seconds, options):
     status = next((line[4] for line in values if line[:2] == ["s", "mip"]), "u")
     if status not in ("o", "f"):
         return None, status == "n"
-    found = {names["j", line[1]]: round(float(line[2])) for line in values if line[0] == "j"}
-    return {int(name[1:]): value for name, value in found.items() if name[0] == "x" and value}, status == "o"
+    return {names["j", line[1]]: float(line[2]) for line in values if line[0] == "j"}, status == "o"

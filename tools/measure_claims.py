@@ -1,5 +1,6 @@
 #!/usr/bin/env python3
 """Measures claim_from_solver.py on random meshes of every kind: measure_claims.py COUNT [--part PART] [--seconds S].
+With --only WORDS, only on those that are counted under these words, such as "61 to 100 nodes".
 
 A line for each mesh, then for each kind how many parts were made, how many within 0.1 % of the solver's optimum, and
 the middle and the worst distance from it, relative to it. Every claim goes through rows.py and, where it is built,
@@ -41,17 +42,16 @@ def words_of(kind, nodes):
     return ["all", kind.shape, kind.soils, kind.form, f"{kind.sides} sides", size, steps]
 
 
-def measured(kind, number, part, seconds):
-    """(nodes, field's distance, multipliers' distance), None for what wasn't made, or None where the mesh is no use."""
-    mesh_text, table = map(exact.text_of, random_mesh(kind, number))
-    mesh, rows = exact.judged_mesh(*exact.mesh_files(mesh_text, table))
+def measured(texts, mesh, rows, part, seconds):
+    """(field's distance, multipliers' distance, warnings), None for what wasn't made, or None where the mesh is no
+    use."""
     try:
         load = glpsol.solve(rows, 3 * len(mesh.nodes)).load
     except glpsol.NoOptimum:
         return None
     if abs(load) < NOTHING:
         return None
-    claim = claim_from_solver.make_claim(mesh, rows, part, seconds=seconds).claim
+    claim, _, warnings = claim_from_solver.make_claim(mesh, rows, part, seconds=seconds)
     away = [None, None]
     if claim.stresses:
         away[0] = claim_from_solver.distance(claim.l / claim.n, load)
@@ -59,8 +59,8 @@ def measured(kind, number, part, seconds):
         limit = claim_from_solver.whole_multipliers.limit(rows, claim.multipliers)
         away[1] = claim_from_solver.distance(float(limit), load)
     if claim.stresses or claim.multipliers:
-        claim_from_solver.checked(mesh_text, table, exact.text_of(exact.claim_lines(mesh, claim)))
-    return len(mesh.nodes), *away
+        claim_from_solver.checked(*texts, exact.text_of(exact.claim_lines(mesh, claim)))
+    return *away, warnings
 
 
 def told(distances):
@@ -76,18 +76,23 @@ def main():
     parser.add_argument("--part", choices=("field", "multipliers", "both"), default="both")
     parser.add_argument("--seconds", type=int, default=20)
     parser.add_argument("--first", type=int, default=0, help="the number of the first mesh")
+    parser.add_argument("--only", default="all", help="the words of the meshes that are measured")
     words = parser.parse_args()
     print("checked by", "rows.py and the archive" if archive.library() else "rows.py", flush=True)
     counted, left_out = {}, 0
     for number in range(words.first, words.first + words.count):
         kind, begun = kind_of(number), time.time()
-        found = measured(kind, number, words.part, words.seconds)
+        texts = [exact.text_of(lines) for lines in random_mesh(kind, number)]
+        mesh, rows = exact.judged_mesh(*exact.mesh_files(*texts))
+        kinds = words_of(kind, len(mesh.nodes))
+        found = measured(texts, mesh, rows, words.part, words.seconds) if words.only in kinds else None
         if found is None:
-            left_out += 1
+            left_out += words.only in kinds
             continue
-        print(number, *kind[:6], *kind.step, *found, f"{time.time() - begun:.0f} s", flush=True)
-        for word in words_of(kind, found[0]):
-            counted.setdefault(word, []).append(found[1:])
+        *away, warnings = found
+        print(number, *kind[:6], *kind.step, len(mesh.nodes), *away, f"{time.time() - begun:.0f} s", *warnings, flush=True)
+        for word in kinds:
+            counted.setdefault(word, []).append(away)
     print(f"\n{left_out} left out\n{'kind':20} meshes | field: made, near, middle, worst | multipliers: the same")
     for word, found in counted.items():
         print(f"{word:20} {len(found):6d} | {told([f for f, _ in found])} | {told([m for _, m in found])}")

@@ -222,12 +222,12 @@ class Motions:
         if not any(dm for _, dm, _ in self.moves):
             return None
         text = self.program_text(start, ratio, SMALLEST * scale, 50 * scale)
-        factors, _ = glpsol.solve_whole(text, seconds, options)
-        if factors is None:
+        values, _ = glpsol.solve_whole(text, seconds, options)
+        if values is None:
             return None
         vector = dict(start)
-        for i, q in factors.items():
-            add_multiple(vector, self.lattice.vectors[i], q)
+        for i, other in enumerate(self.lattice.vectors):
+            add_multiple(vector, other, round(values.get(f"x{i}", 0)))
         whole = self.finish(vector)
         return whole and (whole, vector)
 

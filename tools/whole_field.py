@@ -12,6 +12,7 @@ import math
 import glpsol
 import rows as exact
 from central_path import CentralPath
+from field_search import searched_field
 from lattice import Lattice, Measure, kernel
 from whole_numbers import Equalities, common_denominator
 
@@ -22,8 +23,10 @@ LARGEST_STRESS = exact.STRESS[-1]
 MARGINS = (1e-4, 3e-4, 1e-3, 3e-3, 1e-2, 3e-2)
 # Of the near way, gaps as parts of the load: the first, the smallest, and by how much the next one differs.
 FIRST_GAP, SMALLEST_GAP, STEP = 0.3, 1e-9, 1.5
+NO_GAP = 100  # a gap so wide that the load counts for little
 ERRORS = 1.5  # rounding errors, as a part of the room, of the first search
 TRIALS = 120  # roundings of one target
+PARTS = (1e-3, 3e-3, 1e-2, 3e-2, 0.1)  # how far from the optimum integer searches look, as parts of it
 FINE = 2.0**22  # the largest factor of a measure
 N_MOVES = 0.1  # how far rounding may move n, as a part of it
 USELESS = 0.1  # a field farther than this from the wanted one, relative to its load, is none
@@ -148,13 +151,13 @@ class FieldRounding:
         self.rows, self.columns = rows, 3 * len(mesh.nodes)
         strength = [(number, row) for number, row in enumerate(rows) if row.kind == "strength" and number not in tight]
         equal = asked_equalities(rows) + [rows[number] for number in sorted(tight)]
+        self.equations = equations_of(equal, self.columns)
         unknowns = range(self.columns + 2)
-        plain = Measure({k: {k: 1} for k in unknowns})
-        self.vectors = kernel(unknowns, equations_of(equal, self.columns), plain)
+        self.vectors = kernel(unknowns, self.equations, Measure({k: {k: 1} for k in unknowns}))
         box = max(LARGEST_STRESS / LARGEST_N, 2 * max(map(abs, solution.stresses)))
         self.path = CentralPath(self.columns, strength, self.vectors, box, margin)
         self.optimum, self.size = solution.load, max(abs(solution.load), 1e-9)
-        self.field, self.tight = self.path.inside(solution, self.weight(FIRST_GAP))
+        self.field, self.tight = self.path.inside(solution, self.weight(NO_GAP))
 
     def weight(self, gap):
         return self.path.count / (gap * self.size)
@@ -166,28 +169,71 @@ class FieldRounding:
         away = max(self.optimum - self.field.load, 1e-9 * self.size)
         measure, self.unit = measure_of(self.path, self.field, away)
         self.lattice = Lattice(self.vectors, measure)
+        self.vectors = self.lattice.vectors
         sizes = [LARGEST_STRESS / max(map(abs, self.field.stresses)), LARGEST_LOAD / max(abs(self.field.load), 1e-9)]
         self.top = 0.999 * min(LARGEST_N, *sizes)
+
+    def move_near(self, part):
+        """Goes to where the load is below the optimum by this part of it, or by less."""
+        gap = 1.0
+        self.move(gap)
+        while self.optimum - self.field.load > part * self.size:
+            gap /= 2
+            self.move(gap)
 
     def error(self):
         """What rounding moves a field by, where strength rows are met below 1 and a little above it."""
         return math.sqrt(sum(self.lattice.squares) / 12) / (self.unit * self.top)
 
-    def rounded(self, n):
-        """(n, l, stresses): a whole solution of the equality rows near n times the field."""
-        wanted = {k: n * value for k, value in enumerate([*self.field.stresses, self.field.load])}
-        wanted[self.columns + 1] = float(n)
+    def nearest(self, wanted):
+        """(n, l, stresses): a whole solution of the equality rows near these values of the unknowns."""
         whole = self.lattice.nearest(wanted)
         return whole.get(self.columns + 1, 0), whole.get(self.columns, 0), [whole.get(k, 0) for k in range(self.columns)]
 
+    def fits(self, field, best):
+        """The field is better than the best one and fits."""
+        return field[0] > 0 and better(field, best) and field_fits(self.rows, field)
+
     def search(self):
         """The best of the roundings at different n that fit, or None."""
-        best = None
+        best, values = None, [*self.field.stresses, self.field.load, 1.0]
         for trial in range(TRIALS):
-            field = self.rounded(self.top * (0.99 - 0.3 * trial / TRIALS))
-            if field[0] > 0 and better(field, best) and field_fits(self.rows, field):
+            n = self.top * (0.99 - 0.3 * trial / TRIALS)
+            field = self.nearest({k: n * value for k, value in enumerate(values)})
+            if self.fits(field, best):
                 best = field
         return best
+
+    def best_rounding(self):
+        """From where a few rounding errors are the room that there is, nearer to the optimum for as long as fields
+        fit, or farther from it until one does; or None."""
+        self.move(FIRST_GAP)
+        gap, best, nearer = FIRST_GAP * self.error() / ERRORS, None, None
+        while SMALLEST_GAP < gap < 1:
+            self.move(gap)
+            field = self.search()
+            if field and better(field, best):
+                best = field
+            nearer = bool(field) if nearer is None else nearer
+            if nearer != bool(field):
+                break
+            gap = gap / STEP if nearer else gap * STEP
+        return best
+
+    def searched(self, best, seconds):
+        """(field, how) by integer searches for fields farther and farther from the optimum, where the best one is
+        farther still."""
+        none = ""
+        for part in PARTS:
+            load = self.optimum - part * self.size
+            if best and best[1] >= load * best[0]:
+                break
+            self.move_near(part / 2)
+            field, ended = searched_field(self, self.equations, load, seconds)
+            if field and self.fits(field, best):
+                return field, "by an integer search" + none
+            none = f", which finds none within {100 * part:g} %" if ended and not field else none
+        return best, "rounded, after an integer search" + none if none else "rounded"
 
 
 def rounding_of(mesh, rows, solution, margin):
@@ -198,44 +244,38 @@ def rounding_of(mesh, rows, solution, margin):
     return rounding if rounding.field else None
 
 
-def near_field(mesh, rows, solution, margin=0.0):
-    """(field, how), or None: roundings from where a few rounding errors are the room that there is, then nearer to the
-    optimum for as long as fields fit, or farther from it until one does."""
+def near_field(mesh, rows, solution, margin=0.0, seconds=0):
+    """(field, how), or (None, why not)."""
     rounding = rounding_of(mesh, rows, solution, margin)
     if rounding is None:
-        return None
-    rounding.move(FIRST_GAP)
-    gap, best, nearer = FIRST_GAP * rounding.error() / ERRORS, None, None
-    while SMALLEST_GAP < gap < 1:
-        rounding.move(gap)
-        field = rounding.search()
-        if field and better(field, best):
-            best = field
-        nearer = bool(field) if nearer is None else nearer
-        if nearer != bool(field):
-            break
-        gap = gap / STEP if nearer else gap * STEP
-    return best and (best, "rounded with room in the strength rows")
+        return None, "there is no field with room in the strength rows"
+    best = rounding.best_rounding()
+    return rounding.searched(best, seconds) if seconds else (best, "rounded")
 
 
-def useful(made, load):
-    """What was made, or None and why not."""
-    if made is None:
-        return None, "no whole field within the limits was found near the optimum"
-    n, l, _ = made[0]
+def useful(field, how, load):
+    """(field, how), or (None, why not)."""
+    if field is None:
+        return None, f"no whole field within the limits was found near the optimum ({how})"
+    n, l, _ = field
     if abs(l / n - load) > USELESS * abs(load):
-        return None, f"the best that was found carries {l / n:.6g}, where {load:.6g} was wanted"
-    return made
+        return None, f"the best that was found carries {l / n:.6g}, where {load:.6g} was wanted ({how})"
+    return field, how
 
 
-def make_field(mesh, rows, solution, margin=0.0, near=True):
+def make_field(mesh, rows, solution, margin=0.0, seconds=0):
     """((n, l, stresses), how it was made), or (None, why not). solution: glpsol's, with strength rows tightened by
-    `margin`, a fraction of their right side."""
+    `margin`, a fraction of their right side; seconds: of each search, with 0 there is only the quick way."""
     field = vertex_field(rows, *solution[:2])
     if field:
         return field, "the vertex itself"
-    made = near and near_field(mesh, rows, solution, margin) or quick_field(rows, 3 * len(mesh.nodes), margin)
-    return useful(made, solution.load)
+    near = near_field(mesh, rows, solution, margin, seconds) if seconds else (None, "quick rounding")
+    if near[0] is None:
+        quick = quick_field(rows, 3 * len(mesh.nodes), margin)
+        made = quick and useful(*quick, solution.load)
+        if made and made[0]:
+            return made
+    return useful(*near, solution.load)
 
 
 def given_field(mesh, rows, solution):
@@ -243,4 +283,4 @@ def given_field(mesh, rows, solution):
     field = vertex_field(rows, *solution[:2])
     if field:
         return field, "the vertex itself"
-    return useful(near_field(mesh, rows, solution), solution.load)
+    return useful(*near_field(mesh, rows, solution), solution.load)
