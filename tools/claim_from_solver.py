@@ -101,7 +101,7 @@ class Maker:
         self.notes.append(f"{what} {load:.9g}, {where}{how}")
         if optimal and away > FAR:
             far = f"{100 * away:.2g} % {side} the solver's optimum, {optimum:.9g}"
-            self.warnings.append(f"{what} {load:.9g}: {far}")
+            self.warnings.append(f"{what} {load:.9g}: {far}{how}")
 
     def missing(self, part, why):
         self.notes.append(f"no {part}: {why}")

@@ -16,6 +16,7 @@ from fractions import Fraction
 import glpsol
 import rows as exact
 from lattice import Lattice, Measure, add_multiple, kernel
+from motion_program import MotionProgram, mixed_program
 from polygon_sides import side_table, step_basis, vector_multipliers
 
 SMALLEST = 0.02  # least m of a search, as a part of what the solver's optimum scales up to
@@ -25,7 +26,10 @@ FACTORS = (0, 0.7, 1.0, 1.4, 2.0, 3.0, 4.0, 6.0)  # what multipliers of sides ke
 # How many sides of a pair are unknowns, and whether pairs around those that deform have some too.
 CHOICES = ((4, False), (6, False), (9, False), (4, True), (6, True))
 MANY = 150  # a lattice of more vectors than this takes long: of these only the first is tried
+LEAST = (0.7, 0.2)  # least m of a search that rounds short vectors, as a part of what the optimum scales up to
+ROUNDED = (2.0, 4.0)  # what it keeps from the limits, in rounding errors
 IMPROVEMENTS = 3  # searches for something better than the best
+NEAR = 1e-4  # a limit so near to the optimum, relative to it, is good enough
 CHEAPLY = ["--pcost", "--bestp"]
 QUICKLY = ["--drtom", "--bestp", "--fpump"]
 
@@ -141,6 +145,14 @@ class Motions:
             wanted[self.name(pair, 1)] = (ax * vy - ay * vx) / (ax * by - ay * bx)
         return wanted
 
+    def length(self, wanted):
+        """Of real values of the unknowns."""
+        image = {}
+        for k, c in wanted.items():
+            for place, factor in self.image[k].items():
+                image[place] = image.get(place, 0.0) + c * factor
+        return math.hypot(*image.values())
+
     def nearest(self, target, scale):
         return self.lattice.nearest({k: scale * c for k, c in target.items()})
 
@@ -176,59 +188,20 @@ class Motions:
             result[begin : begin + self.mesh.sides] = y
         return result if multipliers_fit(self.rows, self.columns, result) else None
 
-    # The integer program
-
-    def vector_lines(self, start):
-        """(rows, bounds, costs) that make each V of real multipliers within the limits."""
-        lines, bounds, costs, steps = [], [], [], {}
-        _, _, vectors = self.effect(start)
-        for i, (_, _, changes) in enumerate(self.moves):
-            for pair, change in changes.items():
-                steps.setdefault(pair, []).append((i, change))
-        table = side_table(self.mesh.sides)
-        for pair, changes in steps.items():
-            at = vectors.get(pair, (0, 0))
-            costs += [f"{self.price[pair] * z:+d} y{pair}_{k}" for k, (_, z) in enumerate(table) if self.price[pair]]
-            for place in range(2):
-                terms = [f"{step[place]:+d} y{pair}_{k}" for k, (step, _) in enumerate(table) if step[place]]
-                terms += [f"{-change[place]:+d} x{i}" for i, change in changes if change[place]]
-                lines.append(f" {' '.join(terms)} = {at[place]}")
-            most = self.rows[self.first].limits[-1]
-            bounds += [f" 0 <= y{pair}_{k} <= {most}" for k in range(self.mesh.sides)]
-        return lines, bounds, costs
-
-    def program_text(self, start, ratio, low, high):
-        """Least W - ratio·m over start plus whole multiples of the basis vectors, low ≤ m ≤ high."""
-        _, m, _ = self.effect(start)
-        lines, bounds, costs = self.vector_lines(start)
-        costs = [f"{dw - ratio * dm:+.15g} x{i}" for i, (dw, dm, _) in enumerate(self.moves) if dw - ratio * dm] + costs
-        entries = {}
-        for i, vector in enumerate(self.lattice.vectors):
-            for k, c in vector.items():
-                if k < len(self.rows):
-                    entries.setdefault(k, []).append(f"{c:+d} x{i}")
-        for k, terms in entries.items():
-            limits = self.rows[k].limits
-            lines.append(f" {' '.join(terms)} >= {limits[0] - start.get(k, 0)}")
-            lines.append(f" {' '.join(terms)} <= {limits[-1] - start.get(k, 0)}")
-        terms = " ".join(f"{dm:+d} x{i}" for i, (_, dm, _) in enumerate(self.moves) if dm)
-        lines += [f" {terms} >= {low - m:.15g}", f" {terms} <= {high - m:.15g}"]
-        names = [f" x{i}" for i in range(len(self.moves))]
-        parts = ["Minimize", " cost: " + "\n ".join(costs or ["0 x0"]), "Subject To", *lines, "Bounds"]
-        return "\n".join(parts + [name + " free" for name in names] + bounds + ["General", *names, "End", ""])
+    # Searches
 
     def search(self, start, ratio, scale, seconds, options):
         """(claim's multipliers, lattice vector) with W - ratio·m as low as is found in time, or None. m isn't tiny."""
-        if not any(dm for _, dm, _ in self.moves):
-            return None
-        text = self.program_text(start, ratio, SMALLEST * scale, 50 * scale)
-        values, _ = glpsol.solve_whole(text, seconds, options)
-        if values is None:
-            return None
-        vector = dict(start)
-        for i, other in enumerate(self.lattice.vectors):
-            add_multiple(vector, other, round(values.get(f"x{i}", 0)))
-        whole = self.finish(vector)
+        vector = MotionProgram(self, start).solve(ratio, SMALLEST * scale, 50 * scale, seconds, options)
+        whole = vector and self.finish(vector)
+        return whole and (whole, vector)
+
+    def mixed(self, multipliers, ratio, scale, part, margin, seconds):
+        """The same, from nothing, with the short vectors rounded; m is this part of the largest at least."""
+        wanted = {k: scale * c for k, c in self.target(multipliers).items()}
+        program = mixed_program(self, wanted, margin)
+        vector = program.solve(ratio, part * scale, 50 * scale, seconds)
+        whole = vector and self.finish(vector)
         return whole and (whole, vector)
 
 
@@ -285,12 +258,12 @@ class Finder:
         return sided
 
     def motions(self):
-        """(lattice, sides of a pair) of each choice that is worth a try."""
+        """(lattice, sides of a pair, wide) of each choice that is worth a try."""
         equality = sum(row.fixed for row in self.rows[: self.first])
         for choice in CHOICES if self.around - self.free else CHOICES[:1]:
             sided = self.sided(*choice)
             if choice == CHOICES[0] or equality + 2 * len(self.free) + len(sided) - self.columns <= MANY:
-                yield Motions(self.mesh, self.rows, self.multipliers, self.free, sided), choice[0]
+                yield Motions(self.mesh, self.rows, self.multipliers, self.free, sided), *choice
 
     def keep(self, found, how):
         """Keeps what was found if it is the best; says whether it is."""
@@ -301,7 +274,7 @@ class Finder:
 
     def rounded(self):
         """(multipliers, how) by rounding the solver's own, or None."""
-        for motions, _ in self.motions():
+        for motions, *_ in self.motions():
             self.keep(motions.rounded(self.multipliers), "rounded in the lattice")
         return self.best
 
@@ -326,6 +299,17 @@ class Finder:
         self.keep(best, how)
         return best
 
+    def mixed(self, motions, found, seconds):
+        """The best of what was found and of searches for the long vectors' multiples alone, with rounded short ones."""
+        for part in LEAST:
+            for margin in ROUNDED:
+                other = motions.mixed(self.multipliers, self.solution.load, self.scale, part, margin, seconds)
+                if other:
+                    self.keep(other, "whole search of long vectors")
+                    found = min(filter(None, (found, other)), key=lambda pair: limit(self.rows, pair[0]))
+                    break
+        return found
+
     def improve(self, motions, found, seconds):
         """Searches for lower W/m, from what was found or else from the nearest whole solution."""
         load = self.solution.load
@@ -342,7 +326,12 @@ class Finder:
 
     def search(self, seconds):
         """(multipliers, how they were found), or None."""
-        tried = [(motions, self.round_with_room(motions, count)) for motions, count in self.motions()]
+        tried, near = [], self.solution.load + NEAR * abs(self.solution.load)
+        for motions, count, wide in self.motions():
+            found = self.round_with_room(motions, count)
+            tried.append((motions, found if wide else self.mixed(motions, found, seconds)))
+            if self.best and limit(self.rows, self.best[0]) <= near:
+                return self.best
         ranked = sorted(tried, key=lambda pair: limit(self.rows, pair[1][0]) if pair[1] else math.inf)
         for motions, found in ranked[:1] if self.best else ranked:
             self.improve(motions, found, seconds)

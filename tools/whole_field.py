@@ -4,8 +4,9 @@ The equality rows hold exactly or not at all, so rounding must not disturb any. 
 - the optimum itself, where its fractions are short;
 - the quick one: strength tightened by one in ten thousand, free unknowns rounded, dependent ones following;
 - the near one: stresses, l and n are unknowns of the equality rows, which are homogeneous in them, so whole solutions
-  form a lattice. A short basis of it rounds the solver's field; strength rows are tightened beforehand by what
-  rounding moves them."""
+  form a lattice. It rounds a field in the middle of those near the optimum (central_path.py), in a basis that is short
+  as the room of the strength rows there measures it; where that gives none within 0.1 %, an integer search looks for
+  one (field_search.py)."""
 
 import math
 
@@ -19,7 +20,7 @@ from whole_numbers import Equalities, common_denominator
 LARGEST_N = exact.CLAIM_HEADER[2][-1]
 LARGEST_LOAD = exact.CLAIM_HEADER[3][-1]
 LARGEST_STRESS = exact.STRESS[-1]
-# Margins that are tried: of the quick way as fractions of the right side, of the near one in rounding errors.
+# Margins that the quick way tries, as fractions of the right side.
 MARGINS = (1e-4, 3e-4, 1e-3, 3e-3, 1e-2, 3e-2)
 # Of the near way, gaps as parts of the load: the first, the smallest, and by how much the next one differs.
 FIRST_GAP, SMALLEST_GAP, STEP = 0.3, 1e-9, 1.5
@@ -188,7 +189,8 @@ class FieldRounding:
     def nearest(self, wanted):
         """(n, l, stresses): a whole solution of the equality rows near these values of the unknowns."""
         whole = self.lattice.nearest(wanted)
-        return whole.get(self.columns + 1, 0), whole.get(self.columns, 0), [whole.get(k, 0) for k in range(self.columns)]
+        *stresses, l, n = (whole.get(k, 0) for k in range(self.columns + 2))
+        return n, l, stresses
 
     def fits(self, field, best):
         """The field is better than the best one and fits."""
@@ -233,7 +235,7 @@ class FieldRounding:
             if field and self.fits(field, best):
                 return field, "by an integer search" + none
             none = f", which finds none within {100 * part:g} %" if ended and not field else none
-        return best, "rounded, after an integer search" + none if none else "rounded"
+        return best, "rounded, beside an integer search" + none if none else "rounded"
 
 
 def rounding_of(mesh, rows, solution, margin):
@@ -256,7 +258,7 @@ def near_field(mesh, rows, solution, margin=0.0, seconds=0):
 def useful(field, how, load):
     """(field, how), or (None, why not)."""
     if field is None:
-        return None, f"no whole field within the limits was found near the optimum ({how})"
+        return None, f"no whole field within the limits was found near the optimum: {how}"
     n, l, _ = field
     if abs(l / n - load) > USELESS * abs(load):
         return None, f"the best that was found carries {l / n:.6g}, where {load:.6g} was wanted ({how})"

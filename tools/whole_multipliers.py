@@ -10,14 +10,13 @@ import math
 
 import glpsol
 import rows as exact
-from multiplier_search import Finder, largest_scale, limit, multipliers_fit
+from multiplier_search import NEAR, Finder, largest_scale, limit, multipliers_fit
 from polygon_sides import node_multipliers
 from whole_numbers import Equalities, common_denominator
 
 SPREADS = (1e-8, 1e-7, 3e-7, 1e-6, 3e-6, 1e-5, 3e-5, 1e-4, 3e-4, 1e-3)
 FILLINGS = (0.95, 0.8, 0.6, 0.4, 0.2)
 USELESS = 1.0  # multipliers whose limit is farther than this from the optimum, relative to it, are none
-NEAR = 1e-5  # a limit so near to the optimum, relative to it, is not searched for a better one
 
 
 def vertex_multipliers(rows, columns, multipliers):
