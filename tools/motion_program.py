@@ -66,32 +66,43 @@ class MotionProgram:
         return "\n".join(parts + [name + " free" for name in self.names] + bounds + ["General", *whole, "End", ""])
 
     def solve(self, ratio, low, high, seconds, options=()):
-        """A lattice vector, or None where none is found in time."""
-        if not any(dm for _, dm, _ in self.moves):
-            return None
-        values, _ = glpsol.solve_whole(self.text(ratio, low, high), seconds, options)
+        """(a lattice vector, real values of the short vectors' part), or None, and whether the search came to its
+        end."""
+        values, ended = glpsol.solve_whole(self.text(ratio, low, high), seconds, options)
         if values is None:
-            return None
+            return None, ended
         vector, wanted = dict(self.start), {}
         for i, other in enumerate(self.vectors):
             multiple = values.get(f"x{i}", 0.0)
             add_multiple(*((vector, other, round(multiple)) if i >= self.first else (wanted, other, multiple)))
-        add_multiple(vector, self.motions.lattice.nearest(wanted), 1)
-        return vector
+        return (vector, wanted), ended
+
+    def rounded(self, vector, wanted):
+        """The lattice vector with its short part rounded."""
+        result = dict(vector)
+        add_multiple(result, self.motions.lattice.nearest(wanted), 1)
+        return result
+
+
+def useful_vectors(motions, size):
+    """How many vectors at the beginning of the basis can be part of multipliers of this length."""
+    squares = motions.lattice.squares
+    return max((i + 1 for i, square in enumerate(squares) if square <= (USELESS * size) ** 2), default=0)
+
+
+def moves_load(motions, wanted):
+    """Whether any of these vectors has an m: else there are no multipliers as the wanted ones."""
+    return any(dm for _, dm, _ in motions.moves[: useful_vectors(motions, motions.length(wanted))])
 
 
 def mixed_program(motions, wanted, margin):
     """The program whose short vectors are real. wanted: the solver's multipliers as unknowns of the lattice, scaled
     into the limits; margin: in what rounding moves a multiplier by, root mean square."""
-    lattice, size = motions.lattice, motions.length(wanted)
-    lengths = [math.sqrt(square) for square in lattice.squares]
-    count = len(lengths)
-    while count and lengths[count - 1] > USELESS * size:
-        count -= 1
-    first = 0
-    while first < count - 1 and lengths[first] <= SHORT * size / math.sqrt(len(lengths)):
+    squares, size = motions.lattice.squares, motions.length(wanted)
+    count, first = useful_vectors(motions, size), 0
+    while first < count - 1 and squares[first] * len(squares) <= (SHORT * size) ** 2:
         first += 1
-    images, margins = lattice.orthogonal_images()[:first], {}
+    images, margins = motions.lattice.orthogonal_images()[:first], {}
     for k in (k for k in motions.image if k < len(motions.rows)):
         moved = math.hypot(*(image.get(k, 0.0) for image in images)) / motions.image[k][k]
         margins[k] = margin * moved / math.sqrt(12)

@@ -16,19 +16,22 @@ from fractions import Fraction
 import glpsol
 import rows as exact
 from lattice import Lattice, Measure, add_multiple, kernel
-from motion_program import MotionProgram, mixed_program
+from motion_program import MotionProgram, mixed_program, moves_load
 from polygon_sides import side_table, step_basis, vector_multipliers
 
 SMALLEST = 0.02  # least m of a search, as a part of what the solver's optimum scales up to
 USED = 1e-7  # a multiplier above this part of the largest is in use
+IN_USE = 1e-5  # the same in a search's solution
 ROUNDINGS = [1 - k / 100 for k in range(40)]  # how much of the limits roundings take
 FACTORS = (0, 0.7, 1.0, 1.4, 2.0, 3.0, 4.0, 6.0)  # what multipliers of sides keep above 0, in rounding errors
 # How many sides of a pair are unknowns, and whether pairs around those that deform have some too.
 CHOICES = ((4, False), (6, False), (9, False), (4, True), (6, True))
 MANY = 150  # a lattice of more vectors than this takes long: of these only the first is tried
-LEAST = (0.7, 0.2)  # least m of a search that rounds short vectors, as a part of what the optimum scales up to
-ROUNDED = (2.0, 4.0)  # what it keeps from the limits, in rounding errors
+LARGEST = 50  # the largest m, as the same part
+LEAST = 0.2  # least m of a search that rounds short vectors, as the same part
+MARGINS = (2.0, 4.0)  # what it keeps from the limits, in rounding errors
 IMPROVEMENTS = 3  # searches for something better than the best
+RULED_OUT = "whole multipliers are too long: an integer search finds none within the limits"
 NEAR = 1e-4  # a limit so near to the optimum, relative to it, is good enough
 CHEAPLY = ["--pcost", "--bestp"]
 QUICKLY = ["--drtom", "--bestp", "--fpump"]
@@ -145,6 +148,9 @@ class Motions:
             wanted[self.name(pair, 1)] = (ax * vy - ay * vx) / (ax * by - ay * bx)
         return wanted
 
+    def wanted(self, multipliers, scale):
+        return {k: scale * c for k, c in self.target(multipliers).items()}
+
     def length(self, wanted):
         """Of real values of the unknowns."""
         image = {}
@@ -192,17 +198,29 @@ class Motions:
 
     def search(self, start, ratio, scale, seconds, options):
         """(claim's multipliers, lattice vector) with W - ratio·m as low as is found in time, or None. m isn't tiny."""
-        vector = MotionProgram(self, start).solve(ratio, SMALLEST * scale, 50 * scale, seconds, options)
-        whole = vector and self.finish(vector)
-        return whole and (whole, vector)
+        found, _ = MotionProgram(self, start).solve(ratio, SMALLEST * scale, LARGEST * scale, seconds, options)
+        whole = found and self.finish(found[0])
+        return whole and (whole, found[0])
 
-    def mixed(self, multipliers, ratio, scale, part, margin, seconds):
-        """The same, from nothing, with the short vectors rounded; m is this part of the largest at least."""
-        wanted = {k: scale * c for k, c in self.target(multipliers).items()}
-        program = mixed_program(self, wanted, margin)
-        vector = program.solve(ratio, part * scale, 50 * scale, seconds)
-        whole = vector and self.finish(vector)
-        return whole and (whole, vector)
+    def real(self, multipliers, ratio, scale, seconds):
+        """Multipliers whose short vectors have real multiples, as unknowns of the lattice, or None; and whether the
+        search for them came to its end."""
+        program = mixed_program(self, self.wanted(multipliers, scale), 0.0)
+        found, ended = program.solve(ratio, LEAST * scale, LARGEST * scale, seconds)
+        if found:
+            add_multiple(found[1], found[0], 1)
+        return found and found[1], ended
+
+    def mixed(self, wanted, ratio, scale, seconds):
+        """The same as `search` from nothing, with the short vectors rounded."""
+        for margin in MARGINS:
+            program = mixed_program(self, wanted, margin)
+            found, _ = program.solve(ratio, LEAST * scale, LARGEST * scale, seconds)
+            vector = found and program.rounded(*found)
+            whole = vector and self.finish(vector)
+            if whole:
+                return whole, vector
+        return None
 
 
 def neighbourhood(mesh, nodes):
@@ -258,12 +276,17 @@ class Finder:
         return sided
 
     def motions(self):
-        """(lattice, sides of a pair, wide) of each choice that is worth a try."""
-        equality = sum(row.fixed for row in self.rows[: self.first])
+        """(lattice, sides of a pair) of each choice that is worth a try."""
+        equality, tried = sum(row.fixed for row in self.rows[: self.first]), []
         for choice in CHOICES if self.around - self.free else CHOICES[:1]:
             sided = self.sided(*choice)
+            if sided in tried:
+                continue
+            tried.append(sided)
             if choice == CHOICES[0] or equality + 2 * len(self.free) + len(sided) - self.columns <= MANY:
-                yield Motions(self.mesh, self.rows, self.multipliers, self.free, sided), *choice
+                motions = Motions(self.mesh, self.rows, self.multipliers, self.free, sided)
+                if moves_load(motions, motions.wanted(self.multipliers, self.scale)):
+                    yield motions, choice[0]
 
     def keep(self, found, how):
         """Keeps what was found if it is the best; says whether it is."""
@@ -299,16 +322,23 @@ class Finder:
         self.keep(best, how)
         return best
 
-    def mixed(self, motions, found, seconds):
-        """The best of what was found and of searches for the long vectors' multiples alone, with rounded short ones."""
-        for part in LEAST:
-            for margin in ROUNDED:
-                other = motions.mixed(self.multipliers, self.solution.load, self.scale, part, margin, seconds)
-                if other:
-                    self.keep(other, "whole search of long vectors")
-                    found = min(filter(None, (found, other)), key=lambda pair: limit(self.rows, pair[0]))
-                    break
-        return found
+    def beside(self, real):
+        """The strength rows in use, and those of the sides next to them."""
+        sided, sides = set(), self.mesh.sides
+        strength = {k: y for k, y in real.items() if self.first <= k < len(self.rows)}
+        least = IN_USE * max(strength.values(), default=0.0)
+        for k in (k for k, y in strength.items() if y > least):
+            begin, side = k - (k - self.first) % sides, (k - self.first) % sides
+            sided.update(begin + (side + more) % sides for more in (-1, 0, 1))
+        return sided
+
+    def search_beside(self, real, seconds):
+        """From multipliers with real multiples: (lattice of the sides in use and those beside them, what was found)."""
+        motions = Motions(self.mesh, self.rows, self.multipliers, self.free, self.beside(real))
+        wanted = {k: real.get(k, 0.0) for k in motions.image}
+        found = motions.mixed(wanted, self.solution.load, self.scale, seconds)
+        self.keep(found, "whole search of long vectors")
+        return motions, found
 
     def improve(self, motions, found, seconds):
         """Searches for lower W/m, from what was found or else from the nearest whole solution."""
@@ -325,16 +355,21 @@ class Finder:
                 break
 
     def search(self, seconds):
-        """(multipliers, how they were found), or None."""
-        tried, near = [], self.solution.load + NEAR * abs(self.solution.load)
-        for motions, count, wide in self.motions():
-            found = self.round_with_room(motions, count)
-            tried.append((motions, found if wide else self.mixed(motions, found, seconds)))
-            if self.best and limit(self.rows, self.best[0]) <= near:
+        """(multipliers, how they were found), or (None, why not)."""
+        tried, none = [], True
+        for motions, count in self.motions():
+            real, ended = motions.real(self.multipliers, self.solution.load, self.scale, seconds)
+            none = none and ended and not real
+            if ended and not real:
+                continue
+            tried.append((motions, self.round_with_room(motions, count)))
+            if real and motions.sided:
+                tried.append(self.search_beside(real, seconds))
+            if self.best and limit(self.rows, self.best[0]) <= self.solution.load + NEAR * abs(self.solution.load):
                 return self.best
         ranked = sorted(tried, key=lambda pair: limit(self.rows, pair[1][0]) if pair[1] else math.inf)
         for motions, found in ranked[:1] if self.best else ranked:
             self.improve(motions, found, seconds)
             if self.best:
                 break
-        return self.best
+        return self.best or (None, RULED_OUT if none else "neither rounding nor a search found any within the limits")

@@ -23,9 +23,10 @@ LARGEST_STRESS = exact.STRESS[-1]
 # Margins that the quick way tries, as fractions of the right side.
 MARGINS = (1e-4, 3e-4, 1e-3, 3e-3, 1e-2, 3e-2)
 # Of the near way, gaps as parts of the load: the first, the smallest, and by how much the next one differs.
-FIRST_GAP, SMALLEST_GAP, STEP = 0.3, 1e-9, 1.5
+FIRST_GAP, SMALLEST_GAP, STEP = 0.3, 1e-9, 1.3
 NO_GAP = 100  # a gap so wide that the load counts for little
-ERRORS = 1.5  # rounding errors, as a part of the room, of the first search
+MOVES = 3  # towards the first gap that is searched
+ERRORS = 1.5  # rounding errors there, as a part of the room
 TRIALS = 120  # roundings of one target
 PARTS = (1e-3, 3e-3, 1e-2, 3e-2, 0.1)  # how far from the optimum integer searches look, as parts of it
 FINE = 2.0**22  # the largest factor of a measure
@@ -206,12 +207,18 @@ class FieldRounding:
                 best = field
         return best
 
+    def first_gap(self):
+        """Where rounding errors take up as much of the room as roundings can."""
+        gap = FIRST_GAP
+        for _ in range(MOVES):
+            self.move(gap)
+            gap = min(1.0, max(SMALLEST_GAP, gap * self.error() / ERRORS))
+        return gap
+
     def best_rounding(self):
-        """From where a few rounding errors are the room that there is, nearer to the optimum for as long as fields
-        fit, or farther from it until one does; or None."""
-        self.move(FIRST_GAP)
-        gap, best, nearer = FIRST_GAP * self.error() / ERRORS, None, None
-        while SMALLEST_GAP < gap < 1:
+        """From there nearer to the optimum for as long as fields fit, or farther from it until one does; or None."""
+        gap, best, nearer = self.first_gap(), None, None
+        while SMALLEST_GAP <= gap <= 1:
             self.move(gap)
             field = self.search()
             if field and better(field, best):
@@ -223,17 +230,19 @@ class FieldRounding:
         return best
 
     def searched(self, best, seconds):
-        """(field, how) by integer searches for fields farther and farther from the optimum, where the best one is
-        farther still."""
-        none = ""
-        for part in PARTS:
+        """(field, how): where the best one is farther than 0.1 % from the optimum, by integer searches for fields
+        farther and farther, as far as the best one."""
+        none, reached = "", best and best[1] >= (self.optimum - PARTS[0] * self.size) * best[0]
+        for part in () if reached else PARTS:
             load = self.optimum - part * self.size
-            if best and best[1] >= load * best[0]:
-                break
-            self.move_near(part / 2)
+            reached = best and best[1] >= load * best[0]
+            load = best[1] / best[0] if reached else load
+            self.move_near((self.optimum - load) / (2 * self.size))
             field, ended = searched_field(self, self.equations, load, seconds)
             if field and self.fits(field, best):
                 return field, "by an integer search" + none
+            if reached:
+                break
             none = f", which finds none within {100 * part:g} %" if ended and not field else none
         return best, "rounded, beside an integer search" + none if none else "rounded"
 

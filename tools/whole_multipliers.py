@@ -131,8 +131,8 @@ def quick_multipliers(mesh, rows, spread, tries):
 
 def useful(rows, made, load):
     """What was made, or None and why not."""
-    if made is None:
-        return None, "neither rounding nor a search found any within the limits"
+    if made[0] is None:
+        return made
     if limit(rows, made[0]) > load + USELESS * abs(load):
         return None, f"the best that were found allow {float(limit(rows, made[0])):.6g}, more than twice the optimum"
     return made
@@ -143,7 +143,9 @@ def near_multipliers(mesh, rows, solution, seconds, best):
     if best and limit(rows, best[0]) <= solution.load + NEAR * abs(solution.load):
         return best
     found = Finder(mesh, rows, solution).search(seconds)
-    return min(filter(None, (best, found)), key=lambda pair: limit(rows, pair[0]), default=None)
+    if not best or not found[0]:
+        return best or found
+    return min(best, found, key=lambda pair: limit(rows, pair[0]))
 
 
 def make_multipliers(mesh, rows, solution, spread=0.0, tries=0, seconds=0):
@@ -165,5 +167,6 @@ def given_multipliers(mesh, rows, solution):
         return whole, "the vertex itself"
     quick = filled_multipliers(mesh, rows, solution.multipliers, 0)
     found = quick and (quick[1], f"rounded, filling {quick[0]:g}"), Finder(mesh, rows, solution).rounded()
-    best = min(filter(None, found), key=lambda pair: limit(rows, pair[0]), default=None)
+    none = None, "rounding found none within the limits"
+    best = min(filter(None, found), key=lambda pair: limit(rows, pair[0]), default=none)
     return useful(rows, best, solution.load)
