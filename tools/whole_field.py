@@ -179,7 +179,7 @@ class FieldRounding:
         """Goes to where the load is below the optimum by this part of it, or by less."""
         gap = 1.0
         self.move(gap)
-        while self.optimum - self.field.load > part * self.size:
+        while self.optimum - self.field.load > part * self.size and gap > SMALLEST_GAP:
             gap /= 2
             self.move(gap)
 
