@@ -1,6 +1,6 @@
 //! The sheets that are timed: their bytes and numbers, and the claim over and over for a run.
 
-use independent::sheet::{read, Files, Lists, Sheet};
+use independent::sheet::{Files, Lists, Sheet};
 
 /// The claims of a run.
 pub const CLAIMS: usize = 50;
@@ -35,11 +35,7 @@ impl Timed {
             table: part("table").unwrap_or_default(),
             claim: part("claim").expect("a claim"),
         };
-        let lists = Lists {
-            mesh: read(&files.mesh).concat(),
-            table: read(&files.table).concat(),
-            claim: read(&files.claim).concat(),
-        };
+        let lists = files.sheet().expect("a sheet's numbers").lists();
         Timed::new(name, files, lists)
     }
 
