@@ -1,7 +1,7 @@
 -- After a column's bytes what is kept says exactly what the column spells: by induction on the bytes that follow, from
 -- each phase.
 use mathlib.Core.Path.{◌≡◌, refl, sym, ap, subst, ◌∙◌}
-use mathlib.Core.Bool.{Bool, true, false, false≢true, cond, ◌&&◌}
+use mathlib.Core.Bool.{Bool, true, false, cond}
 use mathlib.Core.List.{List, [], ◌∷◌, ◌++◌}
 use mathlib.Core.Option.{none, some, map}
 use Prim.Native.Nat.{ℕ, zero, suc, ◌+◌, ◌*◌, ◌-◌, ◌/◌, ◌%◌, ◌^◌, ◌≤◌, ◌<◌}
@@ -22,7 +22,7 @@ use Rattle.std.specs.Prelude.{Option as Answer}
 use Rattle.reader.specs.Spelling.{unsigned, negated, signed, read_column}
 use Rattle.reader.specs.File.{file_width}
 use Rattle.reader.specs.OnePass.{Phase, bad, blank, sign, nought, up, down, turn, digit_of, phase_after, value_over}
-use Rattle.reader.specs.OnePass.{meant, shift, Table, Stepped, Said, After, Partway, OnlySpaces, reading_of}
+use Rattle.reader.specs.OnePass.{meant, shift, Table, Stepped, Said, After, Partway, OnlySpaces, StandAt, reading_of}
 use Rattle.reader.specs.OnePass.{value_bound, InOnePass}
 
 -- ---- from each phase, the bytes that follow
@@ -306,24 +306,62 @@ module _ {bs : List ℕ} {i : ℕ} {c : Kept} (h : Partway bs i c) where
   pub part_last : {r : Answer ℤ} → length bs ≤ i → Said c r → r ≡ reading_of (read_column bs)
   part_last {r} l s = read_all bs c r (rw take_all at h.state) s
 
--- a space after spaces
-pub blank_stepped : {b : ℕ} → b ≡ 32 → Stepped (record { phase = 6; value = 0 }) b (record { phase = 6; value = 0 })
-unfolding turn digit_of shift is_digit
-blank_stepped e = rw e (record { phase = by; below = omega arith; value = refl })
+-- one byte after spaces
+after_spaces : {b : ℕ} {r : Kept} → r.phase ≡ shift (turn blank b) → r.value ≡ digit_of b
+    → Stepped (record { phase = 6; value = 0 }) b r
+unfolding shift
+after_spaces {b} {r} p v = record { phase = by; below = rw p (shift_below (turn blank b)); value = omega arith }
   where
-    by : (p : Phase) → 6 ≡ shift p → 6 ≡ shift (turn p 32)
+    by : (q : Phase) → 6 ≡ shift q → r.phase ≡ shift (turn q b)
     by bad e = absurd (omega arith)
-    by blank e = refl
+    by blank e = p
     by sign e = absurd (omega arith)
     by nought e = absurd (omega arith)
     by up e = absurd (omega arith)
     by down e = absurd (omega arith)
 
--- one byte more, where the flag says that it too is a space
-pub spaces_next : {bs : List ℕ} {i b : ℕ} (t : Bool) → (t ≡ true → OnlySpaces bs i) → i < file_width → i < length bs
-    → b ≡ get_or bs i 0 → t && eqb b 32 ≡ true → OnlySpaces bs (i + 1)
-spaces_next {b = b} true h m l e s = part_next (h refl) m l e (blank_stepped (eqb-true b 32 s))
-spaces_next false h m l e s = absurd (false≢true s)
+space_stepped : Stepped (record { phase = 6; value = 0 }) 32 (record { phase = 6; value = 0 })
+unfolding turn digit_of shift is_digit
+space_stepped = after_spaces refl refl
+
+zero_stepped : Stepped (record { phase = 6; value = 0 }) 48 (record { phase = 18; value = 0 })
+unfolding turn digit_of shift is_digit
+zero_stepped = after_spaces refl refl
+
+-- ---- a block after spaces
+
+module _ {bs : List ℕ} {i : ℕ} (h : OnlySpaces bs i) (l : length bs ≡ file_width) where
+  spaces_more : (n : ℕ) → i + n ≤ file_width → ((k : ℕ) → k < n → get_or bs (i + k) 0 ≡ 32) → OnlySpaces bs (i + n)
+  spaces_more zero m e = rw add-zero h
+  spaces_more (suc n) m e =
+      let s = spaces_more n (omega arith) (λ k lt. e k (omega arith)) in
+      rw (add-suc i n, ← add-one (i + n))
+      (part_next s (omega arith) (omega arith) (sym (e n (omega arith))) space_stepped)
+
+  module _ {b : ℕ} (m : i + 4 ≤ file_width) (e : StandAt bs i (32 ∷ 32 ∷ 32 ∷ b ∷ [])) where
+    three_spaces : OnlySpaces bs (i + 3)
+    three_spaces = spaces_more 3 (omega arith) (λ k lt. e k (omega arith) ∙ space k lt)
+      where
+        space : (k : ℕ) → k < 3 → get_or {A = ℕ} (32 ∷ 32 ∷ 32 ∷ b ∷ []) k 0 ≡ 32
+        space zero lt = refl
+        space (suc zero) lt = refl
+        space (suc (suc zero)) lt = refl
+        space (suc (suc (suc k))) lt = absurd (omega arith)
+
+    fourth : {c : Kept} → Stepped (record { phase = 6; value = 0 }) b c → Partway bs (i + 4) c
+    fourth s =
+        let f : i + 4 ≡ i + 3 + 1 = omega arith in
+        rw f (part_next three_spaces (omega arith) (omega arith) (sym (e 3 (omega arith))) s)
+
+  pub spaces_block : i + 4 ≤ file_width → StandAt bs i (32 ∷ 32 ∷ 32 ∷ 32 ∷ []) → OnlySpaces bs (i + 4)
+  spaces_block m e = fourth m e space_stepped
+
+  -- the last block, a zero alone
+  pub zero_block : i + 4 ≡ file_width → StandAt bs i (32 ∷ 32 ∷ 32 ∷ 48 ∷ [])
+      → Some (pos 0) ≡ reading_of (read_column bs)
+  zero_block m e =
+      part_last (fourth (omega arith) e zero_stepped) (omega arith)
+      (said_up _ (pos 0) (omega arith) (λ d. omega arith) refl)
 
 -- ---- the promise
 

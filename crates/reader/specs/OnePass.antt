@@ -1,7 +1,7 @@
 -- A column read in one pass, each byte taken once, front to back: what is kept after some of its bytes, and how the
 -- program keeps it.
 use Rattle.std.specs.Prelude.{◌≡◌, refl, true, false, cond, List, [], ◌∷◌, ◌++◌, ℕ, ◌+◌, ◌*◌, ◌-◌, ◌/◌, ◌%◌, ◌^◌, ◌≤◌}
-use Rattle.std.specs.Prelude.{◌<◌, eqb, ℤ, pos, negsuc, neg_ℤ, length, get_or, take, Some, None}
+use Rattle.std.specs.Prelude.{◌<◌, eqb, ℤ, pos, negsuc, neg_ℤ, length, get_or, take, EachIndex, Some, None}
 use Rattle.std.specs.Prelude.{Option as Answer}
 use Rattle.std.proofs.Math.Option.{Option, none, some}
 use Rattle.integer.specs.Decimal.{digits_within, digits, right_justified, is_digit}
@@ -125,3 +125,7 @@ pub record Partway (bs : List ℕ) (i : ℕ) (c : Kept) : Type 0 where
 -- the first i bytes of the column bs are spaces, so that nothing is kept of them
 abbrev pub OnlySpaces : List ℕ → ℕ → Type 0
 OnlySpaces bs i = Partway bs i (record { phase = 6; value = 0 })
+
+-- the bytes us stand in the column bs from its byte i on
+abbrev pub StandAt : List ℕ → ℕ → List ℕ → Type 0
+StandAt bs i us = EachIndex us (λ k. get_or bs (i + k) 0 ≡ get_or us k 0)

@@ -1,18 +1,22 @@
 // A column's bytes, taken once each, front to back, into a state of fixed size that copies none of them.
-ghost use Rattle.std.specs.Prelude.{◌≡◌, ◌<◌, ◌≤◌, length, cond, is_some};
+ghost use Rattle.std.specs.Prelude.{◌≡◌, ◌+◌, ◌<◌, ◌≤◌, length, cond, is_some, MatchOption};
 ghost use Rattle.std.proofs.Math.Option.{none, some};
 ghost use Rattle.lines.specs.Table.{most_columns};
 ghost use Rattle.reader.specs.Spelling.{read_column};
 ghost use Rattle.reader.specs.File.{file_width, read_line};
-ghost use Rattle.reader.specs.OnePass.{Table, value_bound, Stepped, Said, Partway, OnlySpaces, reading_of};
+ghost use Rattle.reader.specs.OnePass.{Table, value_bound, Stepped, Said, Partway, OnlySpaces, StandAt, reading_of};
 
-// The bytes of a column.
+// The bytes of a column, of each of its three blocks, and the place of the last block.
 pub const COLUMN_BYTES: usize = 12;
 
-// The place of the last of them, and how many come before those of a number of up to four bytes.
-const LAST_BYTE: usize = COLUMN_BYTES - 1;
+const BLOCK_BYTES: usize = 4;
 
-const FRONT_BYTES: usize = COLUMN_BYTES - 4;
+const LAST_BLOCK: usize = COLUMN_BYTES - BLOCK_BYTES;
+
+// The bytes that most blocks have: those of the spaces before a number, and those of a zero in the last block.
+const SPACES: [u8; BLOCK_BYTES] = [32; BLOCK_BYTES];
+
+const ZERO_ALONE: [u8; BLOCK_BYTES] = [32, 32, 32, 48];
 
 // What is kept of the bytes so far: the phase, which says what they spell, and the value of their digits.
 #[derive(Clone, Copy)]
@@ -133,38 +137,43 @@ impl Entries {
         said(kept)
     }
 
-    // What a column says whose bytes before byte `FRONT_BYTES` are spaces. Spaces leave the first state as it is, so
-    // for speed a loop of its own passes over them, and the first other byte is stepped from the local that was
-    // compared. The last byte of a number is a digit, so it is stepped without being compared.
-    fn after_spaces(&self, text: &[u8; COLUMN_BYTES]) -> Option<i64>
-        requires { OnlySpaces text.now FRONT_BYTES }
-        ensures { result ≡ reading_of (read_column text.now) }
+    // What is kept after the block that begins at byte `from`, before which are only spaces, or None where its bytes
+    // are the usual ones.
+    fn block(
+        &self,
+        text: &[u8; COLUMN_BYTES],
+        from: usize,
+        usual: [u8; BLOCK_BYTES],
+    ) -> Option<Kept>
+        requires fits { from ≤ LAST_BLOCK }
+        requires spaces { OnlySpaces text.now from }
+        ensures { MatchOption result (StandAt text.now from usual) (Partway text.now (from + BLOCK_BYTES)) }
     {
-        for i in FRONT_BYTES..LAST_BYTE {
-            let b = text[i];
-            if b != 32 {
-                return self.rest_of(text, i + 1, self.step(NONE_TAKEN, b));
-            }
+        let mut kept = NONE_TAKEN;
+        let mut same = true;
+        for i in 0..BLOCK_BYTES {
+            let b = text[from + i];
+            kept = self.step(kept, b);
+            same &= b == usual[i];
         }
-        self.rest_of(text, LAST_BYTE, NONE_TAKEN)
+        if same { None } else { Some(kept) }
     }
 
-    // What a column says: each byte is indexed once, front to back, and goes into the state. Where only spaces have
-    // come the state is the first one: the program goes on with that, so that it need not wait for the steps.
+    // What a column says: each byte is indexed once, front to back, and goes into the state. Where a block has its
+    // usual bytes the state after it is known: the program goes on with that, so that it need not wait for the steps.
     pub fn column(&self, text: &[u8; COLUMN_BYTES]) -> Option<i64>
         ensures { result ≡ reading_of (read_column text.now) }
     {
-        let mut kept = NONE_TAKEN;
-        let mut blank = true;
-        for b in &text[..FRONT_BYTES] {
-            let b = *b;
-            kept = self.step(kept, b);
-            blank &= b == 32;
+        if let Some(kept) = self.block(text, 0, SPACES) {
+            return self.rest_of(text, BLOCK_BYTES, kept);
         }
-        if blank {
-            return self.after_spaces(text);
+        if let Some(kept) = self.block(text, BLOCK_BYTES, SPACES) {
+            return self.rest_of(text, LAST_BLOCK, kept);
         }
-        self.rest_of(text, FRONT_BYTES, kept)
+        match self.block(text, LAST_BLOCK, ZERO_ALONE) {
+            Some(kept) => said(kept),
+            None => Some(0),
+        }
     }
 
     // The line at the front of these bytes, with as many columns as `line` has numbers: whether it is well formed, and
