@@ -39,7 +39,7 @@ use Rattle.equality.specs.declared.geometry.Step.{Step}
 use Rattle.equality.specs.declared.parts.Part.{Part}
 use Rattle.equality.specs.declared.parts.Part.TheVariants.{Normal, Shear}
 use Rattle.equality.specs.declared.tractions.Traction.{Traction}
-use Rattle.equality.specs.declared.equality_rows.Expression.{Expression}
+use Rattle.equality.specs.declared.expressions.Expression.{Expression}
 use Rattle.scope.specs.Bounds.{most_entries}
 use Rattle.scope.specs.Columns.{at}
 use Rattle.scope.specs.Mesh.{corner}

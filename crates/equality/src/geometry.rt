@@ -47,21 +47,7 @@ pub struct Span {
 }
 
 impl Span {
-    ghost use Rattle.equality.specs.EqualityContracts.{SpanIs, along};
-
-    // The span of element e.
-    pub fn of(m: &Mesh, e: usize) -> Span
-        requires { e < elements m.now.numbers.now }
-        ensures { SpanIs result m.now.numbers.now e }
-    {
-        let v = Corners::of(m, e);
-        Span {
-            rise: m.rise(v.b, v.d),
-            rise_next: m.rise(v.c, v.a),
-            run: m.run(v.d, v.b),
-            run_next: m.run(v.a, v.c),
-        }
-    }
+    ghost use Rattle.equality.specs.EqualityContracts.{along};
 
     // Twice the area of the element.
     pub fn twice_area(self) -> i64

@@ -2,10 +2,13 @@
 
 #![tactic(auto)]
 
-mod axes;
+pub mod axes;
+pub mod elements;
 pub mod equality_rows;
-mod geometry;
+pub mod expressions;
+pub mod geometry;
 pub mod parts;
 pub mod row;
 pub mod row_sums;
+pub mod sides;
 mod tractions;

@@ -82,6 +82,7 @@ impl EqualityRow {
     };
 
     // The terms that it has.
+    #[inline(always)]
     pub(crate) fn terms(&self) -> &[Term]
         ensures terms { result.now ≡ terms_of self.now.terms }
         ensures few { length result.now ≤ most_entries }
@@ -94,6 +95,7 @@ impl EqualityRow {
     }
 
     // Whether it holds at the field x with l and n, or asks nothing.
+    #[inline(always)]
     pub fn holds(&self, x: &[i64], l: i64, n: i64) -> bool
         requires columns_there { ColumnsBelow (length x.now) (entries_of self.now) }
         requires field_fits { AllWithin most_stress x.now }
@@ -105,6 +107,7 @@ impl EqualityRow {
     }
 
     // Adds it, times y, to the column sums.
+    #[inline(always)]
     pub fn add_to(&self, sums: &mut [i64], y: i64)
         requires columns_there { ColumnsBelow (length sums.old) (entries_of self.now) }
         requires sums_fit { AllWithin most_column sums.old }

@@ -18,6 +18,7 @@ ghost use Rattle.equality.specs.EqualityContracts.{entry_of, ColumnsBelow, SumsA
 use crate::row::{Term, add_at};
 
 // The left side, at the field x with l, of a row with these terms and this coefficient of l.
+#[inline(always)]
 pub fn left_side(terms: &[Term], live: i64, x: &[i64], l: i64) -> i64
     requires few { length terms.now ≤ most_entries }
     requires columns_there { ColumnsBelow (length x.now) (map entry_of terms.now) }
@@ -35,6 +36,7 @@ pub fn left_side(terms: &[Term], live: i64, x: &[i64], l: i64) -> i64
 }
 
 // Adds a row with these terms, times y, to the column sums.
+#[inline(always)]
 pub fn add_terms(sums: &mut [i64], terms: &[Term], y: i64)
     requires few { length terms.now ≤ most_entries }
     requires columns_there { ColumnsBelow (length sums.old) (map entry_of terms.now) }

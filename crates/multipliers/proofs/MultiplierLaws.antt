@@ -2,7 +2,8 @@
 use mathlib.Core.Path.{◌≡◌, refl, sym, ◌∙◌, ap, subst}
 use mathlib.Core.Bool.{true}
 use mathlib.Core.List.{List, [], ◌∷◌}
-use Prim.Native.Nat.{ℕ, ◌+◌, ◌*◌, ◌≤◌, ◌<◌, zero-le}
+use Prim.Native.Nat.{ℕ, zero, suc, ◌+◌, ◌*◌, ◌≤◌, ◌<◌, zero-le}
+use native.Mathlib.Nat.{add-zero}
 use native.Mathlib.Omega.{arith}
 use lib.IntN.{ℤ, pos, ◌+ℤ◌, ◌*ℤ◌, zero-*ℤ}
 use lib.ListN.{length, length-map}
@@ -123,6 +124,16 @@ one_summed m y k h e g = record {
 pub all_summed : (m y : List ℤ) {k n : ℕ} {columns : List ℤ} {sums : Sums} → k ≡ n → Summed m y k columns sums
     → Summed m y n columns sums
 all_summed m y {columns = columns} {sums = sums} e h = subst (λ k. Summed m y k columns sums) e h
+
+-- rows whose multipliers are 0
+pub skipped : (m y : List ℤ) (k n : ℕ) {columns : List ℤ} {sums : Sums} → ((i : ℕ) → i < n → at y (k + i) ≡ pos 0)
+    → Summed m y k columns sums → Summed m y (k + n) columns sums
+skipped m y k zero h s = all_summed m y (sym (add-zero k)) s
+skipped m y k (suc n) h s =
+    let place : k + n + 1 ≡ k + suc n = omega arith in
+    all_summed m y place
+    (one_summed m y (k + n) (skipped m y k n (λ i l. h i (omega arith)) s) refl
+    (zero_summed m y (k + n) _ _ (h n (omega arith))))
 
 -- sums over the equality rows leave room
 pub room : (m y : List ℤ) {k : ℕ} {columns : List ℤ} {sums : Sums} → Summed m y k columns sums

@@ -2,6 +2,7 @@
 
 #![tactic(auto)]
 
+mod equality_sums;
 pub mod multiplier_checks;
 pub mod multiplier_sums;
 pub mod open_rows;

@@ -1,13 +1,11 @@
 // The sums over all rows, each times its multiplier: the columns, W and m.
-ghost use Rattle.std.specs.Prelude.{◌≡◌, false, ◌+◌, ◌*◌, ◌<◌, ◌≤◌, ◌+ℤ◌, ◌*ℤ◌, length};
-ghost use Rattle.integer.specs.Bounds.{Within, AllWithin};
-ghost use Rattle.scope.specs.Mesh.{nodes, most_sides, by_direction, equality_count};
+ghost use Rattle.std.specs.Prelude.{◌≡◌, false, ◌+◌, ◌*◌, ◌<◌, ◌≤◌, length};
+ghost use Rattle.integer.specs.Bounds.{AllWithin};
+ghost use Rattle.scope.specs.Mesh.{most_sides, by_direction, equality_count};
 ghost use Rattle.scope.specs.Rows.{pair_count, pair_at};
-ghost use Rattle.scope.specs.Bounds.{most_multiplier, equality_sums, pair_column, most_column};
+ghost use Rattle.scope.specs.Bounds.{pair_column, most_column};
 ghost use Rattle.equality.specs.EqualityContracts.{SumsAre};
 ghost use Rattle.multipliers.specs.MultiplierContracts.{
-  SumsFit,
-  RowSummed,
   NoSums,
   Summed,
   PairsSummed,
@@ -21,6 +19,7 @@ ghost use Rattle.multipliers.specs.MultiplierContracts.{
   three_added,
 };
 
+use crate::equality_sums::equality_sums;
 use crate::plane_sums::planes_part;
 use crate::sums::{PairSums, SideSums, Sums};
 use crate::weighted_rows::WeightedRows;
@@ -28,57 +27,8 @@ use criterion::pair_planes::pair_kind;
 use criterion::steps::Step;
 use criterion::strength_numbers::SoilNumbers;
 use criterion::strength_rows::soil_numbers;
-use equality::equality_rows::equality_row;
-use equality::row::{EqualityRow, add_at};
+use equality::row::add_at;
 use mesh::entries::SoilKind;
-
-// ---- equality rows
-
-// Adds the right side of a row and its coefficient of l, times the multiplier y, to W and m.
-fn add_sums(sums: Sums, row: &EqualityRow, y: i64) -> Sums
-    requires limit_fits { Within equality_sums sums.w }
-    requires live_fits { Within equality_sums sums.m }
-    requires multiplier_fits { Within most_multiplier y }
-    ensures limit { result.w ≡ sums.w +ℤ y *ℤ row.now.right }
-    ensures live { result.m ≡ sums.m +ℤ y *ℤ row.now.live }
-{
-    Sums {
-        w: sums.w + y * row.right,
-        m: sums.m + y * row.live,
-    }
-}
-
-// Adds equality row k, times its multiplier, to the column sums and to W and m.
-fn add_equality(rows: &WeightedRows, k: usize, columns: &mut [i64], sums: Sums) -> Sums
-    requires row_there { k < equality_count rows.now.mesh.mesh.numbers.now }
-    requires columns_there { 3 * nodes rows.now.mesh.mesh.numbers.now ≤ length columns.old }
-    requires sums_fit { SumsFit columns.old sums }
-    ensures { RowSummed rows.now.mesh.mesh.numbers.now rows.now.multipliers.now k
-        columns.old columns.new sums result }
-{
-    let y = rows.multipliers[k];
-    if y == 0 {
-        return sums;
-    }
-    let row = equality_row(&rows.mesh.mesh, k);
-    row.add_to(columns, y);
-    add_sums(sums, &row, y)
-}
-
-// All equality rows, each times its multiplier: to column sums that are 0 yet.
-fn equality_sums(rows: &WeightedRows, columns: &mut [i64]) -> Sums
-    requires { NoSums columns.old }
-    ensures { Summed rows.now.mesh.mesh.numbers.now rows.now.multipliers.now
-        (equality_count rows.now.mesh.mesh.numbers.now) columns.new result }
-{
-    let mut sums = Sums::default();
-    for k in 0..rows.mesh.mesh.equality_count() {
-        sums = add_equality(rows, k, columns, sums);
-    }
-    sums
-}
-
-// ---- strength rows
 
 // Adds a side, times its multiplier w.
 fn add_side(sums: SideSums, side: &Step, w: i64) -> SideSums

@@ -1,29 +1,34 @@
--- The check of a field: an equality row at the field.
-use mathlib.Core.Path.{◌≡◌, ◌∙◌, ap₂}
-use mathlib.Core.Bool.{Bool}
-use mathlib.Core.List.{List}
-use Prim.Native.Nat.{ℕ}
+-- The check of a field: a row that is asked is the row at its place, and rows that pass after others that do, by
+-- induction on how many.
+use mathlib.Core.Path.{◌≡◌, sym, ◌∙◌, ap, subst}
+use mathlib.Core.Bool.{Bool, true}
+use Prim.Native.Nat.{ℕ, zero, suc, ◌+◌, ◌<◌}
+use native.Mathlib.Nat.{add-zero}
 use native.Mathlib.Omega.{arith}
-use lib.IntN.{ℤ}
-use mir.Syntax.{w64}
-use mir.Val.{to_z, of_z}
-use Rattle.integer.proofs.Machine.{Is-read, Is-within}
+use Rattle.criterion.specs.declared.fields.Field.{Field}
+use Rattle.scope.specs.Checks.{all_below}
 use Rattle.scope.specs.Columns.{at}
-use Rattle.scope.specs.Rows.{equality_rows}
+use Rattle.scope.specs.Rows.{Row, equality_rows}
 use Rattle.scope.specs.Sums.{row_holds}
 use Rattle.scope.specs.Tests.{row_at}
-use Rattle.criterion.specs.declared.fields.Field.{Field}
+use Rattle.lines.proofs.Loops.{all_more, each_below}
+use Rattle.verdict.specs.FieldContracts.{passes}
 
--- row i holds at the field s with l and n
-abbrev pub row_test : List ℤ → (ℕ → ℤ) → ℤ → ℤ → ℕ → Bool
-row_test m s l n i = row_holds s l n (row_at (equality_rows m) i)
+pub passes_at : (f : Field) {row : Row} {b : Bool} {k l : ℕ} → b ≡ row_holds (at f.stresses.now) f.l f.n row
+    → row ≡ row_at (equality_rows f.mesh.mesh.numbers.now) k → k ≡ l → b ≡ passes f l
+passes_at f e is place =
+    e ∙ ap (row_holds (at f.stresses.now) f.l f.n)
+    (is ∙ ap (row_at (equality_rows f.mesh.mesh.numbers.now)) place)
 
--- it is asked with l and n as the machine reads them
-pub row_asked :
-    (f : Field) (i : ℕ) {b : Bool} →
-    b ≡ row_test f.mesh.mesh.numbers.now (at f.stresses.now) (to_z w64 (of_z w64 f.l)) (to_z w64 (of_z w64 f.n)) i →
-    b ≡ row_test f.mesh.mesh.numbers.now (at f.stresses.now) f.l f.n i
-row_asked f i e =
-    let load = Is-read (Is-within f.l_fits) (omega arith) in
-    let scale = Is-read (Is-within f.n_fits) (omega arith) in
-    e ∙ ap₂ (λ (l n : ℤ). row_test f.mesh.mesh.numbers.now (at f.stresses.now) l n i) load.same scale.same
+all_on : (f : ℕ → Bool) (k n : ℕ) → all_below f k ≡ true → ((i : ℕ) → i < n → f (k + i) ≡ true)
+    → all_below f (k + n) ≡ true
+all_on f k zero h g = subst (λ n. all_below f n ≡ true) (sym (add-zero k)) h
+all_on f k (suc n) h g =
+    let place : k + n + 1 ≡ k + suc n = omega arith in
+    subst (λ n. all_below f n ≡ true) place
+    (all_more f (all_on f k n h (λ i l. g i (omega arith))) (g n (omega arith)))
+
+pub more_pass : (f : ℕ → Bool) (k n : ℕ) {l : ℕ} → all_below f k ≡ true → all_below (λ i. f (k + i)) n ≡ true
+    → k + n ≡ l → all_below f l ≡ true
+more_pass f k n h g e =
+    subst (λ n. all_below f n ≡ true) e (all_on f k n h (each_below (λ i. f (k + i)) n g))

@@ -3,6 +3,7 @@
 #![tactic(auto)]
 
 pub mod claim_parts;
+mod equality_checks;
 pub mod field_checks;
 
 ghost use Rattle.std.specs.Prelude.{◌≡◌, true, IfOk, OnOk, ◌≤◌, length, take};

@@ -1,6 +1,0 @@
--- The rows passed are summed.
-use Rattle.multipliers.specs.MultiplierContracts.{Summed}
-use Rattle.multipliers.proofs.multiplier_sums.equality_sums.Given as goal
-
-abbrev pub invariant-loop-k : goal.invariant-loop-k
-invariant-loop-k l = Summed l.rows.mesh.mesh.numbers.now l.rows.multipliers.now l.k l.columns l.sums
