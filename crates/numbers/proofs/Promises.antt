@@ -2,6 +2,7 @@
 -- the number and the place that are returned.
 use mathlib.Core.Path.{◌≡◌, refl, sym, ◌∙◌, ap, subst₂}
 use mathlib.Core.Logic.{◌⊎◌, inl, inr, ◌≢◌}
+use mathlib.Core.Bool.{Bool}
 use mathlib.Core.List.Memᴰ
 use mathlib.Core.List.{List}
 use Prim.Native.Nat.{ℕ, ◌≤◌}
@@ -46,13 +47,16 @@ use Rattle.numbers.specs.Promises.{TellsField, FieldExactly, MultipliersExactly}
 use Rattle.numbers.specs.Promises.{CriterionForEachPair, DirectionsAsked, PairsAsked, SidesAsked, OverlapsAsked, JumpsAsked, TractionsOnJoints}
 use Rattle.numbers.specs.Promises.{MeshAnsweredExactly, TrianglesAsked}
 
--- every answer returns the verdict's number and place
+-- an answer has the number and the place of the verdict that it is made of
+pub of_verdict : (field : Bool) (v : Verdict) {r : NumbersAnswer} → r ≡ answer_of field v
+    → (r.number ≡ number_of v) × (r.place ≡ place_of v)
+of_verdict field (Accepted o lower upper) e =
+    (ap (λ (x : NumbersAnswer). x.number) e, ap (λ (x : NumbersAnswer). x.place) e)
+of_verdict field (Refused k p) e = (ap (λ (x : NumbersAnswer). x.number) e, ap (λ (x : NumbersAnswer). x.place) e)
+
+-- so every answer returns those of the definition's verdict
 pub returned : {m c : List ℤ} {r : NumbersAnswer} → Answers m c r → Returned m c r.number r.place
-returned {m} {c} e = let b = by (verdict m c) e in record { number_is = b.0; place_is = b.1 }
-  where
-    by : {r : NumbersAnswer} (v : Verdict) → r ≡ answer_of (has_field c) v → (r.number ≡ number_of v) × (r.place ≡ place_of v)
-    by (Accepted o lower upper) e = (ap (λ (x : NumbersAnswer). x.number) e, ap (λ (x : NumbersAnswer). x.place) e)
-    by (Refused k p) e = (ap (λ (x : NumbersAnswer). x.number) e, ap (λ (x : NumbersAnswer). x.place) e)
+returned {m} {c} e = let b = of_verdict (has_field c) (verdict m c) e in record { number_is = b.0; place_is = b.1 }
 
 -- ---- what is returned
 

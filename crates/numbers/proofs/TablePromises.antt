@@ -18,17 +18,14 @@ use Rattle.scope.proofs.PlaceKinds.{place_kind, place_number_lem}
 use Rattle.scope.proofs.Filled.{element_layer, filled_from_lem, reordered_filled}
 use Rattle.scope.proofs.Table.{named_facts}
 use Rattle.scope.proofs.TableVerdict.{Came, early, late, came, fits_late, tabled_refused, early_number, early_kind, tabled_zero, read_lines_lem, no_table_verdict}
-use Rattle.numbers.proofs.Promises.{refused_not_zero}
+use Rattle.numbers.proofs.Promises.{of_verdict, refused_not_zero}
 use Rattle.numbers.specs.declared.numbers_answer.NumbersAnswer.{NumbersAnswer}
 use Rattle.numbers.specs.NumbersAnswer.{answer_of}
 use Rattle.numbers.specs.TablePromises.{TableAnswers, TableReturned, TableExactly, AsFilled, FilledMesh}
 
 pub table_returned : {t m c : List ℤ} {r : NumbersAnswer} → TableAnswers t m c r → TableReturned t m c r.number r.place
-table_returned {t} {m} {c} e = let b = by (tabled_verdict t m c) e in record { number_is = b.0; place_is = b.1 }
-  where
-    by : {r : NumbersAnswer} (v : Verdict) → r ≡ answer_of (has_field c) v → (r.number ≡ number_of v) × (r.place ≡ place_of v)
-    by (Accepted o lower upper) e = (ap (λ (x : NumbersAnswer). x.number) e, ap (λ (x : NumbersAnswer). x.place) e)
-    by (Refused k p) e = (ap (λ (x : NumbersAnswer). x.number) e, ap (λ (x : NumbersAnswer). x.place) e)
+table_returned {t} {m} {c} e =
+    let b = of_verdict (has_field c) (tabled_verdict t m c) e in record { number_is = b.0; place_is = b.1 }
 
 -- the place of a refusal is the one for its number
 refused_kind : (t m c : List ℤ) {k : ℕ} {p : Place} → tabled_verdict t m c ≡ Refused k p → p ≡ place_for k (place_number p)

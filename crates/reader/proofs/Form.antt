@@ -1,7 +1,7 @@
 -- A file is refused for its form where a line isn't well formed or bytes are left over, after lines that are good: from
 -- the front, line by line, and then by the lines' numbers.
 use mathlib.Core.Path.{◌≡◌, refl, sym, ap, ◌∙◌}
-use mathlib.Core.Logic.{◌↔◌, ◌⊎◌, inl, inr}
+use mathlib.Core.Logic.{◌↔◌, ◌≢◌, ◌⊎◌, inl, inr}
 use mathlib.Core.List.{List, [], ◌∷◌, map}
 use mathlib.Core.Option.{Option, none, some, none-ne-some}
 use Prim.Native.Nat.{ℕ, zero, suc, ◌+◌, ◌≤◌, ◌<◌}
@@ -56,12 +56,13 @@ ill_formed_unread w g bs h = by (read_line w (width g) bs) refl
 -- ---- refusals of form
 
 -- a line whose numbers are all there is not refused for its form
-not_form : (f : Layout) → Regular f → (g : Group) (zs : List ℤ) (p q : Place) → length zs ≡ width g → line_check f g zs p ≡ Refused f.form_number q → ⊥
-not_form f r g zs p q l e = by (line_check_other f g zs p q f.form_number l e)
+pub not_form : (f : Layout) → f.form_number ≢ f.limit_number → ((s : Rule) → f.form_number ≢ rule_number s) → (g : Group)
+    (zs : List ℤ) (p q : Place) → length zs ≡ width g → line_check f g zs p ≡ Refused f.form_number q → ⊥
+not_form f not_limit not_rule g zs p q l e = by (line_check_other f g zs p q f.form_number l e)
   where
     by : (f.form_number ≡ f.limit_number) ⊎ ((s : Rule) × (f.form_number ≡ rule_number s)) → ⊥
-    by (inl h) = r.not_limit h
-    by (inr h) = r.not_rule h.0 h.1
+    by (inl h) = not_limit h
+    by (inr h) = not_rule h.0 h.1
 
 -- `FormFails`, by the lines from the front
 abbrev FailsAt : ℕ → List Group → List ℕ → ℕ → Type 0
@@ -90,7 +91,8 @@ fails w f r (g ∷ ls) c bs j q e = by (fails w f r ls c.1 next (suc j) q) (read
     refused o = o ≡ Refused f.form_number (Line (suc q))
 
     split : (refused rest → Found w ls next (suc j) q) → (zs : List ℤ) → read_line w (width g) bs ≡ some zs → refused (line_check f g zs (Line (suc j))) ⊎ ((line_check f g zs (Line (suc j)) ≡ Passed) × refused rest) → Found w (g ∷ ls) bs j q
-    split later zs o (inl d) = absurd (not_form f r g zs (Line (suc j)) (Line (suc q)) ((line_means w (width g) bs zs).0 o).count d)
+    split later zs o (inl d) = absurd
+        (not_form f r.not_limit r.not_rule g zs (Line (suc j)) (Line (suc q)) ((line_means w (width g) bs zs).0 o).count d)
     split later zs o (inr d) = let (i, s, h) = later d.1 in (suc i, omega arith, (good w f g bs (Line (suc j)) zs o d.0, h))
 
     by : (refused rest → Found w ls next (suc j) q) → (o : Option (List ℤ)) → read_line w (width g) bs ≡ o → Found w (g ∷ ls) bs j q

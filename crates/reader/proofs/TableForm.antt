@@ -21,21 +21,20 @@ use Rattle.scope.specs.Cases.Outcome.{Passed, Refused}
 use Rattle.scope.specs.Answer.{place_number}
 use Rattle.scope.specs.Checks.{◌then◌, lowest}
 use Rattle.scope.specs.Phases.{Step, Phase, check_steps, check_phase, check_phases}
-use Rattle.scope.specs.Columns.{Rule}
 use Rattle.scope.specs.Layout.{Group, Layout, groups}
 use Rattle.scope.specs.Mesh.{soils}
 use Rattle.scope.specs.Layers.{most_layers, layer_columns}
-use Rattle.scope.specs.Refusals.{rule_number, lines_phase, leftover_phase}
+use Rattle.scope.specs.Refusals.{lines_phase, leftover_phase}
 use Rattle.scope.specs.Table.{layer_lines, table_lines, table_layout, above_mesh, table_line_phases, has_table}
 use Rattle.scope.specs.Verdict.{line_check, lines_check}
 use Rattle.scope.proofs.Checks.{passed_is_not_refused, then_refused, lowest_cong}
-use Rattle.scope.proofs.InOrder.{lines_of, check_from, lines_in_order, check_line, check_short, line_check_other}
+use Rattle.scope.proofs.InOrder.{lines_of, check_from, lines_in_order, check_line, check_short}
 use Rattle.reader.specs.File.{line_bytes, read_line, columns, left_over, read_rows, table_numbers_of, write_lines, table_of}
 use Rattle.reader.specs.WellFormed.{Fit, GoodLine, IllFormed}
 use Rattle.reader.specs.TableFile.{layer_line, TableFormFails}
 use Rattle.reader.proofs.Line.{line_means}
 use Rattle.reader.proofs.Regular.{mesh_number}
-use Rattle.reader.proofs.Form.{unread, good, good_read, good_passed, ill_formed_unread}
+use Rattle.reader.proofs.Form.{unread, good, good_read, good_passed, ill_formed_unread, not_form}
 use Rattle.reader.proofs.Written.{fit_drop, first_whole, after_first, first_short, columns_some}
 
 -- ---- at most n lines, as many as the numbers begin
@@ -140,14 +139,6 @@ module _ (m : List ℤ) where
     abbrev Found : ℕ → List ℕ → ℕ → Place → Type 0
     Found n bs j p = (i : ℕ) × (p ≡ Line (suc (j + i))) × FailsAt n bs i
 
-    not_form : (zs : List ℤ) (p q : Place) → length zs ≡ layer_columns → line_check f g zs p ≡ Refused 1 q → ⊥
-    unfolding table_layout layer_lines
-    not_form zs p q l e = by (line_check_other f g zs p q 1 l e)
-      where
-        by : (f.form_number ≡ f.limit_number) ⊎ ((s : Rule) × (f.form_number ≡ rule_number s)) → ⊥
-        by (inl h) = absurd (omega arith)
-        by (inr h) = mesh_number h.0 h.1
-
     -- no line is read where one is begun, or is the 33rd
     fails_end : (bs : List ℕ) (j : ℕ) (p : Place) → judged 0 (rows 0 bs) j ≡ Refused 1 p → Found 0 bs j p
     fails_end [] j p e = passed_is_not_refused (sym (judged_none 0 j) ∙ ap (λ (t : List ℤ). judged 0 t j) (sym (rows_none 0)) ∙ e)
@@ -164,7 +155,7 @@ module _ (m : List ℤ) where
         (0, place_of_lem s ∙ ap (λ (k : ℕ). Line (suc k)) (sym (add-zero j)), (omega arith, unread w g (b ∷ bs) o))
 
     fails : (n : ℕ) (bs : List ℕ) (j : ℕ) (p : Place) → judged n (rows n bs) j ≡ Refused 1 p → Found n bs j p
-    unfolding layer_lines
+    unfolding table_layout layer_lines
     fails zero bs j p e = fails_end bs j p e
     fails (suc n) bs j p e = by (fails n (drop L bs) (suc j) p) (read_line w layer_columns bs) refl
       where
@@ -172,7 +163,8 @@ module _ (m : List ℤ) where
         later = judged n (rows n (drop L bs)) (suc j)
 
         split : (later ≡ Refused 1 p → Found n (drop L bs) (suc j) p) → (zs : List ℤ) → read_line w layer_columns bs ≡ some zs → (line_check f g zs (Line (suc j)) ≡ Refused 1 p) ⊎ ((line_check f g zs (Line (suc j)) ≡ Passed) × (later ≡ Refused 1 p)) → Found (suc n) bs j p
-        split rest zs o (inl d) = absurd (not_form zs (Line (suc j)) p ((line_means w layer_columns bs zs).0 o).count d)
+        split rest zs o (inl d) = absurd
+            (not_form f (omega arith) mesh_number g zs (Line (suc j)) p ((line_means w layer_columns bs zs).0 o).count d)
         split rest zs o (inr d) =
             let (i, s, h) = rest d.1 in
             let k : suc j + i ≡ j + suc i = omega arith in
