@@ -1,2 +1,2 @@
--- Laws of the rows of planes: one row more, and the definitions' row.
+-- Laws of the rows of planes: a soil's numbers, and the slacks of the definitions' rows.
 pub mod PlaneLaws

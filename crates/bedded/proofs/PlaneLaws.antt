@@ -1,21 +1,21 @@
--- The rows of a soil by direction: appended one at a time; the numbers of a row are those of the definition's row.
-use mathlib.Core.Path.{◌≡◌, refl, sym, ◌∙◌, subst}
-use mathlib.Core.Logic.{◌⊎◌, inl, inr}
-use mathlib.Core.List.{List, [], ◌∷◌, ◌++◌}
-use Prim.Native.Nat.{ℕ, ◌+◌, ◌%◌, ◌<◌}
-use native.Mathlib.Numerals.{add-one}
+-- The rows of a soil by direction, two for each corner: the slack of a row is that of the definition's row, by ring
+-- laws for each of the two signs of qT.
+use mathlib.Core.Path.{◌≡◌, refl, sym, ◌∙◌, ap, ap₂}
+use mathlib.Core.Bool.{Bool, true, false, cond, ◌&&◌}
+use mathlib.Core.List.{List, [], ◌∷◌}
+use Prim.Native.Nat.{ℕ, zero, suc, ◌+◌, ◌*◌, ◌%◌, ◌/◌}
 use native.Mathlib.Omega.{arith}
+use lib.Dec.{eqb}
 use lib.IntN.{ℤ, pos, ◌+ℤ◌, ◌-ℤ◌, ◌*ℤ◌, neg_ℤ}
-use lib.ListN.{length, length-append, get_or-append}
-use lib.Seq.{get_or-append_seam}
 use borrow.Author.Tests.{ne_eqb}
+use Rattle.std.proofs.Math.Bool.{and_assoc}
 use Rattle.integer.specs.Bounds.{Within, Is}
 use Rattle.integer.proofs.Ring.{ring, terms}
 use Rattle.bedded.specs.declared.planes.Bed.{Bed}
-use Rattle.bedded.specs.declared.planes.PlaneRow.{PlaneRow}
+use Rattle.bedded.specs.declared.planes.PlaneNumbers.{PlaneNumbers}
 use Rattle.bedded.specs.declared.planes.Stresses.{Stresses}
-use Rattle.bedded.specs.PlaneContracts.{BedIs, PlaneIs, row_of_plane, normal_x, normal_y, no_plane, plane_at}
-use Rattle.bedded.specs.PlaneContracts.{RowsUpTo, slack_of}
+use Rattle.bedded.specs.PlaneContracts.{BedIs, NumbersAre, reserve_of, shear_of, normal_x, normal_y, slack_at}
+use Rattle.scope.specs.Checks.{all_below}
 use Rattle.scope.specs.Mesh.{p, q, cohesion, cohesion_across}
 use Rattle.scope.specs.Polygon.{Point}
 use Rattle.scope.specs.Rows.{sx, sy, t, plane_row}
@@ -23,7 +23,6 @@ use Rattle.scope.specs.RowNumbers.{plus_minus}
 use Rattle.scope.specs.Sums.{weighted_sum, left_side, right_side}
 use Rattle.scope.specs.Bounds.{most_friction, most_cohesion}
 use Rattle.scope.specs.NumberRanges.{SoilFacts}
-use Rattle.scope.proofs.Checks.{below_suc}
 use Rattle.scope.proofs.SumBounds.{from_0, apart}
 
 pub being : {v z : ℤ} {B : ℕ} → v ≡ z → Within B z → Is v z B
@@ -47,66 +46,93 @@ module _ {m : List ℤ} {s : ℕ} (f : SoilFacts m s) where
   pub excess_within : Within most_cohesion (cohesion_across m s -ℤ cohesion m s)
   excess_within = apart f.across_range f.cohesion_range
 
--- ---- q for an even row, -q for an odd one
+-- ---- the two rows of a corner
 
-pub plus_even : (z : ℤ) (k : ℕ) → k % 2 ≡ 0 → z ≡ plus_minus z k
+-- z for an even row, -z for an odd one
+pub plus_even : (z : ℤ) (k : ℕ) → k % 2 ≡ 0 → plus_minus z k ≡ z
 unfolding plus_minus
 plus_even z k e = rw e
 
-pub minus_odd : (z : ℤ) (k : ℕ) → ¬ (k % 2 ≡ 0) → neg_ℤ z ≡ plus_minus z k
+pub minus_odd : (z : ℤ) (k : ℕ) → ¬ (k % 2 ≡ 0) → plus_minus z k ≡ neg_ℤ z
 unfolding plus_minus
 minus_odd z k f = rw (ne_eqb (k % 2) 0 f)
 
--- a row from what is read of a corner and of a soil
-pub plane_as : {row : PlaneRow} {b : Bed} {x y k x' y' k' : ℤ} → PlaneIs row b x y k → x ≡ x' → y ≡ y' → k ≡ k'
-    → PlaneIs row b x' y' k'
-plane_as {row} {b} {x} {y} {k} {x'} {y'} h ex ey ek =
-    subst (PlaneIs row b x' y') ek (subst (λ y. PlaneIs row b x' y k) ey (subst (λ x. PlaneIs row b x y k) ex h))
+less_minus : (a b : ℤ) → a +ℤ b ≡ a -ℤ neg_ℤ b
+less_minus a b = ring (a ∷ b ∷ []) (search terms depth 100) refl
 
--- ---- one row more
+module _ (h : PlaneNumbers) (t : List (ℤ × ℤ)) where
+  -- by the corner j = k/2
+  pub slack_even : (j k : ℕ) → k / 2 ≡ j → k % 2 ≡ 0
+      → reserve_of h (normal_x t j) (normal_y t j) -ℤ shear_of h (normal_x t j) (normal_y t j) ≡ slack_at h t k
+  unfolding slack_at
+  slack_even j k e even = rw (sym e, plus_even (shear_of h (normal_x t (k / 2)) (normal_y t (k / 2))) k even)
 
-pub no_rows : (b : Bed) (t : List (ℤ × ℤ)) → RowsUpTo 0 [] b t
-no_rows b t = record { size = refl; each = λ i h. absurd (omega arith) }
+  pub slack_odd : (j k : ℕ) → k / 2 ≡ j → ¬ (k % 2 ≡ 0)
+      → reserve_of h (normal_x t j) (normal_y t j) +ℤ shear_of h (normal_x t j) (normal_y t j) ≡ slack_at h t k
+  unfolding slack_at
+  slack_odd j k e odd =
+      rw (sym e, minus_odd (shear_of h (normal_x t (k / 2)) (normal_y t (k / 2))) k odd)
+      (less_minus (reserve_of h (normal_x t (k / 2)) (normal_y t (k / 2)))
+      (shear_of h (normal_x t (k / 2)) (normal_y t (k / 2))))
 
-pub one_row_more : (b : Bed) (t : List (ℤ × ℤ)) (k : ℕ) (rows : List PlaneRow) {row : PlaneRow} → RowsUpTo k rows b t
-    → PlaneIs row b (normal_x t k) (normal_y t k) (plus_minus b.q k) → RowsUpTo (k + 1) (rows ++ (row ∷ [])) b t
-one_row_more b t k rows {row} h e = record {
-  size = omega (arith, length-append rows (row ∷ []), h.size);
-  each = λ i j. by i (below_suc (subst (λ x. i < x) (add-one k) j));
-}
-  where
-    by : (i : ℕ) → (i < k) ⊎ (i ≡ k)
-        → PlaneIs (plane_at (rows ++ (row ∷ [])) i) b (normal_x t i) (normal_y t i) (plus_minus b.q i)
-    by i (inl g) =
-        subst (λ r. PlaneIs r b (normal_x t i) (normal_y t i) (plus_minus b.q i))
-        (sym (get_or-append rows (row ∷ []) no_plane i (omega (arith, h.size)))) (h.each i g)
-    by i (inr same) =
-        subst (λ n. PlaneIs (plane_at (rows ++ (row ∷ [])) n) b (normal_x t n) (normal_y t n) (plus_minus b.q n))
-        (h.size ∙ sym same)
-        (subst
-        (λ r. PlaneIs r b (normal_x t (length rows)) (normal_y t (length rows)) (plus_minus b.q (length rows)))
-        (sym (get_or-append_seam rows row [] no_plane))
-        (subst (λ n. PlaneIs row b (normal_x t n) (normal_y t n) (plus_minus b.q n)) (sym h.size) e))
+-- two by two
+pub all_twos : (f : ℕ → Bool) (n : ℕ) → all_below (λ j. f (2 * j) && f (2 * j + 1)) n ≡ all_below f (n * 2)
+unfolding all_below
+all_twos f zero = refl
+all_twos f (suc n) =
+    let even : 2 * n ≡ n * 2 = omega arith in
+    let odd : 2 * n + 1 ≡ suc (n * 2) = omega arith in
+    let both : suc n * 2 ≡ suc (suc (n * 2)) = omega arith in
+    ap₂ ◌&&◌ (all_twos f n) (ap₂ (λ i k. f i && f k) even odd)
+    ∙ sym (and_assoc (all_below f (n * 2)) (f (n * 2)) (f (suc (n * 2))))
+    ∙ ap (all_below f) (sym both)
 
 -- ---- the definition's row
 
--- from the numbers of the soil and of a corner
-pub defined : (m : List ℤ) (soil v : ℕ) (c : Point) (r k : ℤ) {row : PlaneRow} {b : Bed} {x y z : ℤ} → BedIs b m soil r
-    → x ≡ c.px → y ≡ c.py → z ≡ k → PlaneIs row b x y z
-    → row_of_plane row v ≡ plane_row r (p m soil) (q m soil) (cohesion m soil) (cohesion_across m soil) v c k
-unfolding row_of_plane plane_row
-defined m soil v c r k h ex ey ez g =
-    rw (g.sx, g.sy, g.t, g.right, h.radius, h.p, h.q, h.along, h.excess, ex, ey, ez)
+-- the right side less the left, from the numbers at the node, and as the row has it
+regrouped : (f g r along excess x y u v w n l : ℤ) (even : Bool)
+    → (g *ℤ n *ℤ (r *ℤ r *ℤ along) +ℤ (g *ℤ n *ℤ excess -ℤ f *ℤ u) *ℤ (x *ℤ x) +ℤ neg_ℤ (f *ℤ v) *ℤ (y *ℤ y)
+    +ℤ neg_ℤ (pos 2 *ℤ f *ℤ w) *ℤ (x *ℤ y))
+    -ℤ cond even (g *ℤ (v -ℤ u) *ℤ (x *ℤ y) +ℤ g *ℤ w *ℤ (x *ℤ x -ℤ y *ℤ y))
+    (neg_ℤ (g *ℤ (v -ℤ u) *ℤ (x *ℤ y) +ℤ g *ℤ w *ℤ (x *ℤ x -ℤ y *ℤ y)))
+    ≡ g *ℤ (r *ℤ r *ℤ along +ℤ excess *ℤ (x *ℤ x)) *ℤ n
+    -ℤ (((f *ℤ (x *ℤ x) -ℤ cond even g (neg_ℤ g) *ℤ (x *ℤ y)) *ℤ u
+    +ℤ ((f *ℤ (y *ℤ y) +ℤ cond even g (neg_ℤ g) *ℤ (x *ℤ y)) *ℤ v
+    +ℤ ((f *ℤ (pos 2 *ℤ (x *ℤ y)) +ℤ cond even g (neg_ℤ g) *ℤ (x *ℤ x -ℤ y *ℤ y)) *ℤ w +ℤ pos 0))) +ℤ pos 0 *ℤ l)
+regrouped f g r along excess x y u v w n l true =
+    ring (f ∷ g ∷ r ∷ along ∷ excess ∷ x ∷ y ∷ u ∷ v ∷ w ∷ n ∷ l ∷ []) (search terms depth 100 fits 10000) refl
+regrouped f g r along excess x y u v w n l false =
+    ring (f ∷ g ∷ r ∷ along ∷ excess ∷ x ∷ y ∷ u ∷ v ∷ w ∷ n ∷ l ∷ []) (search terms depth 100 fits 10000) refl
 
--- left minus right is right minus left, turned: as the row has it
-regrouped : (a b d r n l x y z : ℤ)
-    → r *ℤ n -ℤ (a *ℤ x +ℤ b *ℤ y +ℤ d *ℤ z)
-    ≡ r *ℤ n -ℤ ((a *ℤ x +ℤ (b *ℤ y +ℤ (d *ℤ z +ℤ pos 0))) +ℤ pos 0 *ℤ l)
-regrouped a b d r n l x y z = ring (a ∷ b ∷ d ∷ r ∷ n ∷ l ∷ x ∷ y ∷ z ∷ []) (search terms depth 100) refl
-
--- d has the field's stresses at node v, and n
-pub slack_is : (row : PlaneRow) (v : ℕ) (d : Stresses) (s : ℕ → ℤ) (l n : ℤ) → d.sx ≡ s (sx v) → d.sy ≡ s (sy v)
-    → d.t ≡ s (t v) → d.n ≡ n → slack_of row d ≡ right_side n (row_of_plane row v) -ℤ left_side s l (row_of_plane row v)
-unfolding slack_of row_of_plane right_side left_side weighted_sum
-slack_is row v d s l n ex ey et en =
-    rw (ex, ey, et, en) (regrouped row.sx row.sy row.t row.right n l (s (sx v)) (s (sy v)) (s (t v)))
+-- d has the field's stresses s at node v, and n; corner k/2 of the list is c
+pub slack_is : (m : List ℤ) (soil v : ℕ) (c : Point) (r : ℤ) (s : ℕ → ℤ) (l n : ℤ) (corners : List (ℤ × ℤ)) (k : ℕ)
+    {h : PlaneNumbers} {b : Bed} {d : Stresses} → NumbersAre h b d → BedIs b m soil r → d.sx ≡ s (sx v)
+    → d.sy ≡ s (sy v) → d.t ≡ s (t v) → d.n ≡ n → normal_x corners (k / 2) ≡ c.px → normal_y corners (k / 2) ≡ c.py
+    → slack_at h corners k
+    ≡ right_side n
+    (plane_row r (p m soil) (q m soil) (cohesion m soil) (cohesion_across m soil) v c (plus_minus (q m soil) k))
+    -ℤ left_side s l
+    (plane_row r (p m soil) (q m soil) (cohesion m soil) (cohesion_across m soil) v c (plus_minus (q m soil) k))
+unfolding slack_at reserve_of shear_of plus_minus plane_row right_side left_side weighted_sum
+slack_is m soil v c r s l n corners k h b ex ey et en cx cy =
+    rw (
+      h.base,
+      h.aa,
+      h.bb,
+      h.ab,
+      h.shear_ab,
+      h.shear_squares,
+      b.radius,
+      b.p,
+      b.q,
+      b.along,
+      b.excess,
+      ex,
+      ey,
+      et,
+      en,
+      cx,
+      cy,
+    )
+    (regrouped (p m soil) (q m soil) r (cohesion m soil) (cohesion_across m soil -ℤ cohesion m soil) c.px c.py
+    (s (sx v)) (s (sy v)) (s (t v)) n l (eqb (k % 2) 0))

@@ -1,15 +1,13 @@
--- What the rows of a soil by direction hand around: the numbers of the soil, the corners that are their planes'
--- normals, and the rows' numbers.
-use Rattle.std.specs.Prelude.{◌≡◌, List, [], ◌∷◌, ℕ, ◌/◌, ◌≤◌, ◌<◌, ℤ, pos, ◌+ℤ◌, ◌-ℤ◌, ◌*ℤ◌, length, get_or}
-use Prim.Native.Nat.{zero-le}
+-- What the rows of a soil by direction hand around: the numbers of the soil, the same at the stresses of a node, and
+-- the corners that are the planes' normals.
+use Rattle.std.specs.Prelude.{◌≡◌, List, ℕ, ◌/◌, ℤ, pos, ◌+ℤ◌, ◌-ℤ◌, ◌*ℤ◌, neg_ℤ, get_or}
 use Rattle.integer.specs.Bounds.{Within}
 use Rattle.bedded.specs.declared.planes.Bed.{Bed}
-use Rattle.bedded.specs.declared.planes.PlaneRow.{PlaneRow}
 use Rattle.bedded.specs.declared.planes.Stresses.{Stresses}
+use Rattle.bedded.specs.declared.planes.PlaneNumbers.{PlaneNumbers}
 use Rattle.scope.specs.Bounds.{most_plane_radius}
-use Rattle.scope.specs.Mesh.{most_sides, p, q, cohesion, cohesion_across}
+use Rattle.scope.specs.Mesh.{p, q, cohesion, cohesion_across}
 use Rattle.scope.specs.RowNumbers.{plus_minus}
-use Rattle.scope.specs.Rows.{Row, strength, sx, sy, t}
 
 -- ---- a soil: r, p, q, ch and cv - ch
 
@@ -20,61 +18,39 @@ pub record BedIs (b : Bed) (m : List ℤ) (soil : ℕ) (r : ℤ) : Type 0 where
   pub along : b.along ≡ cohesion m soil
   pub excess : b.excess ≡ cohesion_across m soil -ℤ cohesion m soil
 
--- ---- a row pN + kT of the plane with the normal (x, y)/r
+-- the same at the stresses d
+pub record NumbersAre (h : PlaneNumbers) (b : Bed) (d : Stresses) : Type 0 where
+  pub base : h.base ≡ b.q *ℤ d.n *ℤ (b.radius *ℤ b.radius *ℤ b.along)
+  pub aa : h.aa ≡ b.q *ℤ d.n *ℤ b.excess -ℤ b.p *ℤ d.sx
+  pub bb : h.bb ≡ neg_ℤ (b.p *ℤ d.sy)
+  pub ab : h.ab ≡ neg_ℤ (pos 2 *ℤ b.p *ℤ d.t)
+  pub shear_ab : h.shear_ab ≡ b.q *ℤ (d.sy -ℤ d.sx)
+  pub shear_squares : h.shear_squares ≡ b.q *ℤ d.t
 
-pub record PlaneIs (row : PlaneRow) (b : Bed) (x y k : ℤ) : Type 0 where
-  pub sx : row.sx ≡ b.p *ℤ (x *ℤ x) -ℤ k *ℤ (x *ℤ y)
-  pub sy : row.sy ≡ b.p *ℤ (y *ℤ y) +ℤ k *ℤ (x *ℤ y)
-  pub t : row.t ≡ b.p *ℤ (pos 2 *ℤ (x *ℤ y)) +ℤ k *ℤ (x *ℤ x -ℤ y *ℤ y)
-  pub right : row.right ≡ b.q *ℤ (b.radius *ℤ b.radius *ℤ b.along +ℤ b.excess *ℤ (x *ℤ x))
+-- ---- the plane with the normal (x, y)/r: the right side less pN, and qT
 
--- the row that the numbers say, at node v
-unfoldable pub row_of_plane : PlaneRow → ℕ → Row
-row_of_plane r v = record {
-  kind = strength;
-  entries = (r.sx, sx v) ∷ (r.sy, sy v) ∷ (r.t, t v) ∷ [];
-  live = pos 0;
-  right = r.right;
-}
+unfoldable pub reserve_of : PlaneNumbers → ℤ → ℤ → ℤ
+reserve_of h x y = h.base +ℤ h.aa *ℤ (x *ℤ x) +ℤ h.bb *ℤ (y *ℤ y) +ℤ h.ab *ℤ (x *ℤ y)
 
--- ---- all rows of a soil: row k is one of corner k/2
+unfoldable pub shear_of : PlaneNumbers → ℤ → ℤ → ℤ
+shear_of h x y = h.shear_ab *ℤ (x *ℤ y) +ℤ h.shear_squares *ℤ (x *ℤ x -ℤ y *ℤ y)
 
+-- ---- all rows of a soil
+
+-- corner j
 abbrev pub normal_x : List (ℤ × ℤ) → ℕ → ℤ
-normal_x t k = (get_or t (k / 2) (pos 0, pos 0)).0
+normal_x t j = (get_or t j (pos 0, pos 0)).0
 
 abbrev pub normal_y : List (ℤ × ℤ) → ℕ → ℤ
-normal_y t k = (get_or t (k / 2) (pos 0, pos 0)).1
+normal_y t j = (get_or t j (pos 0, pos 0)).1
 
 -- the corners of a polygon of a mesh whose soils may be by direction
 pub record Normals (t : List (ℤ × ℤ)) : Type 0 where
-  pub few : length t ≤ most_sides
-  pub x : (k : ℕ) → Within most_plane_radius (normal_x t k)
-  pub y : (k : ℕ) → Within most_plane_radius (normal_y t k)
+  pub x : (j : ℕ) → Within most_plane_radius (normal_x t j)
+  pub y : (j : ℕ) → Within most_plane_radius (normal_y t j)
 
--- row k of a list, which past its end is read as a row of zeros
-abbrev pub no_plane : PlaneRow
-no_plane = record {
-  sx = pos 0;
-  sy = pos 0;
-  t = pos 0;
-  right = pos 0;
-  sx_fits = record { within = zero-le };
-  sy_fits = record { within = zero-le };
-  t_fits = record { within = zero-le };
-  right_fits = record { within = zero-le };
-}
-
-abbrev pub plane_at : List PlaneRow → ℕ → PlaneRow
-plane_at rows k = get_or rows k no_plane
-
--- the first n rows
-pub record RowsUpTo (n : ℕ) (rows : List PlaneRow) (b : Bed) (t : List (ℤ × ℤ)) : Type 0 where
-  pub size : length rows ≡ n
-  pub each : (k : ℕ) → k < n → PlaneIs (plane_at rows k) b (normal_x t k) (normal_y t k) (plus_minus b.q k)
-
-abbrev pub RowsFrom : List PlaneRow → Bed → List (ℤ × ℤ) → Type 0
-RowsFrom rows b t = RowsUpTo (length t) rows b t
-
--- the right side of a row less its left
-unfoldable pub slack_of : PlaneRow → Stresses → ℤ
-slack_of r d = r.right *ℤ d.n -ℤ (r.sx *ℤ d.sx +ℤ r.sy *ℤ d.sy +ℤ r.t *ℤ d.t)
+-- the right side of row k less its left: "pN + qT, then pN - qT" of corner k/2
+unfoldable pub slack_at : PlaneNumbers → List (ℤ × ℤ) → ℕ → ℤ
+slack_at h t k =
+    reserve_of h (normal_x t (k / 2)) (normal_y t (k / 2))
+    -ℤ plus_minus (shear_of h (normal_x t (k / 2)) (normal_y t (k / 2))) k

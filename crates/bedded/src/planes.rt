@@ -1,4 +1,5 @@
-// A row of a plane as numbers, what it reads of its soil, and what it is held against at a node.
+// What the rows of a soil by direction read of it and of a node, and their slacks.
+ghost use Rattle.std.specs.Prelude.{◌+◌, ◌*◌};
 ghost use Rattle.integer.specs.Bounds.{Within};
 ghost use Rattle.scope.specs.Bounds.{
   most_friction,
@@ -6,8 +7,7 @@ ghost use Rattle.scope.specs.Bounds.{
   most_scale,
   most_stress,
   most_plane_radius,
-  plane_coefficient,
-  plane_right,
+  plane_square,
 };
 
 // A soil by r, p, q, ch and cv - ch: "each ≤ q·n·(r²·ch + (cv-ch)·a²)".
@@ -25,31 +25,6 @@ pub struct Bed {
     pub ghost excess_fits: { Within most_cohesion excess },
 }
 
-// A row's coefficients of sx, sy and t, and its right side at n = 1.
-#[derive(Clone, Copy)]
-pub struct PlaneRow {
-    pub sx: i64,
-    pub sy: i64,
-    pub t: i64,
-    pub right: i64,
-    pub ghost sx_fits: { Within plane_coefficient sx },
-    pub ghost sy_fits: { Within plane_coefficient sy },
-    pub ghost t_fits: { Within plane_coefficient t },
-    pub ghost right_fits: { Within plane_right right },
-}
-
-// What stands past the last row of a pair.
-impl Default for PlaneRow {
-    fn default() -> PlaneRow {
-        PlaneRow {
-            sx: 0,
-            sy: 0,
-            t: 0,
-            right: 0,
-        }
-    }
-}
-
 // The stresses of a node, and n.
 #[derive(Clone, Copy)]
 pub struct Stresses {
@@ -61,4 +36,29 @@ pub struct Stresses {
     pub ghost sy_fits: { Within most_stress sy },
     pub ghost t_fits: { Within most_stress t },
     pub ghost n_fits: { Within most_scale n },
+}
+
+// A soil at the stresses of a node. Of the plane with the normal (a, b)/r the right side less pN is `base` and so many
+// times a², b² and ab; qT is so many times ab and a² - b².
+#[derive(Clone, Copy)]
+pub struct PlaneNumbers {
+    pub base: i64,
+    pub aa: i64,
+    pub bb: i64,
+    pub ab: i64,
+    pub shear_ab: i64,
+    pub shear_squares: i64,
+    pub ghost base_fits: { Within (most_friction * most_scale * (plane_square * most_cohesion)) base },
+    pub ghost aa_fits: { Within (most_friction * most_scale * most_cohesion + most_friction * most_stress) aa },
+    pub ghost bb_fits: { Within (most_friction * most_scale * most_cohesion + most_friction * most_stress) bb },
+    pub ghost ab_fits: { Within (2 * most_friction * most_stress) ab },
+    pub ghost shear_ab_fits: { Within (2 * most_friction * most_stress) shear_ab },
+    pub ghost shear_squares_fits: { Within (most_friction * most_stress) shear_squares },
+}
+
+// The right side less the left of a plane's two rows: of pN + qT, and of pN - qT.
+#[derive(Clone, Copy)]
+pub struct Slacks {
+    pub plus: i64,
+    pub minus: i64,
 }

@@ -11,21 +11,22 @@ use lib.ListN.{length, get_or}
 use Rattle.std.proofs.lemmas.List.{get_or_past}
 use Rattle.integer.specs.Bounds.{Within}
 use Rattle.scope.specs.Bounds.{most_plane_radius}
-use Rattle.scope.specs.Mesh.{kind_with, sides, q, by_direction}
+use Rattle.scope.specs.Mesh.{kind_with, sides, by_direction}
 use Rattle.scope.specs.NumberRanges.{Counts, SoilFacts}
 use Rattle.scope.specs.Polygon.{polygon_of}
 use Rattle.scope.specs.PolygonRule.{ListedPolygon}
 use Rattle.scope.specs.Rows.{pair_at}
-use Rattle.scope.specs.RowNumbers.{corner_at, plus_minus}
+use Rattle.scope.specs.RowNumbers.{corner_at}
 use Rattle.scope.proofs.Directions.{kind_sides, is_direction}
 use Rattle.scope.proofs.PolygonRule.{listed_polygon}
 use Rattle.scope.proofs.SumBounds.{plane_radius, plane_corner}
-use Rattle.bedded.specs.declared.planes.Bed.{Bed}
-use Rattle.bedded.specs.declared.planes.PlaneRow.{PlaneRow}
-use Rattle.bedded.specs.PlaneContracts.{BedIs, Normals, normal_x, normal_y, RowsFrom}
-use Rattle.bedded.proofs.PlaneLaws.{defined}
+use Rattle.bedded.specs.declared.planes.Stresses.{Stresses}
+use Rattle.bedded.specs.declared.plane_rows.Planes.{Planes}
+use Rattle.bedded.specs.declared.plane_rows.StressedPlanes.{StressedPlanes}
+use Rattle.bedded.specs.PlaneContracts.{BedIs, NumbersAre, Normals, normal_x, normal_y, slack_at}
+use Rattle.bedded.proofs.PlaneLaws.{slack_is}
 use Rattle.criterion.specs.StrengthContracts.{pairs_of}
-use Rattle.criterion.specs.PlaneContracts.{PlanesAre}
+use Rattle.criterion.specs.PlaneContracts.{PlanesAre, StressesAre, PlaneState}
 use Rattle.criterion.proofs.SideLaws.{origin, x_of_corner, y_of_corner, length-pairs_of, get_d_in}
 
 -- by the number of sides that the code has
@@ -43,16 +44,16 @@ module _ {m : List ℤ} (counts : Counts m) where
   counted : {t : List (ℤ × ℤ)} → t ≡ pairs_of (polygon_of (sides m)).corners → length t ≡ sides m
   counted e = ap length e ∙ length-pairs_of (polygon_of (sides m)).corners ∙ polygon.fits.rule.count
 
-  -- the normal of row k
-  x_is : {t : List (ℤ × ℤ)} → t ≡ pairs_of (polygon_of (sides m)).corners → (k : ℕ)
-      → normal_x t k ≡ (corner_at (polygon_of (sides m)) (k / 2)).px
+  -- the normals of the planes
+  x_is : {t : List (ℤ × ℤ)} → t ≡ pairs_of (polygon_of (sides m)).corners → (j : ℕ)
+      → normal_x t j ≡ (corner_at (polygon_of (sides m)) j).px
   unfolding corner_at origin
-  x_is e k = rw e (x_of_corner (polygon_of (sides m)).corners (k / 2))
+  x_is e j = rw e (x_of_corner (polygon_of (sides m)).corners j)
 
-  y_is : {t : List (ℤ × ℤ)} → t ≡ pairs_of (polygon_of (sides m)).corners → (k : ℕ)
-      → normal_y t k ≡ (corner_at (polygon_of (sides m)) (k / 2)).py
+  y_is : {t : List (ℤ × ℤ)} → t ≡ pairs_of (polygon_of (sides m)).corners → (j : ℕ)
+      → normal_y t j ≡ (corner_at (polygon_of (sides m)) j).py
   unfolding corner_at origin
-  y_is e k = rw e (y_of_corner (polygon_of (sides m)).corners (k / 2))
+  y_is e j = rw e (y_of_corner (polygon_of (sides m)).corners j)
 
   -- where a soil is by direction the corners are near
   module _ {soil : ℕ} (f : SoilFacts m soil) (bedded : by_direction m soil ≡ true) where
@@ -77,21 +78,29 @@ module _ {m : List ℤ} (counts : Counts m) where
 
     pub normals : {t : List (ℤ × ℤ)} → t ≡ pairs_of (polygon_of (sides m)).corners → Normals t
     normals e = record {
-      few = omega (arith, counted e, polygon.fits.few_sides);
-      x = λ k. subst (Within most_plane_radius) (sym (x_is e k)) (corner_near (k / 2)).0;
-      y = λ k. subst (Within most_plane_radius) (sym (y_is e k)) (corner_near (k / 2)).1;
+      x = λ j. subst (Within most_plane_radius) (sym (x_is e j)) (corner_near j).0;
+      y = λ j. subst (Within most_plane_radius) (sym (y_is e j)) (corner_near j).1;
     }
 
-  pub planes_of : (a : ℕ) {rows : List PlaneRow} {b : Bed} {t : List (ℤ × ℤ)} {soil : ℕ} {r : ℤ}
-      → t ≡ pairs_of (polygon_of (sides m)).corners → soil ≡ (pair_at m a).soil
-      → r ≡ (polygon_of (sides m)).radius → BedIs b m soil r → RowsFrom rows b t → PlanesAre rows m a
-  planes_of a {rows} {b} {t} e es er h g = record {
-    size = g.size ∙ counted e;
-    each = λ k l.
-        defined m (pair_at m a).soil (pair_at m a).at (corner_at (polygon_of (sides m)) (k / 2))
-        (polygon_of (sides m)).radius (plus_minus (q m (pair_at m a).soil) k) bed (x_is e k) (y_is e k)
-        (ap (λ z. plus_minus z k) bed.q) (g.each k (omega (arith, counted e)));
+  pub planes_of : (a : ℕ) (planes : Planes) {soil : ℕ} {r : ℤ}
+      → planes.corners.now ≡ pairs_of (polygon_of (sides m)).corners → soil ≡ (pair_at m a).soil
+      → r ≡ (polygon_of (sides m)).radius → BedIs planes.bed m soil r → PlanesAre planes m a
+  planes_of a planes e es er h = record {
+    bed = subst (λ s. BedIs planes.bed m s (polygon_of (sides m)).radius) es (subst (BedIs planes.bed m _) er h);
+    size = counted e;
+    x = x_is e;
+    y = y_is e;
   }
-    where
-      bed : BedIs b m (pair_at m a).soil (polygon_of (sides m)).radius
-      bed = subst (λ s. BedIs b m s (polygon_of (sides m)).radius) es (subst (BedIs b m _) er h)
+
+-- the pair's planes at the stresses of its node: the slack of row k is that of the definition's row
+pub stressed_planes : (m : List ℤ) (a : ℕ) (planes : Planes) (stressed : StressedPlanes) {d : Stresses} (s : ℕ → ℤ)
+    {n : ℤ} → PlanesAre planes m a → StressesAre d s (pair_at m a).at n → NumbersAre stressed.numbers planes.bed d
+    → stressed.corners.now ≡ planes.corners.now → PlaneState stressed m s n a
+stressed_planes m a planes stressed s {n} g state h same = record {
+  size = ap length same ∙ g.size;
+  each = λ l k.
+      ap (λ (t : List (ℤ × ℤ)). slack_at stressed.numbers t k) same
+      ∙ slack_is m (pair_at m a).soil (pair_at m a).at (corner_at (polygon_of (sides m)) (k / 2))
+      (polygon_of (sides m)).radius s l n planes.corners.now k h g.bed state.sx state.sy state.t state.n (g.x (k / 2))
+      (g.y (k / 2));
+}

@@ -66,11 +66,10 @@ use Rattle.criterion.specs.StrengthContracts.{
   pair_row_holds,
   pair_holds,
 }
-use Rattle.bedded.specs.declared.planes.PlaneRow.{PlaneRow}
 use Rattle.bedded.specs.declared.planes.Stresses.{Stresses}
-use Rattle.bedded.specs.PlaneContracts.{no_plane, plane_at, slack_of}
-use Rattle.bedded.proofs.PlaneLaws.{slack_is as plane_slack_is}
-use Rattle.criterion.specs.PlaneContracts.{PlanesAre, StressesAre}
+use Rattle.bedded.specs.declared.plane_rows.StressedPlanes.{StressedPlanes}
+use Rattle.bedded.specs.PlaneContracts.{slack_at}
+use Rattle.criterion.specs.PlaneContracts.{StressesAre, PlaneState}
 use Rattle.scope.specs.Phases.{check_phase}
 use Rattle.scope.specs.Refusals.{strengths_phase}
 use Rattle.lines.specs.SearchContracts.{first_failing}
@@ -242,10 +241,6 @@ step_test d step = le_z (pos 0) (side_slack d step)
 abbrev side_test : PairNumbers → List Step → ℕ → Bool
 side_test d t k = step_test d (step_at t k)
 
--- and that of a plane
-abbrev plane_test : Stresses → PlaneRow → Bool
-plane_test d row = le_z (pos 0) (slack_of row d)
-
 module _ (m : List ℤ) (s : ℕ → ℤ) (l n : ℤ) (counts : Counts m) where
   -- a pair by its sides
   module _ {t : List Step} (steps : SidesAre (polygon_of (sides m)) t) {a : ℕ} {d : PairNumbers} (h : a < pair_count m)
@@ -279,53 +274,54 @@ module _ (m : List ℤ) (s : ℕ → ℤ) (l n : ℤ) (counts : Counts m) where
     no_side_is o h = none_as o (λ g. sym (pair_holds_is (sym g))) h
 
   -- a pair by its planes
-  module _ {rows : List PlaneRow} {a : ℕ} {d : Stresses} (h : a < pair_count m) (planes : PlanesAre rows m a)
-      (state : StressesAre d s (pair_at m a).at n) (bedded : by_direction m (pair_at m a).soil ≡ true) where
-    plane_slack_lem : (k : ℕ) → k < sides m
-        → slack_of (plane_at rows k) d
-        ≡ right_side n (direction_row_at m (pair_at m a) k) -ℤ left_side s l (direction_row_at m (pair_at m a) k)
-    plane_slack_lem k j =
-        plane_slack_is (plane_at rows k) (pair_at m a).at d s l n state.sx state.sy state.t state.n
-        ∙ ap (λ r. right_side n r -ℤ left_side s l r) (planes.each k j)
+  module _ (planes : StressedPlanes) {a : ℕ} (h : a < pair_count m) (state : PlaneState planes m s n a)
+      (bedded : by_direction m (pair_at m a).soil ≡ true) where
+    abbrev plane_test : ℕ → Bool
+    plane_test k = le_z (pos 0) (slack_at planes.numbers planes.corners.now k)
 
-    plane_test_lem : (k : ℕ) → k < sides m → pair_row_holds m s l n a k ≡ plane_test d (plane_at rows k)
+    plane_test_lem : (k : ℕ) → k < sides m → pair_row_holds m s l n a k ≡ plane_test k
     unfolding row_holds plane_row
     plane_test_lem k j =
         ap (row_holds s l n) (direction_at m (record { listed = counts.sides_listed }) a k h j bedded)
         ∙ le_z_slack (left_side s l (direction_row_at m (pair_at m a) k))
-        (right_side n (direction_row_at m (pair_at m a) k)) (plane_slack_lem k j)
+        (right_side n (direction_row_at m (pair_at m a) k)) (state.each l k)
 
-    pub planes_hold_is : {r : Bool} → r ≡ list_all (plane_test d) rows → r ≡ pair_holds m s l n a
+    planes_hold_below : {r : Bool} {count : ℕ} → count ≡ sides m → r ≡ all_below plane_test count
+        → r ≡ pair_holds m s l n a
     unfolding pair_holds
-    planes_hold_is g =
+    planes_hold_below e g =
         g
-        ∙ all_elements (plane_test d) rows no_plane
-        ∙ ap (all_below (λ k. plane_test d (plane_at rows k))) planes.size
-        ∙ sym (all_cong (pair_row_holds m s l n a) (λ k. plane_test d (plane_at rows k)) (sides m) plane_test_lem)
+        ∙ ap (all_below plane_test) e
+        ∙ sym (all_cong (pair_row_holds m s l n a) plane_test (sides m) plane_test_lem)
 
-    pub first_plane_is : (o : Option ℕ)
-        → IfSome o (λ k. k ≡ first_failing (λ k. plane_test d (plane_at rows k)) (length rows))
+    pub planes_hold_is : {r : Bool} → r ≡ all_below plane_test (length planes.corners.now / 2 * 2)
+        → r ≡ pair_holds m s l n a
+    planes_hold_is g =
+        planes_hold_below
+        (ap (λ (k : ℕ). k / 2 * 2) state.size ∙ (listed_polygon (sides m) counts.sides_listed).fits.even_sides) g
+
+    pub first_plane_is : (o : Option ℕ) → IfSome o (λ k. k ≡ first_failing plane_test (length planes.corners.now))
         → IfSome o (λ k. k ≡ first_failing (pair_row_holds m s l n a) (sides m))
     first_plane_is o h =
         some_as o
         (λ k g.
         g
-        ∙ ap (first_failing (λ k. plane_test d (plane_at rows k))) planes.size
-        ∙ sym (search_cong (pair_row_holds m s l n a) (λ k. plane_test d (plane_at rows k)) (sides m) plane_test_lem))
+        ∙ ap (first_failing plane_test) state.size
+        ∙ sym (search_cong (pair_row_holds m s l n a) plane_test (sides m) plane_test_lem))
         h
 
-    pub no_plane_is : (o : Option ℕ) → IfNone o (list_all (plane_test d) rows ≡ true)
+    pub no_plane_is : (o : Option ℕ) → IfNone o (all_below plane_test (length planes.corners.now) ≡ true)
         → IfNone o (pair_holds m s l n a ≡ true)
-    no_plane_is o h = none_as o (λ g. sym (planes_hold_is (sym g))) h
+    no_plane_is o h = none_as o (λ g. sym (planes_hold_below state.size (sym g))) h
 
-    pub plane_open_lem : (k : ℕ) → k < sides m → (w : ℤ)
+    pub plane_open_lem : (k : ℕ) (w : ℤ)
         → is_open s l n (w, direction_row_at m (pair_at m a) k)
-        ≡ (lt_z (pos 0) w && lt_z (pos 0) (slack_of (plane_at rows k) d))
+        ≡ (lt_z (pos 0) w && lt_z (pos 0) (slack_at planes.numbers planes.corners.now k))
     unfolding is_open plane_row
-    plane_open_lem k j w =
+    plane_open_lem k w =
         ap (λ b. lt_z (pos 0) w && b)
         (lt_z_slack (left_side s l (direction_row_at m (pair_at m a) k))
-        (right_side n (direction_row_at m (pair_at m a) k)) (plane_slack_lem k j))
+        (right_side n (direction_row_at m (pair_at m a) k)) (state.each l k))
 
   -- the rows of the pairs that hold
   pair_rows_lem : {a : ℕ} → ((u : ℕ) → u < a → pair_holds m s l n u ≡ true) → (j : ℕ) → j < a * sides m

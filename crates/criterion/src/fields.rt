@@ -7,13 +7,13 @@ ghost use Rattle.scope.specs.Mesh.{nodes, sides, by_direction};
 ghost use Rattle.scope.specs.Rows.{pair_count, pair_at};
 ghost use Rattle.lines.specs.SearchContracts.{first_failing};
 ghost use Rattle.criterion.specs.StrengthContracts.{PairState, pair_row_holds, pair_holds};
-ghost use Rattle.criterion.specs.PlaneContracts.{StressesAre};
+ghost use Rattle.criterion.specs.PlaneContracts.{StressesAre, PlaneState};
 
 use crate::pair_planes::{first_plane, node_stresses, pair_kind, pair_planes};
 use crate::polygons::Polygon;
 use crate::strength_numbers::PairNumbers;
 use crate::strength_rows::{first_side, pair_numbers, sides_hold, soil_numbers};
-use bedded::plane_rows::planes_hold;
+use bedded::plane_rows::StressedPlanes;
 use bedded::planes::Stresses;
 use mesh::entries::SoilKind;
 use mesh::pairs::PairedMesh;
@@ -46,13 +46,23 @@ impl<'m, 'p> Field<'m, 'p> {
     }
 
     // The stresses of the node of pair a.
-    pub fn stresses_at(&self, a: usize) -> Stresses
+    fn stresses_at(&self, a: usize) -> Stresses
         requires { a < pair_count self.now.mesh.mesh.numbers.now }
         ensures { StressesAre result (at self.now.stresses.now)
             (pair_at self.now.mesh.mesh.numbers.now a).at self.now.n }
     {
         let pair = self.mesh.pairs[a];
         node_stresses(self.stresses, usize::from(pair.node), self.n)
+    }
+
+    // The planes of pair a, whose soil is by direction, at those stresses.
+    pub fn planes_at(&self, a: usize) -> StressedPlanes<'static>
+        requires there { a < pair_count self.now.mesh.mesh.numbers.now }
+        requires bedded { by_direction self.now.mesh.mesh.numbers.now
+            (pair_at self.now.mesh.mesh.numbers.now a).soil ≡ true }
+        ensures { PlaneState result self.now.mesh.mesh.numbers.now (at self.now.stresses.now) self.now.n a }
+    {
+        pair_planes(&self.mesh, a).stressed(&self.stresses_at(a))
     }
 
     // Each strength row of pair a, whose soil is by direction, holds. For speed it stands apart.
@@ -64,7 +74,7 @@ impl<'m, 'p> Field<'m, 'p> {
         ensures { result
             ≡ pair_holds self.now.mesh.mesh.numbers.now (at self.now.stresses.now) self.now.l self.now.n a }
     {
-        planes_hold(&pair_planes(&self.mesh, a), &self.stresses_at(a))
+        self.planes_at(a).hold()
     }
 
     // 22 at pair a: each of its strength rows holds.
@@ -92,7 +102,7 @@ impl<'m, 'p> Field<'m, 'p> {
     {
         match pair_kind(&self.mesh, a) {
             SoilKind::AsBefore => first_side(self.polygon.sides(), &self.pair_numbers(a)),
-            SoilKind::ByDirection => first_plane(&pair_planes(&self.mesh, a), &self.stresses_at(a)),
+            SoilKind::ByDirection => first_plane(&self.planes_at(a)),
         }
     }
 }

@@ -1,21 +1,21 @@
 // The strength rows of a pair whose soil is by direction (document 02, N14).
 ghost use Rattle.std.specs.Prelude.{◌≡◌, true, ◌+◌, ◌*◌, ◌<◌, length, pos, IfSome, IfNone};
-ghost use Rattle.std.specs.List.{list_all};
 ghost use Rattle.std.specs.Int.Signed.{le_z};
 ghost use Rattle.integer.specs.Bounds.{Within, AllWithin};
 ghost use Rattle.scope.specs.Bounds.{most_scale, most_stress};
+ghost use Rattle.scope.specs.Checks.{all_below};
 ghost use Rattle.scope.specs.Columns.{at};
 ghost use Rattle.scope.specs.Mesh.{by_direction};
 ghost use Rattle.scope.specs.Rows.{pair_count, pair_at};
 ghost use Rattle.mesh.specs.EntryContracts.{is_by_direction};
 ghost use Rattle.lines.specs.SearchContracts.{first_failing};
-ghost use Rattle.bedded.specs.PlaneContracts.{plane_at, slack_of};
+ghost use Rattle.bedded.specs.PlaneContracts.{slack_at};
 ghost use Rattle.criterion.specs.PlaneContracts.{PlanesAre, StressesAre};
 
 use crate::polygons::circle_of;
 use bedded::beds::bed_of;
-use bedded::plane_rows::{PlaneRows, plane_holds, plane_rows};
-use bedded::planes::{PlaneRow, Stresses};
+use bedded::plane_rows::{Planes, StressedPlanes};
+use bedded::planes::Stresses;
 use mesh::entries::SoilKind;
 use mesh::pairs::PairedMesh;
 
@@ -28,18 +28,21 @@ pub fn pair_kind(mesh: &PairedMesh, a: usize) -> SoilKind
     mesh.mesh.soil_kind(usize::from(mesh.pairs[a].soil))
 }
 
-// The strength rows of pair a, whose soil is by direction.
-pub fn pair_planes(mesh: &PairedMesh, a: usize) -> PlaneRows
+// The planes of pair a, whose soil is by direction.
+pub fn pair_planes(mesh: &PairedMesh, a: usize) -> Planes<'static>
     requires there { a < pair_count mesh.now.mesh.numbers.now }
     requires bedded { by_direction mesh.now.mesh.numbers.now (pair_at mesh.now.mesh.numbers.now a).soil ≡ true }
-    ensures { PlanesAre result.items mesh.now.mesh.numbers.now a }
+    ensures { PlanesAre result mesh.now.mesh.numbers.now a }
 {
     let (radius, corners) = circle_of(mesh.mesh.sizes.sides);
     let soil = usize::from(mesh.pairs[a].soil);
-    plane_rows(&bed_of(&mesh.mesh, soil, radius), corners)
+    Planes {
+        bed: bed_of(&mesh.mesh, soil, radius),
+        corners,
+    }
 }
 
-// What they are held against at node v of a field.
+// What its rows are held against at node v of a field.
 pub(crate) fn node_stresses(x: &[i64], v: usize, n: i64) -> Stresses
     requires node_there { 3 * v + 2 < length x.now }
     requires stresses_fit { AllWithin most_stress x.now }
@@ -55,10 +58,13 @@ pub(crate) fn node_stresses(x: &[i64], v: usize, n: i64) -> Stresses
 }
 
 // The first row that fails.
-pub(crate) fn first_plane(rows: &[PlaneRow], stresses: &Stresses) -> Option<usize>
+pub(crate) fn first_plane(planes: &StressedPlanes) -> Option<usize>
     ensures found { IfSome result (λ k. k
-        ≡ first_failing (λ k. le_z (pos 0) (slack_of (plane_at rows.now k) stresses.now)) (length rows.now)) }
-    ensures none { IfNone result (list_all (λ row. le_z (pos 0) (slack_of row stresses.now)) rows.now ≡ true) }
+        ≡ first_failing (λ k. le_z (pos 0) (slack_at planes.now.numbers planes.now.corners.now k))
+        (length planes.now.corners.now)) }
+    ensures none { IfNone result (all_below
+        (λ k. le_z (pos 0) (slack_at planes.now.numbers planes.now.corners.now k))
+        (length planes.now.corners.now) ≡ true) }
 {
-    rows.iter().position(|row| !plane_holds(row, stresses))
+    (0..planes.corners.len()).find(|&k| !planes.row_holds(k))
 }

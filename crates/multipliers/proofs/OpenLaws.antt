@@ -2,7 +2,7 @@
 use mathlib.Core.Path.{◌≡◌, refl, sym, ◌∙◌, ap, ap₂, subst}
 use mathlib.Core.Bool.{Bool, true, false, cond, ◌&&◌, and-false}
 use mathlib.Core.List.{List, [], ◌∷◌}
-use Prim.Native.Nat.{ℕ, ◌+◌, ◌*◌, ◌≤◌, ◌<◌}
+use Prim.Native.Nat.{ℕ, suc, ◌+◌, ◌*◌, ◌/◌, ◌≤◌, ◌<◌}
 use native.Mathlib.Nat.{zero-mul}
 use native.Mathlib.Omega.{arith}
 use lib.IntN.{ℤ, pos}
@@ -26,10 +26,8 @@ use Rattle.criterion.specs.declared.strength_numbers.PairNumbers.{PairNumbers}
 use Rattle.criterion.specs.declared.fields.Field.{Field}
 use Rattle.criterion.specs.FieldContracts.{FieldOf}
 use Rattle.criterion.specs.StrengthContracts.{Listed, PairState, SidesAre, step_at}
-use Rattle.criterion.specs.PlaneContracts.{PlanesAre, StressesAre}
-use Rattle.bedded.specs.declared.planes.PlaneRow.{PlaneRow}
-use Rattle.bedded.specs.declared.planes.Stresses.{Stresses}
-use Rattle.bedded.specs.PlaneContracts.{plane_at}
+use Rattle.criterion.specs.PlaneContracts.{PlaneState}
+use Rattle.bedded.specs.declared.plane_rows.StressedPlanes.{StressedPlanes}
 use Rattle.scope.proofs.PolygonRule.{listed_polygon}
 use Rattle.multipliers.specs.declared.weighted_rows.WeightedRows.{WeightedRows}
 use Rattle.multipliers.specs.RowContracts.{RowsOf}
@@ -38,10 +36,11 @@ use Rattle.multipliers.specs.OpenContracts.{side_open, plane_open, open_test}
 use Rattle.criterion.proofs.RowLaws.{equality_among, row_count}
 use Rattle.multipliers.proofs.PairLaws.{pair_row_at, plane_row_at, pair_length, pair_weight, pair_as_many}
 use Rattle.multipliers.proofs.PairSumLaws.{few_rows, next_first}
+use Rattle.multipliers.proofs.PlaneSumLaws.{planes_even}
 use Rattle.criterion.proofs.SideLaws.{side_step}
 use Rattle.criterion.proofs.StrengthLaws.{open_test_lem, plane_open_lem, sides_counted}
 use Rattle.multipliers.proofs.SumLaws.{weighed-count, count_below_front, count_below_cong, count_below_add}
-use Rattle.multipliers.proofs.SumLaws.{count_below_none, count_below_most}
+use Rattle.multipliers.proofs.SumLaws.{count_below_none, count_below_most, one_most}
 use Rattle.scope.specs.Tests.{row_at}
 
 -- ---- the sides of a pair
@@ -58,18 +57,25 @@ sides_zipped d (s ∷ t) (w ∷ y) e =
     ∙ ap (λ z. cond (side_open d s w) 1 0 + z) (sides_zipped d t y (omega arith))
     ∙ sym (count_below_front (λ k. side_open d (step_at (s ∷ t) k) (at (w ∷ y) k)) (length y))
 
--- and the rows of planes
-planes_zipped : (d : Stresses) (rows : List PlaneRow) (y : List ℤ) → length rows ≡ length y
-    → count_by (λ p. plane_open d p.0 p.1) (zip rows y)
-    ≡ count_below (λ k. plane_open d (plane_at rows k) (at y k)) (length y)
-unfolding count_below at
-planes_zipped d [] [] e = refl
-planes_zipped d [] (w ∷ y) e = absurd (omega arith)
-planes_zipped d (s ∷ t) [] e = absurd (omega arith)
-planes_zipped d (s ∷ t) (w ∷ y) e =
-    sum_by-cons (λ p. cond (plane_open d p.0 p.1) 1 0) (s, w) (zip t y)
-    ∙ ap (λ z. cond (plane_open d s w) 1 0 + z) (planes_zipped d t y (omega arith))
-    ∙ sym (count_below_front (λ k. plane_open d (plane_at (s ∷ t) k) (at (w ∷ y) k)) (length y))
+-- the two rows of a plane are few
+pub two_fit : (f : ℕ → Bool) (j : ℕ) (b d : Bool) {r count : ℕ} → r ≡ cond b 1 0 + cond d 1 0
+    → count ≡ count_below f (2 * j) → 2 * j ≤ most_sides → count + r ≤ most_sides + 2
+two_fit f j b d e g h = omega (arith, e, g, h, count_below_most f (2 * j), one_most b, one_most d)
+
+-- and are counted
+pub two_more : (f : ℕ → Bool) (j : ℕ) {r count : ℕ} → r ≡ cond (f (2 * j)) 1 0 + cond (f (2 * j + 1)) 1 0
+    → count ≡ count_below f (2 * j) → count + r ≡ count_below f (2 * (j + 1))
+unfolding count_below
+two_more f j {r} {count} e g =
+    let next : 2 * (j + 1) ≡ suc (suc (2 * j)) = omega arith in
+    let odd : 2 * j + 1 ≡ suc (2 * j) = omega arith in
+    omega (
+      arith,
+      e,
+      g,
+      ap {B = ℕ} (λ k. cond (f k) 1 0) odd,
+      ap (count_below f) next,
+    )
 
 -- ---- all rows
 
@@ -124,22 +130,23 @@ module _ (m : List ℤ) (s : ℕ → ℤ) (l n : ℤ) (y : List ℤ) where
             ∙ open_test_lem m s n a i (step_at t i) state
             (side_step steps i (omega (arith, sides_counted counts steps))) l (at y (pair_first m a + i))
 
-    pub planes_opened : (d : Stresses) (rows : List PlaneRow) → StressesAre d s (pair_at m a).at n → PlanesAre rows m a
-        → by_direction m (pair_at m a).soil ≡ true → r ≡ count_by (λ p. plane_open d p.0 p.1) (zip rows w)
+    pub planes_opened : (planes : StressedPlanes) → PlaneState planes m s n a → by_direction m (pair_at m a).soil ≡ true
+        → r ≡ count_below (λ k. plane_open planes k (at w k)) (2 * (length w / 2))
         → r ≡ count_below (λ i. opens (pair_first m a + i)) (sides m)
-    planes_opened d rows state planes bedded e =
+    planes_opened planes state bedded e =
+        let even : 2 * (length w / 2) ≡ sides m =
+        omega (arith, planes_even w counts (pair_length h given there)) in
         e
-        ∙ planes_zipped d rows w (planes.size ∙ sym (pair_length h given there))
-        ∙ ap (count_below (λ k. plane_open d (plane_at rows k) (at w k))) (pair_length h given there)
-        ∙ count_below_cong _ _ (sides m) (λ i g. ap (plane_open d (plane_at rows i)) (pair_weight h given there i g)
-        ∙ sym (plane i g))
+        ∙ ap (count_below (λ k. plane_open planes k (at w k))) even
+        ∙ count_below_cong _ _ (sides m) (λ i g. ap (plane_open planes i) (pair_weight h given there i g)
+        ∙ sym (row i g))
       where
-        plane : (i : ℕ) → i < sides m
-            → opens (pair_first m a + i) ≡ plane_open d (plane_at rows i) (at y (pair_first m a + i))
-        plane i g =
+        row : (i : ℕ) → i < sides m
+            → opens (pair_first m a + i) ≡ plane_open planes i (at y (pair_first m a + i))
+        row i g =
             ap (λ (r : Row). is_open s l n (at y (pair_first m a + i), r))
             (plane_row_at m a h (record { listed = counts.sides_listed }) i g bedded)
-            ∙ plane_open_lem m s l n counts h planes state bedded i g (at y (pair_first m a + i))
+            ∙ plane_open_lem m s l n counts planes h state bedded i (at y (pair_first m a + i))
 
   -- a pair has few open rows, and is one pair more
   pub few_open : Counts m → (a : ℕ) {r : ℕ} → r ≡ count_below (λ i. opens (pair_first m a + i)) (sides m)

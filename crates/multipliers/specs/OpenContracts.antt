@@ -2,9 +2,8 @@
 -- right".
 use Rattle.std.specs.Prelude.{Bool, ◌&&◌, List, ℕ, ℤ, pos}
 use Rattle.std.specs.Int.Signed.{lt_z}
-use Rattle.bedded.specs.declared.planes.PlaneRow.{PlaneRow}
-use Rattle.bedded.specs.declared.planes.Stresses.{Stresses}
-use Rattle.bedded.specs.PlaneContracts.{slack_of}
+use Rattle.bedded.specs.declared.plane_rows.StressedPlanes.{StressedPlanes}
+use Rattle.bedded.specs.PlaneContracts.{slack_at}
 use Rattle.criterion.specs.declared.steps.Step.{Step}
 use Rattle.criterion.specs.declared.strength_numbers.PairNumbers.{PairNumbers}
 use Rattle.criterion.specs.StrengthContracts.{side_slack}
@@ -17,9 +16,9 @@ use Rattle.scope.specs.Tests.{row_at}
 abbrev pub side_open : PairNumbers → Step → ℤ → Bool
 side_open d s w = lt_z (pos 0) w && lt_z (pos 0) (side_slack d s)
 
--- the row of a plane with the multiplier w, at the stresses d
-abbrev pub plane_open : Stresses → PlaneRow → ℤ → Bool
-plane_open d r w = lt_z (pos 0) w && lt_z (pos 0) (slack_of r d)
+-- row k of planes at a node's stresses, with the multiplier w
+abbrev pub plane_open : StressedPlanes → ℕ → ℤ → Bool
+plane_open planes k w = lt_z (pos 0) w && lt_z (pos 0) (slack_at planes.numbers planes.corners.now k)
 
 -- row k of all rows of the mesh m, in the field s with l and n and with the multipliers y
 abbrev pub open_test : List ℤ → (ℕ → ℤ) → ℤ → ℤ → List ℤ → ℕ → Bool

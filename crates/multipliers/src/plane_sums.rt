@@ -1,42 +1,73 @@
 // The sums over the strength rows of a pair whose soil is by direction (document 02, N14), each times its multiplier.
-ghost use Rattle.std.specs.Prelude.{◌≡◌, true, ◌<◌, ◌≤◌, length};
+ghost use Rattle.std.specs.Prelude.{◌≡◌, true, ◌<◌, ◌≤◌, ◌/◌, length};
 ghost use Rattle.integer.specs.Bounds.{Within, AllWithin};
+ghost use Rattle.scope.specs.Bounds.{most_plane_radius};
 ghost use Rattle.scope.specs.Mesh.{most_sides, most_strength, by_direction};
 ghost use Rattle.scope.specs.Rows.{pair_count, pair_at};
+ghost use Rattle.bedded.specs.PlaneContracts.{Normals};
 ghost use Rattle.multipliers.specs.MultiplierContracts.{PairPart};
-ghost use Rattle.multipliers.specs.PlaneSumContracts.{PlaneSumsFit, PlaneAdded, PlaneSumsAre};
+ghost use Rattle.multipliers.specs.PlaneSumContracts.{PlaneSumsFit, PlaneAdded, PlaneSumsAre, BedSumsAre};
 
 use crate::sums::{PairSums, PlaneSums};
 use crate::weighted_rows::WeightedRows;
-use bedded::planes::PlaneRow;
+use bedded::planes::Bed;
 use criterion::pair_planes::pair_planes;
 
-// Adds a row, times its multiplier w.
-fn add_plane(sums: PlaneSums, row: &PlaneRow, w: i64) -> PlaneSums
-    requires multiplier_fits { Within most_strength w }
+// Adds the two rows of the plane with the normal (a, b)/r, with their multipliers.
+fn add_plane(sums: PlaneSums, a: i64, b: i64, plus: i64, minus: i64) -> PlaneSums
+    requires a_fits { Within most_plane_radius a }
+    requires b_fits { Within most_plane_radius b }
+    requires plus_fits { Within most_strength plus }
+    requires minus_fits { Within most_strength minus }
     requires sums_fit { PlaneSumsFit sums }
-    ensures { PlaneAdded row.now w sums result }
+    ensures { PlaneAdded a b plus minus sums result }
 {
+    if plus == 0 && minus == 0 {
+        return sums;
+    }
+    let both = plus + minus;
+    let apart = plus - minus;
+    let aa = a * a;
+    let ab = a * b;
+    let bb = b * b;
     PlaneSums {
-        sx: sums.sx + w * row.sx,
-        sy: sums.sy + w * row.sy,
-        t: sums.t + w * row.t,
-        right: sums.right + w * row.right,
+        whole: sums.whole + both,
+        aa: sums.aa + both * aa,
+        ab: sums.ab + both * ab,
+        bb: sums.bb + both * bb,
+        shear_ab: sums.shear_ab + apart * ab,
+        shear_squares: sums.shear_squares + apart * (aa - bb),
     }
 }
 
-// All rows of a pair, each times its multiplier in y.
-fn plane_sums(rows: &[PlaneRow], y: &[i64]) -> PlaneSums
-    requires as_many { length rows.now ≡ length y.now }
+// All planes of a pair, the corners of the half turn, with the multipliers y of their rows. For speed they are summed
+// first, and multiplied by the numbers of the soil once.
+fn plane_sums(corners: &[(i64, i64)], y: &[i64]) -> PlaneSums
+    requires normals { Normals corners.now }
+    requires as_many { length corners.now ≡ length y.now }
     requires few { length y.now ≤ most_sides }
     requires multipliers_fit { AllWithin most_strength y.now }
-    ensures { PlaneSumsAre result rows.now y.now (length y.now) }
+    ensures { PlaneSumsAre result corners.now y.now (length y.now / 2) }
 {
     let mut sums = PlaneSums::default();
-    for (row, w) in rows.iter().zip(y) {
-        sums = add_plane(sums, row, *w);
+    for j in 0..y.len() / 2 {
+        let (a, b) = corners[j];
+        sums = add_plane(sums, a, b, y[2 * j], y[2 * j + 1]);
     }
     sums
+}
+
+// What a pair's strength rows add up to, from the sums over the planes and the numbers of the soil.
+fn bed_sums(bed: &Bed, sums: PlaneSums) -> PairSums
+    requires { PlaneSumsFit sums }
+    ensures { BedSumsAre result bed.now sums }
+{
+    PairSums {
+        sx: bed.p * sums.aa - bed.q * sums.shear_ab,
+        sy: bed.p * sums.bb + bed.q * sums.shear_ab,
+        t: bed.p * (2 * sums.ab) + bed.q * sums.shear_squares,
+        right: bed.q * (bed.radius * bed.radius * bed.along * sums.whole + bed.excess * sums.aa),
+    }
 }
 
 // What the strength rows of pair a, whose soil is by direction, add up to. For speed it stands apart.
@@ -47,11 +78,7 @@ pub(crate) fn planes_part(rows: &WeightedRows, a: usize) -> PairSums
         (pair_at rows.now.mesh.mesh.numbers.now a).soil ≡ true }
     ensures { PairPart result rows.now.mesh.mesh.numbers.now rows.now.multipliers.now a }
 {
-    let sums = plane_sums(&pair_planes(&rows.mesh, a), rows.of_pair(a));
-    PairSums {
-        sx: sums.sx,
-        sy: sums.sy,
-        t: sums.t,
-        right: sums.right,
-    }
+    let planes = pair_planes(&rows.mesh, a);
+    let sums = plane_sums(planes.corners, rows.of_pair(a));
+    bed_sums(&planes.bed, sums)
 }

@@ -19,13 +19,17 @@ pub struct SideSums {
     pub cross: i64,
 }
 
-// What the rows of a pair's planes add up to, each times its multiplier (document 02, N14).
+// What the multipliers of a pair's planes add up to (document 02, N14). Of the two rows of the plane with the normal
+// (a, b)/r: both multipliers together, by themselves and times a², ab and b²; that of pN + qT less that of pN - qT,
+// times ab and a² - b².
 #[derive(Clone, Copy, Default)]
 pub struct PlaneSums {
-    pub sx: i64,
-    pub sy: i64,
-    pub t: i64,
-    pub right: i64,
+    pub whole: i64,
+    pub aa: i64,
+    pub ab: i64,
+    pub bb: i64,
+    pub shear_ab: i64,
+    pub shear_squares: i64,
 }
 
 // What a pair's strength rows add up to, each times its multiplier: for the columns of its node's sx, sy and t, and

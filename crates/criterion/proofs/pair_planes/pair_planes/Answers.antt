@@ -26,12 +26,13 @@ bed_of-requires c =
     (radius_as sized.sides_are c.circle_of-radius.ensures.radius) in
     record { there = soil.1; radius_fits = search limits }
 
-pub plane_rows-requires : goal.plane_rows-requires
-plane_rows-requires c =
+pub invariant_of-result : goal.invariant_of-result
+invariant_of-result c =
     let mesh = c.args.mesh.now in
     let sized = mesh.mesh.sized in
     let facts = sized.facts.soil _ (pair_there mesh.mesh.numbers.now c.args.a c.requires.there).1 in
-    normals sized.facts.counts facts c.requires.bedded (corners_as sized.sides_are c.circle_of-radius.ensures.corners)
+    let corners = corners_as sized.sides_are c.circle_of-radius.ensures.corners in
+    record { normals = normals sized.facts.counts facts c.requires.bedded corners }
 
 pub returns : goal.returns
 returns c =
@@ -41,5 +42,5 @@ returns c =
     let facts = sized.facts.soil _ (pair_there mesh.mesh.numbers.now c.args.a c.requires.there).1 in
     let circle = radius_as sized.sides_are c.circle_of-radius.ensures.radius in
     let radius = Is-read (Is-within (radius_near sized.facts.counts facts c.requires.bedded circle)) (omega arith) in
-    planes_of sized.facts.counts c.args.a (corners_as sized.sides_are c.circle_of-radius.ensures.corners) soil.0
-    (radius.same ∙ circle) c.bed_of.ensures c.plane_rows.ensures
+    planes_of sized.facts.counts c.args.a _ (corners_as sized.sides_are c.circle_of-radius.ensures.corners) soil.0
+    (radius.same ∙ circle) c.bed_of.ensures

@@ -1,51 +1,21 @@
--- `plane_sums` meets its contract: one row more, with its multiplier.
-use mathlib.Core.Path.{sym, subst, ◌∙◌}
+-- `plane_sums` meets its contract: one plane more, with the multipliers of its two rows.
 use native.Mathlib.Omega.{arith}
-use lib.ListN.{length}
-use Rattle.std.proofs.lemmas.List.{length_push}
-use Rattle.integer.proofs.Machine.{machine, exact, limits}
-use Rattle.multipliers.specs.PlaneSumContracts.{PlaneSumsAre}
-use Rattle.multipliers.proofs.PlaneSumLaws.{PlaneRead, plane_itself, plane_read, planes_read, no_planes, one_plane}
-use Rattle.multipliers.proofs.PlaneSumLaws.{planes_room}
-use Rattle.multipliers.proofs.plane_sums.plane_sums.Goals.{In-Some}
+use Rattle.integer.proofs.Machine.{Is-read, Is-within}
+use Rattle.scope.specs.Columns.{at}
+use Rattle.multipliers.proofs.PlaneSumLaws.{no_planes, one_plane, added_as}
 use Rattle.multipliers.proofs.plane_sums.plane_sums.Goals as goal
 
-turn : (c : In-Some)
-    → PlaneRead c.args.rows.now c.args.y.now (length c.loop-row.yielded) c.in-Some.row.now c.in-Some.w.now
-turn c =
-    let loop = c.loop-row in
-    plane_read c.requires.as_many loop.yielded _ _ c.next.new.self (cc) (cc) loop.yielded_by c.next.ensures.steps
-    c.in-Some.is
-
-pub loop-row-init : goal.loop-row-init
-loop-row-init c =
+pub loop-j-init : goal.loop-j-init
+loop-j-init c =
     let none = c.default-sums.ensures in
-    no_planes _ _ none.0 none.1.0 none.1.1.0 none.1.1.1
+    no_planes _ _ none.0 none.1.0 none.1.1.0 none.1.1.1.0 none.1.1.1.1.0 none.1.1.1.1.1
 
-pub add_plane-sums-requires-clause-multiplier_fits : goal.add_plane-sums-requires-clause-multiplier_fits
-add_plane-sums-requires-clause-multiplier_fits c =
-    let read = turn (goal.at.add_plane-sums-requires-clause-multiplier_fits c).In-Some in
-    let itself = plane_itself read c.requires.multipliers_fit in
-    search limits
-
-pub add_plane-sums-requires-clause-sums_fit : goal.add_plane-sums-requires-clause-sums_fit
-add_plane-sums-requires-clause-sums_fit c =
-    let read = turn (goal.at.add_plane-sums-requires-clause-sums_fit c).In-Some in
-    planes_room _ _ _ c.loop-row.invariant (omega (arith, read.below, c.requires.few))
-
-pub loop-row-preserved : goal.loop-row-preserved
-loop-row-preserved c =
-    let read = turn (goal.at.loop-row-preserved c).In-Some in
-    let itself = plane_itself read c.requires.multipliers_fit in
-    subst (PlaneSumsAre c.add_plane-sums.result c.args.rows.now c.args.y.now)
-    (sym (length_push c.loop-row.yielded (c.in-Some.row, c.in-Some.w)))
-    (one_plane _ _ _ c.loop-row.invariant read.row (exact (search machine depth 30) (omega arith) ∙ read.weight)
-    c.add_plane-sums.ensures)
-
-pub returns : goal.returns
-returns c =
-    let loop = c.loop-row in
-    let every =
-    planes_read c.requires.as_many loop.yielded _ _ c.next.new.self (cc) (cc) loop.yielded_by c.next.ensures.steps
-    c.in-None.is in
-    subst (PlaneSumsAre loop.sums c.args.rows.now c.args.y.now) every loop.invariant
+pub loop-j-preserved : goal.loop-j-preserved
+unfolding at
+loop-j-preserved c =
+    let normals = c.requires.normals in
+    let y = c.requires.multipliers_fit in
+    one_plane _ _ _ c.loop-j.invariant
+    (added_as c.add_plane-sums.ensures (Is-read (Is-within (normals.x c.loop-j.j)) (omega arith)).same
+    (Is-read (Is-within (normals.y c.loop-j.j)) (omega arith)).same
+    (Is-read (Is-within (y.each _)) (omega arith)).same (Is-read (Is-within (y.each _)) (omega arith)).same)

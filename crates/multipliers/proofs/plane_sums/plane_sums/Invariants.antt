@@ -1,7 +1,6 @@
--- The rows passed are summed.
-use Rattle.std.proofs.Common.{length}
+-- The planes passed are summed.
 use Rattle.multipliers.specs.PlaneSumContracts.{PlaneSumsAre}
 use Rattle.multipliers.proofs.plane_sums.plane_sums.Given as goal
 
-abbrev pub invariant-loop-row : goal.invariant-loop-row
-invariant-loop-row l = PlaneSumsAre l.sums l.rows l.y (length l.yielded)
+abbrev pub invariant-loop-j : goal.invariant-loop-j
+invariant-loop-j l = PlaneSumsAre l.sums l.corners l.y l.j

@@ -16,19 +16,16 @@ returns-in-AsBefore c =
       none = no_side_is _ _ _ _ counts sides c.requires state by_sides first.result first.ensures.none;
     }
 
-pub pair_planes-requires : goal.pair_planes-requires
-pair_planes-requires c = record { there = c.requires; bedded = sym c.in-ByDirection.ensures }
+pub planes_at-requires : goal.planes_at-requires
+planes_at-requires c = record { there = c.requires; bedded = sym c.in-ByDirection.ensures }
 
 pub returns-in-ByDirection : goal.returns-in-ByDirection
 returns-in-ByDirection c =
-    let field = c.args.self.now in
-    let counts = field.mesh.mesh.sized.facts.counts in
+    let counts = c.args.self.now.mesh.mesh.sized.facts.counts in
     let bedded = sym c.in-ByDirection.ensures in
-    let planes = c.pair_planes.ensures in
-    let state = c.stresses_at.ensures in
-    let found = rw c.deref.ensures.0 at c.first_plane.ensures.found in
-    let none = rw c.deref.ensures.0 at c.first_plane.ensures.none in
+    let state = c.planes_at.ensures in
+    let first = c.first_plane in
     record {
-      found = first_plane_is _ _ _ _ counts c.requires planes state bedded c.first_plane.result found;
-      none = no_plane_is _ _ _ _ counts c.requires planes state bedded c.first_plane.result none;
+      found = first_plane_is _ _ _ _ counts _ c.requires state bedded first.result first.ensures.found;
+      none = no_plane_is _ _ _ _ counts _ c.requires state bedded first.result first.ensures.none;
     }

@@ -4,6 +4,5 @@ use Rattle.criterion.proofs.fields.Field.pair_planes_hold.Goals as goal
 
 pub returns : goal.returns
 returns c =
-    let field = c.args.self.now in
-    planes_hold_is _ _ _ _ field.mesh.mesh.sized.facts.counts c.requires.there c.pair_planes.ensures
-    c.stresses_at.ensures c.requires.bedded (rw c.deref.ensures.0 at c.planes_hold.ensures)
+    planes_hold_is _ _ _ _ c.args.self.now.mesh.mesh.sized.facts.counts _ c.requires.there c.planes_at.ensures
+    c.requires.bedded c.hold.ensures
