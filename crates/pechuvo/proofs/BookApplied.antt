@@ -159,6 +159,22 @@ pub no_denominator : {r : BookAnswer} → AskAnswers over_zero (at 0).mesh [] (a
 unfolding bound_of
 no_denominator h = (book_asked over_zero (at 0).mesh [] (at 0).claim h).exactly.1 (inr (inl (≤ℤ_refl (pos 0))))
 
+-- the upper bound over 0
+abbrev upper_over_zero : BookForC
+upper_over_zero = record {
+  lower_there = 0;
+  upper_there = 1;
+  lower_numerator = pos 0;
+  lower_denominator = pos 0;
+  upper_numerator = pos 20;
+  upper_denominator = pos 0;
+  count = 1;
+}
+
+pub no_upper_denominator : AskAnswers upper_over_zero (at 0).mesh [] (at 0).claim (record { number = 48; place = 0; book = upper_over_zero })
+unfolding with_book
+no_upper_denominator = refl
+
 -- a full book: 48 of an ask
 pub full_book : {r : BookAnswer} → AskAnswers (sheet_book 1000000) (at 0).mesh [] (at 0).claim r → r.number ≡ 48
 full_book h = (book_asked (sheet_book 1000000) (at 0).mesh [] (at 0).claim h).exactly.1 (inl (omega arith))

@@ -165,6 +165,10 @@ gap_refused r h =
     let place : r.place ≡ 4 = ap (λ x. x.place) h in
     (((sizes_told gap.mesh gap.table r h).refused 45 4 (λ e. omega arith)).0 (number, place), h)
 
+pub gap_told : SizesAsked gap.mesh gap.table (record { number = 45; place = 4; balance_rows = 0; side_rows = 0; jump_rows = 0; strength_rows = 0; columns = 0; field_bytes = 0; multipliers_bytes = 0; both_bytes = 0 })
+unfolding opened
+gap_told = refl
+
 -- ---- soil 0 throughout the seam, and three layers: the sizes of the seam
 
 abbrev layered : Sheet
