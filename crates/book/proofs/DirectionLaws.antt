@@ -24,7 +24,8 @@ use Rattle.book.proofs.VerdictLaws.{accepted_read}
 none_told : (m c : List ℤ) → ListsDirection m → (o : OpenRows) (x y : Load) → verdict m c ≡ Accepted o x y → x ≡ Absent
 none_told m c h o x y e = by (verdict_cases m c)
   where
-    by : ((k : ℕ) × (p : Place) × (verdict m c ≡ Refused k p)) ⊎ (verdict m c ≡ Accepted (open_count m c) (lower_load m c) (upper_load m c)) → x ≡ Absent
+    by : ((k : ℕ) × (p : Place) × (verdict m c ≡ Refused k p))
+        ⊎ (verdict m c ≡ Accepted (open_count m c) (lower_load m c) (upper_load m c)) → x ≡ Absent
     by (inl (k, p, r)) = let z : ◌≡◌ {A = ℕ} 0 1 = cc in absurd (omega arith)
     by (inr r) = let lower : lower_load m c ≡ x = cc in sym lower ∙ sym (load_untold m c (is_yes (lists_direction m) h))
 

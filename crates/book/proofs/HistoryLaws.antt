@@ -25,8 +25,11 @@ use Rattle.integer.specs.Members.{◌∈◌}
 use Rattle.judge.specs.Handed.{Handed}
 use Rattle.book.specs.declared.bounds.Bound.{Bound}
 use Rattle.book.specs.declared.bounds.Bound.TheVariants.{Lower, Upper}
-use Rattle.book.specs.Book.{Kept, Told, Unjudged, Judged, most_commits, proper, takes_ask, takes_commit, better, moved, followed, unjudged, judged, asked, committed, empty_book}
-use Rattle.book.specs.History.{Call, asks, commits, left, left_by_all, OnlyAsks, AskAndCommitAgree, RefusedLeaves, NotAbove0, Shut, UnjudgedExactly, Loads, committed_after, NoBetter, FirstOf, Best, judged_call, TheBookIsTheBest}
+use Rattle.book.specs.Book.{Kept, Told, Unjudged, Judged, most_commits, proper, takes_ask, takes_commit, better}
+use Rattle.book.specs.Book.{moved, followed, unjudged, judged, asked, committed, empty_book}
+use Rattle.book.specs.History.{Call, asks, commits, left, left_by_all, OnlyAsks, AskAndCommitAgree, RefusedLeaves}
+use Rattle.book.specs.History.{NotAbove0, Shut, UnjudgedExactly, Loads, committed_after, NoBetter, FirstOf, Best}
+use Rattle.book.specs.History.{judged_call, TheBookIsTheBest}
 use Rattle.book.proofs.BookLaws.{holds, both, takes_room, takes_lower, takes_upper}
 use Rattle.book.proofs.VerdictLaws.{verdict_proper, handed_proper}
 
@@ -85,7 +88,8 @@ module _ (W : Way) where
   no_better_trans Absent b c X B C h k = tt
   no_better_trans (Exact n d) Absent c X B C h k = absurd h
   no_better_trans (Exact n d) (Exact m e) Absent X B C h k = absurd k
-  no_better_trans (Exact n d) (Exact m e) (Exact p q) X B C h k = W.chain (n over d) (m over e) (p over q) (positive n d X) (positive m e B) (positive p q C) h k
+  no_better_trans (Exact n d) (Exact m e) (Exact p q) X B C h k =
+      W.chain (n over d) (m over e) (p over q) (positive n d X) (positive m e B) (positive p q C) h k
 
   -- what is kept is no worse than either, and the new one only where it is strictly better
   record Moved (old new kept : Load) : Type 0 where
@@ -98,9 +102,11 @@ module _ (W : Way) where
   moves Absent Absent = record { from_old = tt; from_new = tt; which = inl refl }
   moves (Exact m e) Absent = record { from_old = W.same (m over e); from_new = tt; which = inl refl }
   moves Absent (Exact n d) = record { from_old = tt; from_new = W.same (n over d); which = inr (refl, λ h. h) }
-  moves (Exact m e) (Exact n d) = go (better W.which_bound (n over d) (m over e)) (W.strictly (n over d) (m over e)) (W.no_more (n over d) (m over e))
+  moves (Exact m e) (Exact n d) = go (better W.which_bound (n over d) (m over e)) (W.strictly (n over d) (m over e))
+      (W.no_more (n over d) (m over e))
     where
-      go : (t : Bool) → (T t → W.R (m over e) (n over d) × (¬ W.R (n over d) (m over e))) → (T (not t) → W.R (n over d) (m over e)) → Moved (Exact m e) (Exact n d) (cond t (Exact n d) (Exact m e))
+      go : (t : Bool) → (T t → W.R (m over e) (n over d) × (¬ W.R (n over d) (m over e)))
+          → (T (not t) → W.R (n over d) (m over e)) → Moved (Exact m e) (Exact n d) (cond t (Exact n d) (Exact m e))
       go true h k = record { from_old = (h tt).0; from_new = W.same (n over d); which = inr (refl, (h tt).1) }
       go false h k = record { from_old = W.same (m over e); from_new = k tt; which = inl refl }
 
@@ -110,15 +116,25 @@ module _ (W : Way) where
     pub each_proper : (x : Load) → x ∈ l → Proper x
     pub kept_proper : Proper b
 
-  which_proper : (old new kept : Load) → (kept ≡ old) ⊎ ((kept ≡ new) × (¬ No new old)) → Proper old → Proper new → Proper kept
+  which_proper : (old new kept : Load) → (kept ≡ old) ⊎ ((kept ≡ new) × (¬ No new old)) → Proper old → Proper new
+      → Proper kept
   which_proper old new kept (inl e) O N = subst Proper (sym e) O
   which_proper old new kept (inr e) O N = subst Proper (sym e.0) N
 
-  first_kept : (l : List Load) (old new : Load) → BestOf l old → (old ≡ Absent) ⊎ FirstOf (W.R) l old → (old ≡ Absent) ⊎ FirstOf (W.R) (l ++ (new ∷ [])) old
+  first_kept : (l : List Load) (old new : Load) → BestOf l old → (old ≡ Absent) ⊎ FirstOf (W.R) l old
+      → (old ≡ Absent) ⊎ FirstOf (W.R) (l ++ (new ∷ [])) old
   first_kept l old new k (inl e) = inl e
-  first_kept l old new k (inr f) = inr (record { earlier = f.earlier; later = f.later ++ (new ∷ []); listed = ap (λ z. z ++ (new ∷ [])) f.listed ∙ append_assoc f.earlier (old ∷ f.later) (new ∷ []); worse = f.worse })
+  first_kept l old new k (inr f) =
+      inr (record {
+        earlier = f.earlier;
+        later = f.later ++ (new ∷ []);
+        listed = ap (λ z. z ++ (new ∷ [])) f.listed
+            ∙ append_assoc f.earlier (old ∷ f.later) (new ∷ []);
+        worse = f.worse;
+      })
 
-  first_new : (l : List Load) (old new : Load) → BestOf l old → Proper new → ¬ No new old → FirstOf (W.R) (l ++ (new ∷ [])) new
+  first_new : (l : List Load) (old new : Load) → BestOf l old → Proper new → ¬ No new old
+      → FirstOf (W.R) (l ++ (new ∷ [])) new
   first_new l old new k N strict = record {
     earlier = l;
     later = [];
@@ -126,11 +142,15 @@ module _ (W : Way) where
     worse = λ x m h. strict (no_better_trans new x old N (k.each_proper x m) k.kept_proper h (k.best.no_better x m));
   }
 
-  first_of : (l : List Load) (old new kept : Load) → BestOf l old → Proper new → (kept ≡ old) ⊎ ((kept ≡ new) × (¬ No new old)) → (kept ≡ Absent) ⊎ FirstOf (W.R) (l ++ (new ∷ [])) kept
-  first_of l old new kept k N (inl e) = subst (λ b. (b ≡ Absent) ⊎ FirstOf (W.R) (l ++ (new ∷ [])) b) (sym e) (first_kept l old new k k.best.first)
-  first_of l old new kept k N (inr e) = inr (subst (FirstOf (W.R) (l ++ (new ∷ []))) (sym e.0) (first_new l old new k N e.1))
+  first_of : (l : List Load) (old new kept : Load) → BestOf l old → Proper new
+      → (kept ≡ old) ⊎ ((kept ≡ new) × (¬ No new old)) → (kept ≡ Absent) ⊎ FirstOf (W.R) (l ++ (new ∷ [])) kept
+  first_of l old new kept k N (inl e) = subst (λ b. (b ≡ Absent) ⊎ FirstOf (W.R) (l ++ (new ∷ [])) b) (sym e)
+      (first_kept l old new k k.best.first)
+  first_of l old new kept k N (inr e) =
+      inr (subst (FirstOf (W.R) (l ++ (new ∷ []))) (sym e.0) (first_new l old new k N e.1))
 
-  one_more : (l : List Load) (old new : Load) → BestOf l old → Proper new → BestOf (l ++ (new ∷ [])) (moved W.which_bound old new)
+  one_more : (l : List Load) (old new : Load) → BestOf l old → Proper new
+      → BestOf (l ++ (new ∷ [])) (moved W.which_bound old new)
   one_more l old new k N =
       let kept : Load = moved W.which_bound old new in
       let m = moves old new in
@@ -143,13 +163,20 @@ module _ (W : Way) where
           ];
           first = first_of l old new kept k N m.which;
         };
-        each_proper = λ x h. elim (Memᴰ.append_cases l h) [ inl a ↦ k.each_proper x a | inr a ↦ subst Proper (sym (Memᴰ.eq_of_singleton a)) N ];
+        each_proper = λ x h. elim
+            (Memᴰ.append_cases l h)
+            [ inl a ↦ k.each_proper x a | inr a ↦ subst Proper (sym (Memᴰ.eq_of_singleton a)) N ];
         kept_proper = K;
       }
 
   none_kept : BestOf [] Absent
   unfolding Proper proper
-  none_kept = record { best = record { no_better = λ x h. absurd (Memᴰ.not-nil h); first = inl refl }; each_proper = λ x h. absurd (Memᴰ.not-nil h); kept_proper = refl }
+  none_kept = record {
+    best = record { no_better = λ x h. absurd (Memᴰ.not-nil h); first = inl refl };
+    each_proper =
+        λ x h. absurd (Memᴰ.not-nil h);
+    kept_proper = refl;
+  }
 
 -- ---- a book and the accepted claims committed so far
 
@@ -168,23 +195,28 @@ map_more : (f : Loads → Load) (h : List Loads) (p : Loads) → map f h ++ (f p
 map_more f [] p = refl
 map_more f (x ∷ h) p = ap (λ l. f x ∷ l) (map_more f h p)
 
-followed_holds : (b : Kept) (h : List Loads) (o : OpenRows) (x y : Load) → Holds b h → Proper x → Proper y → Holds (followed b (Accepted o x y)) (h ++ (record { carried = x; allowed = y } ∷ []))
+followed_holds : (b : Kept) (h : List Loads) (o : OpenRows) (x y : Load) → Holds b h → Proper x → Proper y
+    → Holds (followed b (Accepted o x y)) (h ++ (record { carried = x; allowed = y } ∷ []))
 unfolding followed upward downward
 followed_holds b h o x y H X Y =
     let p : Loads = record { carried = x; allowed = y } in
     record {
       count = ap (λ z. z + 1) H.count ∙ sym (length-append h (p ∷ []));
-      low = subst (λ z. BestOf upward z (moved Lower b.lower x)) (map_more (λ x. x.carried) h p) (one_more upward (carrieds h) b.lower x H.low X);
-      high = subst (λ z. BestOf downward z (moved Upper b.upper y)) (map_more (λ x. x.allowed) h p) (one_more downward (alloweds h) b.upper y H.high Y);
+      low = subst (λ z. BestOf upward z (moved Lower b.lower x)) (map_more (λ x. x.carried) h p)
+          (one_more upward (carrieds h) b.lower x H.low X);
+      high = subst (λ z. BestOf downward z (moved Upper b.upper y)) (map_more (λ x. x.allowed) h p)
+          (one_more downward (alloweds h) b.upper y H.high Y);
     }
 
 -- with proper bounds a book is shut only by its count
-left_by_count : (b : Kept) (count : ℕ) (v : Verdict) → Proper b.lower → Proper b.upper → left b (commits count v) ≡ cond (eqb count b.count && ltb b.count most_commits) (followed b v) b
+left_by_count : (b : Kept) (count : ℕ) (v : Verdict) → Proper b.lower → Proper b.upper
+    → left b (commits count v) ≡ cond (eqb count b.count && ltb b.count most_commits) (followed b v) b
 unfolding left committed takes_commit takes_ask unjudged judged Proper
 left_by_count b count v L U = go (eqb count b.count) (ltb b.count most_commits) (proper b.lower) (proper b.upper) L U
   where
     go : (x y z w : Bool) → z ≡ true → w ≡ true
-        → (cond {A = Told} (x && (y && (z && w))) (record { said = Judged v; kept = followed b v }) (record { said = Unjudged; kept = b })).kept ≡ cond (x && y) (followed b v) b
+        → (cond {A = Told} (x && (y && (z && w))) (record { said = Judged v; kept = followed b v })
+        (record { said = Unjudged; kept = b })).kept ≡ cond (x && y) (followed b v) b
     go true true true true p q = refl
     go true true true false p q = absurd (true≢false (sym q))
     go true true false w p q = absurd (true≢false (sym p))
@@ -199,7 +231,8 @@ refused_left : (b : Kept) (count k : ℕ) (p : Place) → left b (commits count 
 unfolding left committed followed unjudged judged
 refused_left b count k p = go (takes_commit b count)
   where
-    go : (x : Bool) → (cond {A = Told} x (record { said = Judged (Refused k p); kept = b }) (record { said = Unjudged; kept = b })).kept ≡ b
+    go : (x : Bool) → (cond {A = Told} x (record { said = Judged (Refused k p); kept = b })
+        (record { said = Unjudged; kept = b })).kept ≡ b
     go true = refl
     go false = refl
 
@@ -220,15 +253,23 @@ AllProper [] = Unit {0}
 AllProper (k ∷ ks) = (verdict_proper (verdict_of k) ≡ true) × AllProper ks
 
 -- the calls that are left, from a book that is the best of h
-whole : (ks : List (Call Verdict)) (b : Kept) (h : List Loads) → Holds b h → AllProper ks → Holds (left_by_all b ks) (h ++ committed_after b.count ks)
+whole : (ks : List (Call Verdict)) (b : Kept) (h : List Loads) → Holds b h → AllProper ks
+    → Holds (left_by_all b ks) (h ++ committed_after b.count ks)
 unfolding left_by_all committed_after AllProper verdict_of
 whole [] b h H S = subst (Holds b) (sym (append-nil h)) H
-whole (asks v ∷ ks) b h H S = subst (λ z. Holds (left_by_all z ks) (h ++ committed_after b.count ks)) (sym (ask_left b v)) (whole ks b h H S.1)
-whole (commits count (Refused k p) ∷ ks) b h H S = subst (λ z. Holds (left_by_all z ks) (h ++ committed_after b.count ks)) (sym (refused_left b count k p)) (whole ks b h H S.1)
+whole (asks v ∷ ks) b h H S = subst (λ z. Holds (left_by_all z ks) (h ++ committed_after b.count ks))
+    (sym (ask_left b v)) (whole ks b h H S.1)
+whole (commits count (Refused k p) ∷ ks) b h H S =
+    subst (λ z. Holds (left_by_all z ks) (h ++ committed_after b.count ks)) (sym (refused_left b count k p))
+    (whole ks b h H S.1)
 whole (commits count (Accepted o x y) ∷ ks) b h H S =
-    subst (λ z. Holds (left_by_all z ks) (h ++ cond (eqb count b.count && ltb b.count most_commits) (p ∷ committed_after (suc b.count) ks) (committed_after b.count ks)))
+    subst (λ z. Holds (left_by_all z ks)
+    (h ++ cond (eqb count b.count && ltb b.count most_commits) (p ∷ committed_after (suc b.count) ks)
+    (committed_after b.count ks)))
     (sym (left_by_count b count (Accepted o x y) H.low.kept_proper H.high.kept_proper))
-    (go (eqb count b.count && ltb b.count most_commits) (whole ks next (h ++ (p ∷ [])) (followed_holds b h o x y H (loads_proper o x y S.0).0 (loads_proper o x y S.0).1) S.1) (whole ks b h H S.1))
+    (go (eqb count b.count && ltb b.count most_commits)
+    (whole ks next (h ++ (p ∷ []))
+    (followed_holds b h o x y H (loads_proper o x y S.0).0 (loads_proper o x y S.0).1) S.1) (whole ks b h H S.1))
   where
     p : Loads
     p = record { carried = x; allowed = y }
@@ -236,9 +277,13 @@ whole (commits count (Accepted o x y) ∷ ks) b h H S =
     next : Kept
     next = followed b (Accepted o x y)
 
-    go : (t : Bool) → Holds (left_by_all next ks) ((h ++ (p ∷ [])) ++ committed_after next.count ks) → Holds (left_by_all b ks) (h ++ committed_after b.count ks)
-        → Holds (left_by_all (cond t next b) ks) (h ++ cond t (p ∷ committed_after (suc b.count) ks) (committed_after b.count ks))
-    go true moved stays = subst (Holds (left_by_all next ks)) (append_assoc h (p ∷ []) (committed_after next.count ks) ∙ ap (λ z. h ++ (p ∷ committed_after z ks)) (followed_count b o x y)) moved
+    go : (t : Bool) → Holds (left_by_all next ks) ((h ++ (p ∷ [])) ++ committed_after next.count ks)
+        → Holds (left_by_all b ks) (h ++ committed_after b.count ks)
+        → Holds (left_by_all (cond t next b) ks)
+        (h ++ cond t (p ∷ committed_after (suc b.count) ks) (committed_after b.count ks))
+    go true moved stays = subst (Holds (left_by_all next ks))
+        (append_assoc h (p ∷ []) (committed_after next.count ks)
+        ∙ ap (λ z. h ++ (p ∷ committed_after z ks)) (followed_count b o x y)) moved
     go false moved stays = stays
 
 empty_holds : Holds empty_book []
@@ -251,7 +296,8 @@ all_proper (asks a ∷ ks) = (handed_proper a, all_proper ks)
 all_proper (commits count a ∷ ks) = (handed_proper a, all_proper ks)
 
 -- one call more is given the book that those before it left
-pub one_call_more : (b : Kept) (ks : List (Call Handed)) (k : Call Handed) → left_by_all b (map judged_call (ks ++ (k ∷ []))) ≡ left (left_by_all b (map judged_call ks)) (judged_call k)
+pub one_call_more : (b : Kept) (ks : List (Call Handed)) (k : Call Handed)
+    → left_by_all b (map judged_call (ks ++ (k ∷ []))) ≡ left (left_by_all b (map judged_call ks)) (judged_call k)
 unfolding left_by_all
 one_call_more b [] k = refl
 one_call_more b (j ∷ ks) k = one_call_more (left b (judged_call j)) ks k
@@ -280,7 +326,8 @@ pub refused_leaves : (b : Kept) (number : ℕ) (place : Place) → RefusedLeaves
 unfolding left asked followed unjudged judged
 refused_leaves b number place = record { ask = go (takes_ask b); commit = λ count. refused_left b count number place }
   where
-    go : (t : Bool) → (cond {A = Told} t (record { said = Judged (Refused number place); kept = b }) (record { said = Unjudged; kept = b })).kept ≡ b
+    go : (t : Bool) → (cond {A = Told} t (record { said = Judged (Refused number place); kept = b })
+        (record { said = Unjudged; kept = b })).kept ≡ b
     go true = refl
     go false = refl
 
@@ -297,14 +344,20 @@ never false f = refl
 not_proper : (b : Load) → (proper b ≡ false) ↔ NotAbove0 b
 unfolding proper
 not_proper Absent = (λ e. absurd (true≢false e), λ h. absurd h)
-not_proper (Exact n d) = (λ e. lt_z_no (failed (lt_z (pos 0) d) e), λ h. never (lt_z (pos 0) d) (λ e. clash_ℤ (lt_z_yes (holds (lt_z (pos 0) d) e)) h))
+not_proper (Exact n d) = (
+  λ e. lt_z_no (failed (lt_z (pos 0) d) e),
+  λ h. never (lt_z (pos 0) d)
+      (λ e. clash_ℤ (lt_z_yes (holds (lt_z (pos 0) d) e)) h),
+)
 
 module _ (b : Kept) where
   pub not_taken : takes_ask b ≡ false → Shut b
   unfolding takes_ask
-  not_taken e = by (ltb b.count most_commits) (proper b.lower) (proper b.upper) (ltb-false b.count most_commits) (not_proper b.lower).0 (not_proper b.upper).0 e
+  not_taken e = by (ltb b.count most_commits) (proper b.lower) (proper b.upper) (ltb-false b.count most_commits)
+      (not_proper b.lower).0 (not_proper b.upper).0 e
     where
-      by : (c l u : Bool) → (c ≡ false → most_commits ≤ b.count) → (l ≡ false → NotAbove0 b.lower) → (u ≡ false → NotAbove0 b.upper) → (c && (l && u)) ≡ false → Shut b
+      by : (c l u : Bool) → (c ≡ false → most_commits ≤ b.count) → (l ≡ false → NotAbove0 b.lower)
+          → (u ≡ false → NotAbove0 b.upper) → (c && (l && u)) ≡ false → Shut b
       by true true true f g h e = absurd (true≢false e)
       by true true false f g h e = inr (inr (h refl))
       by true false u f g h e = inr (inl (g refl))
@@ -312,14 +365,18 @@ module _ (b : Kept) where
 
   pub shut_not_taken : Shut b → takes_ask b ≡ false
   shut_not_taken (inl h) = never (takes_ask b) (λ t. let l = takes_room b t in omega arith)
-  shut_not_taken (inr (inl h)) = never (takes_ask b) (λ t. true≢false (sym (takes_lower b t) ∙ (not_proper b.lower).1 h))
-  shut_not_taken (inr (inr h)) = never (takes_ask b) (λ t. true≢false (sym (takes_upper b t) ∙ (not_proper b.upper).1 h))
+  shut_not_taken (inr (inl h)) =
+      never (takes_ask b) (λ t. true≢false (sym (takes_lower b t) ∙ (not_proper b.lower).1 h))
+  shut_not_taken (inr (inr h)) =
+      never (takes_ask b) (λ t. true≢false (sym (takes_upper b t) ∙ (not_proper b.upper).1 h))
 
   pub not_committed : (count : ℕ) → takes_commit b count ≡ false → (count ≢ b.count) ⊎ Shut b
   unfolding takes_commit
-  not_committed count e = by (eqb count b.count) (takes_ask b) (λ f q. true≢false (sym (eq-eqb count b.count q) ∙ f)) not_taken e
+  not_committed count e = by (eqb count b.count) (takes_ask b)
+      (λ f q. true≢false (sym (eq-eqb count b.count q) ∙ f)) not_taken e
     where
-      by : (t a : Bool) → (t ≡ false → count ≢ b.count) → (a ≡ false → Shut b) → (t && a) ≡ false → (count ≢ b.count) ⊎ Shut b
+      by : (t a : Bool) → (t ≡ false → count ≢ b.count) → (a ≡ false → Shut b) → (t && a) ≡ false
+          → (count ≢ b.count) ⊎ Shut b
       by true a f g e = inr (g e)
       by false a f g e = inl (f refl)
 
@@ -347,7 +404,10 @@ module _ (b : Kept) where
     pub unjudged_exactly : UnjudgedExactly b v
     unfolding asked committed
     unjudged_exactly = record {
-      ask = (λ e. not_taken ((says_unjudged (takes_ask b)).0 e), λ h. (says_unjudged (takes_ask b)).1 (shut_not_taken h));
+      ask = (
+        λ e. not_taken ((says_unjudged (takes_ask b)).0 e),
+        λ h. (says_unjudged (takes_ask b)).1 (shut_not_taken h),
+      );
       commit = λ count. (
         λ e. not_committed count ((says_unjudged (takes_commit b count)).0 e),
         λ h. (says_unjudged (takes_commit b count)).1 (shut_not_committed count h),

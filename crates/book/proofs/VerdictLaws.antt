@@ -43,7 +43,8 @@ module _ (m c : List ℤ) (a : ClaimAccepted m c) where
   unfolding lower_load has_field
   lower_proper =
       if_there (has_field c && not (some_by_direction m)) (l c) (n c)
-      (λ t. field-n m c (((claim_by_parts m c).0 a).2 (eq_z_yes (and_yes (has_field c) (not (some_by_direction m)) t).0)))
+      (λ t. field-n m c (((claim_by_parts m c).0 a).2
+      (eq_z_yes (and_yes (has_field c) (not (some_by_direction m)) t).0)))
 
   upper_proper : proper (upper_load m c) ≡ true
   unfolding upper_load has_multipliers
@@ -54,7 +55,8 @@ unfolding verdict_proper
 plain_proper m c =
     elim (verdict_cases m c) [
       | inl r ↦ ap verdict_proper r.2
-      | inr e ↦ let a = (accepted_exactly m c).0 e in ap verdict_proper e ∙ ap₂ ◌&&◌ (lower_proper m c a) (upper_proper m c a)
+      | inr e ↦ let a = (accepted_exactly m c).0 e in ap verdict_proper e
+          ∙ ap₂ ◌&&◌ (lower_proper m c a) (upper_proper m c a)
     ]
 
 -- ---- with a table
@@ -68,7 +70,8 @@ module _ (t m c : List ℤ) where
       by (early k p r e) = ap verdict_proper e
       by (late f e) = ap verdict_proper e ∙ plain_proper (mesh_read t m) c
 
-  tabled_read : (o : OpenRows) (x y : Load) → tabled_verdict t m c ≡ Accepted o x y → verdict (mesh_read t m) c ≡ Accepted o x y
+  tabled_read : (o : OpenRows) (x y : Load) → tabled_verdict t m c ≡ Accepted o x y
+      → verdict (mesh_read t m) c ≡ Accepted o x y
   tabled_read o x y h = by (came t m c)
     where
       by : Came t m c → verdict (mesh_read t m) c ≡ Accepted o x y
@@ -81,7 +84,8 @@ handed_proper (files mesh table claim) = tabled_proper _ _ _
 handed_proper (numbers m t c) = tabled_proper t m c
 
 -- an accepted claim is accepted on the mesh that is read
-pub accepted_read : (a : Handed) (o : OpenRows) (x y : Load) → handed_verdict a ≡ Accepted o x y → verdict (mesh_of a) (claim_of a) ≡ Accepted o x y
+pub accepted_read : (a : Handed) (o : OpenRows) (x y : Load) → handed_verdict a ≡ Accepted o x y
+    → verdict (mesh_of a) (claim_of a) ≡ Accepted o x y
 unfolding handed_verdict files_verdict mesh_of claim_of mesh_from
 accepted_read (files mesh table claim) o x y e = tabled_read _ _ _ o x y e
 accepted_read (numbers m t c) o x y e = tabled_read t m c o x y e

@@ -1,5 +1,6 @@
 -- A week of calls (document 02, N12): what holds of a book after any of them, said without a book where it can be.
-use Rattle.std.specs.Prelude.{◌≡◌, ◌↔◌, ◌⊎◌, ◌≢◌, ◌&&◌, cond, List, [], ◌∷◌, ◌++◌, map, ℕ, suc, ◌≤◌, ltb, eqb, ℤ, pos, ◌≤ℤ◌, length}
+use Rattle.std.specs.Prelude.{◌≡◌, ◌↔◌, ◌⊎◌, ◌≢◌, ◌&&◌, cond, List, [], ◌∷◌, ◌++◌, map, ℕ, suc, ◌≤◌, ltb, eqb, ℤ, pos}
+use Rattle.std.specs.Prelude.{◌≤ℤ◌, length}
 use Rattle.integer.specs.Fraction.{Frac, ◌over◌, ◌≤ᶠ◌}
 use Rattle.scope.specs.declared.Place.{Place}
 use Rattle.scope.specs.Cases.Load.{Load, Absent, Exact}

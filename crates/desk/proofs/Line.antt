@@ -10,11 +10,13 @@ use Rattle.report.specs.Report.{report_bytes, report_line, is_decimals, usual_de
 use Rattle.pechuvo.specs.Check.{answered}
 use Rattle.pechuvo.specs.Answers.{AnswersFor}
 
-pub whole_line : {v : Verdict} {before after : List ℕ} {number place : ℕ} → length before ≡ report_bytes → AnswersFor v (pos 6) before number place after
+pub whole_line : {v : Verdict} {before after : List ℕ} {number place : ℕ} → length before ≡ report_bytes
+    → AnswersFor v (pos 6) before number place after
     → after ≡ report_line usual_decimals v
 unfolding answered is_decimals usual_decimals
 whole_line {v} {before} {after} l a =
     let b : after ≡ (answered v (pos 6) before).buffer = a.buffer_is in
     (rw (l, answered) at b)
-    ∙ ap (λ (rest : List ℕ). report_line usual_decimals v ++ rest) (drop_of_length-le before {i = report_bytes} (omega arith))
+    ∙ ap (λ (rest : List ℕ). report_line usual_decimals v ++ rest)
+    (drop_of_length-le before {i = report_bytes} (omega arith))
     ∙ append-nil (report_line usual_decimals v)

@@ -15,7 +15,8 @@ use lib.ListN.{length, length-append, length-replicate}
 use borrow.Author.Tests.{ltb-true, ltb-false, lt-ltb, le-ltb}
 use borrow.Table.Steps.{cases}
 use mir.Facts.{and_yes, yes_and}
-use Rattle.integer.specs.Decimal.{digits_within, digits, last_digits, right_justified, is_digit, all_digits, value_after, proper_digits}
+use Rattle.integer.specs.Decimal.{digits_within, digits, last_digits, right_justified, is_digit, all_digits}
+use Rattle.integer.specs.Decimal.{value_after, proper_digits}
 
 -- ---- the digits of a number
 
@@ -102,7 +103,8 @@ digits-value_after a (b ∷ bs) p t =
     let q = and_yes (is_digit b) (all_digits bs) t in
     let r = digit_bounds b q.0 in
     let e : 48 + (b - 48) ≡ b = omega arith in
-    digits-value_after (a * 10 + (b - 48)) bs (omega arith) q.1 ∙ rw (digits_after a (b - 48) p (omega arith), e, append_assoc)
+    digits-value_after (a * 10 + (b - 48)) bs (omega arith) q.1
+    ∙ rw (digits_after a (b - 48) p (omega arith), e, append_assoc)
 
 -- each proper digit text is the digits of its value
 pub digits_value : (bs : List ℕ) → T (proper_digits bs) → digits (value_after 0 bs) ≡ bs
@@ -117,7 +119,8 @@ digits_value (b ∷ c ∷ bs) t =
     let lo = leb→le 49 b r.0 in
     let hi = leb→le b 57 r.1 in
     let e : 48 + (0 * 10 + (b - 48)) ≡ b = omega arith in
-    digits-value_after (0 * 10 + (b - 48)) (c ∷ bs) (omega arith) q.1 ∙ rw (digits_one (0 * 10 + (b - 48)) (omega arith), e)
+    digits-value_after (0 * 10 + (b - 48)) (c ∷ bs) (omega arith) q.1
+    ∙ rw (digits_one (0 * 10 + (b - 48)) (omega arith), e)
 
 -- the value of the digits of a number is that number
 pub value_digits : (k : ℕ) → value_after 0 (digits k) ≡ k
@@ -132,22 +135,27 @@ example_one_number : (j k : ℕ) → digits j ≡ digits k → j ≡ k
 example_one_number j k h = sym (value_digits j) ∙ ap (value_after 0) h ∙ value_digits k
 
 -- one more digit after a proper text that is not 0
-proper_after : (bs : List ℕ) (b : ℕ) → T (proper_digits bs) → 0 < value_after 0 bs → T (is_digit b) → T (proper_digits (bs ++ (b ∷ [])))
+proper_after : (bs : List ℕ) (b : ℕ) → T (proper_digits bs) → 0 < value_after 0 bs → T (is_digit b)
+    → T (proper_digits (bs ++ (b ∷ [])))
 unfolding proper_digits value_after
 proper_after [] b t p s = absurd t
 proper_after (c ∷ []) b t p s =
     let r = digit_bounds c t in
-    yes_and (leb 49 c && leb c 57) (all_digits (b ∷ [])) (yes_and (leb 49 c) (leb c 57) (le→leb 49 c (omega arith)) (le→leb c 57 r.1)) (one_digit b s)
+    yes_and (leb 49 c && leb c 57) (all_digits (b ∷ []))
+    (yes_and (leb 49 c) (leb c 57) (le→leb 49 c (omega arith)) (le→leb c 57 r.1)) (one_digit b s)
 proper_after (c ∷ e ∷ bs) b t p s =
     let q = and_yes (leb 49 c && leb c 57) (all_digits (e ∷ bs)) t in
-    yes_and (leb 49 c && leb c 57) (all_digits (e ∷ (bs ++ (b ∷ [])))) q.0 (all_digits-++ (e ∷ bs) (b ∷ []) q.1 (one_digit b s))
+    yes_and (leb 49 c && leb c 57) (all_digits (e ∷ (bs ++ (b ∷ [])))) q.0
+    (all_digits-++ (e ∷ bs) (b ∷ []) q.1 (one_digit b s))
 
 pub digits_proper : (k : ℕ) → T (proper_digits (digits k))
 unfolding proper_digits
 digits_proper =
     by_digits (λ k. T (proper_digits (digits k)))
     (λ k h. rw (digits_one k h) (digit_written k h))
-    (λ k h i. rw (digits_more k h) (proper_after (digits (k / 10)) (48 + k % 10) i (rw (value_digits (k / 10)) (omega arith)) (digit_written (k % 10) (omega arith))))
+    (λ k h i. rw (digits_more k h)
+    (proper_after (digits (k / 10)) (48 + k % 10) i (rw (value_digits (k / 10)) (omega arith))
+    (digit_written (k % 10) (omega arith))))
 
 -- a proper digit text is digits and nothing else
 pub proper_all : (bs : List ℕ) → T (proper_digits bs) → T (all_digits bs)
@@ -178,19 +186,26 @@ first_digit b bs t = digit_bounds b (and_yes (is_digit b) (all_digits bs) t).0
 pub last_digits-length : (d k : ℕ) → length (last_digits d k) ≡ d
 unfolding last_digits
 last_digits-length zero k = refl
-last_digits-length (suc d) k = length-append (last_digits d (k / 10)) ((48 + k % 10) ∷ []) ∙ omega (arith, last_digits-length d (k / 10))
+last_digits-length (suc d) k = length-append (last_digits d (k / 10)) ((48 + k % 10) ∷ [])
+    ∙ omega (arith, last_digits-length d (k / 10))
 
 pub last_digits-digits : (d k : ℕ) → T (all_digits (last_digits d k))
 unfolding last_digits all_digits
 last_digits-digits zero k = tt
-last_digits-digits (suc d) k = all_digits-++ (last_digits d (k / 10)) ((48 + k % 10) ∷ []) (last_digits-digits d (k / 10)) (one_digit (48 + k % 10) (digit_written (k % 10) (omega arith)))
+last_digits-digits (suc d) k = all_digits-++ (last_digits d (k / 10)) ((48 + k % 10) ∷ [])
+    (last_digits-digits d (k / 10)) (one_digit (48 + k % 10) (digit_written (k % 10) (omega arith)))
 
 pub last_digits_value : (a d k : ℕ) → value_after a (last_digits d k) ≡ a * 10 ^ d + k % 10 ^ d
 unfolding last_digits value_after
 last_digits_value a zero k = omega arith
 last_digits_value a (suc d) k =
     value_after-++ a (last_digits d (k / 10)) ((48 + k % 10) ∷ [])
-    ∙ rw (last_digits_value a d (k / 10), pow-suc, mod-mul k {m = 10 ^ d} {c = 10} (one-le-pow d 10 (omega arith)) (omega arith)) (omega arith)
+    ∙ rw (
+      last_digits_value a d (k / 10),
+      pow-suc,
+      mod-mul k {m = 10 ^ d} {c = 10} (one-le-pow d 10 (omega arith))
+          (omega arith),
+    ) (omega arith)
 
 -- ---- a text in a column
 

@@ -2,7 +2,8 @@
 -- denominators, and two fractions are each at most the other exactly when their cross products are equal.
 -- Example (`example_third_below`, checked after `≤ᶠ_trans`): f ≤ 2/5, from p : f has a denominator above 0 and h : f ≤
 -- 1/3, where literals are compared by `le_z_yes tt`:
---     ≤ᶠ_trans p (record { positive = lt_z_yes tt }) (record { positive = lt_z_yes tt }) h (record { cross-≤ = le_z_yes tt })
+--     ≤ᶠ_trans p (record { positive = lt_z_yes tt }) (record { positive = lt_z_yes tt }) h (record { cross-≤ =
+--         le_z_yes tt })
 use mathlib.Core.Path.{refl, sym}
 use mathlib.Core.List.{[], ◌∷◌}
 use mathlib.Core.Logic.{◌⊎◌, inl, inr, ⊎_elim}
@@ -18,7 +19,8 @@ pub ≤ᶠ_refl : (f : Frac) → f ≤ᶠ f
 ≤ᶠ_refl f = record { cross-≤ = ≤ℤ_refl (f.num *ℤ f.den) }
 
 pub <ᶠ_or_≤ᶠ : (f g : Frac) → (f <ᶠ g) ⊎ (g ≤ᶠ f)
-<ᶠ_or_≤ᶠ f g = ⊎_elim (λ h. inl (record { cross-< = h })) (λ h. inr (record { cross-≤ = h })) (<ℤ_or_≤ℤ (f.num *ℤ g.den) (g.num *ℤ f.den))
+<ᶠ_or_≤ᶠ f g = ⊎_elim (λ h. inl (record { cross-< = h })) (λ h. inr (record { cross-≤ = h }))
+    (<ℤ_or_≤ℤ (f.num *ℤ g.den) (g.num *ℤ f.den))
 
 pub <ᶠ_not_≤ᶠ : {f g : Frac} → f <ᶠ g → ¬ (g ≤ᶠ f)
 <ᶠ_not_≤ᶠ h k = <ℤ_irrefl (<ℤ-≤ℤ_trans h.cross-< k.cross-≤)
@@ -29,12 +31,14 @@ pub ≤ᶠ_trans : {f g h : Frac} → Positive f → Positive g → Positive h �
     let v = *ℤ_mono q.cross-≤ (<ℤ→≤ℤ pf.positive) in
     record {
       cross-≤ = *ℤ_cancel_≤ pg.positive
-          (by_nn (+ℤ_mono (nn_diff u) (nn_diff v)) (ring (f.num ∷ f.den ∷ g.num ∷ g.den ∷ h.num ∷ h.den ∷ []) (search terms depth 100) refl));
+          (by_nn (+ℤ_mono (nn_diff u) (nn_diff v))
+          (ring (f.num ∷ f.den ∷ g.num ∷ g.den ∷ h.num ∷ h.den ∷ []) (search terms depth 100) refl));
     }
 
 -- example: a chain of comparisons
 example_third_below : (f : Frac) → Positive f → f ≤ᶠ pos 1 over pos 3 → f ≤ᶠ pos 2 over pos 5
-example_third_below f p h = ≤ᶠ_trans p (record { positive = lt_z_yes tt }) (record { positive = lt_z_yes tt }) h (record { cross-≤ = le_z_yes tt })
+example_third_below f p h = ≤ᶠ_trans p (record { positive = lt_z_yes tt }) (record { positive = lt_z_yes tt }) h
+    (record { cross-≤ = le_z_yes tt })
 
 -- ---- equal fractions
 

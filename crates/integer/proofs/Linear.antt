@@ -46,14 +46,18 @@ module _ {x y : ℤ} (a b c d : ℕ) (e : x ≡ pos a -ℤ pos b) (f : y ≡ pos
   ≤ℤ_parts h =
       let (k, g) = le_diff h in
       let line : pos a -ℤ pos b +ℤ pos k ≡ pos c -ℤ pos d = ap (λ z. z +ℤ pos k) (sym e) ∙ sym g ∙ f in
-      let same : a + d + k ≡ c + b = pos_injective (ring_from (pos 1) line (ring (pos a ∷ pos b ∷ pos c ∷ pos d ∷ pos k ∷ []) (search terms depth 100) refl)) in
+      let same : a + d + k ≡ c + b =
+      pos_injective (ring_from (pos 1) line
+      (ring (pos a ∷ pos b ∷ pos c ∷ pos d ∷ pos k ∷ []) (search terms depth 100) refl)) in
       omega arith
 
   pub parts_≤ℤ : a + d ≤ c + b → x ≤ℤ y
   parts_≤ℤ h =
       let k : ℕ = c + b - (a + d) in
       let same : a + d + k ≡ c + b = omega arith in
-      diff_le k (f ∙ ring_from (negsuc 0) (ap pos same) (ring (pos a ∷ pos b ∷ pos c ∷ pos d ∷ pos k ∷ []) (search terms depth 100) refl) ∙ ap (λ z. z +ℤ pos k) (sym e))
+      diff_le k (f ∙ ring_from (negsuc 0) (ap pos same)
+      (ring (pos a ∷ pos b ∷ pos c ∷ pos d ∷ pos k ∷ []) (search terms depth 100) refl)
+      ∙ ap (λ z. z +ℤ pos k) (sym e))
 
 pub parts_neg_ℤ : {x : ℤ} (a b : ℕ) → x ≡ pos a -ℤ pos b → neg_ℤ x ≡ pos b -ℤ pos a
 parts_neg_ℤ a b e = ap neg_ℤ e ∙ ring (pos a ∷ pos b ∷ []) (search terms depth 100) refl
@@ -74,7 +78,8 @@ module _ {x y : ℤ} (a b c d : ℕ) (e : x ≡ pos a -ℤ pos b) (f : y ≡ pos
   pub parts_≡ : a + d ≡ c + b → x ≡ y
   parts_≡ h = ≤ℤ_antisym (parts_≤ℤ a b c d e f (omega arith)) (parts_≤ℤ c d a b f e (omega arith))
 
--- ---- the reading of a number, which `search` finds. All readings of a number at one level are equally deep: so `search` takes an operator apart where it can, and takes what is left for an unknown
+-- ---- the reading of a number, which `search` finds. All readings of a number at one level are equally deep: so
+-- `search` takes an operator apart where it can, and takes what is left for an unknown
 
 pub data Level : Type 0 where
   base : Level
@@ -192,7 +197,26 @@ pub record Facts (H G : Type 0) : Type 1 where
 abbrev pub known_goal : {H G : Type 0} → Fact H → Fact G → Facts H G
 known_goal f g = record { known = f; goal = g }
 
-pub ruleset facts = (lin_pos, lin_negsuc, lin_subℕ, lin_neg_ℤ, lin_+ℤ, lin_*ℤ, lin_unknown, bottom, deeper, late, fact_≤ℤ, fact_<ℤ, fact_≡, fact_⊥, fact_¬, fact_&, fact_nothing, known_goal)
+pub ruleset facts = (
+  lin_pos,
+  lin_negsuc,
+  lin_subℕ,
+  lin_neg_ℤ,
+  lin_+ℤ,
+  lin_*ℤ,
+  lin_unknown,
+  bottom,
+  deeper,
+  late,
+  fact_≤ℤ,
+  fact_<ℤ,
+  fact_≡,
+  fact_⊥,
+  fact_¬,
+  fact_&,
+  fact_nothing,
+  known_goal,
+)
 
 pub linear : {H G : Type 0} → H → (f : Facts H G) → (f.known.plain → f.goal.plain) → G
 linear h f o = f.goal.from (o (f.known.to h))

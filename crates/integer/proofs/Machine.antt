@@ -15,10 +15,10 @@
 --     `Within B v`               bounded S (omega arith)
 --     `P v`                      by_value P S (omega arith) p, where p : P (the value)
 --     `b ≡ test`                 decides S (omega arith)
---     a branch's fact            told c.if-a-b.true S (omega arith), of type p <ℤ q, p ≤ℤ q or p ≡ q; also with `.false`
+--     a branch's fact told c.if-a-b.true S (omega arith), of type p <ℤ q, p ≤ℤ q or p ≡ q; also with `.false`
 --     `a == b` that failed       apart c.if-a-b.false S (omega arith), of type ¬ (p ≡ q)
 --     a division                 (meets S (omega arith) n, fits S (omega arith)), where n : ¬ (divisor ≡ pos 0)
---     a cast to unsigned         (meets S (omega arith) p, meets S (omega arith) (omega arith)), where p : pos 0 ≤ℤ value
+--     a cast to unsigned (meets S (omega arith) p, meets S (omega arith) (omega arith)), where p : pos 0 ≤ℤ value
 --     what a callee requires     search limits, or record { fact_1 = search limits; .. } for several clauses
 -- For a number with no bound S is `(search (machine, unbounded) depth 30)`, and for an unsigned number that was cast to
 -- `i64` it is `(search (machine, casts) depth 30)`.
@@ -40,14 +40,16 @@ use lib.Dec.{T, leb, ltb, eqb, leb→le, ltb→lt, eqb→eq}
 use lib.ListN.{get_or, set, length}
 use lib.Seq.{get_or-set_same}
 use lib.IntN.{ℤ, pos, negsuc, ◌+ℤ◌, ◌-ℤ◌, ◌*ℤ◌, neg_ℤ, nat_abs, +ℤ_idl}
-use lib.Signed.{mag, lt_z, le_z, quot_z, rem_z, non_neg, ◌≤ℤ◌, ◌<ℤ◌, nat_abs-le, yes_non_neg, le_z_yes, lt_z_yes, lt_z_no}
+use lib.Signed.{mag, lt_z, le_z, quot_z, rem_z, non_neg, ◌≤ℤ◌, ◌<ℤ◌, nat_abs-le, yes_non_neg, le_z_yes, lt_z_yes}
+use lib.Signed.{lt_z_no}
 use mir.Syntax.{Width, w64}
 use mir.Val.{SFits, Fits, to_z, of_z, hbits}
 use mir.Facts.{to_z-of_z, of_z-to_z, to_z_pos, sfits_to_z, yes_eqb}
 use Rattle.integer.specs.Tests.{eq_z}
 use Rattle.integer.proofs.TestLaws.{same_test, eq_z_yes, eq_z_no, yes_eq_z, le_z_no}
 use Rattle.integer.specs.Bounds.{Within, AllWithin, Is}
-use Rattle.integer.proofs.BoundLaws.{Within-le, Within-pos, Within-negsuc, Within-neg_ℤ, Within-+ℤ, Within-*ℤ, Within-quot_z, Within-rem_z}
+use Rattle.integer.proofs.BoundLaws.{Within-le, Within-pos, Within-negsuc, Within-neg_ℤ, Within-+ℤ, Within-*ℤ}
+use Rattle.integer.proofs.BoundLaws.{Within-quot_z, Within-rem_z}
 
 -- ---- what 64 bits hold
 
@@ -103,7 +105,8 @@ module _ {v w p q : ℤ} {A B : ℕ} (h : Is v p A) (k : Is w q B) where
   pub Is-rem_z : Is (rem_z v w) (rem_z p q) A
   Is-rem_z = record { same = ap₂ rem_z h.same k.same; inside = Within-rem_z q h.inside }
 
--- ---- the reading of what the machine has, which `search` finds. `peak` is the largest number that has to stay below 2 ^ 63 for it
+-- ---- the reading of what the machine has, which `search` finds. `peak` is the largest number that has to stay below
+-- 2 ^ 63 for it
 
 pub record Machine (v : ℤ) : Type 0 where
   pub plain : ℤ
@@ -128,7 +131,8 @@ of_element_lem i h = of_is (Is-within (h.each i))
 
 -- an element that was just stored
 abbrev pub of_stored : {v : ℤ} (l : List ℤ) (i : ℕ) → i < length l → Machine v → Machine (get_or (set l i v) i (pos 0))
-of_stored {v} l i p h = record { plain = h.plain; bound = h.bound; peak = h.peak; says = λ o. Is-stored l i p (h.says o) }
+of_stored {v} l i p h =
+    record { plain = h.plain; bound = h.bound; peak = h.peak; says = λ o. Is-stored l i p (h.says o) }
 
 abbrev pub of_pos : (k : ℕ) → Machine (pos k)
 of_pos k = of_is (Is-within (Within-pos k))
@@ -164,16 +168,40 @@ pub both_say : {v w : ℤ} (h : Machine v) (k : Machine w) → peaks h k < 2 ^ 6
 both_say h k o = record { one = h.says (left_below h.peak k.peak o); two = k.says (right_below h.peak k.peak o) }
 
 abbrev pub of_+ℤ : {v w : ℤ} → Machine v → Machine w → Machine (v +ℤ w)
-of_+ℤ h k = record { plain = h.plain +ℤ k.plain; bound = h.bound + k.bound; peak = peaks h k; says = λ o. Is-+ℤ (both_say h k o).one (both_say h k o).two }
+of_+ℤ h k = record {
+  plain = h.plain +ℤ k.plain;
+  bound = h.bound + k.bound;
+  peak = peaks h k;
+  says =
+      λ o. Is-+ℤ (both_say h k o).one (both_say h k o).two;
+}
 
 abbrev pub of_*ℤ : {v w : ℤ} → Machine v → Machine w → Machine (v *ℤ w)
-of_*ℤ h k = record { plain = h.plain *ℤ k.plain; bound = h.bound * k.bound; peak = peaks h k; says = λ o. Is-*ℤ (both_say h k o).one (both_say h k o).two }
+of_*ℤ h k = record {
+  plain = h.plain *ℤ k.plain;
+  bound = h.bound * k.bound;
+  peak = peaks h k;
+  says =
+      λ o. Is-*ℤ (both_say h k o).one (both_say h k o).two;
+}
 
 abbrev pub of_quot_z : {v w : ℤ} → Machine v → Machine w → Machine (quot_z v w)
-of_quot_z h k = record { plain = quot_z h.plain k.plain; bound = h.bound; peak = peaks h k; says = λ o. Is-quot_z (both_say h k o).one (both_say h k o).two }
+of_quot_z h k = record {
+  plain = quot_z h.plain k.plain;
+  bound = h.bound;
+  peak = peaks h k;
+  says =
+      λ o. Is-quot_z (both_say h k o).one (both_say h k o).two;
+}
 
 abbrev pub of_rem_z : {v w : ℤ} → Machine v → Machine w → Machine (rem_z v w)
-of_rem_z h k = record { plain = rem_z h.plain k.plain; bound = h.bound; peak = peaks h k; says = λ o. Is-rem_z (both_say h k o).one (both_say h k o).two }
+of_rem_z h k = record {
+  plain = rem_z h.plain k.plain;
+  bound = h.bound;
+  peak = peaks h k;
+  says =
+      λ o. Is-rem_z (both_say h k o).one (both_say h k o).two;
+}
 
 -- a parameter, or an element of a slice, of which no bound is known. `search` takes first what needs no number that the
 -- goal does not show, then the shallowest way, then the rule of fewer premises: m and `Fallback` put these behind
@@ -187,7 +215,8 @@ mag_SFits x m h t = record { sfits = lt_of_lt_of_le h (leb→le m (2 ^ 63) t) }
 pub width-SFits : (x : ℤ) (w : Width) → SFits w x → T (leb (2 ^ hbits w) (2 ^ 63)) → SFits w64 x
 width-SFits x w f t = mag_SFits x (2 ^ hbits w) f.sfits t
 
-abbrev pub of_sfits : (x : ℤ) (w : Width) → SFits w x → T (leb (2 ^ hbits w) (2 ^ 63)) → Fallback → Machine (to_z w64 (of_z w64 x))
+abbrev pub of_sfits : (x : ℤ) (w : Width) → SFits w x → T (leb (2 ^ hbits w) (2 ^ 63)) → Fallback
+    → Machine (to_z w64 (of_z w64 x))
 of_sfits x w f t l = of_is (Is-any (width-SFits x w f t))
 
 abbrev pub of_mag : (x : ℤ) (m : ℕ) → mag x < m → T (leb m (2 ^ 63)) → Fallback → Machine (to_z w64 (of_z w64 x))
@@ -273,10 +302,20 @@ pub record Flag (b : Bool) : Type 0 where
   pub says : peak < 2 ^ 63 → b ≡ plain
 
 abbrev pub flag_lt_z : {v w : ℤ} → Machine v → Machine w → Flag (lt_z v w)
-flag_lt_z h k = record { plain = lt_z h.plain k.plain; peak = peaks h k; says = λ o. ap₂ lt_z (both_say h k o).one.same (both_say h k o).two.same }
+flag_lt_z h k = record {
+  plain = lt_z h.plain k.plain;
+  peak = peaks h k;
+  says = λ o. ap₂ lt_z (both_say h k o).one.same
+      (both_say h k o).two.same;
+}
 
 abbrev pub flag_le_z : {v w : ℤ} → Machine v → Machine w → Flag (le_z v w)
-flag_le_z h k = record { plain = le_z h.plain k.plain; peak = peaks h k; says = λ o. ap₂ le_z (both_say h k o).one.same (both_say h k o).two.same }
+flag_le_z h k = record {
+  plain = le_z h.plain k.plain;
+  peak = peaks h k;
+  says = λ o. ap₂ le_z (both_say h k o).one.same
+      (both_say h k o).two.same;
+}
 
 abbrev pub flag_eqb : {m n : ℕ} → Bits m → Bits n → Flag (eqb m n)
 flag_eqb h k =
@@ -304,16 +343,36 @@ pub record Told (A : Type 0) : Type 1 where
 
 module _ {v w : ℤ} (h : Machine v) (k : Machine w) where
   abbrev pub told_lt : Told (lt_z v w ≡ true)
-  told_lt = record { plain = h.plain <ℤ k.plain; peak = peaks h k; says = λ o e. lt_z_yes (is_true ((flag_lt_z h k).says o) e) }
+  told_lt = record {
+    plain = h.plain <ℤ k.plain;
+    peak = peaks h k;
+    says =
+        λ o e. lt_z_yes (is_true ((flag_lt_z h k).says o) e);
+  }
 
   abbrev pub told_not_lt : Told (lt_z v w ≡ false)
-  told_not_lt = record { plain = k.plain ≤ℤ h.plain; peak = peaks h k; says = λ o e. lt_z_no (is_false ((flag_lt_z h k).says o) e) }
+  told_not_lt = record {
+    plain = k.plain ≤ℤ h.plain;
+    peak = peaks h k;
+    says =
+        λ o e. lt_z_no (is_false ((flag_lt_z h k).says o) e);
+  }
 
   abbrev pub told_le : Told (le_z v w ≡ true)
-  told_le = record { plain = h.plain ≤ℤ k.plain; peak = peaks h k; says = λ o e. le_z_yes (is_true ((flag_le_z h k).says o) e) }
+  told_le = record {
+    plain = h.plain ≤ℤ k.plain;
+    peak = peaks h k;
+    says =
+        λ o e. le_z_yes (is_true ((flag_le_z h k).says o) e);
+  }
 
   abbrev pub told_not_le : Told (le_z v w ≡ false)
-  told_not_le = record { plain = k.plain <ℤ h.plain; peak = peaks h k; says = λ o e. le_z_no (is_false ((flag_le_z h k).says o) e) }
+  told_not_le = record {
+    plain = k.plain <ℤ h.plain;
+    peak = peaks h k;
+    says =
+        λ o e. le_z_no (is_false ((flag_le_z h k).says o) e);
+  }
 
 module _ {m n : ℕ} (h : Bits m) (k : Bits n) where
   abbrev pub told_eq : Told (m ≡ n)
@@ -325,10 +384,20 @@ module _ {m n : ℕ} (h : Bits m) (k : Bits n) where
       }
 
   abbrev pub told_eqb : Told (eqb m n ≡ true)
-  told_eqb = record { plain = h.plain ≡ k.plain; peak = max h.peak k.peak; says = λ o e. eq_z_yes (is_true ((flag_eqb h k).says o) e) }
+  told_eqb = record {
+    plain = h.plain ≡ k.plain;
+    peak = max h.peak k.peak;
+    says =
+        λ o e. eq_z_yes (is_true ((flag_eqb h k).says o) e);
+  }
 
   abbrev pub told_not_eqb : Told (eqb m n ≡ false)
-  told_not_eqb = record { plain = ¬ (h.plain ≡ k.plain); peak = max h.peak k.peak; says = λ o e. eq_z_no (is_false ((flag_eqb h k).says o) e) }
+  told_not_eqb = record {
+    plain = ¬ (h.plain ≡ k.plain);
+    peak = max h.peak k.peak;
+    says =
+        λ o e. eq_z_no (is_false ((flag_eqb h k).says o) e);
+  }
 
 -- ---- what a division and a cast ask besides
 
@@ -354,7 +423,39 @@ asks_nat_abs h = record { more = h.bound < 2 ^ 64; peak = h.peak; says = λ o l.
 
 -- ---- the sets for `search`
 
-pub ruleset machine = (of_is, of_within, of_element_lem, of_stored, of_pos, of_negsuc, of_read, of_+ℤ, of_*ℤ, of_neg_ℤ, of_minus, of_quot_z, of_rem_z, bits_of, bits_is, bits_literal, two_bits, flag_lt_z, flag_le_z, flag_eqb, flag_not, told_lt, told_not_lt, told_le, told_not_le, told_eq, told_eqb, told_not_eqb, asks_nonzero, asks_non_neg, asks_nat_abs)
+pub ruleset machine = (
+  of_is,
+  of_within,
+  of_element_lem,
+  of_stored,
+  of_pos,
+  of_negsuc,
+  of_read,
+  of_+ℤ,
+  of_*ℤ,
+  of_neg_ℤ,
+  of_minus,
+  of_quot_z,
+  of_rem_z,
+  bits_of,
+  bits_is,
+  bits_literal,
+  two_bits,
+  flag_lt_z,
+  flag_le_z,
+  flag_eqb,
+  flag_not,
+  told_lt,
+  told_not_lt,
+  told_le,
+  told_not_le,
+  told_eq,
+  told_eqb,
+  told_not_eqb,
+  asks_nonzero,
+  asks_non_neg,
+  asks_nat_abs,
+)
 
 -- for numbers of which no bound is known, and for unsigned numbers that were cast
 pub ruleset unbounded = (of_sfits, of_mag, bits_sfits, bits_mag, fallback)
@@ -396,7 +497,8 @@ pub fits : {v : ℤ} (h : Machine v) → max h.peak h.bound < 2 ^ 63 → SFits w
 fits h o = Is-SFits (h.says (left_below h.peak h.bound o)) (right_below h.peak h.bound o)
 
 -- example: a product of parameters less a parameter
-example_fits : (a b c : ℤ) → Within 1000 a → Within 1000 b → Within 1000000 c → SFits w64 (to_z w64 (of_z w64 (to_z w64 (of_z w64 a) *ℤ to_z w64 (of_z w64 b))) -ℤ to_z w64 (of_z w64 c))
+example_fits : (a b c : ℤ) → Within 1000 a → Within 1000 b → Within 1000000 c
+    → SFits w64 (to_z w64 (of_z w64 (to_z w64 (of_z w64 a) *ℤ to_z w64 (of_z w64 b))) -ℤ to_z w64 (of_z w64 c))
 example_fits a b c h k l = fits (search machine depth 30) (omega arith)
 
 -- its value
@@ -423,7 +525,8 @@ decides f o = f.says o
 pub told : {A : Type 0} → A → (t : Told A) → t.peak < 2 ^ 63 → t.plain
 told a t o = t.says o a
 
-pub apart : {m n : ℕ} → (m ≡ n → ⊥) → (t : TwoBits m n) → (t.one.peak < 2 ^ 63) × (t.two.peak < 2 ^ 63) → ¬ (t.one.plain ≡ t.two.plain)
+pub apart : {m n : ℕ} → (m ≡ n → ⊥) → (t : TwoBits m n) → (t.one.peak < 2 ^ 63) × (t.two.peak < 2 ^ 63)
+    → ¬ (t.one.plain ≡ t.two.plain)
 apart f t o e = f (eq_bits (t.one.says o.0) (t.two.says o.1) e)
 
 -- a divisor is not 0; a number that is cast is not negative, and fits

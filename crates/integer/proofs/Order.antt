@@ -133,7 +133,8 @@ suc≤ℤ→<ℤ {a} {b} h = lt_z_yes (le_lt a b (rw (+ℤ_one a) at h).le)
 
 -- a < b, since b - a is positive
 pub by_pos : {a b z : ℤ} → pos 0 <ℤ z → b -ℤ a ≡ z → a <ℤ b
-by_pos {a} {b} {z} h e = suc≤ℤ→<ℤ (by_nn (nn_diff (<ℤ→suc≤ℤ h)) (ring_from (pos 1) e (ring (a ∷ b ∷ z ∷ []) (search terms depth 100) refl)))
+by_pos {a} {b} {z} h e =
+    suc≤ℤ→<ℤ (by_nn (nn_diff (<ℤ→suc≤ℤ h)) (ring_from (pos 1) e (ring (a ∷ b ∷ z ∷ []) (search terms depth 100) refl)))
 
 pub pos_diff : {a b : ℤ} → a <ℤ b → pos 0 <ℤ (b -ℤ a)
 pos_diff {a} {b} h = suc≤ℤ→<ℤ (by_nn (nn_diff (<ℤ→suc≤ℤ h)) (ring (a ∷ b ∷ []) (search terms depth 100) refl))
@@ -173,7 +174,9 @@ pub *ℤ_mono : {a b c : ℤ} → a ≤ℤ b → pos 0 ≤ℤ c → (a *ℤ c) �
 *ℤ_mono {a} {b} {c} h k = by_nn (*ℤ_nonneg (nn_diff h) k) (ring (a ∷ b ∷ c ∷ []) (search terms depth 100) refl)
 
 pub *ℤ_pos : {a b : ℤ} → pos 0 <ℤ a → pos 0 <ℤ b → pos 0 <ℤ (a *ℤ b)
-*ℤ_pos {a} {b} h k = suc≤ℤ→<ℤ (≤ℤ_trans (<ℤ→suc≤ℤ h) (by_nn (*ℤ_nonneg (<ℤ→≤ℤ h) (nn_diff (<ℤ→suc≤ℤ k))) (ring (a ∷ b ∷ []) (search terms depth 100) refl)))
+*ℤ_pos {a} {b} h k = suc≤ℤ→<ℤ
+    (≤ℤ_trans (<ℤ→suc≤ℤ h)
+    (by_nn (*ℤ_nonneg (<ℤ→≤ℤ h) (nn_diff (<ℤ→suc≤ℤ k))) (ring (a ∷ b ∷ []) (search terms depth 100) refl)))
 
 pub *ℤ_mono_< : {a b c : ℤ} → a <ℤ b → pos 0 <ℤ c → (a *ℤ c) <ℤ (b *ℤ c)
 *ℤ_mono_< {a} {b} {c} h k = by_pos (*ℤ_pos (pos_diff h) k) (ring (a ∷ b ∷ c ∷ []) (search terms depth 100) refl)

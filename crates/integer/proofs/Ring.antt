@@ -18,8 +18,10 @@ use mathlib.Core.List.{List, [], ◌∷◌}
 use Prim.Native.Nat.{ℕ, zero, suc, ◌+◌, ◌*◌, compare, Ordering}
 use native.Mathlib.Numerals.{add-one}
 use lib.Dec.{T, eqb, compare_is_eq, eqb→eq}
-use lib.IntN.{ℤ, pos, negsuc, ◌+ℤ◌, ◌-ℤ◌, ◌*ℤ◌, neg_ℤ, suc_ℤ, pred_ℤ, sub_ℕ, +ℤ_one, -ℤ_one, +ℤ_assoc, +ℤ_idl, +ℤ_idr, +ℤ_invr, *ℤ_comm, *ℤ-zero}
-use Rattle.integer.proofs.RingLaws.{subℕ_is, +ℤ-left_comm, +ℤ_swap, eq_of_diff, one_*ℤ, +ℤ-*ℤ, *ℤ-+ℤ, neg_ℤ_*ℤ, *ℤ_assoc, *ℤ-left_comm, pos_injective}
+use lib.IntN.{ℤ, pos, negsuc, ◌+ℤ◌, ◌-ℤ◌, ◌*ℤ◌, neg_ℤ, suc_ℤ, pred_ℤ, sub_ℕ, +ℤ_one, -ℤ_one, +ℤ_assoc, +ℤ_idl, +ℤ_idr}
+use lib.IntN.{+ℤ_invr, *ℤ_comm, *ℤ-zero}
+use Rattle.integer.proofs.RingLaws.{subℕ_is, +ℤ-left_comm, +ℤ_swap, eq_of_diff, one_*ℤ, +ℤ-*ℤ, *ℤ-+ℤ, neg_ℤ_*ℤ}
+use Rattle.integer.proofs.RingLaws.{*ℤ_assoc, *ℤ-left_comm, pos_injective}
 
 -- ---- expressions over the atoms of a list
 
@@ -42,7 +44,8 @@ value ρ (add e f) = value ρ e +ℤ value ρ f
 value ρ (mul e f) = value ρ e *ℤ value ρ f
 value ρ (neg e) = neg_ℤ (value ρ e)
 
--- ---- polynomials in Horner's form: `node i p q` is xᵢ · p + q, where p is not 0, has no variable before xᵢ, and q none before xᵢ₊₁
+-- ---- polynomials in Horner's form: `node i p q` is xᵢ · p + q, where p is not 0, has no variable before xᵢ, and q
+-- none before xᵢ₊₁
 
 pub data Poly : Type 0 where
   con : ℤ → Poly
@@ -113,7 +116,8 @@ module _ (ρ : List ℤ) where
   join_value i (con (negsuc n)) q = refl
   join_value i (node j r s) q = refl
 
-  choose_value : (i j : ℕ) (p q r : Poly) (z : ℤ) → eval ρ p ≡ z → (i ≡ j → eval ρ q ≡ z) → eval ρ r ≡ z → eval ρ (choose (compare i j) p q r) ≡ z
+  choose_value : (i j : ℕ) (p q r : Poly) (z : ℤ) → eval ρ p ≡ z → (i ≡ j → eval ρ q ≡ z) → eval ρ r ≡ z
+      → eval ρ (choose (compare i j) p q r) ≡ z
   choose_value i j p q r z hp hq hr = go (compare i j) (λ t. hq (eqb→eq i j t))
     where
       go : (o : Ordering) → (T (compare_is_eq o) → eval ρ q ≡ z) → eval ρ (choose o p q r) ≡ z
@@ -125,14 +129,17 @@ module _ (ρ : List ℤ) where
   plus_con_value a (con b) = refl
   plus_con_value a (node j r s) = rw (plus_con_value a s) (+ℤ-left_comm (at ρ j *ℤ eval ρ r) a (eval ρ s))
 
-  plus_node_value : (i : ℕ) (p q : Poly) (P Q : Poly → Poly) → ((r : Poly) → eval ρ (P r) ≡ eval ρ p +ℤ eval ρ r) → ((r : Poly) → eval ρ (Q r) ≡ eval ρ q +ℤ eval ρ r)
+  plus_node_value : (i : ℕ) (p q : Poly) (P Q : Poly → Poly) → ((r : Poly) → eval ρ (P r) ≡ eval ρ p +ℤ eval ρ r)
+      → ((r : Poly) → eval ρ (Q r) ≡ eval ρ q +ℤ eval ρ r)
       → (r : Poly) → eval ρ (plus_node i p P Q r) ≡ (at ρ i *ℤ eval ρ p +ℤ eval ρ q) +ℤ eval ρ r
   plus_node_value i p q P Q hp hq (con b) = rw (hq (con b)) (sym (+ℤ_assoc (at ρ i *ℤ eval ρ p) (eval ρ q) b))
   plus_node_value i p q P Q hp hq (node j r s) =
       choose_value i j _ _ _ _
       (rw (hq (node j r s)) (sym (+ℤ_assoc (at ρ i *ℤ eval ρ p) (eval ρ q) _)))
-      (λ e. rw (join_value, hp r, hq s, *ℤ-+ℤ, e) (+ℤ_swap (at ρ j *ℤ eval ρ p) (at ρ j *ℤ eval ρ r) (eval ρ q) (eval ρ s)))
-      (rw (plus_node_value i p q P Q hp hq s) (+ℤ-left_comm (at ρ j *ℤ eval ρ r) (at ρ i *ℤ eval ρ p +ℤ eval ρ q) (eval ρ s)))
+      (λ e. rw (join_value, hp r, hq s, *ℤ-+ℤ, e)
+      (+ℤ_swap (at ρ j *ℤ eval ρ p) (at ρ j *ℤ eval ρ r) (eval ρ q) (eval ρ s)))
+      (rw (plus_node_value i p q P Q hp hq s)
+      (+ℤ-left_comm (at ρ j *ℤ eval ρ r) (at ρ i *ℤ eval ρ p +ℤ eval ρ q) (eval ρ s)))
 
   plus_value : (p q : Poly) → eval ρ (plus p q) ≡ eval ρ p +ℤ eval ρ q
   plus_value (con a) = plus_con_value a
@@ -229,7 +236,8 @@ abbrev pub term_pos_* : {ρ : List ℤ} (m n : ℕ) → Term ρ (pos m) → Term
 term_pos_* m n h k = term_*ℤ h k
 
 abbrev pub term_pos_suc : {ρ : List ℤ} {n : ℕ} → Term ρ (pos n) → Term ρ (pos (suc n))
-term_pos_suc {n = n} h = record { expr = add h.expr (lit (pos 1)); says = ap (λ x. x +ℤ pos 1) h.says ∙ ap pos (add-one n) }
+term_pos_suc {n = n} h =
+    record { expr = add h.expr (lit (pos 1)); says = ap (λ x. x +ℤ pos 1) h.says ∙ ap pos (add-one n) }
 
 -- what sums of literals with unknowns compute to
 abbrev pub term_subℕ : {ρ : List ℤ} (m n : ℕ) → Term ρ (pos m) → Term ρ (pos n) → Term ρ (sub_ℕ m n)
@@ -252,7 +260,31 @@ pub record Sides (ρ : List ℤ) (x y : ℤ) : Type 0 where
 abbrev pub sides : {ρ : List ℤ} {x y : ℤ} → Term ρ x → Term ρ y → Sides ρ x y
 sides h k = record { left = h; right = k }
 
-pub ruleset terms = (sides, term_pos, term_negsuc, term_pos_+, term_pos_*, term_pos_suc, term_subℕ, term_negsuc_open, term_+ℤ, term_*ℤ, term_neg_ℤ, term_sucℤ, term_predℤ, term_atom, first, second, third, fourth, fifth, sixth, seventh, eighth, later)
+pub ruleset terms = (
+  sides,
+  term_pos,
+  term_negsuc,
+  term_pos_+,
+  term_pos_*,
+  term_pos_suc,
+  term_subℕ,
+  term_negsuc_open,
+  term_+ℤ,
+  term_*ℤ,
+  term_neg_ℤ,
+  term_sucℤ,
+  term_predℤ,
+  term_atom,
+  first,
+  second,
+  third,
+  fourth,
+  fifth,
+  sixth,
+  seventh,
+  eighth,
+  later,
+)
 
 -- ---- the solver
 
@@ -269,7 +301,8 @@ example_square_of_sum : (a b : ℤ) → (a +ℤ b) *ℤ (a +ℤ b) ≡ a *ℤ a 
 example_square_of_sum a b = ring (a ∷ b ∷ []) (search terms depth 100) refl
 
 -- example: literals and natural numbers among whole numbers
-example_literals : (a : ℤ) (m n : ℕ) → (a -ℤ pos 3) *ℤ pos (suc m * n) +ℤ (negsuc m +ℤ pos 5) ≡ pos m *ℤ (pos n *ℤ (a -ℤ pos 3) -ℤ pos 1) +ℤ (a -ℤ pos 3) *ℤ pos n +ℤ pos 4
+example_literals : (a : ℤ) (m n : ℕ) → (a -ℤ pos 3) *ℤ pos (suc m * n) +ℤ (negsuc m +ℤ pos 5)
+    ≡ pos m *ℤ (pos n *ℤ (a -ℤ pos 3) -ℤ pos 1) +ℤ (a -ℤ pos 3) *ℤ pos n +ℤ pos 4
 example_literals a m n = ring (a ∷ pos m ∷ pos n ∷ []) (search terms depth 100) refl
 
 -- example: Brahmagupta's identity
@@ -304,5 +337,7 @@ pub ring_from : {a b x y : ℤ} (k : ℤ) → a ≡ b → x -ℤ y ≡ k *ℤ (a
 ring_from {a} {b} {x} {y} k h e = eq_of_diff x y (e ∙ rw (h, +ℤ_invr, *ℤ-zero))
 
 -- example: Cramer's rule, from two equations
-example_cramer : (a b c d e f x y : ℤ) → a *ℤ x +ℤ b *ℤ y ≡ e → c *ℤ x +ℤ d *ℤ y ≡ f → (a *ℤ d -ℤ b *ℤ c) *ℤ x ≡ e *ℤ d -ℤ b *ℤ f
-example_cramer a b c d e f x y h k = ring_from d h (ring_from (neg_ℤ b) k (ring (a ∷ b ∷ c ∷ d ∷ e ∷ f ∷ x ∷ y ∷ []) (search terms depth 100) refl))
+example_cramer : (a b c d e f x y : ℤ) → a *ℤ x +ℤ b *ℤ y ≡ e → c *ℤ x +ℤ d *ℤ y ≡ f
+    → (a *ℤ d -ℤ b *ℤ c) *ℤ x ≡ e *ℤ d -ℤ b *ℤ f
+example_cramer a b c d e f x y h k =
+    ring_from d h (ring_from (neg_ℤ b) k (ring (a ∷ b ∷ c ∷ d ∷ e ∷ f ∷ x ∷ y ∷ []) (search terms depth 100) refl))

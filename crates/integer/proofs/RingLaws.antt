@@ -10,10 +10,13 @@ use native.Mathlib.Omega.{arith}
 use mathlib.Core.Bool.{Bool, true, false, cond}
 use mathlib.Core.Logic.{◌⊎◌, inl, inr}
 use lib.Dec.{T, ltb, ltb→lt, leb-suc-zero}
-use lib.IntN.{ℤ, pos, negsuc, ◌+ℤ◌, ◌-ℤ◌, ◌*ℤ◌, neg_ℤ, suc_ℤ, pred_ℤ, nat_abs, sub_ℕ, +ℤ_assoc, +ℤ_comm, +ℤ_idl, +ℤ_idr, +ℤ_invl, neg_ℤ-+ℤ, neg_ℤ-neg_ℤ, neg_ℤ-suc_ℤ, neg_ℤ-pred_ℤ, *ℤ_comm, zero-*ℤ, suc_ℤ-*ℤ, pred_ℤ-*ℤ, suc_ℤ-+ℤ, pred_ℤ-+ℤ}
+use lib.IntN.{ℤ, pos, negsuc, ◌+ℤ◌, ◌-ℤ◌, ◌*ℤ◌, neg_ℤ, suc_ℤ, pred_ℤ, nat_abs, sub_ℕ, +ℤ_assoc, +ℤ_comm, +ℤ_idl}
+use lib.IntN.{+ℤ_idr, +ℤ_invl, neg_ℤ-+ℤ, neg_ℤ-neg_ℤ, neg_ℤ-suc_ℤ, neg_ℤ-pred_ℤ, *ℤ_comm, zero-*ℤ, suc_ℤ-*ℤ}
+use lib.IntN.{pred_ℤ-*ℤ, suc_ℤ-+ℤ, pred_ℤ-+ℤ}
 
 -- induction up and down from 0
-pub ℤ_steps {ℓ} : (P : ℤ → Type ℓ) → P (pos 0) → ((k : ℤ) → P k → P (suc_ℤ k)) → ((k : ℤ) → P k → P (pred_ℤ k)) → (k : ℤ) → P k
+pub ℤ_steps {ℓ} : (P : ℤ → Type ℓ) → P (pos 0) → ((k : ℤ) → P k → P (suc_ℤ k)) → ((k : ℤ) → P k → P (pred_ℤ k))
+    → (k : ℤ) → P k
 ℤ_steps P z s p (pos zero) = z
 ℤ_steps P z s p (pos (suc n)) = s (pos n) (ℤ_steps P z s p (pos n))
 ℤ_steps P z s p (negsuc zero) = p (pos zero) z
@@ -29,7 +32,8 @@ pub +ℤ_swap : (a b c d : ℤ) → (a +ℤ b) +ℤ (c +ℤ d) ≡ (a +ℤ c) +�
 
 -- two numbers whose difference is 0 are equal
 pub eq_of_diff : (a b : ℤ) → a -ℤ b ≡ pos 0 → a ≡ b
-eq_of_diff a b e = sym (+ℤ_idr a) ∙ ap (λ x. a +ℤ x) (sym (+ℤ_invl b)) ∙ sym (+ℤ_assoc a (neg_ℤ b) b) ∙ ap (λ x. x +ℤ b) e ∙ +ℤ_idl b
+eq_of_diff a b e = sym (+ℤ_idr a) ∙ ap (λ x. a +ℤ x) (sym (+ℤ_invl b)) ∙ sym (+ℤ_assoc a (neg_ℤ b) b)
+    ∙ ap (λ x. x +ℤ b) e ∙ +ℤ_idl b
 
 -- the difference of two natural numbers, as `◌+ℤ◌` computes it
 pub subℕ_is : (m n : ℕ) → sub_ℕ m n ≡ pos m -ℤ pos n
@@ -114,7 +118,8 @@ nat_abs_zero (negsuc n) e = absurd (let f : suc n ≡ 0 = e in omega arith)
 
 -- a product is 0 only where a factor is
 pub zero_product : (a b : ℤ) → a *ℤ b ≡ pos 0 → (a ≡ pos 0) ⊎ (b ≡ pos 0)
-zero_product a b e = sides (nat_abs a) (nat_abs b) (sym (nat_abs_*ℤ a b) ∙ ap nat_abs e) (nat_abs_zero a) (nat_abs_zero b)
+zero_product a b e = sides (nat_abs a) (nat_abs b) (sym (nat_abs_*ℤ a b) ∙ ap nat_abs e) (nat_abs_zero a)
+    (nat_abs_zero b)
   where
     sides : (m n : ℕ) → m * n ≡ 0 → (m ≡ 0 → a ≡ pos 0) → (n ≡ 0 → b ≡ pos 0) → (a ≡ pos 0) ⊎ (b ≡ pos 0)
     sides zero n h f g = inl (f refl)

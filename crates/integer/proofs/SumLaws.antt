@@ -23,8 +23,10 @@ module _ {A : Type 0} where
   sum_of_*ℤ k f (a ∷ l) = ap (λ x. k *ℤ f a +ℤ x) (sum_of_*ℤ k f l) ∙ sym (*ℤ-+ℤ k (f a) (sum_of f l))
 
 -- example: a sum taken apart by `simp`, and closed by `ring`
-example_taken_apart : (k c : ℤ) (f g : ℕ → ℤ) (l : List ℕ) → sum_of (λ i. k *ℤ f i +ℤ c *ℤ g i) l +ℤ c ≡ k *ℤ sum_of f l +ℤ c *ℤ (sum_of g l +ℤ pos 1)
-example_taken_apart k c f g l = simp (sum_of_+ℤ, sum_of_*ℤ) (ring (k ∷ c ∷ sum_of f l ∷ sum_of g l ∷ []) (search terms depth 100) refl)
+example_taken_apart : (k c : ℤ) (f g : ℕ → ℤ) (l : List ℕ) → sum_of (λ i. k *ℤ f i +ℤ c *ℤ g i) l +ℤ c
+    ≡ k *ℤ sum_of f l +ℤ c *ℤ (sum_of g l +ℤ pos 1)
+example_taken_apart k c f g l =
+    simp (sum_of_+ℤ, sum_of_*ℤ) (ring (k ∷ c ∷ sum_of f l ∷ sum_of g l ∷ []) (search terms depth 100) refl)
 
 module _ {A : Type 0} where
   pub sum_of_++ : (f : A → ℤ) (l m : List A) → sum_of f (l ++ m) ≡ sum_of f l +ℤ sum_of f m
@@ -47,7 +49,8 @@ module _ {A : Type 0} where
 
 module _ {A B : Type 0} where
   -- two sums may change places
-  pub sum_of_exchange : (f : A → B → ℤ) (l : List A) (m : List B) → sum_of (λ a. sum_of (f a) m) l ≡ sum_of (λ b. sum_of (λ a. f a b) l) m
+  pub sum_of_exchange : (f : A → B → ℤ) (l : List A) (m : List B)
+      → sum_of (λ a. sum_of (f a) m) l ≡ sum_of (λ b. sum_of (λ a. f a b) l) m
   sum_of_exchange f [] m = sym (sum_of_zero m)
   sum_of_exchange f (a ∷ l) m =
       ap (λ x. sum_of (f a) m +ℤ x) (sum_of_exchange f l m) ∙ sym (sum_of_+ℤ (f a) (λ b. sum_of (λ a. f a b) l) m)

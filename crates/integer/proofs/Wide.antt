@@ -42,6 +42,7 @@ example_product : (a b : ℤ) → SFits w64 a → SFits w64 b → wide (wide (re
 example_product a b f g = wide_product a b f g refl refl
 
 -- two such products compared
-pub wide_below : (a b c d : ℤ) → SFits w64 a → SFits w64 b → SFits w64 c → SFits w64 d → {n m k j : ℤ} → n ≡ read a → m ≡ read b → k ≡ read c → j ≡ read d
+pub wide_below : (a b c d : ℤ) → SFits w64 a → SFits w64 b → SFits w64 c → SFits w64 d → {n m k j : ℤ} → n ≡ read a
+    → m ≡ read b → k ≡ read c → j ≡ read d
     → lt_z (wide (wide n *ℤ wide m)) (wide (wide k *ℤ wide j)) ≡ lt_z (a *ℤ b) (c *ℤ d)
 wide_below a b c d A B C D p q r s = ap₂ lt_z (wide_product a b A B p q) (wide_product c d C D r s)

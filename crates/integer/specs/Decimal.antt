@@ -5,7 +5,8 @@
 -- Example (`example_column`, checked after `right_justified`): 120 in a column of five bytes is two spaces and the
 -- bytes of 1, 2 and 0, by `refl`.
 -- Example (`example_read`, checked after `value_after`): the value of those three bytes is 120, by `refl`.
-use Rattle.std.specs.Prelude.{◌≡◌, refl, Bool, true, false, ◌&&◌, List, [], ◌∷◌, ◌++◌, ℕ, zero, suc, ◌+◌, ◌*◌, ◌-◌, ◌/◌, ◌%◌, leb, ltb, length, replicate}
+use Rattle.std.specs.Prelude.{◌≡◌, refl, Bool, true, false, ◌&&◌, List, [], ◌∷◌, ◌++◌, ℕ, zero, suc, ◌+◌, ◌*◌, ◌-◌}
+use Rattle.std.specs.Prelude.{◌/◌, ◌%◌, leb, ltb, length, replicate}
 
 -- ---- writing
 

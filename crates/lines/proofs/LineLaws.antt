@@ -32,7 +32,8 @@ use Rattle.scope.specs.Cases.Outcome.{Passed, Refused}
 use Rattle.scope.specs.Checks.{demand, ◌then◌}
 use Rattle.scope.proofs.Checks.{demand_then}
 use Rattle.scope.specs.Columns as C
-use Rattle.scope.specs.Columns.{Limit, between, free, within, is_one_of, all_within, Rule, right_angle, naming, parts, at_most_where}
+use Rattle.scope.specs.Columns.{Limit, between, free, within, is_one_of, all_within, Rule, right_angle, naming, parts}
+use Rattle.scope.specs.Columns.{at_most_where}
 use Rattle.scope.specs.Columns.{has_field, has_multipliers, names, all_named, rule_test, at}
 use Rattle.scope.specs.Layout.{Group, Layout, width, groups, line_of, line_numbers}
 use Rattle.scope.specs.Verdict.{line_check, line_at, rules_hold}
@@ -285,7 +286,8 @@ second_decides e f = e ∙ rw f
 pub nodes_read : (m : List ℤ) → mesh_header_columns ≤ length m
     → SFits w64 (get_or m 0 (pos 0)) → SFits w64 (get_or m 4 (pos 0))
     → rule_test (at_most_where 0 nodes_for_108 4 most_sides) (take mesh_header_columns m)
-    ≡ cond (eq_z (read (get_or m 4 (pos 0))) (pos most_sides)) (le_z (read (get_or m 0 (pos 0))) (pos nodes_for_108)) true
+    ≡ cond (eq_z (read (get_or m 4 (pos 0))) (pos most_sides))
+    (le_z (read (get_or m 0 (pos 0))) (pos nodes_for_108)) true
 unfolding rule_test at
 nodes_read [] l f g = absurd (omega arith)
 nodes_read (a ∷ []) l f g = absurd (omega arith)

@@ -26,7 +26,8 @@ outcome_passed Passed e = refl
 outcome_passed (Refused n p) e = absurd (subst T (sym e) tt)
 
 -- what `claim_sizes` answers
-pub counted : (m : PairedMesh) (s : ClaimSizes) → s.sizes ≡ m.mesh.sizes → s.pairs ≡ length m.pairs.now → Counted m.mesh.numbers.now s
+pub counted : (m : PairedMesh) (s : ClaimSizes) → s.sizes ≡ m.mesh.sizes → s.pairs ≡ length m.pairs.now
+    → Counted m.mesh.numbers.now s
 counted m s e p = record {
   sizes = subst (SizesAre m.mesh.numbers.now) (sym e) (as_sizes m.mesh.sized);
   pairs_are = p ∙ pairs_counted m.mesh.numbers.now m.pairs.now m.paired;

@@ -3,7 +3,9 @@
 use Rattle.std.specs.Prelude.{◌≡◌, List, ℕ, ◌+◌, ◌*◌, ◌-◌, ◌≤◌, ◌<◌, ℤ, length}
 use Rattle.mesh.specs.declared.sizes.Sizes.{Sizes}
 use Rattle.scope.specs.Layout.{count}
-use Rattle.scope.specs.Mesh.{most_nodes, most_elements, most_soils, most_edges, most_sides, most_jumps, mesh_header_columns, soil_columns, node_columns, element_columns, edge_columns, nodes, elements, soils, edges, sides, jumps, jump_entry}
+use Rattle.scope.specs.Mesh.{most_nodes, most_elements, most_soils, most_edges, most_sides, most_jumps}
+use Rattle.scope.specs.Mesh.{mesh_header_columns, soil_columns, node_columns, element_columns, edge_columns, nodes}
+use Rattle.scope.specs.Mesh.{elements, soils, edges, sides, jumps, jump_entry}
 use Rattle.scope.specs.NumberRanges.{MeshFacts, Counts}
 
 -- ---- sizes: the counts of a mesh whose lines have passed, and where its groups begin

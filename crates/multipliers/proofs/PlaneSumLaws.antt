@@ -43,7 +43,8 @@ use Rattle.multipliers.proofs.PairLaws.{plane_row_at, pair_length, pair_weight}
 
 module _ {x y u v : ℤ} where
   pub plane_added : {a b : PlaneSums} → Within most_plane_radius x → Within most_plane_radius y
-      → Within most_strength u → Within most_strength v → b.whole ≡ a.whole +ℤ (u +ℤ v) → b.aa ≡ a.aa +ℤ (u +ℤ v) *ℤ (x *ℤ x)
+      → Within most_strength u → Within most_strength v → b.whole ≡ a.whole +ℤ (u +ℤ v)
+      → b.aa ≡ a.aa +ℤ (u +ℤ v) *ℤ (x *ℤ x)
       → b.ab ≡ a.ab +ℤ (u +ℤ v) *ℤ (x *ℤ y) → b.bb ≡ a.bb +ℤ (u +ℤ v) *ℤ (y *ℤ y)
       → b.shear_ab ≡ a.shear_ab +ℤ (u -ℤ v) *ℤ (x *ℤ y)
       → b.shear_squares ≡ a.shear_squares +ℤ (u -ℤ v) *ℤ (x *ℤ x -ℤ y *ℤ y) → PlaneAdded x y u v a b

@@ -1,4 +1,6 @@
--- Blends of the fields of two calls (document 02, N11): each call's number says that its field is accepted, and `scope` blends those. Then applied to document 01's sheet and its neighbours: antt computes the loads, and the promise says the rest.
+-- Blends of the fields of two calls (document 02, N11): each call's number says that its field is accepted, and
+-- `scope` blends those. Then applied to document 01's sheet and its neighbours: antt computes the loads, and the
+-- promise says the rest.
 use mathlib.Core.Path.{refl}
 use mathlib.Core.Logic.{inl}
 use mathlib.Core.List.{List}
@@ -12,7 +14,8 @@ use Rattle.scope.specs.Claim.{stress}
 use Rattle.scope.specs.Columns.{n, l}
 use Rattle.scope.specs.Parts.{carried, allowed}
 use Rattle.scope.specs.Blends.{mean, SameField, Carries, BlendedClaims}
-use Rattle.scope.specs.Worked.{zeros, worked_mesh, worked_stresses, worked_multipliers, worked_claim, sheet, sheet19, sheet29}
+use Rattle.scope.specs.Worked.{zeros, worked_mesh, worked_stresses, worked_multipliers, worked_claim, sheet, sheet19}
+use Rattle.scope.specs.Worked.{sheet29}
 use Rattle.scope.proofs.Computed.{computed}
 use Rattle.scope.proofs.Applied.{sheet_multipliers}
 use Rattle.scope.proofs.Blends.{blended_claims}
@@ -49,7 +52,8 @@ pub half_way_at_most : half_way_carried.0.load.value ≤ᶠ allowed worked_mesh 
 half_way_at_most = half_way_carried.1.at_most worked_mesh sheet refl sheet_multipliers
 
 -- that twice with l 19 once, a blend of a blend: (2·39/2 + 19)/3 is carried
-pub again_carried : (f : FractionField) × Carries worked_mesh f × (f.load.value ≈ᶠ mean 2 1 half_way_carried.0.load.value (pos 19 over pos 1))
+pub again_carried : (f : FractionField) × Carries worked_mesh f
+    × (f.load.value ≈ᶠ mean 2 1 half_way_carried.0.load.value (pos 19 over pos 1))
 unfolding computed zeros worked_stresses worked_multipliers worked_claim sheet19
 again_carried =
     let (g, carries, load) = half_way_carried in
@@ -63,7 +67,8 @@ again_carried =
 pub alone : BlendedClaims 1 0 worked_mesh sheet worked_mesh sheet19
 alone = blended_answers sheet-answered nineteen_answered refl sheet_tells nineteen_tells 1 0 (omega arith)
 
-pub sheet_alone : (f : FractionField) × SameField (3 * nodes worked_mesh) f (field_over (n sheet) alone.n_above_0 (stress worked_mesh sheet) (l sheet))
+pub sheet_alone : (f : FractionField) × SameField (3 * nodes worked_mesh) f
+    (field_over (n sheet) alone.n_above_0 (stress worked_mesh sheet) (l sheet))
 sheet_alone = let (f, blend) = alone.can_be_blended in (f, alone.again.laws.first_alone 1 (omega arith) _ _ f blend)
 
 -- a claim that is refused for its multipliers, blended with the sheet

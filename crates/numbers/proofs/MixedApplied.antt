@@ -25,11 +25,14 @@ use Rattle.scope.specs.TableVerdict.{TableFits}
 use Rattle.numbers.specs.declared.numbers_answer.NumbersAnswer.{NumbersAnswer}
 use Rattle.numbers.specs.Promises.{Answers, Returned, MeshAnswered}
 use Rattle.numbers.specs.TablePromises.{TableAnswers}
-use Rattle.numbers.specs.MixedSheet.{two_layers, layers_turned, lower_layer, unfilled, soils_written, even, mixed_claim, claim_108, bedded_claim}
-use Rattle.numbers.specs.MixedSheet.{ClaimSays, PlainSays, BeddedSays, FewNodes, TableSays, RefusedSays, JointFails, ClayFails, BedFails, GapRefused}
+use Rattle.numbers.specs.MixedSheet.{two_layers, layers_turned, lower_layer, unfilled, soils_written, even}
+use Rattle.numbers.specs.MixedSheet.{mixed_claim, claim_108, bedded_claim}
+use Rattle.numbers.specs.MixedSheet.{ClaimSays, PlainSays, BeddedSays, FewNodes, TableSays, RefusedSays, JointFails}
+use Rattle.numbers.specs.MixedSheet.{ClayFails, BedFails, GapRefused}
 use Rattle.numbers.proofs.Promises.{returned, refuses_exactly, rows_refused}
 use Rattle.numbers.proofs.TablePromises.{table_returned, table_exactly}
-use Rattle.numbers.proofs.MixedSays.{opened, facts_lem, filled_lem, mesh_alone, claim_says, plain_says, bedded_says, many_says_lem, refused_says, table_fits, on_filled, table_facts, answer, refusal}
+use Rattle.numbers.proofs.MixedSays.{opened, facts_lem, filled_lem, mesh_alone, claim_says, plain_says, bedded_says}
+use Rattle.numbers.proofs.MixedSays.{many_says_lem, refused_says, table_fits, on_filled, table_facts, answer, refusal}
 
 -- ---- 12 sides: 64 is carried, 15,360/240 allowed, no row open
 
@@ -71,7 +74,8 @@ mixed_plain =
     mixed_parts.0 mixed_parts.1 mixed_kinds.0 mixed_kinds.1
 
 -- without a claim
-pub mixed_alone : {A : Type 0} (a : Result A Answered.Refusal) → MeshAnswered (soils_written 12 0) a → mesh_number_of (outcome_of a) ≡ 0
+pub mixed_alone : {A : Type 0} (a : Result A Answered.Refusal) → MeshAnswered (soils_written 12 0) a
+    → mesh_number_of (outcome_of a) ≡ 0
 mixed_alone = mesh_alone (soils_written 12 0) (mixed_claim 64 even) mixed_answer mixed_on_filled refl (facts_lem 12 0)
 
 pub mixed_table : TableSays two_layers layers_turned (unfilled 12 0)
@@ -84,12 +88,14 @@ beyond_answered = refl
 
 beyond_on_filled : Answers (soils_written 12 0) (mixed_claim 65 even) (refusal 22 13)
 beyond_on_filled =
-    on_filled two_layers (unfilled 12 0) (mixed_claim 65 even) (refusal 22 13) beyond_answered fits_lem (filled_lem 12 0)
+    on_filled two_layers (unfilled 12 0) (mixed_claim 65 even) (refusal 22 13) beyond_answered fits_lem
+    (filled_lem 12 0)
 
 pub clay_fails : ClayFails (soils_written 12 0) (mixed_claim 65 even)
 unfolding opened
 clay_fails =
-    ((rows_refused (soils_written 12 0) (mixed_claim 65 even) 22 13 (returned beyond_on_filled)).strength refl).strength 1 0
+    ((rows_refused (soils_written 12 0) (mixed_claim 65 even) 22 13 (returned beyond_on_filled)).strength
+    refl).strength 1 0
     (omega arith) (omega arith) mixed_kinds.0 refl
 
 pub clay_refusal : Refusal (soils_written 12 0) (mixed_claim 65 even) 22 (Row 13)
@@ -99,7 +105,8 @@ clay_refusal =
     (λ e. omega arith)).0 (refl, refl)
 
 pub clay_refused : RefusedSays (refusal 22 13)
-clay_refused = refused_says (soils_written 12 0) (mixed_claim 65 even) (refusal 22 13) beyond_on_filled (λ e. omega arith) (λ e. omega arith)
+clay_refused = refused_says (soils_written 12 0) (mixed_claim 65 even) (refusal 22 13) beyond_on_filled
+    (λ e. omega arith) (λ e. omega arith)
 
 uneven_answered : TableAnswers two_layers (unfilled 12 0) (mixed_claim 64 (neg_ℤ (pos 39))) (refusal 21 15)
 unfolding opened
@@ -108,8 +115,10 @@ uneven_answered = refl
 pub joint_fails : JointFails (soils_written 12 0) (mixed_claim 64 (neg_ℤ (pos 39)))
 unfolding opened
 joint_fails =
-    let on = on_filled two_layers (unfilled 12 0) (mixed_claim 64 (neg_ℤ (pos 39))) (refusal 21 15) uneven_answered fits_lem (filled_lem 12 0) in
-    ((rows_refused (soils_written 12 0) (mixed_claim 64 (neg_ℤ (pos 39))) 21 15 (returned on)).equality refl).jump_normal_from 0
+    let on = on_filled two_layers (unfilled 12 0) (mixed_claim 64 (neg_ℤ (pos 39)))
+    (refusal 21 15) uneven_answered fits_lem (filled_lem 12 0) in
+    ((rows_refused (soils_written 12 0) (mixed_claim 64 (neg_ℤ (pos 39))) 21 15 (returned on)).equality
+    refl).jump_normal_from 0
     (omega arith) refl
 
 gap_answered : TableAnswers lower_layer (unfilled 12 0) (mixed_claim 64 even) (refusal 45 12)
@@ -134,7 +143,8 @@ lower_unfit f = let top = (f refl).sound.once 16 (omega arith) (omega arith) in 
 pub gap_numbers : {r : NumbersAnswer} → TableAnswers lower_layer (unfilled 12 0) (mixed_claim 64 even) r
     → (r.number ≤ 4) ⊎ ((r.number ≡ 45) ⊎ (r.number ≡ 46))
 gap_numbers {r} h =
-    (table_exactly lower_layer (unfilled 12 0) (mixed_claim 64 even) r.number r.place (table_returned h)).unfit lower_unfit
+    (table_exactly lower_layer (unfilled 12 0) (mixed_claim 64 even) r.number r.place (table_returned h)).unfit
+    lower_unfit
 
 -- ---- 108 sides: 64 is carried, 53,181,440/830,960 allowed, no row open
 
@@ -192,7 +202,8 @@ beyond_108_returned =
     returned {m = soils_written 108 0} {c = claim_108 65 even} {r = refusal 22 109}
     (on_filled two_layers (unfilled 108 0) (claim_108 65 even) (refusal 22 109) beyond_108 many_fits (filled_lem 108 0))
 
-many_row : (1 < pair_count (soils_written 108 0)) × (0 < sides (soils_written 108 0)) × (109 ≡ 1 * sides (soils_written 108 0) + 1) × (pair_at (soils_written 108 0) 1 ≡ record { at = 0; soil = 1 })
+many_row : (1 < pair_count (soils_written 108 0)) × (0 < sides (soils_written 108 0))
+    × (109 ≡ 1 * sides (soils_written 108 0) + 1) × (pair_at (soils_written 108 0) 1 ≡ record { at = 0; soil = 1 })
 unfolding opened
 many_row = (omega arith, omega arith, refl, refl)
 
@@ -202,16 +213,21 @@ many_pair_kind e = let z : ◌≡◌ {A = ℕ} 0 1 = cc in omega arith
 
 pub many_clay_fails : ClayFails (soils_written 108 0) (claim_108 65 even)
 many_clay_fails =
-    subst (λ (a : Pair). ¬ StrengthAt (soils_written 108 0) (stress (soils_written 108 0) (claim_108 65 even)) (l (claim_108 65 even)) (n (claim_108 65 even)) (polygon_of (sides (soils_written 108 0))).radius a (side_numbered (polygon_of (sides (soils_written 108 0))) 1)) many_row.3
-    (((rows_refused (soils_written 108 0) (claim_108 65 even) 22 109 beyond_108_returned).strength refl).strength 1 0 many_row.0 many_row.1 many_pair_kind many_row.2)
+    subst (λ (a : Pair). ¬ StrengthAt (soils_written 108 0) (stress (soils_written 108 0) (claim_108 65 even))
+    (l (claim_108 65 even)) (n (claim_108 65 even)) (polygon_of (sides (soils_written 108 0))).radius a
+    (side_numbered (polygon_of (sides (soils_written 108 0))) 1)) many_row.3
+    (((rows_refused (soils_written 108 0) (claim_108 65 even) 22 109 beyond_108_returned).strength refl).strength 1 0
+    many_row.0 many_row.1 many_pair_kind many_row.2)
 
 pub many_clay_refusal : Refusal (soils_written 108 0) (claim_108 65 even) 22 (Row 109)
 unfolding place_for
 many_clay_refusal =
-    ((refuses_exactly (soils_written 108 0) (claim_108 65 even) 22 109 beyond_108_returned).exactly 22 109 (λ e. omega arith)).0
+    ((refuses_exactly (soils_written 108 0) (claim_108 65 even) 22 109 beyond_108_returned).exactly 22 109
+    (λ e. omega arith)).0
     (refl, refl)
 
-pub many_alone : {A : Type 0} (a : Result A Answered.Refusal) → MeshAnswered (soils_written 108 0) a → mesh_number_of (outcome_of a) ≡ 0
+pub many_alone : {A : Type 0} (a : Result A Answered.Refusal) → MeshAnswered (soils_written 108 0) a
+    → mesh_number_of (outcome_of a) ≡ 0
 many_alone = mesh_alone (soils_written 108 0) (claim_108 64 even) many_answer many_on_filled refl (facts_lem 108 0)
 
 pub many_table : TableSays two_layers layers_turned (unfilled 108 0)
@@ -231,7 +247,8 @@ bedded_fits = table_fits two_layers (unfilled 12 1) (bedded_claim 65 even) bedde
 
 bedded_on_filled : Answers (soils_written 12 1) (bedded_claim 65 even) bedded_answer
 bedded_on_filled =
-    on_filled two_layers (unfilled 12 1) (bedded_claim 65 even) bedded_answer bedded_answered bedded_fits (filled_lem 12 1)
+    on_filled two_layers (unfilled 12 1) (bedded_claim 65 even) bedded_answer bedded_answered bedded_fits
+    (filled_lem 12 1)
 
 pub bedded_parts : HasField (bedded_claim 65 even) × HasMultipliers (bedded_claim 65 even)
 unfolding opened
@@ -242,7 +259,8 @@ bedded_claim_says =
     claim_says (soils_written 12 1) (bedded_claim 65 even) bedded_answer bedded_on_filled refl (facts_lem 12 1)
     bedded_parts.0 bedded_parts.1 refl
 
-pub bedded_kind : ByDirection (soils_written 12 1) 1 × (1 < soils (soils_written 12 1)) × (point (pos 4) (pos 3) ∈ half_turn (polygon_of (sides (soils_written 12 1))).corners)
+pub bedded_kind : ByDirection (soils_written 12 1) 1 × (1 < soils (soils_written 12 1))
+    × (point (pos 4) (pos 3) ∈ half_turn (polygon_of (sides (soils_written 12 1))).corners)
 unfolding opened
 bedded_kind = (refl, omega arith, Memᴰ.tail (Memᴰ.head refl))
 
@@ -258,7 +276,8 @@ beyond_beds = refl
 bed_returned : Returned (soils_written 12 1) (bedded_claim 66 even) 22 16
 bed_returned =
     returned {m = soils_written 12 1} {c = bedded_claim 66 even} {r = refusal 22 16}
-    (on_filled two_layers (unfilled 12 1) (bedded_claim 66 even) (refusal 22 16) beyond_beds bedded_fits (filled_lem 12 1))
+    (on_filled two_layers (unfilled 12 1) (bedded_claim 66 even) (refusal 22 16) beyond_beds bedded_fits
+    (filled_lem 12 1))
 
 pub bed_fails : BedFails (soils_written 12 1) (bedded_claim 66 even)
 unfolding opened
@@ -269,10 +288,13 @@ bed_fails =
 pub bed_refusal : Refusal (soils_written 12 1) (bedded_claim 66 even) 22 (Row 16)
 unfolding place_for
 bed_refusal =
-    ((refuses_exactly (soils_written 12 1) (bedded_claim 66 even) 22 16 bed_returned).exactly 22 16 (λ e. omega arith)).0 (refl, refl)
+    ((refuses_exactly (soils_written 12 1) (bedded_claim 66 even) 22 16 bed_returned).exactly 22 16
+    (λ e. omega arith)).0 (refl, refl)
 
-pub bedded_alone : {A : Type 0} (a : Result A Answered.Refusal) → MeshAnswered (soils_written 12 1) a → mesh_number_of (outcome_of a) ≡ 0
-bedded_alone = mesh_alone (soils_written 12 1) (bedded_claim 65 even) bedded_answer bedded_on_filled refl (facts_lem 12 1)
+pub bedded_alone : {A : Type 0} (a : Result A Answered.Refusal) → MeshAnswered (soils_written 12 1) a
+    → mesh_number_of (outcome_of a) ≡ 0
+bedded_alone = mesh_alone (soils_written 12 1) (bedded_claim 65 even) bedded_answer bedded_on_filled refl
+    (facts_lem 12 1)
 
 pub bedded_table : TableSays two_layers layers_turned (unfilled 12 1)
 bedded_table = table_facts 12 1 bedded_fits

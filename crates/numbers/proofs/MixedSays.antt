@@ -1,4 +1,5 @@
--- What the promises say of any answer that accepts a claim on the sheet of `MixedSheet`: each promise, with what it asks of
+-- What the promises say of any answer that accepts a claim on the sheet of `MixedSheet`: each promise, with what it
+-- asks of
 -- the mesh computed by antt once for every number of sides and either kind.
 use mathlib.Core.Path.{◌≡◌, refl, subst, subst₂}
 use mathlib.Core.Logic.{inl, ◌≢◌}
@@ -9,7 +10,8 @@ use lib.IntN.{ℤ, pos}
 use lib.Signed.{lt_z_yes}
 use Rattle.std.specs.Prelude.{Result}
 use Rattle.scope.specs.declared.Refusal as Answered
-use Rattle.scope.specs.Mesh.{layout_with, soils, elements, sides, corner, corner_count, around, element_soil, jumps, from_node, to_node, ByDirection, ListsDirection}
+use Rattle.scope.specs.Mesh.{layout_with, soils, elements, sides, corner, corner_count, around, element_soil, jumps}
+use Rattle.scope.specs.Mesh.{from_node, to_node, ByDirection, ListsDirection}
 use Rattle.integer.specs.Fraction.{◌over◌, ◌≈ᶠ◌}
 use Rattle.integer.specs.Members.{◌∈◌}
 use Rattle.scope.specs.Polygon.{point, half_turn, polygon_of}
@@ -21,7 +23,8 @@ use Rattle.scope.specs.Meaning.{Inward}
 use Rattle.scope.specs.Answer.{outcome_of, mesh_number_of}
 use Rattle.scope.specs.Statements.{MeshSound, HasField, HasMultipliers}
 use Rattle.scope.specs.Triangles.{FourLeftTurns}
-use Rattle.scope.specs.Layers.{layers, bottom, top, soil, node_at, none_above, lowest, highest, has, soil_at, top_above, apart, in_layer}
+use Rattle.scope.specs.Layers.{layers, bottom, top, soil, node_at, none_above, lowest, highest, has, soil_at}
+use Rattle.scope.specs.Layers.{top_above, apart, in_layer}
 use Rattle.scope.specs.Filled.{height_of, soil_place, soil_of, given_number, given, filled, with_soils}
 use Rattle.scope.specs.Table.{layer_lines, table_lines, table_layout, has_table, mesh_read, tabled_check}
 use Rattle.scope.specs.TableVerdict.{tabled_verdict, TableFits}
@@ -29,18 +32,27 @@ use Rattle.scope.specs.LayerRows.{Reordered, SameLine}
 use Rattle.scope.specs.Worked.{zeros}
 use Rattle.scope.proofs.Computed.{computed}
 use Rattle.numbers.specs.declared.numbers_answer.NumbersAnswer.{NumbersAnswer}
-use Rattle.numbers.specs.Promises.{Answers, Returned, TellsField, MeshAnswered, CriterionForEachPair, PairsAsked, OverlapsAsked, JumpsAsked, SidesAsked, TrianglesRead}
+use Rattle.numbers.specs.Promises.{Answers, Returned, TellsField, MeshAnswered, CriterionForEachPair, PairsAsked}
+use Rattle.numbers.specs.Promises.{OverlapsAsked, JumpsAsked, SidesAsked, TrianglesRead}
 use Rattle.numbers.specs.TablePromises.{TableAnswers}
-use Rattle.numbers.specs.MixedSheet.{mixed, two_layers, layers_turned, lower_layer, unfilled, soils_written, mixed_field, mixed_multipliers, mixed_claim, claim_108, bedded_claim}
+use Rattle.numbers.specs.MixedSheet.{mixed, two_layers, layers_turned, lower_layer, unfilled, soils_written}
+use Rattle.numbers.specs.MixedSheet.{mixed_field, mixed_multipliers, mixed_claim, claim_108, bedded_claim}
 use Rattle.numbers.specs.MixedSheet.{MeshSays, ClaimSays, PlainSays, BeddedSays, FewNodes, TableSays, RefusedSays}
-use Rattle.numbers.proofs.Promises.{mesh_answered_exactly, returned, returns_zero_exactly, numbers_listed, field_exactly, multipliers_exactly, criterion_for_each_pair, directions_asked, tractions_on_joints, pairs_asked, sides_asked, overlaps_asked, jumps_asked, triangles_asked}
-use Rattle.numbers.proofs.Reported.{field-reported, multipliers_reported, open_rows_reported, field_in_fractions, call_bracket, accepted_parts, fractions_bracket}
+use Rattle.numbers.proofs.Promises.{mesh_answered_exactly, returned, returns_zero_exactly, numbers_listed}
+use Rattle.numbers.proofs.Promises.{field_exactly, multipliers_exactly, criterion_for_each_pair, directions_asked}
+use Rattle.numbers.proofs.Promises.{tractions_on_joints, pairs_asked, sides_asked, overlaps_asked, jumps_asked}
+use Rattle.numbers.proofs.Promises.{triangles_asked}
+use Rattle.numbers.proofs.Reported.{field-reported, multipliers_reported, open_rows_reported, field_in_fractions}
+use Rattle.numbers.proofs.Reported.{call_bracket, accepted_parts, fractions_bracket}
 use Rattle.numbers.proofs.Blends.{blended_answers}
 use Rattle.numbers.proofs.TablePromises.{table_returned, table_exactly, as_filled, filled_mesh}
 
 -- for proofs by computation: the definitions of a table and of the sheet too
 unfoldable pub opened : Unit {0}
-unfolding computed layout_with layers bottom top soil node_at none_above lowest highest has soil_at top_above apart in_layer height_of soil_place soil_of given_number given filled with_soils layer_lines table_lines table_layout has_table mesh_read tabled_check tabled_verdict zeros mixed two_layers layers_turned lower_layer mixed_field mixed_multipliers mixed_claim claim_108 bedded_claim
+unfolding computed layout_with layers bottom top soil node_at none_above lowest highest has soil_at top_above apart
+    in_layer height_of soil_place soil_of given_number given filled with_soils layer_lines table_lines table_layout
+    has_table mesh_read tabled_check tabled_verdict zeros mixed two_layers layers_turned lower_layer mixed_field
+    mixed_multipliers mixed_claim claim_108 bedded_claim
 opened = tt
 
 -- ---- what the promises say of any answer that accepts a claim on such a mesh
@@ -51,7 +63,8 @@ pub record Facts (m : List ℤ) : Type 0 where
   pub repeats : (corner m 0 2 ≡ corner m 0 3) × (corner m 1 2 ≡ corner m 1 3)
   pub four_different : ¬ (corner m 2 2 ≡ corner m 2 3)
   pub turns : FourLeftTurns m 2
-  pub edge : (1 < corner_count m 1) × (2 < corner_count m 1) × (from_node m 0 ≡ around m 1 1) × (to_node m 0 ≡ around m 1 2) × (around m 1 3 ≡ 0)
+  pub edge : (1 < corner_count m 1) × (2 < corner_count m 1) × (from_node m 0 ≡ around m 1 1)
+      × (to_node m 0 ≡ around m 1 2) × (around m 1 3 ≡ 0)
   pub around_3 : (corner m 1 1 ≡ 2) × (corner m 0 2 ≡ 2)
   pub soils_there : (element_soil m 1 ≡ 0) × (element_soil m 0 ≡ 1)
   pub five_pairs : 4 < pair_count m
@@ -59,7 +72,8 @@ pub record Facts (m : List ℤ) : Type 0 where
   pub one_jump : 0 < jumps m
 
 -- by the promises of any call on the mesh, on numbers or on files
-module _ (m : List ℤ) (number place : ℕ) (sound : MeshSound m) (facts : Facts m) (pairs : PairsAsked m number place) (overlaps : OverlapsAsked m number place) (joints : JumpsAsked m) (polygons : SidesAsked m number place) where
+module _ (m : List ℤ) (number place : ℕ) (sound : MeshSound m) (facts : Facts m) (pairs : PairsAsked m number place)
+    (overlaps : OverlapsAsked m number place) (joints : JumpsAsked m) (polygons : SidesAsked m number place) where
   there : (e : ℕ) → e < 3 → e < elements m
   there e l = omega (arith, l, facts.three)
 
@@ -77,13 +91,26 @@ module _ (m : List ℤ) (number place : ℕ) (sound : MeshSound m) (facts : Fact
     outward =
         let side = facts.edge in
         subst (λ (v : ℕ). Inward m 0 v) side.4
-        ((read 1 (omega arith)).outward 0 1 side.0 side.2 side.3 (sound.left_turns 1 (there 1 (omega arith))) 2 (omega arith) side.1);
+        ((read 1 (omega arith)).outward 0 1 side.0 side.2 side.3 (sound.left_turns 1 (there 1 (omega arith))) 2
+        (omega arith) side.1);
     fill_pair =
         ((pairs.sound sound).exactly (record { at = 2; soil = 0 })).1
-        (record { element = 1; there = there 1 (omega arith); has-corner = (1, omega arith, facts.around_3.0); same = facts.soils_there.0 });
+        (record {
+          element = 1;
+          there = there 1 (omega arith);
+          has-corner = (1, omega arith, facts.around_3.0);
+          same =
+              facts.soils_there.0;
+        });
     clay_pair =
         ((pairs.sound sound).exactly (record { at = 2; soil = 1 })).1
-        (record { element = 0; there = there 0 (omega arith); has-corner = (2, omega arith, facts.around_3.1); same = facts.soils_there.1 });
+        (record {
+          element = 0;
+          there = there 0 (omega arith);
+          has-corner = (2, omega arith, facts.around_3.1);
+          same =
+              facts.soils_there.1;
+        });
     in_order = pairs.listed.ascending 3 4 (omega arith) facts.five_pairs;
     pairs = pairs.sound sound;
     apart = overlaps.sound sound;
@@ -93,7 +120,8 @@ module _ (m : List ℤ) (number place : ℕ) (sound : MeshSound m) (facts : Fact
 
   pub few_nodes : sides m ≡ 108 → FewNodes m
   few_nodes e =
-      let limits = polygons.limits.with_108 e in record { few_nodes = limits.nodes_few sound; few_pairs = limits.pairs_few sound }
+      let limits = polygons.limits.with_108 e in record
+      { few_nodes = limits.nodes_few sound; few_pairs = limits.pairs_few sound }
 
 -- by those of any answer that accepts a claim on it
 module _ (m c : List ℤ) (r : NumbersAnswer) (h : Answers m c r) (accepted : r.number ≡ 0) (facts : Facts m) where
@@ -104,10 +132,12 @@ module _ (m c : List ℤ) (r : NumbersAnswer) (h : Answers m c r) (accepted : r.
   sound = ((returns_zero_exactly m c r.number r.place answered).exactly.0 accepted).mesh
 
   says : MeshSays m
-  says = mesh_says m r.number r.place sound facts (pairs_asked m c r.number r.place answered) (overlaps_asked m c r.number r.place answered) (jumps_asked m) (sides_asked m c r.number r.place answered)
+  says = mesh_says m r.number r.place sound facts (pairs_asked m c r.number r.place answered)
+      (overlaps_asked m c r.number r.place answered) (jumps_asked m) (sides_asked m c r.number r.place answered)
 
   pub many_says_lem : sides m ≡ 108 → FewNodes m
-  many_says_lem = few_nodes m r.number r.place sound facts (pairs_asked m c r.number r.place answered) (overlaps_asked m c r.number r.place answered) (jumps_asked m) (sides_asked m c r.number r.place answered)
+  many_says_lem = few_nodes m r.number r.place sound facts (pairs_asked m c r.number r.place answered)
+      (overlaps_asked m c r.number r.place answered) (jumps_asked m) (sides_asked m c r.number r.place answered)
 
   -- the mesh alone has the number 0
   pub mesh_alone : {A : Type 0} (a : Result A Answered.Refusal) → MeshAnswered m a → mesh_number_of (outcome_of a) ≡ 0
@@ -163,14 +193,16 @@ module _ (m c : List ℤ) (r : NumbersAnswer) (h : Answers m c r) (accepted : r.
     pub plain_says : ¬ ByDirection m 1 → ¬ ListsDirection m → PlainSays m c r
     plain_says kind none = record {
       clay = criterion.pairs (record { at = 2; soil = 1 }) says.clay_pair kind;
-      told = let e = (field-reported m c r h).load field_there none in ((field-reported m c r h).told.1 (field_there, none), e.0, e.1);
+      told = let e = (field-reported m c r h).load field_there none in
+          ((field-reported m c r h).told.1 (field_there, none), e.0, e.1);
       exact = (call_bracket h field_there multipliers_there).told none;
     }
 
     pub bedded_says : ByDirection m 1 → (1 < soils m) → point (pos 4) (pos 3) ∈ half_turn (polygon_of (sides m)).corners
         → BeddedSays m c r
     bedded_says kind second at_plane = record {
-      plane = (directions_asked m c r.number r.place answered).accepted tells (record { at = 2; soil = 1 }) says.clay_pair kind (point (pos 4) (pos 3)) at_plane;
+      plane = (directions_asked m c r.number r.place answered).accepted tells
+          (record { at = 2; soil = 1 }) says.clay_pair kind (point (pos 4) (pos 3)) at_plane;
       untold = (field-reported m c r h).untold (1, second, kind);
     }
 
@@ -195,10 +227,22 @@ module _ (t m c : List ℤ) (r : NumbersAnswer) (h : TableAnswers t m c r) where
 
 -- accepted, with this limit
 abbrev pub answer : (l n w m : ℕ) → NumbersAnswer
-answer l n w m = record { number = 0; place = 0; field = 1; multipliers = 1; l = pos l; n = pos n; w = pos w; m = pos m; open_rows = 0 }
+answer l n w m = record
+    { number = 0; place = 0; field = 1; multipliers = 1; l = pos l; n = pos n; w = pos w; m = pos m; open_rows = 0 }
 
 abbrev pub refusal : (number place : ℕ) → NumbersAnswer
-refusal number place = record { number = number; place = place; field = 0; multipliers = 0; l = pos 0; n = pos 0; w = pos 0; m = pos 0; open_rows = 0 }
+refusal number place =
+    record {
+      number = number;
+      place = place;
+      field = 0;
+      multipliers = 0;
+      l = pos 0;
+      n = pos 0;
+      w = pos 0;
+      m = pos 0;
+      open_rows = 0;
+    }
 
 -- whatever the number of sides and the kind of the clay
 module _ (side_count kind : ℕ) where
@@ -260,7 +304,8 @@ turned = record {
     same_line (suc zero) l = record { bottoms = refl; tops = refl; soils = refl }
     same_line (suc (suc i)) l = absurd (omega (arith, l))
 
-pub table_facts : (side_count kind : ℕ) → TableFits two_layers (unfilled side_count kind) → TableSays two_layers layers_turned (unfilled side_count kind)
+pub table_facts : (side_count kind : ℕ) → TableFits two_layers (unfilled side_count kind)
+    → TableSays two_layers layers_turned (unfilled side_count kind)
 unfolding opened
 table_facts side_count kind fits =
     let mesh = filled_mesh two_layers (unfilled side_count kind) (fits refl) in

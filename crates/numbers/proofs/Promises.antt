@@ -44,7 +44,8 @@ use Rattle.numbers.specs.declared.numbers_answer.NumbersAnswer.{NumbersAnswer}
 use Rattle.numbers.specs.NumbersAnswer.{there, answer_of}
 use Rattle.numbers.specs.Promises.{Answers, Returned, ReturnsZero, RefusesExactly, NumbersListed, RowsRefused}
 use Rattle.numbers.specs.Promises.{TellsField, FieldExactly, MultipliersExactly}
-use Rattle.numbers.specs.Promises.{CriterionForEachPair, DirectionsAsked, PairsAsked, SidesAsked, OverlapsAsked, JumpsAsked, TractionsOnJoints}
+use Rattle.numbers.specs.Promises.{CriterionForEachPair, DirectionsAsked, PairsAsked, SidesAsked, OverlapsAsked}
+use Rattle.numbers.specs.Promises.{JumpsAsked, TractionsOnJoints}
 use Rattle.numbers.specs.Promises.{MeshAnsweredExactly, TrianglesAsked}
 
 -- an answer has the number and the place of the verdict that it is made of
@@ -199,7 +200,8 @@ module _ (m c : List ℤ) (number place : ℕ) (h : Returned m c number place) w
   unfolding place_for
   sides_asked = record {
     limits = limits_by_sides m;
-    many_nodes = λ l e h. (refuses_exactly.exactly 2 1 (λ z. omega arith)).1 (of_mesh (((limits_by_sides m).with_108 e).nodes_refused l h));
+    many_nodes = λ l e h. (refuses_exactly.exactly 2 1 (λ z. omega arith)).1
+        (of_mesh (((limits_by_sides m).with_108 e).nodes_refused l h));
     polygon = λ s. listed_polygon (sides m) (mesh_facts m s.lines).counts.sides_listed;
   }
     where

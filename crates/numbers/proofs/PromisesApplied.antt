@@ -153,7 +153,8 @@ neither_part = refl
 
 pub thirteen_at_line_1 : (r : NumbersAnswer) → Answers worked_mesh (zeros 4) r → r.place ≡ 1
 thirteen_at_line_1 r a =
-    (numbers_listed worked_mesh (zeros 4) r.number r.place (returned a)).line_one ((returned a).number_is ∙ neither_part)
+    (numbers_listed worked_mesh (zeros 4) r.number r.place (returned a)).line_one
+    ((returned a).number_is ∙ neither_part)
 
 -- 33 has column 0: multipliers that are all 0
 unfoldable pub no_multipliers : List ℤ

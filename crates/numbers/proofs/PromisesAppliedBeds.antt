@@ -1,4 +1,5 @@
--- The promises of strength by direction (document 02, N14) applied to bedded clay, to document 01's sheet, and to that sheet with a bedded soil that no element has: antt computes the answer, and the promise says the rest.
+-- The promises of strength by direction (document 02, N14) applied to bedded clay, to document 01's sheet, and to that
+-- sheet with a bedded soil that no element has: antt computes the answer, and the promise says the rest.
 use mathlib.Core.Path.{◌≡◌, refl}
 use mathlib.Core.Logic.{inl}
 use mathlib.Core.List.Memᴰ
@@ -13,7 +14,8 @@ use Rattle.scope.specs.Polygon.{point}
 use Rattle.scope.specs.AcceptedField.{MeetsCriterion}
 use Rattle.scope.specs.Planes.{PlaneHoldsAt}
 use Rattle.scope.specs.Parts.{carried}
-use Rattle.scope.specs.Worked.{zeros, worked_mesh, worked_stresses, worked_multipliers, worked_claim, sheet, beds, on_beds, unused_beds}
+use Rattle.scope.specs.Worked.{zeros, worked_mesh, worked_stresses, worked_multipliers, worked_claim, sheet, beds}
+use Rattle.scope.specs.Worked.{on_beds, unused_beds}
 use Rattle.scope.proofs.Computed.{computed}
 use Rattle.numbers.specs.declared.numbers_answer.NumbersAnswer.{NumbersAnswer}
 use Rattle.numbers.specs.Promises.{Answers, Returned}
@@ -26,7 +28,8 @@ abbrev bedded : List ℤ
 bedded = beds 12 1 1 10
 
 abbrev pub bedded_answer : NumbersAnswer
-bedded_answer = record { number = 0; place = 0; field = 1; multipliers = 1; l = pos 0; n = pos 0; w = pos 500; m = pos 24; open_rows = 0 }
+bedded_answer = record
+    { number = 0; place = 0; field = 1; multipliers = 1; l = pos 0; n = pos 0; w = pos 500; m = pos 24; open_rows = 0 }
 
 pub bedded_answered : Answers bedded (on_beds 125) bedded_answer
 unfolding computed zeros worked_stresses beds on_beds
@@ -44,16 +47,19 @@ bedded_returned : Returned bedded (on_beds 125) 0 0
 bedded_returned = returned bedded_answered
 
 -- the plane (4, 3) at node 1
-pub bedded_plane : PlaneHoldsAt bedded (stress bedded (on_beds 125)) (pos 6) (record { at = 0; soil = 0 }) (point (pos 4) (pos 3))
+pub bedded_plane : PlaneHoldsAt bedded (stress bedded (on_beds 125)) (pos 6) (record { at = 0; soil = 0 })
+    (point (pos 4) (pos 3))
 unfolding computed zeros worked_stresses beds on_beds
 bedded_plane =
-    (directions_asked bedded (on_beds 125) 0 0 bedded_returned).accepted (refl, inl refl) (record { at = 0; soil = 0 }) (Memᴰ.head refl) refl (point (pos 4) (pos 3))
+    (directions_asked bedded (on_beds 125) 0 0 bedded_returned).accepted (refl, inl refl) (record { at = 0; soil = 0 })
+    (Memᴰ.head refl) refl (point (pos 4) (pos 3))
     (Memᴰ.tail (Memᴰ.head refl))
 
 -- ---- the sheet with a bedded soil that no element has: no load is told, and its pairs still meet the criterion
 
 abbrev pub unused_answer : NumbersAnswer
-unused_answer = record { number = 0; place = 0; field = 1; multipliers = 1; l = pos 0; n = pos 0; w = pos 600; m = pos 30; open_rows = 0 }
+unused_answer = record
+    { number = 0; place = 0; field = 1; multipliers = 1; l = pos 0; n = pos 0; w = pos 600; m = pos 30; open_rows = 0 }
 
 pub unused_answered : Answers unused_beds sheet unused_answer
 unfolding computed zeros worked_stresses worked_multipliers worked_claim sheet unused_beds
@@ -72,7 +78,8 @@ unused_returned = returned unused_answered
 
 pub unused_criterion : MeetsCriterion unused_beds sheet (record { at = 2; soil = 0 })
 unfolding computed zeros worked_stresses worked_multipliers worked_claim sheet unused_beds
-unused_criterion = (criterion_for_each_pair unused_beds sheet 0 0 unused_returned (refl, inl refl)).around 2 0 (omega arith) (2, omega arith, refl) no_kind_1
+unused_criterion = (criterion_for_each_pair unused_beds sheet 0 0 unused_returned (refl, inl refl)).around 2 0
+    (omega arith) (2, omega arith, refl) no_kind_1
 
 -- ---- the sheet: its load is told
 

@@ -43,7 +43,8 @@ use Rattle.numbers.specs.Promises.{FieldReported, MultipliersReported}
 use Rattle.numbers.specs.Promises.{CallsBracket}
 use Rattle.numbers.specs.Promises.{TwoAnswers, AnswerAndMultipliers, OpenRowsReported, FractionsBracket}
 use Rattle.numbers.specs.Promises.{FractionsAndAnswer, FieldInFractions}
-use Rattle.numbers.proofs.Promises.{VerdictCases, refused_not_zero, returned, returns_zero_exactly, field_exactly, multipliers_exactly}
+use Rattle.numbers.proofs.Promises.{VerdictCases, refused_not_zero, returned, returns_zero_exactly, field_exactly}
+use Rattle.numbers.proofs.Promises.{multipliers_exactly}
 
 -- ---- what is reported: a part with its two numbers, or none of them
 

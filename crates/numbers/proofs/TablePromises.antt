@@ -1,4 +1,5 @@
--- The promises with a table hold of every answer: the verdict came early, by the table, or is the one on the filled mesh.
+-- The promises with a table hold of every answer: the verdict came early, by the table, or is the one on the filled
+-- mesh.
 use mathlib.Core.Path.{◌≡◌, refl, sym, ◌∙◌, ap, subst, subst₂}
 use mathlib.Core.Logic.{◌⊎◌, inl, inr, ◌≢◌}
 use mathlib.Core.List.{List}
@@ -17,7 +18,8 @@ use Rattle.scope.proofs.Exactly.{refused_exactly}
 use Rattle.scope.proofs.PlaceKinds.{place_kind, place_number_lem}
 use Rattle.scope.proofs.Filled.{element_layer, filled_from_lem, reordered_filled}
 use Rattle.scope.proofs.Table.{named_facts}
-use Rattle.scope.proofs.TableVerdict.{Came, early, late, came, fits_late, tabled_refused, early_number, early_kind, tabled_zero, read_lines_lem, no_table_verdict}
+use Rattle.scope.proofs.TableVerdict.{Came, early, late, came, fits_late, tabled_refused, early_number, early_kind}
+use Rattle.scope.proofs.TableVerdict.{tabled_zero, read_lines_lem, no_table_verdict}
 use Rattle.numbers.proofs.Promises.{of_verdict, refused_not_zero}
 use Rattle.numbers.specs.declared.numbers_answer.NumbersAnswer.{NumbersAnswer}
 use Rattle.numbers.specs.NumbersAnswer.{answer_of}
@@ -28,7 +30,8 @@ table_returned {t} {m} {c} e =
     let b = of_verdict (has_field c) (tabled_verdict t m c) e in record { number_is = b.0; place_is = b.1 }
 
 -- the place of a refusal is the one for its number
-refused_kind : (t m c : List ℤ) {k : ℕ} {p : Place} → tabled_verdict t m c ≡ Refused k p → p ≡ place_for k (place_number p)
+refused_kind : (t m c : List ℤ) {k : ℕ} {p : Place} → tabled_verdict t m c ≡ Refused k p
+    → p ≡ place_for k (place_number p)
 refused_kind t m c {k} {p} e = by (came t m c)
   where
     number_of_lem : {i j : ℕ} {q s : Place} → Refused i q ≡ Refused j s → i ≡ j
@@ -40,7 +43,8 @@ refused_kind t m c {k} {p} e = by (came t m c)
     by : Came t m c → p ≡ place_for k (place_number p)
     by (early i q r d) =
         let same = sym d ∙ e in
-        subst₂ (λ (n : ℕ) (s : Place). s ≡ place_for n (place_number s)) (number_of_lem same) (place_of_lem same) (early_kind t m i q r)
+        subst₂ (λ (n : ℕ) (s : Place). s ≡ place_for n (place_number s)) (number_of_lem same) (place_of_lem same)
+        (early_kind t m i q r)
     by (late f d) = place_kind ((refused_exactly (mesh_read t m) c k p).0 (sym d ∙ e))
 
 module _ (t m c : List ℤ) (number place : ℕ) (h : TableReturned t m c number place) where
@@ -51,7 +55,8 @@ module _ (t m c : List ℤ) (number place : ℕ) (h : TableReturned t m c number
   cases_of : ((k : ℕ) × (p : Place) × (tabled_verdict t m c ≡ Refused k p)) ⊎ ((number ≡ 0) × (place ≡ 0))
   cases_of = by (tabled_verdict t m c) refl
     where
-      by : (v : Verdict) → tabled_verdict t m c ≡ v → ((k : ℕ) × (p : Place) × (tabled_verdict t m c ≡ Refused k p)) ⊎ ((number ≡ 0) × (place ≡ 0))
+      by : (v : Verdict) → tabled_verdict t m c ≡ v → ((k : ℕ) × (p : Place) × (tabled_verdict t m c ≡ Refused k p))
+          ⊎ ((number ≡ 0) × (place ≡ 0))
       by (Accepted o a b) e = inr (h.number_is ∙ ap number_of e, h.place_is ∙ ap place_of e)
       by (Refused k p) e = inl (k, p, e)
 
@@ -59,7 +64,11 @@ module _ (t m c : List ℤ) (number place : ℕ) (h : TableReturned t m c number
   table_exactly = record {
     zero = (λ e. (tabled_zero t m c).0 (sym h.number_is ∙ e), λ a. h.number_is ∙ (tabled_zero t m c).1 a);
     place_zero = λ e. zero_place e cases_of;
-    refuses = λ k j nonzero. (λ e. to nonzero e.0 e.1 cases_of, λ r. let e = (tabled_refused t m c k (place_for k j)).1 r in ((is_refused e).0, (is_refused e).1 ∙ place_number_lem k j));
+    refuses = λ k j nonzero. (
+      λ e. to nonzero e.0 e.1 cases_of,
+      λ r. let e = (tabled_refused t m c k (place_for k j)).1 r in
+          ((is_refused e).0, (is_refused e).1 ∙ place_number_lem k j),
+    );
     unfit = λ f. by f (came t m c);
   }
     where
@@ -70,25 +79,31 @@ module _ (t m c : List ℤ) (number place : ℕ) (h : TableReturned t m c number
           of (early i q r d) = absurd (omega (arith, (early_number t m i q r).0, ap number_of (sym d ∙ e)))
           of (late f d) = refused_not_zero (mesh_read t m) c (sym d ∙ e) z
 
-      zero_place : number ≡ 0 → ((k : ℕ) × (p : Place) × (tabled_verdict t m c ≡ Refused k p)) ⊎ ((number ≡ 0) × (place ≡ 0)) → place ≡ 0
+      zero_place : number ≡ 0 → ((k : ℕ) × (p : Place) × (tabled_verdict t m c ≡ Refused k p))
+          ⊎ ((number ≡ 0) × (place ≡ 0)) → place ≡ 0
       zero_place z (inl (k, p, e)) = absurd (not_zero e (sym (is_refused e).0 ∙ z))
       zero_place z (inr e) = e.1
 
-      to : {k j : ℕ} → k ≢ 0 → number ≡ k → place ≡ j → ((i : ℕ) × (p : Place) × (tabled_verdict t m c ≡ Refused i p)) ⊎ ((number ≡ 0) × (place ≡ 0)) → TabledRefusal t m c k (place_for k j)
+      to : {k j : ℕ} → k ≢ 0 → number ≡ k → place ≡ j → ((i : ℕ) × (p : Place) × (tabled_verdict t m c ≡ Refused i p))
+          ⊎ ((number ≡ 0) × (place ≡ 0)) → TabledRefusal t m c k (place_for k j)
       to {k} {j} nonzero a b (inl (i, p, e)) =
           let same : i ≡ k = sym (is_refused e).0 ∙ a in
           let there : place_number p ≡ j = sym (is_refused e).1 ∙ b in
-          subst₂ (λ (n : ℕ) (q : Place). TabledRefusal t m c n q) same (refused_kind t m c e ∙ ap (λ (x : ℕ). place_for x (place_number p)) same ∙ ap (place_for k) there) ((tabled_refused t m c i p).0 e)
+          subst₂ (λ (n : ℕ) (q : Place). TabledRefusal t m c n q) same
+          (refused_kind t m c e ∙ ap (λ (x : ℕ). place_for x (place_number p)) same ∙ ap (place_for k) there)
+          ((tabled_refused t m c i p).0 e)
       to nonzero a b (inr e) = absurd (nonzero (sym a ∙ e.0))
 
       by : ¬ TableFits t m → Came t m c → (number ≤ 4) ⊎ ((number ≡ 45) ⊎ (number ≡ 46))
       by f (late g e) = absurd (f g)
-      by f (early k p r e) = subst (λ (n : ℕ). (n ≤ 4) ⊎ ((n ≡ 45) ⊎ (n ≡ 46))) (sym (is_refused e).0) (early_number t m k p r).1
+      by f (early k p r e) = subst (λ (n : ℕ). (n ≤ 4) ⊎ ((n ≡ 45) ⊎ (n ≡ 46))) (sym (is_refused e).0)
+          (early_number t m k p r).1
 
 pub as_filled : {t m c : List ℤ} {r : NumbersAnswer} → TableAnswers t m c r → AsFilled t m c r
 as_filled {t} {m} {c} h = record {
   fits = λ f. h ∙ ap (answer_of (has_field c)) (fits_late t m c f);
-  none = λ e. h ∙ ap (λ (u : List ℤ). answer_of (has_field c) (tabled_verdict u m c)) e ∙ ap (answer_of (has_field c)) (no_table_verdict m c);
+  none = λ e. h ∙ ap (λ (u : List ℤ). answer_of (has_field c) (tabled_verdict u m c)) e
+      ∙ ap (answer_of (has_field c)) (no_table_verdict m c);
 }
 
 pub filled_mesh : (t m : List ℤ) → TablePasses t m → FilledMesh t m

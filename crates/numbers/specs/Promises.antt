@@ -53,7 +53,8 @@ pub record Returned (m c : List ℤ) (number place : ℕ) : Type 0 where
 
 -- ==== Demand 2: what is accepted, and what is refused
 
--- "Accepted returns 0, place 0": 0 exactly when the mesh passes 1 to 8, 47, 44 and 42, the claim passes 11 to 13, a field
+-- "Accepted returns 0, place 0": 0 exactly when the mesh passes 1 to 8, 47, 44 and 42, the claim passes 11 to 13, a
+-- field
 -- that is there meets every row, and multipliers that are there are zero on every unfixed row, make all 3·nodes columns
 -- 0 and have m above 0
 pub record ReturnsZero (m c : List ℤ) (number place : ℕ) : Type 0 where
@@ -140,7 +141,8 @@ pub record PairsAsked (m : List ℤ) (number place : ℕ) : Type 0 where
   pub refused : number ≡ 42 → PairsFail m place
 
 -- "A mesh is refused if two elements share a point inside both, fractions included; .. Absent such a point the mesh is
--- never refused for this. .. Refused: 47, with the higher element of the pair whose higher number is least" (document 02,
+-- never refused for this. .. Refused: 47, with the higher element of the pair whose higher number is least" (document
+-- 02,
 -- N10)
 pub record OverlapsAsked (m : List ℤ) (number place : ℕ) : Type 0 where
   pub sound : MeshSound m → NoneOnEachOther m

@@ -21,7 +21,8 @@ use Rattle.outlines.proofs.BoxLaws.{boxes_apart_lem, each_before}
 
 -- ---- two elements
 
-module _ (m : List ℤ) (turns : Turned m) {t : List Boxed} (table : BoxedTo m (elements m) t) (d e : ℕ) (k : d < elements m) (l : e < elements m) where
+module _ (m : List ℤ) (turns : Turned m) {t : List Boxed} (table : BoxedTo m (elements m) t) (d e : ℕ)
+    (k : d < elements m) (l : e < elements m) where
   pub by_boxes : T (boxes_apart (boxed_at t d).own (boxed_at t e).own) → true ≡ apart_from m d e
   by_boxes passes =
       same_test
@@ -70,7 +71,8 @@ down_rest m e {d} from rest = sym (all_of_each (λ k. apart_from m k e) e each)
 
 -- where all up to d end before e, it is apart from each of them
 pub rest_before : (m : List ℤ) (turns : Turned m) {t : List Boxed} (table : BoxedTo m (elements m) t) (d e : ℕ)
-    → d < e → e < elements m → ends_before (boxed_at t d).right (boxed_at t d).top (boxed_at t e).own ≡ true → (k : ℕ) → k < suc d
+    → d < e → e < elements m → ends_before (boxed_at t d).right (boxed_at t d).top (boxed_at t e).own ≡ true → (k : ℕ)
+    → k < suc d
     → apart_from m k e ≡ true
 rest_before m turns {t} table d e l there h k j =
     sym (by_boxes m turns table k e (omega arith) there
@@ -80,4 +82,5 @@ rest_before m turns {t} table d e l there h k j =
 
 -- a corner that is not left of a line is on it or right of it
 pub not_left : (z : ℤ) → not (lt_z (pos 0) z) ≡ le_z z (pos 0)
-not_left z = same_test (λ t. yes_le_z (lt_z_no {a = pos 0} {b = z} t)) (λ t. not_T (lt_z (pos 0) z) (λ u. clash_ℤ {a = pos 0} {b = z} (record { lt = u }) (record { le = t })))
+not_left z = same_test (λ t. yes_le_z (lt_z_no {a = pos 0} {b = z} t))
+    (λ t. not_T (lt_z (pos 0) z) (λ u. clash_ℤ {a = pos 0} {b = z} (record { lt = u }) (record { le = t })))

@@ -98,12 +98,14 @@ module _ (m : List ℤ) {e : ℕ} {right top : ℤ} {t : List Boxed} (h : Boxing
       around = λ d l. here d (below_suc (omega arith));
       reach = λ k d j l. reach k d j (below_suc (omega arith));
     };
-    most_right = λ k l. most (λ c. c.right) (λ i j. ≤ℤ_trans (h.most_right i j) right_kept) right_own k (below_suc (omega arith));
+    most_right = λ k l. most (λ c. c.right) (λ i j. ≤ℤ_trans (h.most_right i j) right_kept) right_own k
+        (below_suc (omega arith));
     most_top = λ k l. most (λ c. c.top) (λ i j. ≤ℤ_trans (h.most_top i j) top_kept) top_own k (below_suc (omega arith));
   }
     where
       here : (d : ℕ) → (d < e) ⊎ (d ≡ e) → Around (box_of (boxed_at more d).own) (outline m d)
-      here d (inl l) = subst (λ (c : Boxed). Around (box_of c.own) (outline m d)) (sym (old_box d l)) (h.boxed.around d l)
+      here d (inl l) = subst (λ (c : Boxed). Around (box_of c.own) (outline m d)) (sym (old_box d l))
+          (h.boxed.around d l)
       here d (inr s) =
           subst (λ (c : Boxed). Around (box_of c.own) (outline m d)) (sym (new_box d s))
           (subst (λ i. Around (box_of b.own) (outline m i)) (sym s) around)
@@ -120,13 +122,15 @@ module _ (m : List ℤ) {e : ℕ} {right top : ℤ} {t : List Boxed} (h : Boxing
       reach k d j (inr s) =
           subst (λ (p : Boxed). Reaches p (boxed_at more k).own) (sym (new_box d s))
           (record {
-            right = most (λ c. c.right) (λ i l. ≤ℤ_trans (h.most_right i l) right_kept) right_own k (below_suc (omega arith));
+            right = most (λ c. c.right) (λ i l. ≤ℤ_trans (h.most_right i l) right_kept) right_own k
+                (below_suc (omega arith));
             top = most (λ c. c.top) (λ i l. ≤ℤ_trans (h.most_top i l) top_kept) top_own k (below_suc (omega arith));
           })
 
 -- ---- the tests
 
-ends_before_lem : (right top : ℤ) (q : ElementBox) → Decides (ends_before right top q) ((top ≤ℤ q.bottom) ⊎ (right ≤ℤ q.left))
+ends_before_lem : (right top : ℤ) (q : ElementBox) → Decides (ends_before right top q)
+    ((top ≤ℤ q.bottom) ⊎ (right ≤ℤ q.left))
 unfolding ends_before
 ends_before_lem right top q = either (at_mostℤ top q.bottom) (at_mostℤ right q.left)
 

@@ -1,4 +1,6 @@
--- Blends of the fields of two calls (document 02, N11), on files or on numbers, with a table or without: each call's number says that its field is accepted on the mesh that is read, and `scope` blends those. Then applied to shipped claims of one shipped mesh.
+-- Blends of the fields of two calls (document 02, N11), on files or on numbers, with a table or without: each call's
+-- number says that its field is accepted on the mesh that is read, and `scope` blends those. Then applied to shipped
+-- claims of one shipped mesh.
 use mathlib.Core.Path.{◌≡◌, refl, sym, ◌∙◌}
 use mathlib.Core.Logic.{inl}
 use mathlib.Core.List.{[]}
@@ -18,11 +20,13 @@ use Rattle.judge.specs.Handed.{Handed, files, numbers, mesh_of, claim_of, Handed
 use Rattle.pechuvo.specs.Promises.{Call, on_files, BlendedCalls}
 use Rattle.pechuvo.proofs.TablePromises.{call_field}
 use Rattle.pechuvo.proofs.PromisesApplied.{opened, at, room, nineteen_file}
-use Rattle.pechuvo.proofs.LoadsApplied.{sheet_call, refused_call, numbers_call, same_mesh, sheet_mesh, refused_mesh_lem, beyond_mesh, sheet-field, refused_tells, beyond_strength}
+use Rattle.pechuvo.proofs.LoadsApplied.{sheet_call, refused_call, numbers_call, same_mesh, sheet_mesh}
+use Rattle.pechuvo.proofs.LoadsApplied.{refused_mesh_lem, beyond_mesh, sheet-field, refused_tells, beyond_strength}
 use Rattle.pechuvo.proofs.TableApplied.{with_table, soil_call, same_meshes, parts}
 
 pub blended_calls : {a b : Handed} {i j : ℕ} → BlendedCalls a b i j
-blended_calls {a} {b} p q same t u x y w = blended_claims x y (mesh_of a) (claim_of a) (mesh_of b) (claim_of b) w same (call_field p t) (call_field q u)
+blended_calls {a} {b} p q same t u x y w = blended_claims x y (mesh_of a) (claim_of a) (mesh_of b) (claim_of b) w same
+    (call_field p t) (call_field q u)
 
 -- ---- applied: the files of the sheet, of l 19 and of l 21, which have one mesh
 
@@ -48,7 +52,8 @@ below_field = refl
 
 -- the sheet and l 19, as often the one as the other
 pub half_way : HandedBlends 1 1 sheet_files below_files
-half_way = blended_calls sheet_call below_call (same_mesh (sheet_mesh ∙ sym below_mesh)) (sheet-field, inl refl) (below_field, inl refl) 1 1 (omega arith)
+half_way = blended_calls sheet_call below_call (same_mesh (sheet_mesh ∙ sym below_mesh)) (sheet-field, inl refl)
+    (below_field, inl refl) 1 1 (omega arith)
 
 -- 39/2 is carried
 pub half_way_carried : (f : FractionField) × Carries (mesh_of sheet_files) f × (f.load.value ≈ᶠ pos 39 over pos 2)
@@ -57,13 +62,19 @@ half_way_carried = let (f, blend) = half_way.can_be_blended in let e = half_way.
 
 -- and is at most the limit of the multipliers of l 21, a claim that is refused for its field
 pub half_way_at_most : half_way_carried.0.load.value ≤ᶠ allowed (mesh_of above_files) (claim_of above_files)
-half_way_at_most = half_way_carried.1.at_most (mesh_of above_files) (claim_of above_files) (same_mesh (sheet_mesh ∙ sym beyond_mesh)) beyond_strength
+half_way_at_most = half_way_carried.1.at_most (mesh_of above_files) (claim_of above_files)
+    (same_mesh (sheet_mesh ∙ sym beyond_mesh)) beyond_strength
 
 -- with a table that gives the soil, and without one
-pub with_and_without : HandedBlends 1 2 (files (with_table 0).mesh (with_table 0).table (with_table 0).claim) sheet_files
-with_and_without = blended_calls soil_call sheet_call (same_mesh same_meshes) (parts.0, inl refl) (sheet-field, inl refl) 1 2 (omega arith)
+pub with_and_without : HandedBlends 1 2 (files (with_table 0).mesh (with_table 0).table (with_table 0).claim)
+    sheet_files
+with_and_without = blended_calls soil_call sheet_call (same_mesh same_meshes) (parts.0, inl refl)
+    (sheet-field, inl refl) 1 2 (omega arith)
 
 -- the file of a claim that is refused for its multipliers, and numbers handed over
-pub file_and_numbers : HandedBlends 2 3 (files (at 4).mesh [] (at 4).claim) (numbers Numbers.worked_mesh [] Numbers.sheet19)
-unfolding computed mesh_of claim_of mesh_read has_table Numbers.zeros Numbers.worked_stresses Numbers.worked_multipliers Numbers.worked_claim Numbers.sheet19
-file_and_numbers = blended_calls refused_call numbers_call (same_mesh refused_mesh_lem) refused_tells (refl, inl refl) 2 3 (omega arith)
+pub file_and_numbers : HandedBlends 2 3 (files (at 4).mesh [] (at 4).claim)
+    (numbers Numbers.worked_mesh [] Numbers.sheet19)
+unfolding computed mesh_of claim_of mesh_read has_table Numbers.zeros Numbers.worked_stresses
+    Numbers.worked_multipliers Numbers.worked_claim Numbers.sheet19
+file_and_numbers = blended_calls refused_call numbers_call (same_mesh refused_mesh_lem) refused_tells
+    (refl, inl refl) 2 3 (omega arith)

@@ -1,4 +1,5 @@
--- The promises of a book applied to document 01's sheet and its neighbours, with a borehole table and without: antt computes what is answered, and the promise says the rest.
+-- The promises of a book applied to document 01's sheet and its neighbours, with a borehole table and without: antt
+-- computes what is answered, and the promise says the rest.
 use mathlib.Core.Path.{◌≡◌, refl}
 use mathlib.Core.Logic.{inl, inr}
 use mathlib.Core.List.{List, [], ◌∷◌}
@@ -10,7 +11,8 @@ use Rattle.scope.specs.Mesh.{ListsDirection}
 use Rattle.judge.specs.Judge.{files_verdict}
 use Rattle.judge.specs.Handed.{Handed, files}
 use Rattle.reader.specs.File.{file_width}
-use Rattle.book.specs.Book.{proper, takes_ask, takes_commit, better, moved, followed, unjudged, judged, asked, committed}
+use Rattle.book.specs.Book.{proper, takes_ask, takes_commit, better, moved, followed, unjudged, judged, asked}
+use Rattle.book.specs.Book.{committed}
 use Rattle.book.specs.History.{Call, asks, commits}
 use Rattle.pechuvo.specs.declared.books.BookForC.{BookForC}
 use Rattle.pechuvo.specs.declared.books.BookAnswer.{BookAnswer}
@@ -51,33 +53,40 @@ unfolding opened proper takes_ask takes_commit better moved followed unjudged ju
 with_book = tt
 
 -- from an empty book the sheet's bounds are told, and the ask counts
-pub sheet_asked : AskAnswers empty_for_c (at 0).mesh [] (at 0).claim (record { number = 0; place = 0; book = sheet_book 1 })
+pub sheet_asked : AskAnswers empty_for_c (at 0).mesh [] (at 0).claim
+    (record { number = 0; place = 0; book = sheet_book 1 })
 unfolding with_book
 sheet_asked = refl
 
 -- its commit leaves the book that the ask told
-pub sheet_committed : {r : BookAnswer} → CommitAnswers empty_for_c 0 (at 0).mesh [] (at 0).claim r → ◌≡◌ {A = BookAnswer} (record { number = 0; place = 0; book = sheet_book 1 }) r
+pub sheet_committed : {r : BookAnswer} → CommitAnswers empty_for_c 0 (at 0).mesh [] (at 0).claim r
+    → ◌≡◌ {A = BookAnswer} (record { number = 0; place = 0; book = sheet_book 1 }) r
 sheet_committed h = ask_then_commit empty_for_c (at 0).mesh [] (at 0).claim sheet_asked h
 
 -- then l 19, with the same limit, moves neither bound and counts
-pub nineteen_committed : CommitAnswers (sheet_book 1) 1 (at 1).mesh [] (at 1).claim (record { number = 0; place = 0; book = sheet_book 2 })
+pub nineteen_committed : CommitAnswers (sheet_book 1) 1 (at 1).mesh [] (at 1).claim
+    (record { number = 0; place = 0; book = sheet_book 2 })
 unfolding with_book
 nineteen_committed = refl
 
-pub nineteen_followed : book_of (sheet_book 2) ≡ followed (book_of (sheet_book 1)) (files_verdict file_width (at 1).mesh [] (at 1).claim)
+pub nineteen_followed : book_of (sheet_book 2) ≡ followed (book_of (sheet_book 1))
+    (files_verdict file_width (at 1).mesh [] (at 1).claim)
 nineteen_followed = (book_committed (sheet_book 1) (at 1).mesh [] (at 1).claim 1 nineteen_committed).follows refl
 
 -- the -30 as -29 is refused and leaves the book
-pub refused_committed : CommitAnswers (sheet_book 2) 2 (at 4).mesh [] (at 4).claim (record { number = 32; place = 7; book = sheet_book 2 })
+pub refused_committed : CommitAnswers (sheet_book 2) 2 (at 4).mesh [] (at 4).claim
+    (record { number = 32; place = 7; book = sheet_book 2 })
 unfolding with_book
 refused_committed = refl
 
 -- the sheet whose soil comes from a table ties with both bounds and counts; the table with a gap is refused
-pub tabled_committed : CommitAnswers (sheet_book 2) 2 (with_table 0).mesh (with_table 0).table (with_table 0).claim (record { number = 0; place = 0; book = sheet_book 3 })
+pub tabled_committed : CommitAnswers (sheet_book 2) 2 (with_table 0).mesh (with_table 0).table (with_table 0).claim
+    (record { number = 0; place = 0; book = sheet_book 3 })
 unfolding with_book
 tabled_committed = refl
 
-pub gap_asked : AskAnswers (sheet_book 3) (with_table 1).mesh (with_table 1).table (with_table 1).claim (record { number = 45; place = 4; book = sheet_book 3 })
+pub gap_asked : AskAnswers (sheet_book 3) (with_table 1).mesh (with_table 1).table (with_table 1).claim
+    (record { number = 45; place = 4; book = sheet_book 3 })
 unfolding with_book
 gap_asked = refl
 
@@ -95,20 +104,24 @@ empty_book : Made [] empty_for_c
 unfolding bound_of
 empty_book = begun empty_for_c refl
 
-sheet_first : CommitAnswers empty_for_c 0 (at 0).mesh [] (at 0).claim (record { number = 0; place = 0; book = sheet_book 1 })
+sheet_first : CommitAnswers empty_for_c 0 (at 0).mesh [] (at 0).claim
+    (record { number = 0; place = 0; book = sheet_book 1 })
 unfolding with_book
 sheet_first = refl
 
 pub week : KeepsTheBest calls (sheet_book 3)
 unfolding calls
 week =
-    let first = then_commit (then_ask empty_book (at 0).mesh [] (at 0).claim _ sheet_asked) 0 (at 0).mesh [] (at 0).claim _ sheet_first in
+    let first = then_commit (then_ask empty_book (at 0).mesh [] (at 0).claim _ sheet_asked) 0 (at 0).mesh []
+    (at 0).claim _ sheet_first in
     let second = then_commit first 1 (at 1).mesh [] (at 1).claim _ nineteen_committed in
     let third = then_commit second 2 (at 4).mesh [] (at 4).claim _ refused_committed in
-    after_any_calls (then_commit third 2 (with_table 0).mesh (with_table 0).table (with_table 0).claim _ tabled_committed)
+    after_any_calls (then_commit third 2 (with_table 0).mesh (with_table 0).table
+    (with_table 0).claim _ tabled_committed)
 
 -- the last commit that a book takes leaves it full
-pub last_committed : CommitAnswers (sheet_book 999999) 999999 (at 1).mesh [] (at 1).claim (record { number = 0; place = 0; book = sheet_book 1000000 })
+pub last_committed : CommitAnswers (sheet_book 999999) 999999 (at 1).mesh [] (at 1).claim
+    (record { number = 0; place = 0; book = sheet_book 1000000 })
 unfolding with_book
 last_committed = refl
 
@@ -124,18 +137,32 @@ bounds lower lower_over upper upper_over count = record {
   count = count;
 }
 
--- the sheet's 20/1 and 600/30 move 39/2 and 25/1, whose numerators are higher and lower, and neither 40/2 nor 20/1, which
+-- the sheet's 20/1 and 600/30 move 39/2 and 25/1, whose numerators are higher and lower, and neither 40/2 nor 20/1,
+-- which
 -- equal them
-pub both_moved : CommitAnswers (bounds 39 2 25 1 7) 7 (at 0).mesh [] (at 0).claim (record { number = 0; place = 0; book = bounds 20 1 600 30 8 })
+pub both_moved : CommitAnswers (bounds 39 2 25 1 7) 7 (at 0).mesh [] (at 0).claim
+    (record { number = 0; place = 0; book = bounds 20 1 600 30 8 })
 unfolding with_book
 both_moved = refl
 
-pub neither_moved : CommitAnswers (bounds 40 2 20 1 7) 7 (at 0).mesh [] (at 0).claim (record { number = 0; place = 0; book = bounds 40 2 20 1 8 })
+pub neither_moved : CommitAnswers (bounds 40 2 20 1 7) 7 (at 0).mesh [] (at 0).claim
+    (record { number = 0; place = 0; book = bounds 40 2 20 1 8 })
 unfolding with_book
 neither_moved = refl
 
 -- a bound is there where its first number is any but 0
-pub there_as_2 : AskAnswers (record { lower_there = 2; upper_there = 0; lower_numerator = pos 21; lower_denominator = pos 1; upper_numerator = pos 0; upper_denominator = pos 0; count = 7 }) (at 0).mesh [] (at 0).claim (record { number = 0; place = 0; book = bounds 21 1 600 30 8 })
+pub there_as_2 : AskAnswers
+    (record {
+      lower_there = 2;
+      upper_there = 0;
+      lower_numerator = pos 21;
+      lower_denominator = pos 1;
+      upper_numerator =
+          pos 0;
+      upper_denominator = pos 0;
+      count = 7;
+    }) (at 0).mesh [] (at 0).claim
+    (record { number = 0; place = 0; book = bounds 21 1 600 30 8 })
 unfolding with_book
 there_as_2 = refl
 
@@ -171,7 +198,8 @@ upper_over_zero = record {
   count = 1;
 }
 
-pub no_upper_denominator : AskAnswers upper_over_zero (at 0).mesh [] (at 0).claim (record { number = 48; place = 0; book = upper_over_zero })
+pub no_upper_denominator : AskAnswers upper_over_zero (at 0).mesh [] (at 0).claim
+    (record { number = 48; place = 0; book = upper_over_zero })
 unfolding with_book
 no_upper_denominator = refl
 
@@ -184,5 +212,6 @@ bedded_listed : ListsDirection (mesh_with bedded_block.mesh [])
 unfolding opened bedded_block
 bedded_listed = (0, omega arith, refl)
 
-pub no_load_of_beds : {r : BookAnswer} → AskAnswers (sheet_book 1) bedded_block.mesh [] bedded_block.claim r → (book_of r.book).lower ≡ (book_of (sheet_book 1)).lower
+pub no_load_of_beds : {r : BookAnswer} → AskAnswers (sheet_book 1) bedded_block.mesh [] bedded_block.claim r
+    → (book_of r.book).lower ≡ (book_of (sheet_book 1)).lower
 no_load_of_beds h = (book_asked (sheet_book 1) bedded_block.mesh [] bedded_block.claim h).no_load bedded_listed

@@ -1,4 +1,5 @@
--- The promises of a book hold of every call: either test of the book decides, and no verdict has the number 48. After any calls the book that C has is the one of `book_after`, call by call.
+-- The promises of a book hold of every call: either test of the book decides, and no verdict has the number 48. After
+-- any calls the book that C has is the one of `book_after`, call by call.
 use mathlib.Core.Path.{◌≡◌, refl, sym, ◌∙◌, ap, subst}
 use mathlib.Core.Logic.{◌⊎◌, ◌≢◌}
 use mathlib.Core.Bool.{Bool, true, false, cond, true≢false}
@@ -13,16 +14,19 @@ use Rattle.numbers.specs.NumbersAnswer.{there, numerator, denominator}
 use Rattle.reader.specs.File.{file_width}
 use Rattle.judge.specs.Judge.{files_verdict}
 use Rattle.judge.specs.Handed.{Handed, files, mesh_of, handed_verdict}
-use Rattle.book.specs.Book.{Kept, Told, Judged, takes_ask, takes_commit, empty_book, followed, unjudged, judged, asked, committed}
+use Rattle.book.specs.Book.{Kept, Told, Judged, takes_ask, takes_commit, empty_book, followed, unjudged, judged}
+use Rattle.book.specs.Book.{asked, committed}
 use Rattle.book.specs.History.{Call, asks, commits, left, left_by_all, Shut, InOrder, judged_call, book_after}
-use Rattle.book.proofs.HistoryLaws.{not_taken, shut_not_taken, not_committed, shut_not_committed, ask_and_commit_agree, one_call_more, the_book_is_the_best}
+use Rattle.book.proofs.HistoryLaws.{not_taken, shut_not_taken, not_committed, shut_not_committed}
+use Rattle.book.proofs.HistoryLaws.{ask_and_commit_agree, one_call_more, the_book_is_the_best}
 use Rattle.book.proofs.BracketLaws.{the_book_is_a_bracket}
 use Rattle.book.proofs.DirectionLaws.{no_load_by_direction}
 use Rattle.pechuvo.specs.declared.books.BookForC.{BookForC}
 use Rattle.pechuvo.specs.declared.books.BookAnswer.{BookAnswer}
 use Rattle.pechuvo.specs.BookInC.{bound_of, book_of, for_c, told_book, book_answer}
 use Rattle.pechuvo.specs.Promises.{mesh_in, table_in, mesh_with, claim_in}
-use Rattle.pechuvo.specs.BookPromises.{BookCall, BookAsked, BookCommitted, AskThenCommit, Made, begun, then_ask, then_commit, AfterAnyCalls}
+use Rattle.pechuvo.specs.BookPromises.{BookCall, BookAsked, BookCommitted, AskThenCommit, Made, begun, then_ask}
+use Rattle.pechuvo.specs.BookPromises.{then_commit, AfterAnyCalls}
 use Rattle.pechuvo.proofs.VerdictFits.{not_48}
 
 -- ---- a book that was handed back is the one that C hands over the next time
@@ -36,7 +40,8 @@ handed_back : (b : Kept) → book_of (for_c b) ≡ b
 handed_back b = λ i. record { lower = bound_back b.lower i; upper = bound_back b.upper i; count = b.count }
 
 -- the book that is told is the one that is kept, and at a refusal the one that was handed over
-told_back : (c : BookForC) (v : Verdict) → book_of (told_book c (Judged v) (followed (book_of c) v)) ≡ followed (book_of c) v
+told_back : (c : BookForC) (v : Verdict) → book_of (told_book c (Judged v) (followed (book_of c) v))
+    ≡ followed (book_of c) v
 unfolding told_book followed
 told_back c (Accepted o x y) = handed_back (followed (book_of c) (Accepted o x y))
 told_back c (Refused k p) = refl
@@ -46,7 +51,9 @@ unfolding told_book
 told_same c b (Accepted o x y) h = absurd (h refl)
 told_same c b (Refused k p) h = refl
 
-told_kept : (c : BookForC) (v : Verdict) (t : Bool) → (let r : Told = cond t (judged (book_of c) v) (unjudged (book_of c)) in book_of (told_book c r.said r.kept)) ≡ (cond t (judged (book_of c) v) (unjudged (book_of c))).kept
+told_kept : (c : BookForC) (v : Verdict) (t : Bool)
+    → (let r : Told = cond t (judged (book_of c) v) (unjudged (book_of c)) in book_of (told_book c r.said r.kept))
+    ≡ (cond t (judged (book_of c) v) (unjudged (book_of c))).kept
 unfolding told_book judged unjudged
 told_kept c v true = told_back c v
 told_kept c v false = refl
@@ -70,7 +77,8 @@ module _ (c : BookForC) (mesh table claim : List ℕ) where
   none_taken = no_load_by_direction b (files mesh table claim)
 
   -- an answer of the test t, which fails exactly when the call is refused before all else
-  book_call : (Before : Type 0) (t : Bool) → (t ≡ false → Before) → (Before → t ≡ false) → {r : BookAnswer} → r ≡ book_answer c (cond {A = Told} t (judged b v) (unjudged b)) → BookCall c mesh table claim Before r
+  book_call : (Before : Type 0) (t : Bool) → (t ≡ false → Before) → (Before → t ≡ false) → {r : BookAnswer}
+      → r ≡ book_answer c (cond {A = Told} t (judged b v) (unjudged b)) → BookCall c mesh table claim Before r
   unfolding judged unjudged files_verdict told_book
   book_call Before true to from {r} e =
       let number : r.number ≡ number_of v = ap (λ (x : BookAnswer). x.number) e in
@@ -101,7 +109,8 @@ module _ (c : BookForC) (mesh table claim : List ℕ) where
 
   pub book_committed : (count : ℕ) {r : BookAnswer} → BookCommitted c count mesh table claim r
   unfolding committed
-  book_committed count e = book_call ((count ≢ c.count) ⊎ Shut b) (takes_commit b count) (not_committed b count) (shut_not_committed b count) e
+  book_committed count e = book_call ((count ≢ c.count) ⊎ Shut b) (takes_commit b count) (not_committed b count)
+      (shut_not_committed b count) e
 
   pub ask_then_commit : {r s : BookAnswer} → AskThenCommit c mesh table claim r s
   unfolding left_by_all
@@ -112,7 +121,8 @@ module _ (c : BookForC) (mesh table claim : List ℕ) where
 made_book : {ks : List (Call Handed)} {c : BookForC} → Made ks c → book_of c ≡ book_after ks
 unfolding left left_by_all judged_call handed_verdict committed
 made_book (begun c e) = e
-made_book (then_ask {ks = ks} made mesh table claim r e) = made_book made ∙ sym (one_call_more empty_book ks (asks (files mesh table claim)))
+made_book (then_ask {ks = ks} made mesh table claim r e) = made_book made
+    ∙ sym (one_call_more empty_book ks (asks (files mesh table claim)))
 made_book (then_commit {ks = ks} {c = c} made count mesh table claim r e) =
     let v : Verdict = files_verdict file_width mesh table claim in
     ap (λ (x : BookAnswer). book_of x.book) e

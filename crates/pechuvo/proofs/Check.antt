@@ -1,4 +1,6 @@
--- "a longer file is too long for any mesh or claim and is refused as its first 65,536 bytes are": by its header's limits no mesh and no claim has so many bytes, and a file's numbers depend on no byte after the first beyond its lines.
+-- "a longer file is too long for any mesh or claim and is refused as its first 65,536 bytes are": by its header's
+-- limits no mesh and no claim has so many bytes, and a file's numbers depend on no byte after the first beyond its
+-- lines.
 use mathlib.Core.Path.{◌≡◌, refl, sym, ap, ap₂, ◌∙◌, subst}
 use mathlib.Core.Bool.{Bool, true, false, cond, true≢false}
 use mathlib.Core.Logic.{◌⊎◌, inl, inr, ◌≢◌}
@@ -16,7 +18,8 @@ use Rattle.scope.specs.Cases.Outcome.{Passed, Refused as Fails}
 use Rattle.scope.specs.Columns.{free, at, has_field, has_multipliers}
 use Rattle.integer.proofs.Order.{≤ℤ_pos}
 use Rattle.scope.specs.Layout.{width, count}
-use Rattle.scope.specs.Mesh.{pairs_with, mesh_layout, layout_with, mesh_header, soil_lines, node_lines, element_lines, edge_lines, jump_lines, nodes, elements, soils, edges, sides, jumps}
+use Rattle.scope.specs.Mesh.{pairs_with, mesh_layout, layout_with, mesh_header, soil_lines, node_lines, element_lines}
+use Rattle.scope.specs.Mesh.{edge_lines, jump_lines, nodes, elements, soils, edges, sides, jumps}
 use Rattle.scope.specs.Rows.{pair_count}
 use Rattle.scope.specs.Claim.{claim_layout, if_there}
 use Rattle.scope.specs.Statements.{Within, LinesSound, MeshSound}
@@ -50,7 +53,8 @@ use Rattle.pechuvo.proofs.TableFile.{layout_widths, table_cut, table_back}
 -- ---- how long a mesh and a claim can be
 
 -- the bytes of the lines after a mesh's header
-mesh_bytes : (h : List ℤ) → bytes_of 12 (widths (mesh_layout.body h)) ≡ soils h * 121 + (nodes h * 25 + (elements h * 61 + (edges h * 85 + jumps h * 49)))
+mesh_bytes : (h : List ℤ) → bytes_of 12 (widths (mesh_layout.body h))
+    ≡ soils h * 121 + (nodes h * 25 + (elements h * 61 + (edges h * 85 + jumps h * 49)))
 unfolding mesh_layout soil_lines node_lines element_lines edge_lines jump_lines line_bytes
 mesh_bytes h = simp (group_bytes_lem, no_bytes) (omega arith)
 
@@ -70,7 +74,8 @@ mesh_header_short : (h : List ℤ) → line_check mesh_layout mesh_layout.header
 unfolding mesh_layout mesh_header soils nodes elements edges jumps
 mesh_header_short h e =
     let p = (line_check_passed mesh_layout mesh_header h (Line 1)).says e in
-    let w : (c : ℕ) → c < 6 → Within (get_or mesh_header.limits c free) (at h c) = λ c l. within-at mesh_header.limits h c p.0 l p.1 in
+    let w : (c : ℕ) → c < 6 → Within (get_or mesh_header.limits c free) (at h c) =
+    λ c l. within-at mesh_header.limits h c p.0 l p.1 in
     mesh_short h
     (count_most (at h 2) (w 2 (omega arith)).1)
     (count_most (at h 0) (w 0 (omega arith)).1)
@@ -98,8 +103,10 @@ claim_short m c sound =
     let g = there_most (has_multipliers c) (jumps m) in
     let e = there_most (has_multipliers c) (pair_count m) in
     let x : ℕ = if_there (has_multipliers c) (pair_count m) in
-    let rows : x * sides m ≤ pairs_with (sides m) * sides m = mul-le-mul_right (sides m) (omega (arith, few_pairs_lem m sound)) in
-    let p : x * (sides m * 12 + 1) ≡ x * sides m * 12 + x = mul-add x (sides m * 12) 1 ∙ ap₂ ◌+◌ (sym (mul_assoc x (sides m) 12)) (mul-one x) in
+    let rows : x * sides m ≤ pairs_with (sides m) * sides m =
+    mul-le-mul_right (sides m) (omega (arith, few_pairs_lem m sound)) in
+    let p : x * (sides m * 12 + 1) ≡ x * sides m * 12 + x = mul-add x (sides m * 12) 1
+    ∙ ap₂ ◌+◌ (sym (mul_assoc x (sides m) 12)) (mul-one x) in
     omega (arith, claim_bytes_lem m c, (listed_polygon (sides m) k.sides_listed).fits.rows_fit)
 
 -- ---- three files, or their first 65,536 bytes
@@ -109,7 +116,8 @@ files_cut : (mesh table claim : List ℕ)
     ≡ files_verdict 12 mesh table claim
 unfolding files_verdict mesh_numbers mesh_from claim_numbers tabled_verdict answer
 files_cut mesh table claim =
-    ap₂ (λ (u x : List ℤ). tabled_verdict u x (numbers_of 12 (claim_layout (mesh_read u x)) (take most_file_bytes claim)))
+    ap₂ (λ (u x : List ℤ). tabled_verdict u x
+    (numbers_of 12 (claim_layout (mesh_read u x)) (take most_file_bytes claim)))
     (table_cut most_file_bytes table (omega arith))
     (numbers_cut 12 mesh_layout most_file_bytes mesh mesh_header_line mesh_header_short)
     ∙ by (tabled_check t m) refl
@@ -124,26 +132,32 @@ files_cut mesh table claim =
     f = mesh_read t m
 
     by : (o : Outcome) → tabled_check t m ≡ o
-        → tabled_verdict t m (numbers_of 12 (claim_layout f) (take most_file_bytes claim)) ≡ tabled_verdict t m (numbers_of 12 (claim_layout f) claim)
+        → tabled_verdict t m (numbers_of 12 (claim_layout f) (take most_file_bytes claim))
+        ≡ tabled_verdict t m (numbers_of 12 (claim_layout f) claim)
     by Passed e =
         let sound = (mesh_passed f).says (read_passes t m e) in
-        ap (tabled_verdict t m) (numbers_cut 12 (claim_layout f) most_file_bytes claim (omega (arith, claim_short f [] sound)) (λ c p. claim_short f c sound))
+        ap (tabled_verdict t m)
+        (numbers_cut 12 (claim_layout f) most_file_bytes claim (omega (arith, claim_short f [] sound))
+        (λ c p. claim_short f c sound))
     by (Fails k p) e = rw e
 
 -- the check of three files is the check of each file cut to 65,536 bytes
 pub check_cut : (mesh table claim : List ℕ)
-    → files_verdict 12 mesh table claim ≡ files_verdict 12 (take most_file_bytes mesh) (take most_file_bytes table) (take most_file_bytes claim)
+    → files_verdict 12 mesh table claim ≡ files_verdict 12 (take most_file_bytes mesh) (take most_file_bytes table)
+    (take most_file_bytes claim)
 check_cut mesh table claim = sym (files_cut mesh table claim)
 
 -- ---- a longer file
 
 -- the lines of a mesh pass, with soil 0 allowed where there is a table
-pub mesh_lines_lem : (t m : List ℤ) → TableFits t m → MeshSound (mesh_read t m) → LinesSound (layout_with (has_table t)) m
+pub mesh_lines_lem : (t m : List ℤ) → TableFits t m → MeshSound (mesh_read t m)
+    → LinesSound (layout_with (has_table t)) m
 unfolding mesh_read layout_with mesh_layout
 mesh_lines_lem t m f s =
     cases (has_table t)
     (λ e. subst (λ (b : Bool). LinesSound (layout_with b) m) (sym e) (f e).mesh_lines)
-    (λ e. subst (λ (b : Bool). LinesSound (layout_with b) m) (sym e) (subst (λ (b : Bool). LinesSound mesh_layout (cond b (filled t m) m)) e s.lines))
+    (λ e. subst (λ (b : Bool). LinesSound (layout_with b) m) (sym e)
+    (subst (λ (b : Bool). LinesSound mesh_layout (cond b (filled t m) m)) e s.lines))
 
 lines_counts : (b : Bool) (m : List ℤ) → LinesSound (layout_with b) m → Counts m
 unfolding layout_with mesh_layout
@@ -165,9 +179,13 @@ module _ (mesh table : List ℕ) where
       let sound = mesh_lines_lem t m f s in
       let k = lines_counts b m sound in
       let same : numbers_of 12 (layout_with b) mesh ≡ m = same_numbers b 12 mesh in
-      let passes : lines_check (layout_with b) (numbers_of 12 (layout_with b) mesh) ≡ Passed = ap (lines_check (layout_with b)) same ∙ (lines_passed (layout_with b) m).passed sound in
+      let passes : lines_check (layout_with b) (numbers_of 12 (layout_with b) mesh) ≡ Passed =
+      ap (lines_check (layout_with b)) same ∙ (lines_passed (layout_with b) m).passed sound in
       let bytes = passed_length 12 (layout_with b) (layout_regular b) mesh passes in
-      let told : bytes_of 12 (widths ((layout_with b).body (numbers_of 12 (layout_with b) mesh))) ≡ bytes_of 12 (widths (mesh_layout.body m)) = ap (λ (x : List ℤ). bytes_of 12 (widths ((layout_with b).body x))) same ∙ ap (bytes_of 12) (layout_widths 12 b m) in
+      let told : bytes_of 12 (widths ((layout_with b).body (numbers_of 12 (layout_with b) mesh)))
+      ≡ bytes_of 12 (widths (mesh_layout.body m)) =
+      ap (λ (x : List ℤ). bytes_of 12 (widths ((layout_with b).body x))) same
+      ∙ ap (bytes_of 12) (layout_widths 12 b m) in
       let most = mesh_short m k.soils_most k.nodes_most k.elements_most k.edges_most k.jumps_most in
       omega (arith, bytes, told, most)
 
@@ -180,7 +198,8 @@ module _ (mesh table : List ℕ) where
       by [] e d = let none : length t ≡ 0 = ap length e in omega (arith, none)
       by (z ∷ zs) e d = absurd (true≢false d)
 
-  whole_table : TableFits t m → (table ≡ write_lines 12 (replicate (layers t) layer_columns) t) × (length table ≡ layers t * line_bytes 12 layer_columns) × (layers t ≤ most_layers)
+  whole_table : TableFits t m → (table ≡ write_lines 12 (replicate (layers t) layer_columns) t)
+      × (length table ≡ layers t * line_bytes 12 layer_columns) × (layers t ≤ most_layers)
   whole_table f = table_back table (layers t) (table_size f)
 
   -- so it is the table of its numbers

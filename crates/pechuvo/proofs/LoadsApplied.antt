@@ -1,4 +1,6 @@
--- The promises about loads compared (document 01, demand 3) applied to document 01's sheet and its neighbours, as files and as numbers, one claim or two, and to a field in fractions: antt computes what is handed over, and the promise says the rest.
+-- The promises about loads compared (document 01, demand 3) applied to document 01's sheet and its neighbours, as
+-- files and as numbers, one claim or two, and to a field in fractions: antt computes what is handed over, and the
+-- promise says the rest.
 use mathlib.Core.Path.{◌≡◌, refl, sym, ◌∙◌, ap}
 use mathlib.Core.Logic.{inl, inr}
 use mathlib.Core.List.{List, [], map}
@@ -24,7 +26,8 @@ use Rattle.numbers.specs.NumbersAnswer.{answer_of}
 use Rattle.numbers.specs.Promises as Handed-over
 use Rattle.numbers.specs.Promises.{TellsField}
 use Rattle.numbers.specs.TablePromises.{TableAnswers}
-use Rattle.numbers.proofs.PromisesApplied.{second_soil, answer19, alone_answer, nineteen_answered, alone_answered, sheet_accepted, same_rows, fraction, fractions, fractions_meet}
+use Rattle.numbers.proofs.PromisesApplied.{second_soil, answer19, alone_answer, nineteen_answered, alone_answered}
+use Rattle.numbers.proofs.PromisesApplied.{sheet_accepted, same_rows, fraction, fractions, fractions_meet}
 use Rattle.report.specs.Text.{number as shows, said}
 use Rattle.report.specs.Report.{report_bytes}
 use Rattle.report.specs.Says.{column_of}
@@ -33,11 +36,14 @@ use Rattle.pechuvo.specs.Promises.{mesh_in, claim_in, OpenRowsPrinted, Call, on_
 use Rattle.pechuvo.proofs.Promises.{prints_open_rows}
 use Rattle.pechuvo.proofs.TablePromises.{calls_bracket, accepted_parts, fractions_bracket}
 use Rattle.pechuvo.proofs.FilePromises.{as_a_file}
-use Rattle.pechuvo.proofs.PromisesApplied.{opened, at, room, fits, plain, nineteen_parts, third_parts, sheet-answered, nineteen_file, refused_answered, third_answered}
+use Rattle.pechuvo.proofs.PromisesApplied.{opened, at, room, fits, plain, nineteen_parts, third_parts, sheet-answered}
+use Rattle.pechuvo.proofs.PromisesApplied.{nineteen_file, refused_answered, third_answered}
 
 -- two open rows of l 19
-pub nineteen_open : OpenRowsPrinted (mesh_in (at 1).mesh) (claim_in (mesh_in (at 1).mesh) (at 1).claim) (take report_bytes (at 1).line)
-nineteen_open = prints_open_rows (mesh_in (at 1).mesh) (at 1).claim (pos 6) room 0 0 (at 1).line (plain (at 1).mesh (at 1).claim nineteen_file) fits refl nineteen_parts.0 nineteen_parts.1
+pub nineteen_open : OpenRowsPrinted (mesh_in (at 1).mesh) (claim_in (mesh_in (at 1).mesh) (at 1).claim)
+    (take report_bytes (at 1).line)
+nineteen_open = prints_open_rows (mesh_in (at 1).mesh) (at 1).claim (pos 6) room 0 0 (at 1).line
+    (plain (at 1).mesh (at 1).claim nineteen_file) fits refl nineteen_parts.0 nineteen_parts.1
 
 nineteen_column : said (column_of 1 (take report_bytes (at 1).line)) ≡ some (shows (pos 2) 0)
 unfolding opened
@@ -47,14 +53,17 @@ pub nineteen_two : nineteen_open.number ≡ 2
 nineteen_two = let a = nineteen_open.reads in let b = nineteen_column in cc
 
 -- "1/3 on 1/3 prints 0.333333 and 0.333334 with 0 open rows"
-third_open : OpenRowsPrinted (mesh_in (at 7).mesh) (claim_in (mesh_in (at 7).mesh) (at 7).claim) (take report_bytes (at 7).line)
-third_open = prints_open_rows (mesh_in (at 7).mesh) (at 7).claim (pos 6) room 0 0 (at 7).line (plain (at 7).mesh (at 7).claim third_answered) fits refl third_parts.0 third_parts.1
+third_open : OpenRowsPrinted (mesh_in (at 7).mesh) (claim_in (mesh_in (at 7).mesh) (at 7).claim)
+    (take report_bytes (at 7).line)
+third_open = prints_open_rows (mesh_in (at 7).mesh) (at 7).claim (pos 6) room 0 0 (at 7).line
+    (plain (at 7).mesh (at 7).claim third_answered) fits refl third_parts.0 third_parts.1
 
 third_column : said (column_of 1 (take report_bytes (at 7).line)) ≡ some (shows (pos 0) 0)
 unfolding opened
 third_column = refl
 
-pub third_closed : carried (claim_in (mesh_in (at 7).mesh) (at 7).claim) ≈ᶠ allowed (mesh_in (at 7).mesh) (claim_in (mesh_in (at 7).mesh) (at 7).claim)
+pub third_closed : carried (claim_in (mesh_in (at 7).mesh) (at 7).claim) ≈ᶠ allowed (mesh_in (at 7).mesh)
+    (claim_in (mesh_in (at 7).mesh) (at 7).claim)
 third_closed = third_open.closed.0 (let a = third_open.reads in let b = third_column in cc)
 
 -- the calls, on files and on numbers, without a table
@@ -68,10 +77,12 @@ pub sheet_call : Call (files (at 0).mesh [] (at 0).claim) 0
 sheet_call = on_files (at 0).mesh [] (at 0).claim (pos 6) room 0 0 (at 0).line sheet-answered
 
 pub numbers_call : Call (numbers Numbers.worked_mesh [] Numbers.sheet19) 0
-numbers_call = on_numbers Numbers.worked_mesh [] Numbers.sheet19 answer19 (untabled Numbers.worked_mesh Numbers.sheet19 nineteen_answered)
+numbers_call = on_numbers Numbers.worked_mesh [] Numbers.sheet19 answer19
+    (untabled Numbers.worked_mesh Numbers.sheet19 nineteen_answered)
 
 alone_call : Call (numbers second_soil [] Numbers.multipliers_alone) 0
-alone_call = on_numbers second_soil [] Numbers.multipliers_alone alone_answer (untabled second_soil Numbers.multipliers_alone alone_answered)
+alone_call = on_numbers second_soil [] Numbers.multipliers_alone alone_answer
+    (untabled second_soil Numbers.multipliers_alone alone_answered)
 
 -- equal numbers have the same rows
 pub same_mesh : {m d : List ℤ} → m ≡ d → SameRows m d
@@ -104,16 +115,22 @@ one_file = calls_bracket sheet_call sheet_call refl (sheet-field, inl refl) shee
 
 -- two files: the field of the claim that is refused for its multipliers, and the sheet's multipliers
 pub two_files : HandedBracket (files (at 4).mesh [] (at 4).claim) (files (at 0).mesh [] (at 0).claim)
-two_files = calls_bracket refused_call sheet_call (same_mesh (refused_mesh_lem ∙ sym sheet_mesh)) refused_tells sheet-has refl
+two_files = calls_bracket refused_call sheet_call (same_mesh (refused_mesh_lem ∙ sym sheet_mesh)) refused_tells
+    sheet-has refl
 
 -- the field of a file, and multipliers handed over as numbers on another mesh with the same rows
-pub file_and_numbers : HandedBracket (files (at 4).mesh [] (at 4).claim) (numbers second_soil [] Numbers.multipliers_alone)
-unfolding computed mesh_of claim_of mesh_read has_table Numbers.zeros Numbers.worked_multipliers Numbers.multipliers_alone
-file_and_numbers = calls_bracket refused_call alone_call (same_mesh refused_mesh_lem ∙ same_rows) refused_tells refl refl
+pub file_and_numbers : HandedBracket (files (at 4).mesh [] (at 4).claim)
+    (numbers second_soil [] Numbers.multipliers_alone)
+unfolding computed mesh_of claim_of mesh_read has_table Numbers.zeros Numbers.worked_multipliers
+    Numbers.multipliers_alone
+file_and_numbers = calls_bracket refused_call alone_call (same_mesh refused_mesh_lem ∙ same_rows) refused_tells refl
+    refl
 
 -- the other way round: a field handed over as numbers, and the multipliers of a file
-pub numbers_and_file : HandedBracket (numbers Numbers.worked_mesh [] Numbers.sheet19) (files (at 0).mesh [] (at 0).claim)
-unfolding computed mesh_of claim_of mesh_read has_table Numbers.zeros Numbers.worked_stresses Numbers.worked_multipliers Numbers.worked_claim Numbers.sheet19
+pub numbers_and_file : HandedBracket (numbers Numbers.worked_mesh [] Numbers.sheet19)
+    (files (at 0).mesh [] (at 0).claim)
+unfolding computed mesh_of claim_of mesh_read has_table Numbers.zeros Numbers.worked_stresses
+    Numbers.worked_multipliers Numbers.worked_claim Numbers.sheet19
 numbers_and_file = calls_bracket numbers_call sheet_call (same_mesh (sym sheet_mesh)) (refl, inl refl) sheet-has refl
 
 -- against the multipliers of the claim with l 21, which is refused with 22 for its field
@@ -134,12 +151,15 @@ unfolding opened Numbers.zeros Numbers.worked_mesh
 beyond_mesh = refl
 
 pub sheet_and_refused : HandedBracket (files (at 0).mesh [] (at 0).claim) (files (at 2).mesh [] (at 2).claim)
-sheet_and_refused = accepted_parts sheet_call (files (at 2).mesh [] (at 2).claim) (same_mesh (sheet_mesh ∙ sym beyond_mesh)) (sheet-field, inl refl) beyond_strength
+sheet_and_refused = accepted_parts sheet_call (files (at 2).mesh [] (at 2).claim)
+    (same_mesh (sheet_mesh ∙ sym beyond_mesh)) (sheet-field, inl refl) beyond_strength
 
 -- a field in fractions over twelve denominators, and the multipliers of a file
-pub fractions_and_file : pos 38 over pos 2 ≤ᶠ allowed (mesh_of (files (at 0).mesh [] (at 0).claim)) (claim_of (files (at 0).mesh [] (at 0).claim))
+pub fractions_and_file : pos 38 over pos 2 ≤ᶠ allowed (mesh_of (files (at 0).mesh [] (at 0).claim))
+    (claim_of (files (at 0).mesh [] (at 0).claim))
 unfolding fraction fractions
-fractions_and_file = (fractions_bracket sheet_call sheet-has refl Numbers.worked_mesh sheet_accepted.mesh (same_mesh (sym sheet_mesh))).at_most fractions fractions_meet
+fractions_and_file = (fractions_bracket sheet_call sheet-has refl Numbers.worked_mesh sheet_accepted.mesh
+    (same_mesh (sym sheet_mesh))).at_most fractions fractions_meet
 
 -- numbers handed over get the answer of a file of them
 pub nineteen_as_a_file : AsAFile [] Numbers.worked_mesh Numbers.sheet19 answer19

@@ -1,4 +1,6 @@
--- The promises of runs, of sizes and of books applied to the sheet of `MixedFiles`, with 12 and with 108 sides and with bedded clay: antt computes what is told, or takes the verdict that `MixedApplied` has, and the promises say the rest.
+-- The promises of runs, of sizes and of books applied to the sheet of `MixedFiles`, with 12 and with 108 sides and
+-- with bedded clay: antt computes what is told, or takes the verdict that `MixedApplied` has, and the promises say the
+-- rest.
 use mathlib.Core.Path.{◌≡◌, refl, sym, ◌∙◌, ap, subst}
 use mathlib.Core.Logic.{⊎_elim}
 use mathlib.Core.List.Memᴰ
@@ -27,27 +29,35 @@ use Rattle.book.specs.History.{Call, asks, commits, handed_of, OnMesh}
 use Rattle.run.specs.declared.RunAnswer.{RunAnswer}
 use Rattle.run.specs.Run.{own_bytes, verdict_on, ends_run, taken_of, line_of, claims_judged, ran, run}
 use Rattle.run.specs.InTurn.{claim_at, InTurn}
-use Rattle.book.specs.Book.{proper, takes_ask, takes_commit, better, moved, followed, unjudged, judged, asked, committed}
+use Rattle.book.specs.Book.{proper, takes_ask, takes_commit, better, moved, followed, unjudged, judged, asked}
+use Rattle.book.specs.Book.{committed}
 use Rattle.pechuvo.specs.declared.books.BookForC.{BookForC}
 use Rattle.pechuvo.specs.BookInC.{bound_of, book_of, told_book, book_answer}
 use Rattle.pechuvo.specs.Sheets.{Sheet}
 use Rattle.pechuvo.specs.MixedFiles.{told, BookSays, mixed_files, many_files, bedded_files}
-use Rattle.pechuvo.specs.Promises.{mesh_with, claim_in, RunAsked, RunCall, SingleCall, judged_in, report_at, SizesAsked, SizesOf, MeshAccepted}
+use Rattle.pechuvo.specs.Promises.{mesh_with, claim_in, RunAsked, RunCall, SingleCall, judged_in, report_at}
+use Rattle.pechuvo.specs.Promises.{SizesAsked, SizesOf, MeshAccepted}
 use Rattle.pechuvo.specs.BookPromises.{AskAnswers, CommitAnswers, Made, begun, then_ask, then_commit, KeepsTheBest}
 use Rattle.pechuvo.proofs.RunPromises.{run_call}
 use Rattle.pechuvo.proofs.SizesPromises.{sizes_told}
 use Rattle.pechuvo.proofs.BookPromises.{book_asked, book_committed, ask_then_commit, after_any_calls}
 use Rattle.pechuvo.proofs.MixedApplied as Mixed
-use Rattle.pechuvo.proofs.MixedApplied.{mixed_verdict, mixed_reads, mixed_call_says, many_verdict, many_reads, many_call_says, bedded_verdict, bedded_reads, bedded_call_says, mixed_files_say, many_files_say, bedded_files_say}
+use Rattle.pechuvo.proofs.MixedApplied.{mixed_verdict, mixed_reads, mixed_call_says, many_verdict, many_reads}
+use Rattle.pechuvo.proofs.MixedApplied.{many_call_says, bedded_verdict, bedded_reads, bedded_call_says}
+use Rattle.pechuvo.proofs.MixedApplied.{mixed_files_say, many_files_say, bedded_files_say}
 
 -- for proofs by computation: the definitions of a run, of sizes and of a book too
 unfoldable opened : Unit {0}
-unfolding Mixed.opened flat_map flatten bytes_of claim_bytes own_bytes verdict_on ends_run taken_of line_of claims_judged ran run sizes_for mesh_sizes proper takes_ask takes_commit better moved followed unjudged judged asked committed bound_of told_book
+unfolding Mixed.opened flat_map flatten bytes_of claim_bytes own_bytes verdict_on ends_run taken_of line_of
+    claims_judged ran run sizes_for mesh_sizes proper takes_ask takes_commit better moved followed unjudged judged
+    asked committed bound_of told_book
 opened = tt
 
 -- ---- sizes
 
-module _ (s : Sheet) (m c : List ℤ) (r : MeshSizes) (h : SizesAsked s.mesh s.table r) (accepted : r.number ≡ 0) (reads : (mesh_with s.mesh s.table ≡ m) × (claim_in m s.claim ≡ c)) (parts : HasField c × HasMultipliers c) (lines : LinesSound (claim_layout m) c) where
+module _ (s : Sheet) (m c : List ℤ) (r : MeshSizes) (h : SizesAsked s.mesh s.table r) (accepted : r.number ≡ 0)
+    (reads : (mesh_with s.mesh s.table ≡ m) × (claim_in m s.claim ≡ c)) (parts : HasField c × HasMultipliers c)
+    (lines : LinesSound (claim_layout m) c) where
   sizes_say : SizesOf m r
   sizes_say = subst (λ (x : List ℤ). SizesOf x r) reads.0 ((sizes_told s.mesh s.table r h).sizes accepted)
 
@@ -77,8 +87,10 @@ mixed_sized = refl
 
 pub mixed_sizes : SizesOf (soils_written 12 0) (sized 120 1721 2017) × (length mixed_files.claim ≡ 2017)
 mixed_sizes = (
-  sizes_say mixed_files (soils_written 12 0) (mixed_claim 64 even) (sized 120 1721 2017) mixed_sized refl mixed_reads mixed_parts mixed_call_says.accepted.lines,
-  length_says mixed_files (soils_written 12 0) (mixed_claim 64 even) (sized 120 1721 2017) mixed_sized refl mixed_reads mixed_parts mixed_call_says.accepted.lines,
+  sizes_say mixed_files (soils_written 12 0) (mixed_claim 64 even)
+      (sized 120 1721 2017) mixed_sized refl mixed_reads mixed_parts mixed_call_says.accepted.lines,
+  length_says mixed_files (soils_written 12 0) (mixed_claim 64 even)
+      (sized 120 1721 2017) mixed_sized refl mixed_reads mixed_parts mixed_call_says.accepted.lines,
 )
 
 many_sized : SizesAsked many_files.mesh many_files.table (sized 1080 13241 13537)
@@ -87,8 +99,10 @@ many_sized = refl
 
 pub many_sizes : SizesOf (soils_written 108 0) (sized 1080 13241 13537) × (length many_files.claim ≡ 13537)
 many_sizes = (
-  sizes_say many_files (soils_written 108 0) (claim_108 64 even) (sized 1080 13241 13537) many_sized refl many_reads many_parts many_call_says.accepted.lines,
-  length_says many_files (soils_written 108 0) (claim_108 64 even) (sized 1080 13241 13537) many_sized refl many_reads many_parts many_call_says.accepted.lines,
+  sizes_say many_files (soils_written 108 0) (claim_108 64 even)
+      (sized 1080 13241 13537) many_sized refl many_reads many_parts many_call_says.accepted.lines,
+  length_says many_files (soils_written 108 0) (claim_108 64 even)
+      (sized 1080 13241 13537) many_sized refl many_reads many_parts many_call_says.accepted.lines,
 )
 
 bedded_sized : SizesAsked bedded_files.mesh bedded_files.table (sized 120 1721 2017)
@@ -97,8 +111,10 @@ bedded_sized = refl
 
 pub bedded_sizes : SizesOf (soils_written 12 1) (sized 120 1721 2017) × (length bedded_files.claim ≡ 2017)
 bedded_sizes = (
-  sizes_say bedded_files (soils_written 12 1) (bedded_claim 65 even) (sized 120 1721 2017) bedded_sized refl bedded_reads bedded_parts bedded_call_says.accepted.lines,
-  length_says bedded_files (soils_written 12 1) (bedded_claim 65 even) (sized 120 1721 2017) bedded_sized refl bedded_reads bedded_parts bedded_call_says.accepted.lines,
+  sizes_say bedded_files (soils_written 12 1) (bedded_claim 65 even)
+      (sized 120 1721 2017) bedded_sized refl bedded_reads bedded_parts bedded_call_says.accepted.lines,
+  length_says bedded_files (soils_written 12 1) (bedded_claim 65 even)
+      (sized 120 1721 2017) bedded_sized refl bedded_reads bedded_parts bedded_call_says.accepted.lines,
 )
 
 -- ---- books: an ask of an empty book and its commit
@@ -139,10 +155,12 @@ bedded_book = record {
 
 -- with a verdict that antt has computed
 module _ (s : Sheet) {v : Verdict} (b : BookForC) (e : files_verdict file_width s.mesh s.table s.claim ≡ v) where
-  ask_lem : told b ≡ book_answer empty_for_c (asked (book_of empty_for_c) v) → AskAnswers empty_for_c s.mesh s.table s.claim (told b)
+  ask_lem : told b ≡ book_answer empty_for_c (asked (book_of empty_for_c) v)
+      → AskAnswers empty_for_c s.mesh s.table s.claim (told b)
   ask_lem h = h ∙ ap (λ (x : Verdict). book_answer empty_for_c (asked (book_of empty_for_c) x)) (sym e)
 
-  commit_lem : told b ≡ book_answer empty_for_c (committed (book_of empty_for_c) 0 v) → CommitAnswers empty_for_c 0 s.mesh s.table s.claim (told b)
+  commit_lem : told b ≡ book_answer empty_for_c (committed (book_of empty_for_c) 0 v)
+      → CommitAnswers empty_for_c 0 s.mesh s.table s.claim (told b)
   commit_lem h = h ∙ ap (λ (x : Verdict). book_answer empty_for_c (committed (book_of empty_for_c) 0 x)) (sym e)
 
 empty_made : Made [] empty_for_c
@@ -150,12 +168,15 @@ unfolding bound_of
 empty_made = begun empty_for_c refl
 
 -- both calls are on one mesh
-both_on : (s : Sheet) → OnMesh (mesh_of (files s.mesh s.table s.claim)) (asks (files s.mesh s.table s.claim) ∷ commits 0 (files s.mesh s.table s.claim) ∷ [])
+both_on : (s : Sheet) → OnMesh (mesh_of (files s.mesh s.table s.claim))
+    (asks (files s.mesh s.table s.claim) ∷ commits 0 (files s.mesh s.table s.claim) ∷ [])
 both_on s k there =
-    ⊎_elim (λ e. same e refl) (λ later. ⊎_elim (λ e. same e refl) (λ none. absurd (Memᴰ.not-nil none)) (Memᴰ.cases_cons later))
+    ⊎_elim (λ e. same e refl)
+    (λ later. ⊎_elim (λ e. same e refl) (λ none. absurd (Memᴰ.not-nil none)) (Memᴰ.cases_cons later))
     (Memᴰ.cases_cons there)
   where
-    same : {q : Call Handed} → k ≡ q → mesh_of (handed_of q) ≡ mesh_of (files s.mesh s.table s.claim) → SameRows (mesh_of (handed_of k)) (mesh_of (files s.mesh s.table s.claim))
+    same : {q : Call Handed} → k ≡ q → mesh_of (handed_of q) ≡ mesh_of (files s.mesh s.table s.claim)
+        → SameRows (mesh_of (handed_of k)) (mesh_of (files s.mesh s.table s.claim))
     same e f = ap (λ (x : List ℤ). map judged_row (rows_of x)) (ap (λ (x : Call Handed). mesh_of (handed_of x)) e ∙ f)
 
 book_says : (s : Sheet) (b : BookForC) → AskAnswers empty_for_c s.mesh s.table s.claim (told b)
@@ -169,27 +190,31 @@ book_says s b h g = record {
 }
   where
     kept : KeepsTheBest (asks (files s.mesh s.table s.claim) ∷ commits 0 (files s.mesh s.table s.claim) ∷ []) b
-    kept = after_any_calls (then_commit (then_ask empty_made s.mesh s.table s.claim (told b) h) 0 s.mesh s.table s.claim (told b) g)
+    kept = after_any_calls
+        (then_commit (then_ask empty_made s.mesh s.table s.claim (told b) h) 0 s.mesh s.table s.claim (told b) g)
 
 mixed_asked : AskAnswers empty_for_c mixed_files.mesh mixed_files.table mixed_files.claim (told (book_with 15360 240))
 unfolding opened
 mixed_asked = ask_lem mixed_files (book_with 15360 240) mixed_verdict refl
 
-mixed_committed : CommitAnswers empty_for_c 0 mixed_files.mesh mixed_files.table mixed_files.claim (told (book_with 15360 240))
+mixed_committed : CommitAnswers empty_for_c 0 mixed_files.mesh mixed_files.table mixed_files.claim
+    (told (book_with 15360 240))
 unfolding opened
 mixed_committed = commit_lem mixed_files (book_with 15360 240) mixed_verdict refl
 
 pub mixed_book : BookSays mixed_files empty_for_c (book_with 15360 240)
 mixed_book = book_says mixed_files (book_with 15360 240) mixed_asked mixed_committed
 
-pub mixed_followed : book_of (book_with 15360 240) ≡ followed (book_of empty_for_c) (files_verdict file_width mixed_files.mesh mixed_files.table mixed_files.claim)
+pub mixed_followed : book_of (book_with 15360 240) ≡ followed (book_of empty_for_c)
+    (files_verdict file_width mixed_files.mesh mixed_files.table mixed_files.claim)
 mixed_followed = mixed_book.committed.follows refl
 
 many_asked : AskAnswers empty_for_c many_files.mesh many_files.table many_files.claim (told (book_with 53181440 830960))
 unfolding opened
 many_asked = ask_lem many_files (book_with 53181440 830960) many_verdict refl
 
-many_committed : CommitAnswers empty_for_c 0 many_files.mesh many_files.table many_files.claim (told (book_with 53181440 830960))
+many_committed : CommitAnswers empty_for_c 0 many_files.mesh many_files.table many_files.claim
+    (told (book_with 53181440 830960))
 unfolding opened
 many_committed = commit_lem many_files (book_with 53181440 830960) many_verdict refl
 
@@ -200,7 +225,8 @@ bedded_asked : AskAnswers empty_for_c bedded_files.mesh bedded_files.table bedde
 unfolding opened
 bedded_asked = ask_lem bedded_files bedded_book bedded_verdict refl
 
-bedded_committed : CommitAnswers empty_for_c 0 bedded_files.mesh bedded_files.table bedded_files.claim (told bedded_book)
+bedded_committed : CommitAnswers empty_for_c 0 bedded_files.mesh bedded_files.table bedded_files.claim
+    (told bedded_book)
 unfolding opened
 bedded_committed = commit_lem bedded_files bedded_book bedded_verdict refl
 
@@ -234,7 +260,8 @@ RunSays s bytes =
     × SingleCall s.mesh s.table (claim_at (judged_of s) 0) (report_at 0 (left s))
     × InTurn (mesh_with s.mesh s.table) (length lent / report_bytes) s.claim (judged_of s) bytes
 
-run_says : (s : Sheet) (bytes : ℕ) → RunAsked s.mesh s.table s.claim lent (ran_once bytes) (left s) → MeshAccepted s.mesh s.table → RunSays s bytes
+run_says : (s : Sheet) (bytes : ℕ) → RunAsked s.mesh s.table s.claim lent (ran_once bytes) (left s)
+    → MeshAccepted s.mesh s.table → RunSays s bytes
 run_says s bytes h accepted =
     let made = run_call s.mesh s.table s.claim lent (ran_once bytes) (left s) h in
     (made, made.single_calls 0 (omega arith), made.in_turn accepted)

@@ -5,7 +5,8 @@ use Rattle.strength.specs.declared.NextAnswer.{NextAnswer}
 use Rattle.strength.specs.Next.{trial}
 use Rattle.strength.specs.Promises.{Accepted}
 use Rattle.strength.proofs.Promises as Trials
-use Rattle.strength.proofs.PromisesApplied.{high, low, strength, strength_answered, steep, flat, refusal, refusal_answered}
+use Rattle.strength.proofs.PromisesApplied.{high, low, strength, strength_answered, steep, flat, refusal}
+use Rattle.strength.proofs.PromisesApplied.{refusal_answered}
 use Rattle.pechuvo.specs.NextStrength.{NextAnswers, NextStrength}
 
 pub next_strength : (k₁ l₁ k₂ l₂ : Float) (r : NextAnswer) → NextAnswers k₁ l₁ k₂ l₂ r → NextStrength k₁ l₁ k₂ l₂ r

@@ -1,4 +1,5 @@
--- The second column of any line of an accepted claim with both parts reads as the number of its open rows: the line says what the verdict says, and the verdict carries the count.
+-- The second column of any line of an accepted claim with both parts reads as the number of its open rows: the line
+-- says what the verdict says, and the verdict carries the count.
 use mathlib.Core.Path.{◌≡◌, refl, ◌∙◌, ap, subst}
 use mathlib.Core.List.{List}
 use mathlib.Core.Option.{some}
@@ -27,13 +28,19 @@ use Rattle.pechuvo.proofs.VerdictFits.{held}
 count_says : {k : ℕ} {b : Said} → RowsSay (Count k) b → b ≡ number (pos k) 0
 count_says (rows k) = refl
 
-second : {d k : ℕ} {lower upper : Load} {a b c e : Said} → Says d (Accepted (Count k) lower upper) a b c e → b ≡ number (pos k) 0
+second : {d k : ℕ} {lower upper : Load} {a b c e : Said} → Says d (Accepted (Count k) lower upper) a b c e
+    → b ≡ number (pos k) 0
 second (says_accepted r x y) = count_says r
 
-pub open_column : (d : ℕ) (m c : List ℤ) → d ≤ 7 → ClaimAccepted m c → HasField c → HasMultipliers c → said (column_of 1 (report_line d (verdict m c))) ≡ some (number (pos (open_rows (stress m c) (l c) (n c) (multiplier m c) (rows_of m))) 0)
+pub open_column : (d : ℕ) (m c : List ℤ) → d ≤ 7 → ClaimAccepted m c → HasField c → HasMultipliers c
+    → said (column_of 1 (report_line d (verdict m c))) ≡ some
+    (number (pos (open_rows (stress m c) (l c) (n c) (multiplier m c) (rows_of m))) 0)
 open_column d m c h a f w =
     let parts = (claim_by_parts m c).0 a in
     let count = (open_rows_count m c (parts.2 f) (parts.3 w)).both in
-    let e : verdict m c ≡ Accepted (Count (open_rows (stress m c) (l c) (n c) (multiplier m c) (rows_of m))) (lower_load m c) (upper_load m c) = (accepted_exactly m c).1 a ∙ ap (λ (o : OpenRows). Accepted o (lower_load m c) (upper_load m c)) count in
+    let e : verdict m c ≡ Accepted (Count (open_rows (stress m c) (l c) (n c) (multiplier m c) (rows_of m)))
+    (lower_load m c) (upper_load m c) = (accepted_exactly m c).1 a
+    ∙ ap (λ (o : OpenRows). Accepted o (lower_load m c) (upper_load m c)) count in
     let line = line_says d (verdict m c) h (held m c) in
-    line.read_second ∙ ap some (second (subst (λ (v : Verdict). Says d v line.first line.second line.third line.fourth) e line.says))
+    line.read_second ∙ ap some
+    (second (subst (λ (v : Verdict). Says d v line.first line.second line.third line.fourth) e line.says))

@@ -1,4 +1,5 @@
--- The promises about sides (document 02, N9) and about 42 at sheets with 108 sides, and at document 01's sheet, which has 12.
+-- The promises about sides (document 02, N9) and about 42 at sheets with 108 sides, and at document 01's sheet, which
+-- has 12.
 use mathlib.Core.Path.{◌≡◌, refl}
 use mathlib.Core.List.{List, []}
 use Prim.Native.Nat.{ℕ, ◌≤◌}
@@ -19,12 +20,14 @@ use Rattle.pechuvo.proofs.Promises.{on_mesh}
 use Rattle.pechuvo.proofs.PromisesApplied as A
 use Rattle.pechuvo.proofs.PromisesApplied.{room, fits, plain, sheet-answered}
 
-many : (mesh_header_columns ≤ length (mesh_in many_nodes.mesh)) × (sides (mesh_in many_nodes.mesh) ≡ 108) × (pos 40 <ℤ at (mesh_in many_nodes.mesh) 0)
+many : (mesh_header_columns ≤ length (mesh_in many_nodes.mesh)) × (sides (mesh_in many_nodes.mesh) ≡ 108)
+    × (pos 40 <ℤ at (mesh_in many_nodes.mesh) 0)
 unfolding computed_line many_nodes
 many = (omega arith, refl, lt_z_yes tt)
 
 -- 41 nodes with 108 sides: any answer has 2, line 1
-pub forty_one_nodes : (number place : ℕ) (after : List ℕ) → Answers many_nodes.mesh [] many_nodes.claim (pos 6) room number place after → (number ≡ 2) × (place ≡ 1)
+pub forty_one_nodes : (number place : ℕ) (after : List ℕ) → Answers many_nodes.mesh [] many_nodes.claim
+    (pos 6) room number place after → (number ≡ 2) × (place ≡ 1)
 forty_one_nodes number place after h =
     (on_mesh (mesh_in many_nodes.mesh) many_nodes.claim (pos 6) room number place after
     (plain many_nodes.mesh many_nodes.claim h) fits).sides.many_nodes many.0 many.1 many.2
@@ -50,5 +53,6 @@ strip_answered = record { number_is = refl; place_is = refl; buffer_is = refl }
 
 pub pair_41 : PairsFail (mesh_in strip.mesh) 22
 pair_41 =
-    (on_mesh (mesh_in strip.mesh) strip.claim (pos 6) room 42 22 strip.line (plain strip.mesh strip.claim strip_answered) fits).pairs.refused
+    (on_mesh (mesh_in strip.mesh) strip.claim (pos 6) room 42 22 strip.line
+    (plain strip.mesh strip.claim strip_answered) fits).pairs.refused
     refl

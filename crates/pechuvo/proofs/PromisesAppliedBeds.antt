@@ -1,4 +1,5 @@
--- The promises about strength by direction (document 02, N14) at sheets with bedded clay, used and not; those without are in `PromisesApplied`.
+-- The promises about strength by direction (document 02, N14) at sheets with bedded clay, used and not; those without
+-- are in `PromisesApplied`.
 use mathlib.Core.Path.{◌≡◌, refl}
 use mathlib.Core.Logic.{inl, inr}
 use mathlib.Core.List.Memᴰ
@@ -46,10 +47,12 @@ unfolding opened bedded_block
 bedded_there = ((0, omega arith, refl), refl, refl)
 
 pub bedded_none : said (column_of 2 (take report_bytes bedded_block.line)) ≡ some word
-bedded_none = (prints_columns bedded bedded_block.claim (pos 6) room 0 0 bedded_block.line bedded_plain fits).lower_none.1 (inr (inr bedded_there.0))
+bedded_none = (prints_columns bedded bedded_block.claim (pos 6) room 0 0 bedded_block.line bedded_plain
+    fits).lower_none.1 (inr (inr bedded_there.0))
 
 bedded_open : OpenRowsPrinted bedded claimed (take report_bytes bedded_block.line)
-bedded_open = prints_open_rows bedded bedded_block.claim (pos 6) room 0 0 bedded_block.line bedded_plain fits refl bedded_there.1 bedded_there.2
+bedded_open = prints_open_rows bedded bedded_block.claim (pos 6) room 0 0 bedded_block.line bedded_plain fits refl
+    bedded_there.1 bedded_there.2
 
 no_row_open : said (column_of 1 (take report_bytes bedded_block.line)) ≡ some (shows (pos 0) 0)
 unfolding opened bedded_block
@@ -62,10 +65,12 @@ bedded_call : OnMesh bedded claimed 0 0
 bedded_call = on_mesh bedded bedded_block.claim (pos 6) room 0 0 bedded_block.line bedded_plain fits
 
 -- the plane (4, 3) at node 1
-pub bedded_plane : PlaneHoldsAt bedded (stress bedded claimed) (n claimed) (record { at = 0; soil = 0 }) (point (pos 4) (pos 3))
+pub bedded_plane : PlaneHoldsAt bedded (stress bedded claimed) (n claimed) (record { at = 0; soil = 0 })
+    (point (pos 4) (pos 3))
 unfolding opened bedded_block
 bedded_plane =
-    bedded_call.directions.accepted (bedded_there.1, inl refl) (record { at = 0; soil = 0 }) (Memᴰ.head refl) refl (point (pos 4) (pos 3))
+    bedded_call.directions.accepted (bedded_there.1, inl refl) (record { at = 0; soil = 0 }) (Memᴰ.head refl) refl
+    (point (pos 4) (pos 3))
     (Memᴰ.tail (Memᴰ.head refl))
 
 -- ---- document 01's sheet with a bedded soil that no element has: none too, and its pairs still meet the criterion
@@ -86,9 +91,12 @@ unfolding opened bedded_unused
 unused_there = ((1, omega arith, refl), refl, omega arith, refl, λ e. let z : ◌≡◌ {A = ℕ} 0 1 = cc in omega arith)
 
 pub unused_none : said (column_of 2 (take report_bytes bedded_unused.line)) ≡ some word
-unused_none = (prints_columns unused bedded_unused.claim (pos 6) room 0 0 bedded_unused.line unused_plain fits).lower_none.1 (inr (inr unused_there.0))
+unused_none = (prints_columns unused bedded_unused.claim (pos 6) room 0 0 bedded_unused.line unused_plain
+    fits).lower_none.1 (inr (inr unused_there.0))
 
-pub unused_criterion : MeetsCriterion unused (claim_in unused bedded_unused.claim) (record { at = 2; soil = element_soil unused 0 })
+pub unused_criterion : MeetsCriterion unused (claim_in unused bedded_unused.claim)
+    (record { at = 2; soil = element_soil unused 0 })
 unused_criterion =
-    ((on_mesh unused bedded_unused.claim (pos 6) room 0 0 bedded_unused.line unused_plain fits).criterion (unused_there.1, inl refl)).around 2 0 unused_there.2
+    ((on_mesh unused bedded_unused.claim (pos 6) room 0 0 bedded_unused.line unused_plain fits).criterion
+    (unused_there.1, inl refl)).around 2 0 unused_there.2
     (2, omega arith, unused_there.3) unused_there.4

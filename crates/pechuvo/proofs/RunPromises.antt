@@ -43,14 +43,17 @@ module _ (mesh table : List ℕ) where
   unfolding verdict_on files_verdict tabled_verdict mesh_outcome mesh_from
   on_files claim = refl
 
-  line_files : (claim : List ℕ) → line_of o m claim ≡ report_line usual_decimals (files_verdict file_width mesh table claim)
+  line_files : (claim : List ℕ) → line_of o m claim ≡ report_line usual_decimals
+      (files_verdict file_width mesh table claim)
   unfolding line_of
   line_files claim = ap (report_line usual_decimals) (on_files claim)
 
   -- a single call writes the line of its claim
   single : (claim line : List ℕ) → line ≡ line_of o m claim → SingleCall mesh table claim line
   single claim line e before after number place h b =
-      line_is (files_verdict file_width mesh table claim) (files_sayable mesh table claim) (pos usual_decimals) before number place after h (record { decimals = these_decimals few_decimals; bytes = b })
+      line_is (files_verdict file_width mesh table claim) (files_sayable mesh table claim)
+      (pos usual_decimals) before number place after h
+      (record { decimals = these_decimals few_decimals; bytes = b })
       ∙ sym (e ∙ line_files claim)
 
   -- every claim on a refused mesh has the mesh's line
@@ -61,9 +64,11 @@ module _ (mesh table : List ℕ) where
   line_long : (claim : List ℕ) → length (line_of o m claim) ≡ report_bytes
   line_long claim =
       ap length (line_files claim)
-      ∙ (line_says usual_decimals (files_verdict file_width mesh table claim) few_decimals (files_sayable mesh table claim).held).bytes
+      ∙ (line_says usual_decimals (files_verdict file_width mesh table claim) few_decimals
+      (files_sayable mesh table claim).held).bytes
 
-module _ (mesh table claims before : List ℕ) (r : RunAnswer) (after : List ℕ) (h : RunAsked mesh table claims before r after) where
+module _ (mesh table claims before : List ℕ) (r : RunAnswer) (after : List ℕ)
+    (h : RunAsked mesh table claims before r after) where
   abbrev judged : List (List ℕ)
   judged = judged_in mesh table claims before
 
@@ -86,30 +91,38 @@ module _ (mesh table claims before : List ℕ) (r : RunAnswer) (after : List ℕ
   written = h.buffer_is
 
   lines_long : length lines ≡ r.reports * report_bytes
-  lines_long = flat_length line_in report_bytes (line_long mesh table) judged ∙ ap (λ (n : ℕ). n * report_bytes) (sym count)
+  lines_long = flat_length line_in report_bytes (line_long mesh table) judged
+      ∙ ap (λ (n : ℕ). n * report_bytes) (sym count)
 
   room_there : r.reports * report_bytes ≤ length before
-  room_there = (le-div_iff_mul-le {k = report_bytes} {x = r.reports} {y = length before} (omega arith)).0 (omega (arith, count, few_judged (o mesh table) (m mesh table) (length before / report_bytes) claims))
+  room_there = (le-div_iff_mul-le {k = report_bytes} {x = r.reports} {y = length before} (omega arith)).0
+      (omega (arith, count, few_judged (o mesh table) (m mesh table) (length before / report_bytes) claims))
 
   report_is : (i : ℕ) → i < r.reports → report_at i after ≡ line_in (claim_at judged i)
   report_is i l =
       ap (report_at i) written
       ∙ flat_at line_in report_bytes (line_long mesh table) judged (drop (length lines) before) i (omega (arith, count))
 
-  refused : (q : Outcome) → o mesh table ≡ q → (¬ MeshAccepted mesh table) → report_bytes ≤ length before → (r.reports ≡ 1) × (r.bytes ≡ 0) × ((claim : List ℕ) → SingleCall mesh table claim (report_at 0 after))
+  refused : (q : Outcome) → o mesh table ≡ q → (¬ MeshAccepted mesh table) → report_bytes ≤ length before
+      → (r.reports ≡ 1) × (r.bytes ≡ 0) × ((claim : List ℕ) → SingleCall mesh table claim (report_at 0 after))
   refused Passed e n b = absurd (n (accepted_mesh mesh table e))
   refused (Fails k p) e n b =
-      let one : judged ≡ [] ∷ [] = ap (λ (n : ℕ). claims_judged n (o mesh table) (m mesh table) claims) (one_room (length before) b) ∙ judged_refused (o mesh table) k p e ((length before - report_bytes) / report_bytes) (m mesh table) claims in
+      let one : judged ≡ [] ∷ [] = ap (λ (n : ℕ). claims_judged n (o mesh table) (m mesh table) claims)
+      (one_room (length before) b) ∙ judged_refused (o mesh table) k p e
+      ((length before - report_bytes) / report_bytes) (m mesh table) claims in
       let once : r.reports ≡ 1 = count ∙ ap length one in (
         once,
-        taken ∙ ap (λ (cs : List (List ℕ)). length (flat_map (taken_of (o mesh table) (m mesh table)) cs)) one ∙ none_taken (o mesh table) (m mesh table),
-        λ claim. single mesh table claim (report_at 0 after) (report_is 0 (omega (arith, once)) ∙ same_line mesh table k p e (claim_at judged 0) claim),
+        taken ∙ ap (λ (cs : List (List ℕ)). length (flat_map (taken_of (o mesh table) (m mesh table)) cs)) one
+            ∙ none_taken (o mesh table) (m mesh table),
+        λ claim. single mesh table claim (report_at 0 after)
+            (report_is 0 (omega (arith, once)) ∙ same_line mesh table k p e (claim_at judged 0) claim),
       )
 
   unwritten : length before < report_bytes → (r.reports ≡ 0) × (r.bytes ≡ 0) × (after ≡ before)
   unfolding claims_judged flat_map
   unwritten l =
-      let none : judged ≡ [] = ap (λ (n : ℕ). claims_judged n (o mesh table) (m mesh table) claims) (no_room (length before) l) in (
+      let none : judged ≡ [] = ap (λ (n : ℕ). claims_judged n (o mesh table) (m mesh table) claims)
+      (no_room (length before) l) in (
         count ∙ ap length none,
         taken ∙ ap (λ (cs : List (List ℕ)). length (flat_map (taken_of (o mesh table) (m mesh table)) cs)) none,
         written ∙ ap (λ (cs : List (List ℕ)). flat_map line_in cs ++ drop (length (flat_map line_in cs)) before) none,
@@ -119,9 +132,19 @@ module _ (mesh table claims before : List ℕ) (r : RunAnswer) (after : List ℕ
   run_call = record {
     count = count;
     single_calls = λ i l. single mesh table (claim_at judged i) (report_at i after) (report_is i l);
-    rest = ap (drop (r.reports * report_bytes)) written ∙ drop_at lines (drop (length lines) before) (r.reports * report_bytes) lines_long ∙ ap (λ (n : ℕ). drop n before) lines_long;
-    size = ap length written ∙ omega (arith, length-append lines (drop (length lines) before), length-drop (length lines) before, lines_long, room_there);
-    in_turn = λ s. subst (InTurn (m mesh table) (length before / report_bytes) claims judged) (sym taken) (in_turn (o mesh table) (m mesh table) (mesh_accepted mesh table s) ((mesh_passed (m mesh table)).passed s.sound) (length before / report_bytes) claims);
+    rest = ap (drop (r.reports * report_bytes)) written ∙ drop_at lines (drop (length lines) before)
+        (r.reports * report_bytes) lines_long ∙ ap (λ (n : ℕ). drop n before) lines_long;
+    size = ap length written
+        ∙ omega (
+          arith,
+          length-append lines (drop (length lines) before),
+          length-drop (length lines) before,
+          lines_long,
+          room_there,
+        );
+    in_turn = λ s. subst (InTurn (m mesh table) (length before / report_bytes) claims judged) (sym taken)
+        (in_turn (o mesh table) (m mesh table) (mesh_accepted mesh table s)
+        ((mesh_passed (m mesh table)).passed s.sound) (length before / report_bytes) claims);
     mesh_refused = refused (o mesh table) refl;
     no_room = unwritten;
   }

@@ -11,7 +11,8 @@ use Rattle.scope.proofs.Pairs.{pair_of}
 use Rattle.pechuvo.specs.Bytes.{numbers}
 use Rattle.pechuvo.specs.Check.{check}
 use Rattle.pechuvo.specs.Sheets.{printed, printed_with}
-use Rattle.pechuvo.specs.SheetsLimits.{limit_sheets, other_decimals, table_of_33, mesh_of_33, asked_for, pair_sheets, clay_first}
+use Rattle.pechuvo.specs.SheetsLimits.{limit_sheets, other_decimals, table_of_33, mesh_of_33, asked_for, pair_sheets}
+use Rattle.pechuvo.specs.SheetsLimits.{clay_first}
 use Rattle.pechuvo.proofs.Sheets.{computed_line}
 
 pub limit_sheets_lem : map printed limit_sheets ≡ map (λ s. s.line) limit_sheets
@@ -36,6 +37,7 @@ pub pair_sheets_lem : map printed pair_sheets ≡ map (λ s. s.line) pair_sheets
 unfolding computed_line pair_sheets
 pair_sheets_lem = refl
 
-pub pairs_ascend : strength_pairs (numbers clay_first) ≡ pair_of 0 1 ∷ pair_of 1 1 ∷ pair_of 2 0 ∷ pair_of 2 1 ∷ pair_of 3 0 ∷ pair_of 3 1 ∷ pair_of 4 0 ∷ pair_of 5 0 ∷ []
+pub pairs_ascend : strength_pairs (numbers clay_first) ≡ pair_of 0 1 ∷ pair_of 1 1 ∷ pair_of 2 0 ∷ pair_of 2 1
+    ∷ pair_of 3 0 ∷ pair_of 3 1 ∷ pair_of 4 0 ∷ pair_of 5 0 ∷ []
 unfolding computed_line clay_first
 pairs_ascend = refl

@@ -1,4 +1,6 @@
--- The promises of the sizes of a mesh applied to document 01's sheets and a seam of clay, which have no jump, to two blocks on a joint, which have one, to an empty mesh, and to borehole tables: antt computes what is told, and the promise says the rest.
+-- The promises of the sizes of a mesh applied to document 01's sheets and a seam of clay, which have no jump, to two
+-- blocks on a joint, which have one, to an empty mesh, and to borehole tables: antt computes what is told, and the
+-- promise says the rest.
 use mathlib.Core.Path.{◌≡◌, refl, sym, ap}
 use mathlib.Core.List.{[]}
 use Prim.Native.Nat.{ℕ, ◌*◌}
@@ -17,7 +19,8 @@ use Rattle.reader.specs.WellFormed.{bytes_of}
 use Rattle.judge.specs.declared.room.MeshSizes.{MeshSizes}
 use Rattle.judge.specs.ClaimBytes.{claim_bytes}
 use Rattle.judge.specs.Room.{no_sizes, sizes_for, mesh_sizes}
-use Rattle.pechuvo.specs.Sheets.{Sheet, sheet, seam_mesh, seam_fault, joint_mesh, joint_blocks, soil_zero_mesh, worked_claim, seam_zero, seam_mixed, seam_claim, tabled_sheets}
+use Rattle.pechuvo.specs.Sheets.{Sheet, sheet, seam_mesh, seam_fault, joint_mesh, joint_blocks, soil_zero_mesh}
+use Rattle.pechuvo.specs.Sheets.{worked_claim, seam_zero, seam_mixed, seam_claim, tabled_sheets}
 use Rattle.pechuvo.specs.Promises.{mesh_in, table_in, mesh_with, claim_in, SizesAsked, SizesOf, SizesTold}
 use Rattle.pechuvo.proofs.Sheets.{computed_line}
 use Rattle.pechuvo.proofs.PromisesApplied.{at, no_field}
@@ -25,7 +28,8 @@ use Rattle.pechuvo.proofs.SizesPromises.{sizes_told}
 
 -- for proofs by computation: besides the definitions that read a file, those of the sizes
 unfoldable opened : Unit {0}
-unfolding computed_line bytes_of claim_bytes sizes_for mesh_sizes seam_mesh seam_fault joint_mesh joint_blocks soil_zero_mesh worked_claim seam_zero seam_mixed seam_claim tabled_sheets
+unfolding computed_line bytes_of claim_bytes sizes_for mesh_sizes seam_mesh seam_fault joint_mesh joint_blocks
+    soil_zero_mesh worked_claim seam_zero seam_mixed seam_claim tabled_sheets
 opened = tt
 
 -- an accepted mesh with so many rows of each kind, so many columns, and these lengths of a claim
@@ -66,7 +70,8 @@ sheet_sizes_lem = sheet-told.sizes refl
 pub sheet_rows : 62 ≡ length (rows_of (mesh_with (at 0).mesh (at 0).table))
 sheet_rows = sheet_sizes_lem.rows
 
-pub sheet_no_jumps : (length (jump_rows (mesh_with (at 0).mesh (at 0).table)) ≡ 0) × (4 * jumps (mesh_with (at 0).mesh (at 0).table) ≡ 0)
+pub sheet_no_jumps : (length (jump_rows (mesh_with (at 0).mesh (at 0).table)) ≡ 0)
+    × (4 * jumps (mesh_with (at 0).mesh (at 0).table) ≡ 0)
 sheet_no_jumps = (sym sheet_sizes_lem.jump.0, sym sheet_sizes_lem.jump.1)
 
 pub sheet-columns : 12 ≡ 3 * nodes (mesh_with (at 0).mesh (at 0).table)
@@ -75,7 +80,8 @@ sheet-columns = sheet_sizes_lem.columns
 -- its claim has both parts
 sheet_lines : LinesPass (at 0)
 unfolding opened
-sheet_lines = (lines_passed (claim_layout (mesh_with (at 0).mesh (at 0).table)) (claim_in (mesh_with (at 0).mesh (at 0).table) (at 0).claim)).says refl
+sheet_lines = (lines_passed (claim_layout (mesh_with (at 0).mesh (at 0).table))
+    (claim_in (mesh_with (at 0).mesh (at 0).table) (at 0).claim)).says refl
 
 pub sheet-length : length (at 0).claim ≡ 949
 unfolding opened
@@ -92,7 +98,8 @@ alone_told = sizes_told (at 9).mesh (at 9).table alone_sizes refl
 
 alone_lines : LinesPass (at 9)
 unfolding opened
-alone_lines = (lines_passed (claim_layout (mesh_with (at 9).mesh (at 9).table)) (claim_in (mesh_with (at 9).mesh (at 9).table) (at 9).claim)).says refl
+alone_lines = (lines_passed (claim_layout (mesh_with (at 9).mesh (at 9).table))
+    (claim_in (mesh_with (at 9).mesh (at 9).table) (at 9).claim)).says refl
 
 pub alone_length : length (at 9).claim ≡ 1263
 unfolding opened
@@ -109,7 +116,8 @@ seam_told = sizes_told seam_fault.mesh seam_fault.table seam_sizes refl
 
 seam_lines : LinesPass seam_fault
 unfolding opened
-seam_lines = (lines_passed (claim_layout (mesh_with seam_fault.mesh seam_fault.table)) (claim_in (mesh_with seam_fault.mesh seam_fault.table) seam_fault.claim)).says refl
+seam_lines = (lines_passed (claim_layout (mesh_with seam_fault.mesh seam_fault.table))
+    (claim_in (mesh_with seam_fault.mesh seam_fault.table) seam_fault.claim)).says refl
 
 no_multipliers : ¬ HasMultipliers (claim_in (mesh_with seam_fault.mesh seam_fault.table) seam_fault.claim)
 unfolding opened
@@ -131,7 +139,8 @@ joint-told = sizes_told joint_blocks.mesh joint_blocks.table joint_sizes refl
 joint_sizes_lem : SizesOf (mesh_with joint_blocks.mesh joint_blocks.table) joint_sizes
 joint_sizes_lem = joint-told.sizes refl
 
-pub joint-jumps : (4 ≡ length (jump_rows (mesh_with joint_blocks.mesh joint_blocks.table))) × (4 ≡ 4 * jumps (mesh_with joint_blocks.mesh joint_blocks.table))
+pub joint-jumps : (4 ≡ length (jump_rows (mesh_with joint_blocks.mesh joint_blocks.table)))
+    × (4 ≡ 4 * jumps (mesh_with joint_blocks.mesh joint_blocks.table))
 joint-jumps = joint_sizes_lem.jump
 
 -- the normal rows of edges that fix the shear alone are counted
@@ -140,7 +149,8 @@ joint-sides = joint_sizes_lem.side.0
 
 joint_lines : LinesPass joint_blocks
 unfolding opened
-joint_lines = (lines_passed (claim_layout (mesh_with joint_blocks.mesh joint_blocks.table)) (claim_in (mesh_with joint_blocks.mesh joint_blocks.table) joint_blocks.claim)).says refl
+joint_lines = (lines_passed (claim_layout (mesh_with joint_blocks.mesh joint_blocks.table))
+    (claim_in (mesh_with joint_blocks.mesh joint_blocks.table) joint_blocks.claim)).says refl
 
 pub joint-length : length joint_blocks.claim ≡ 1898
 unfolding opened
@@ -148,7 +158,8 @@ joint-length = (joint_sizes_lem.lengths joint_blocks.claim joint_lines).both ref
 
 -- ---- an empty mesh: 1, line 1, and no sizes; a table that ends at the highest node: 45, four quarters, and none
 
-pub empty_refused : (r : MeshSizes) → SizesAsked [] [] r → RefusedBy (tabled_phases (table_in []) (mesh_in [])) 1 (Line 1) × (r ≡ no_sizes 1 1)
+pub empty_refused : (r : MeshSizes) → SizesAsked [] [] r → RefusedBy (tabled_phases (table_in []) (mesh_in [])) 1
+    (Line 1) × (r ≡ no_sizes 1 1)
 unfolding opened place_for
 empty_refused r h =
     let number : r.number ≡ 1 = ap (λ x. x.number) h in
@@ -158,14 +169,27 @@ empty_refused r h =
 abbrev gap : Sheet
 gap = get_or tabled_sheets 1 (sheet "" "" "")
 
-pub gap_refused : (r : MeshSizes) → SizesAsked gap.mesh gap.table r → RefusedBy (tabled_phases (table_in gap.table) (mesh_in gap.mesh)) 45 (Height 4) × (r ≡ no_sizes 45 4)
+pub gap_refused : (r : MeshSizes) → SizesAsked gap.mesh gap.table r
+    → RefusedBy (tabled_phases (table_in gap.table) (mesh_in gap.mesh)) 45 (Height 4) × (r ≡ no_sizes 45 4)
 unfolding opened place_for
 gap_refused r h =
     let number : r.number ≡ 45 = ap (λ x. x.number) h in
     let place : r.place ≡ 4 = ap (λ x. x.place) h in
     (((sizes_told gap.mesh gap.table r h).refused 45 4 (λ e. omega arith)).0 (number, place), h)
 
-pub gap_told : SizesAsked gap.mesh gap.table (record { number = 45; place = 4; balance_rows = 0; side_rows = 0; jump_rows = 0; strength_rows = 0; columns = 0; field_bytes = 0; multipliers_bytes = 0; both_bytes = 0 })
+pub gap_told : SizesAsked gap.mesh gap.table
+    (record {
+      number = 45;
+      place = 4;
+      balance_rows = 0;
+      side_rows = 0;
+      jump_rows = 0;
+      strength_rows = 0;
+      columns = 0;
+      field_bytes = 0;
+      multipliers_bytes = 0;
+      both_bytes = 0;
+    })
 unfolding opened
 gap_told = refl
 

@@ -37,7 +37,8 @@ use Rattle.judge.specs.ClaimBytes.{claim_bytes}
 use Rattle.judge.specs.Room.{with_field, with_multipliers, with_both, no_sizes, sizes_for, mesh_sizes}
 use Rattle.judge.proofs.ClaimBytes.{claim_length, claim_bytes_lem}
 use Rattle.judge.proofs.RoomLaws.{by_parts}
-use Rattle.pechuvo.specs.Promises.{mesh_in, table_in, mesh_with, claim_in, MeshAccepted, SizesAsked, ClaimLengths, SizesOf, SizesTold}
+use Rattle.pechuvo.specs.Promises.{mesh_in, table_in, mesh_with, claim_in, MeshAccepted, SizesAsked, ClaimLengths}
+use Rattle.pechuvo.specs.Promises.{SizesOf, SizesTold}
 use Rattle.pechuvo.proofs.TablePromises.{accepted_mesh, mesh_accepted}
 
 -- whether a part is there, as the layout asks it
@@ -62,22 +63,36 @@ module _ (m : List ℤ) (r : MeshSizes) where
 -- a refusal of a mesh and its table has a number, and the place for that number
 module _ (t m : List ℤ) where
   named : (n : ℕ) (p : Place) → tabled_check t m ≡ Refused n p → (n ≢ 0) × (p ≡ place_for n (place_number p))
-  named n p e = by ((then_refused (check_phases (table_phases t m)) (mesh_check (mesh_read t m)) n p).0 (sym (in_two t m) ∙ e))
+  named n p e = by ((then_refused (check_phases (table_phases t m)) (mesh_check (mesh_read t m)) n p).0
+      (sym (in_two t m) ∙ e))
     where
-      by : (check_phases (table_phases t m) ≡ Refused n p) ⊎ ((check_phases (table_phases t m) ≡ Passed) × (mesh_check (mesh_read t m) ≡ Refused n p)) → (n ≢ 0) × (p ≡ place_for n (place_number p))
+      by : (check_phases (table_phases t m) ≡ Refused n p)
+          ⊎ ((check_phases (table_phases t m) ≡ Passed) × (mesh_check (mesh_read t m) ≡ Refused n p))
+          → (n ≢ 0) × (p ≡ place_for n (place_number p))
       by (inl d) =
           let r = (table_exact t m).refuses.why n p d in
           (λ z. omega (arith, (early_number t m n p r).0), early_kind t m n p r)
       by (inr (a, d)) = (
-        λ z. passed_is_not_refused (sym ((mesh_passed (mesh_read t m)).passed ((mesh_exactly (mesh_read t m) (Refused n p) (sym d)).passes.0 z)) ∙ d),
+        λ z. passed_is_not_refused
+            (sym ((mesh_passed (mesh_read t m)).passed
+            ((mesh_exactly (mesh_read t m) (Refused n p) (sym d)).passes.0 z)) ∙ d),
         mesh_place_kind ((mesh_exact (mesh_read t m)).refuses.why n p d),
       )
 
-  refused_as : (o : Outcome) → o ≡ tabled_check t m → (k j : ℕ) → k ≢ 0 → ((mesh_number_of o ≡ k) × (mesh_place_of o ≡ j)) ↔ RefusedBy (tabled_phases t m) k (place_for k j)
-  refused_as Passed e k j nonzero = (λ h. absurd (nonzero (sym h.0)), λ r. passed_is_not_refused (e ∙ (tabled_exact t m).refuses.refused k (place_for k j) r))
+  refused_as : (o : Outcome) → o ≡ tabled_check t m → (k j : ℕ) → k ≢ 0
+      → ((mesh_number_of o ≡ k) × (mesh_place_of o ≡ j)) ↔ RefusedBy (tabled_phases t m) k (place_for k j)
+  refused_as Passed e k j nonzero = (
+    λ h. absurd (nonzero (sym h.0)),
+    λ r. passed_is_not_refused
+        (e ∙ (tabled_exact t m).refuses.refused k (place_for k j) r),
+  )
   refused_as (Refused n p) e k j nonzero = (
-    λ h. subst₂ (RefusedBy (tabled_phases t m)) h.0 ((named n p (sym e)).1 ∙ ap (λ (i : ℕ). place_for i (place_number p)) h.0 ∙ ap (place_for k) h.1) ((tabled_exact t m).refuses.why n p (sym e)),
-    λ r. let same : Refused n p ≡ Refused k (place_for k j) = e ∙ (tabled_exact t m).refuses.refused k (place_for k j) r in (ap mesh_number_of same, ap mesh_place_of same ∙ place_number_lem k j),
+    λ h. subst₂ (RefusedBy (tabled_phases t m)) h.0
+        ((named n p (sym e)).1 ∙ ap (λ (i : ℕ). place_for i (place_number p)) h.0 ∙ ap (place_for k) h.1)
+        ((tabled_exact t m).refuses.why n p (sym e)),
+    λ r. let same : Refused n p ≡ Refused k (place_for k j) = e
+        ∙ (tabled_exact t m).refuses.refused k (place_for k j) r in
+        (ap mesh_number_of same, ap mesh_place_of same ∙ place_number_lem k j),
   )
 
   zero_passes : (o : Outcome) → o ≡ tabled_check t m → mesh_number_of o ≡ 0 → o ≡ Passed
@@ -162,17 +177,27 @@ module _ (mesh table : List ℕ) (r : MeshSizes) (asked : SizesAsked mesh table 
     header_once : r.field_bytes + r.multipliers_bytes ≡ r.both_bytes + line_bytes file_width claim_header_columns
     unfolding has_field has_multipliers at if_there line_bytes
     header_once =
-        omega (arith, are_field, are_multipliers, are_both, claim_bytes_lem m with_field, claim_bytes_lem m with_multipliers, claim_bytes_lem m with_both)
+        omega (
+          arith,
+          are_field,
+          are_multipliers,
+          are_both,
+          claim_bytes_lem m with_field,
+          claim_bytes_lem m with_multipliers,
+          claim_bytes_lem m with_both,
+        )
 
     module _ (claim : List ℕ) (lines : LinesSound (claim_layout m) (claim_in m claim)) where
       long : length claim ≡ claim_bytes m (claim_in m claim)
-      long = claim_length m claim ((mesh_passed m).passed (sound e)) ((lines_passed (claim_layout m) (claim_in m claim)).passed lines)
+      long = claim_length m claim ((mesh_passed m).passed (sound e))
+          ((lines_passed (claim_layout m) (claim_in m claim)).passed lines)
 
       kinds : ClaimLengths m r claim
       unfolding has_field has_multipliers at
       kinds = record {
         field = λ f g. long ∙ by_parts m (claim_in m claim) with_field (there f) (not_there g) ∙ sym are_field;
-        multipliers = λ f g. long ∙ by_parts m (claim_in m claim) with_multipliers (not_there f) (there g) ∙ sym are_multipliers;
+        multipliers = λ f g. long ∙ by_parts m (claim_in m claim) with_multipliers (not_there f) (there g)
+            ∙ sym are_multipliers;
         both = λ f g. long ∙ by_parts m (claim_in m claim) with_both (there f) (there g) ∙ sym are_both;
       }
 

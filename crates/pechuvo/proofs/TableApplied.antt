@@ -1,4 +1,6 @@
--- The promises with a borehole table applied to document 01's sheet with soil 0 and to its tables: one that gives its soil, one with a gap, one with an overlap, one that is cut short; beside them the sheet without a table (`PromisesApplied`).
+-- The promises with a borehole table applied to document 01's sheet with soil 0 and to its tables: one that gives its
+-- soil, one with a gap, one with an overlap, one that is cut short; beside them the sheet without a table
+-- (`PromisesApplied`).
 use mathlib.Core.Path.{◌≡◌, refl, ap}
 use mathlib.Core.Logic.{inl, inr, ◌≢◌}
 use mathlib.Core.Bool.{true}
@@ -28,16 +30,19 @@ use Rattle.reader.specs.File.{file_width, table_of}
 use Rattle.report.specs.Report.{report_bytes, usual_decimals}
 use Rattle.judge.specs.Form.{MeshFormFails}
 use Rattle.judge.specs.Handed.{files, mesh_of, claim_of, HandedBracket}
-use Rattle.pechuvo.specs.Sheets.{Sheet, sheet, soil_zero_mesh, worked_claim, seam_zero, seam_mixed, seam_claim, tabled_sheets}
+use Rattle.pechuvo.specs.Sheets.{Sheet, sheet, soil_zero_mesh, worked_claim, seam_zero, seam_mixed, seam_claim}
+use Rattle.pechuvo.specs.Sheets.{tabled_sheets}
 use Rattle.pechuvo.specs.Answers.{Answers, AnswersOn}
-use Rattle.pechuvo.specs.Promises.{mesh_in, table_in, mesh_with, claim_in, OnTable, LowerPrinted, Call, on_files, AsAFile}
+use Rattle.pechuvo.specs.Promises.{mesh_in, table_in, mesh_with, claim_in, OnTable, LowerPrinted, Call, on_files}
+use Rattle.pechuvo.specs.Promises.{AsAFile}
 use Rattle.pechuvo.proofs.Sheets.{computed_line}
 use Rattle.pechuvo.proofs.Promises.{on_mesh, prints_columns}
 use Rattle.pechuvo.proofs.TablePromises.{as_read, on_table, accepted_mesh, calls_bracket, tabled_written}
 use Rattle.pechuvo.proofs.FilePromises.{long_files, form_exactly, accepted_files, as_a_file}
 use Rattle.pechuvo.proofs.PromisesApplied.{at, room, fits, sheet-answered}
 
--- for proofs by computation: besides the definitions that make a line, those that say what was handed over, and the sheets
+-- for proofs by computation: besides the definitions that make a line, those that say what was handed over, and the
+-- sheets
 unfoldable pub opened : Unit {0}
 unfolding computed_line mesh_of claim_of soil_zero_mesh worked_claim seam_zero seam_mixed seam_claim tabled_sheets
 opened = tt
@@ -48,26 +53,31 @@ with_table k = get_or tabled_sheets k (sheet "" "" "")
 
 -- ---- what is answered: the table that gives the soil; the gap; the overlap; the line that is cut short
 
-soil-answered : Answers (with_table 0).mesh (with_table 0).table (with_table 0).claim (pos 6) room 0 0 (with_table 0).line
+soil-answered : Answers (with_table 0).mesh (with_table 0).table (with_table 0).claim (pos 6) room 0 0
+    (with_table 0).line
 unfolding opened
 soil-answered = record { number_is = refl; place_is = refl; buffer_is = refl }
 
-gap_answered : Answers (with_table 1).mesh (with_table 1).table (with_table 1).claim (pos 6) room 45 4 (with_table 1).line
+gap_answered : Answers (with_table 1).mesh (with_table 1).table (with_table 1).claim (pos 6) room 45 4
+    (with_table 1).line
 unfolding opened
 gap_answered = record { number_is = refl; place_is = refl; buffer_is = refl }
 
-overlap_answered : Answers (with_table 2).mesh (with_table 2).table (with_table 2).claim (pos 6) room 46 1002 (with_table 2).line
+overlap_answered : Answers (with_table 2).mesh (with_table 2).table (with_table 2).claim (pos 6) room 46 1002
+    (with_table 2).line
 unfolding opened
 overlap_answered = record { number_is = refl; place_is = refl; buffer_is = refl }
 
-cut_short_answered : Answers (with_table 5).mesh (with_table 5).table (with_table 5).claim (pos 6) room 1 1002 (with_table 5).line
+cut_short_answered : Answers (with_table 5).mesh (with_table 5).table (with_table 5).claim (pos 6) room 1 1002
+    (with_table 5).line
 unfolding opened
 cut_short_answered = record { number_is = refl; place_is = refl; buffer_is = refl }
 
 -- ---- the table that gives the soil
 
 soil_on : OnTable (with_table 0).mesh (with_table 0).table (with_table 0).claim 0 0
-soil_on = on_table (with_table 0).mesh (with_table 0).table (with_table 0).claim (pos 6) room 0 0 (with_table 0).line soil-answered fits
+soil_on = on_table (with_table 0).mesh (with_table 0).table (with_table 0).claim (pos 6) room 0 0
+    (with_table 0).line soil-answered fits
 
 -- it fits, and the claim is accepted on the filled mesh
 pub soil_fits : TableFits (table_in (with_table 0).table) (mesh_in (with_table 0).mesh)
@@ -85,8 +95,10 @@ pub soil-layer : OneLayer (table_in (with_table 0).table) (height_of (mesh_in (w
 soil-layer = (soil_on.filled (soil_fits there)).one_layer 0 one_element
 
 -- the call is the one on the filled mesh, which is document 01's
-soil_read : AnswersOn (mesh_with (with_table 0).mesh (with_table 0).table) (with_table 0).claim (pos 6) room 0 0 (with_table 0).line
-soil_read = (as_read (with_table 0).mesh (with_table 0).table (with_table 0).claim (pos 6) room 0 0 (with_table 0).line soil-answered).fits soil_fits
+soil_read : AnswersOn (mesh_with (with_table 0).mesh (with_table 0).table) (with_table 0).claim (pos 6) room 0 0
+    (with_table 0).line
+soil_read = (as_read (with_table 0).mesh (with_table 0).table (with_table 0).claim (pos 6) room 0 0
+    (with_table 0).line soil-answered).fits soil_fits
 
 pub soil_mesh : mesh_with (with_table 0).mesh (with_table 0).table ≡ mesh_in (at 0).mesh
 unfolding opened
@@ -101,18 +113,24 @@ unfolding opened
 soil_told (zero, h, e) = let z : ◌≡◌ {A = ℕ} 0 1 = cc in omega arith
 soil_told (suc s, h, e) = absurd (omega arith)
 
-pub soil_lower : LowerPrinted 6 (claim_in (mesh_with (with_table 0).mesh (with_table 0).table) (with_table 0).claim) (take report_bytes (with_table 0).line)
-soil_lower = (prints_columns (mesh_with (with_table 0).mesh (with_table 0).table) (with_table 0).claim (pos 6) room 0 0 (with_table 0).line soil_read fits).lower refl soil-has soil_told
+pub soil_lower : LowerPrinted 6 (claim_in (mesh_with (with_table 0).mesh (with_table 0).table) (with_table 0).claim)
+    (take report_bytes (with_table 0).line)
+soil_lower = (prints_columns (mesh_with (with_table 0).mesh (with_table 0).table) (with_table 0).claim (pos 6) room 0 0
+    (with_table 0).line soil_read fits).lower refl soil-has soil_told
 
-pub soil_accepted : ClaimAccepted (mesh_with (with_table 0).mesh (with_table 0).table) (claim_in (mesh_with (with_table 0).mesh (with_table 0).table) (with_table 0).claim)
-soil_accepted = (on_mesh (mesh_with (with_table 0).mesh (with_table 0).table) (with_table 0).claim (pos 6) room 0 0 (with_table 0).line soil_read fits).returns_zero.exactly.0 refl
+pub soil_accepted : ClaimAccepted (mesh_with (with_table 0).mesh (with_table 0).table)
+    (claim_in (mesh_with (with_table 0).mesh (with_table 0).table) (with_table 0).claim)
+soil_accepted = (on_mesh (mesh_with (with_table 0).mesh (with_table 0).table) (with_table 0).claim (pos 6) room 0 0
+    (with_table 0).line soil_read fits).returns_zero.exactly.0 refl
 
 -- the table is the file of its numbers
 pub soil_table_file : (with_table 0).table ≡ table_of file_width (table_in (with_table 0).table)
-soil_table_file = (accepted_files (with_table 0).mesh (with_table 0).table (with_table 0).claim (pos 6) room 0 0 (with_table 0).line soil-answered fits).table_file refl
+soil_table_file = (accepted_files (with_table 0).mesh (with_table 0).table (with_table 0).claim (pos 6) room 0 0
+    (with_table 0).line soil-answered fits).table_file refl
 
 -- beside the sheet's own mesh the same table changes nothing
-own_soil : (e : ℕ) → e < elements (mesh_in (at 0).mesh) → ¬ (number_at (mesh_in (at 0).mesh) (soil_place (mesh_in (at 0).mesh) e) ≡ pos 0)
+own_soil : (e : ℕ) → e < elements (mesh_in (at 0).mesh)
+    → ¬ (number_at (mesh_in (at 0).mesh) (soil_place (mesh_in (at 0).mesh) e) ≡ pos 0)
 unfolding opened
 own_soil zero l z = let y : ◌≡◌ {A = ℕ} 0 1 = cc in omega arith
 own_soil (suc e) l z = absurd (omega arith)
@@ -121,27 +139,36 @@ fits_sheet : TableFits (table_in (with_table 0).table) (mesh_in (at 0).mesh)
 unfolding opened
 fits_sheet = (accepted_mesh (at 0).mesh (with_table 0).table refl).fits
 
-pub sheet_unchanged : (number place : ℕ) (after : List ℕ) → Answers (at 0).mesh (with_table 0).table (at 0).claim (pos 6) room number place after
+pub sheet_unchanged : (number place : ℕ) (after : List ℕ) → Answers (at 0).mesh (with_table 0).table (at 0).claim
+    (pos 6) room number place after
     → AnswersOn (mesh_in (at 0).mesh) (at 0).claim (pos 6) room number place after
-sheet_unchanged number place after h = (as_read (at 0).mesh (with_table 0).table (at 0).claim (pos 6) room number place after h).own_soils fits_sheet own_soil
+sheet_unchanged number place after h =
+    (as_read (at 0).mesh (with_table 0).table (at 0).claim (pos 6) room number place after h).own_soils fits_sheet
+    own_soil
 
 -- ---- refused tables
 
 -- 45 at four quarters, and 46 at the second line, exactly as the order has them; neither table fits
-pub gap_refused : TabledRefusal (table_in (with_table 1).table) (mesh_in (with_table 1).mesh) (claim_in (mesh_with (with_table 1).mesh (with_table 1).table) (with_table 1).claim) 45 (Height 4)
+pub gap_refused : TabledRefusal (table_in (with_table 1).table) (mesh_in (with_table 1).mesh)
+    (claim_in (mesh_with (with_table 1).mesh (with_table 1).table) (with_table 1).claim) 45 (Height 4)
 unfolding place_for
-gap_refused = ((on_table (with_table 1).mesh (with_table 1).table (with_table 1).claim (pos 6) room 45 4 (with_table 1).line gap_answered fits).exactly.refuses 45 4 (λ e. omega arith)).0 (refl, refl)
+gap_refused = ((on_table (with_table 1).mesh (with_table 1).table (with_table 1).claim (pos 6) room 45 4
+    (with_table 1).line gap_answered fits).exactly.refuses 45 4 (λ e. omega arith)).0 (refl, refl)
 
-pub overlap_refused : TabledRefusal (table_in (with_table 2).table) (mesh_in (with_table 2).mesh) (claim_in (mesh_with (with_table 2).mesh (with_table 2).table) (with_table 2).claim) 46 (Line 1002)
+pub overlap_refused : TabledRefusal (table_in (with_table 2).table) (mesh_in (with_table 2).mesh)
+    (claim_in (mesh_with (with_table 2).mesh (with_table 2).table) (with_table 2).claim) 46 (Line 1002)
 unfolding place_for
-overlap_refused = ((on_table (with_table 2).mesh (with_table 2).table (with_table 2).claim (pos 6) room 46 1002 (with_table 2).line overlap_answered fits).exactly.refuses 46 1002 (λ e. omega arith)).0 (refl, refl)
+overlap_refused = ((on_table (with_table 2).mesh (with_table 2).table (with_table 2).claim (pos 6) room 46 1002
+    (with_table 2).line overlap_answered fits).exactly.refuses 46 1002 (λ e. omega arith)).0 (refl, refl)
 
 -- the second line is not whole: 1, line 1,002
 pub cut_short_form : MeshFormFails file_width (with_table 5).mesh (with_table 5).table 1001
-cut_short_form = ((form_exactly (with_table 5).mesh (with_table 5).table (with_table 5).claim (pos 6) room 1 1002 (with_table 5).line cut_short_answered fits).mesh_form 1001).0 (refl, refl)
+cut_short_form = ((form_exactly (with_table 5).mesh (with_table 5).table (with_table 5).claim (pos 6) room 1 1002
+    (with_table 5).line cut_short_answered fits).mesh_form 1001).0 (refl, refl)
 
 -- a table of 65,537 spaces
-pub long_table : (number place : ℕ) (after : List ℕ) → Answers (at 0).mesh (replicate 65537 32) (at 0).claim (pos 6) room number place after → number ≢ 0
+pub long_table : (number place : ℕ) (after : List ℕ) → Answers (at 0).mesh (replicate 65537 32) (at 0).claim
+    (pos 6) room number place after → number ≢ 0
 long_table number place after h =
     (long_files (at 0).mesh (replicate 65537 32) (at 0).claim (pos 6) room number place after h).never_accepted
     (inr (inl (omega (arith, length-replicate {A = ℕ} 65537 32))))
@@ -149,29 +176,36 @@ long_table number place after h =
 -- ---- loads compared: the field of the filled mesh, the multipliers of the sheet without a table
 
 pub soil_call : Call (files (with_table 0).mesh (with_table 0).table (with_table 0).claim) 0
-soil_call = on_files (with_table 0).mesh (with_table 0).table (with_table 0).claim (pos 6) room 0 0 (with_table 0).line soil-answered
+soil_call = on_files (with_table 0).mesh (with_table 0).table (with_table 0).claim (pos 6) room 0 0
+    (with_table 0).line soil-answered
 
 sheet_call : Call (files (at 0).mesh [] (at 0).claim) 0
 sheet_call = on_files (at 0).mesh [] (at 0).claim (pos 6) room 0 0 (at 0).line sheet-answered
 
-pub same_meshes : mesh_of (files (with_table 0).mesh (with_table 0).table (with_table 0).claim) ≡ mesh_of (files (at 0).mesh [] (at 0).claim)
+pub same_meshes : mesh_of (files (with_table 0).mesh (with_table 0).table (with_table 0).claim)
+    ≡ mesh_of (files (at 0).mesh [] (at 0).claim)
 unfolding opened
 same_meshes = refl
 
-pub parts : HasField (claim_of (files (with_table 0).mesh (with_table 0).table (with_table 0).claim)) × HasMultipliers (claim_of (files (at 0).mesh [] (at 0).claim))
+pub parts : HasField (claim_of (files (with_table 0).mesh (with_table 0).table (with_table 0).claim))
+    × HasMultipliers (claim_of (files (at 0).mesh [] (at 0).claim))
 unfolding opened
 parts = (refl, refl)
 
-pub with_and_without : HandedBracket (files (with_table 0).mesh (with_table 0).table (with_table 0).claim) (files (at 0).mesh [] (at 0).claim)
-with_and_without = calls_bracket soil_call sheet_call (ap (λ (m : List ℤ). map judged (rows_of m)) same_meshes) (parts.0, inl refl) parts.1 refl
+pub with_and_without : HandedBracket (files (with_table 0).mesh (with_table 0).table (with_table 0).claim)
+    (files (at 0).mesh [] (at 0).claim)
+with_and_without = calls_bracket soil_call sheet_call (ap (λ (m : List ℤ). map judged (rows_of m)) same_meshes)
+    (parts.0, inl refl) parts.1 refl
 
 -- numbers with a table get the answer of files of them
-pub numbers_as_files : (r : NumbersAnswer) → TableAnswers (pos 0 ∷ pos 2 ∷ pos 1 ∷ []) soil_zero Numbers.sheet19 r → AsAFile (pos 0 ∷ pos 2 ∷ pos 1 ∷ []) soil_zero Numbers.sheet19 r
+pub numbers_as_files : (r : NumbersAnswer) → TableAnswers (pos 0 ∷ pos 2 ∷ pos 1 ∷ []) soil_zero Numbers.sheet19 r
+    → AsAFile (pos 0 ∷ pos 2 ∷ pos 1 ∷ []) soil_zero Numbers.sheet19 r
 numbers_as_files r h = as_a_file h
 
 -- ---- the sheets with a table give their lines
 
-pub soil-written : (number place : ℕ) (after : List ℕ) → Answers (with_table 0).mesh (with_table 0).table (with_table 0).claim (pos 6) room number place after
+pub soil-written : (number place : ℕ) (after : List ℕ) → Answers (with_table 0).mesh (with_table 0).table
+    (with_table 0).claim (pos 6) room number place after
     → take report_bytes after ≡ (with_table 0).line
 unfolding tabled_sheets usual_decimals
 soil-written number place after h = tabled_written (with_table 0) first room after number place h fits.bytes

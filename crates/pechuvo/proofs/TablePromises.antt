@@ -1,4 +1,5 @@
--- The promises with a table hold of every call: the verdict on three files came early, by the table, or is the one on the mesh that is read.
+-- The promises with a table hold of every call: the verdict on three files came early, by the table, or is the one on
+-- the mesh that is read.
 use mathlib.Core.Path.{◌≡◌, refl, sym, ◌∙◌, ap, ap₂, subst}
 use mathlib.Core.Logic.{◌⊎◌, inl, inr}
 use mathlib.Core.List.Memᴰ
@@ -19,7 +20,8 @@ use Rattle.scope.specs.TableVerdict.{tabled_verdict, TableFits}
 use Rattle.scope.proofs.Checks.{then_passed}
 use Rattle.scope.proofs.Table.{no_table}
 use Rattle.scope.proofs.Refusals.{mesh_passed}
-use Rattle.scope.proofs.TableVerdict.{table_phases, OfTable, Came, early, late, came, table_exact, in_two, fits_late, early_number, no_table_verdict, read_as_it_was}
+use Rattle.scope.proofs.TableVerdict.{table_phases, OfTable, Came, early, late, came, table_exact, in_two, fits_late}
+use Rattle.scope.proofs.TableVerdict.{early_number, no_table_verdict, read_as_it_was}
 use Rattle.numbers.specs.Promises.{returned_numbers, Returned, TellsField}
 use Rattle.numbers.specs.TablePromises.{TableReturned}
 use Rattle.numbers.proofs.Promises.{field_exactly, multipliers_exactly}
@@ -34,7 +36,9 @@ use Rattle.judge.proofs.Handed.{handed_bracket}
 use Rattle.pechuvo.specs.Check.{answered, check}
 use Rattle.pechuvo.specs.Sheets.{Sheet, printed_with, printed, starred, tabled_sheets}
 use Rattle.pechuvo.specs.Answers.{AnswersFor, Answers, AnswersOn}
-use Rattle.pechuvo.specs.Promises.{mesh_in, table_in, mesh_with, claim_in, MeshAccepted, Room, AnyCall, AsRead, NoTable, OnTable, Call, on_files, on_numbers, TwoCalls, CallAndMultipliers, FractionsAndCall, Written}
+use Rattle.pechuvo.specs.Promises.{mesh_in, table_in, mesh_with, claim_in, MeshAccepted, Room, AnyCall, AsRead}
+use Rattle.pechuvo.specs.Promises.{NoTable, OnTable, Call, on_files, on_numbers, TwoCalls, CallAndMultipliers}
+use Rattle.pechuvo.specs.Promises.{FractionsAndCall, Written}
 use Rattle.pechuvo.proofs.VerdictFits.{Sayable, tabled_sayable, tabled_listed}
 use Rattle.pechuvo.proofs.Promises.{Cases, other, short, line, Untouched, by_cases, written, line_is, any_call}
 use Rattle.pechuvo.proofs.Sheets.{starred_sheets, tabled_sheets_lem}
@@ -50,7 +54,8 @@ module _ (mesh : List ℕ) where
   unfolding mesh_from mesh_read has_table
   read_plain = ap (λ (t : List ℤ). mesh_read t (mesh_in mesh)) no_numbers
 
-  verdict_plain : (claim : List ℕ) → files_verdict file_width mesh [] claim ≡ verdict (mesh_in mesh) (claim_in (mesh_in mesh) claim)
+  verdict_plain : (claim : List ℕ) → files_verdict file_width mesh [] claim
+      ≡ verdict (mesh_in mesh) (claim_in (mesh_in mesh) claim)
   unfolding files_verdict
   verdict_plain claim =
       ap₂ (λ (t f : List ℤ). tabled_verdict t (mesh_in mesh) (claim_numbers file_width f claim)) no_numbers read_plain
@@ -81,7 +86,8 @@ module _ (mesh table : List ℕ) where
   pub accepted_mesh : mesh_outcome file_width mesh table ≡ Passed → MeshAccepted mesh table
   unfolding mesh_outcome mesh_from
   accepted_mesh e =
-      let (a, b) = (then_passed (check_phases (table_phases t m)) (mesh_check (mesh_read t m))).0 (sym (in_two t m) ∙ e) in
+      let (a, b) = (then_passed (check_phases (table_phases t m)) (mesh_check (mesh_read t m))).0
+      (sym (in_two t m) ∙ e) in
       record { fits = (table_exact t m).passes.says a; sound = (mesh_passed (mesh_read t m)).says b }
 
   pub mesh_accepted : MeshAccepted mesh table → mesh_outcome file_width mesh table ≡ Passed
@@ -99,11 +105,13 @@ module _ (mesh table claim : List ℕ) where
   unfolding files_verdict
   files_sayable = tabled_sayable (t mesh table) (m mesh table) c
 
-  files_fit : TableFits (t mesh table) (m mesh table) → files_verdict file_width mesh table claim ≡ verdict (mesh_with mesh table) c
+  files_fit : TableFits (t mesh table) (m mesh table) → files_verdict file_width mesh table claim
+      ≡ verdict (mesh_with mesh table) c
   unfolding files_verdict mesh_from
   files_fit f = fits_late (t mesh table) (m mesh table) c f
 
-  module _ (z : ℤ) (before : List ℕ) (number place : ℕ) (after : List ℕ) (h : Answers mesh table claim z before number place after) where
+  module _ (z : ℤ) (before : List ℕ) (number place : ℕ) (after : List ℕ)
+      (h : Answers mesh table claim z before number place after) where
     for : {v : Verdict} → files_verdict file_width mesh table claim ≡ v → AnswersFor v z before number place after
     for e = subst (λ (v : Verdict). AnswersFor v z before number place after) e h
 
@@ -114,19 +122,23 @@ module _ (mesh table claim : List ℕ) where
     unfolding mesh_from
     as_read = record {
       fits = λ f. for (files_fit f);
-      none = λ e. for (ap (λ (u : List ℕ). files_verdict file_width mesh u claim) e ∙ (no_table_file mesh).verdicts claim);
-      own_soils = λ f own. subst (λ (x : List ℤ). AnswersOn x claim z before number place after) (read_as_it_was (t mesh table) (m mesh table) own) (for (files_fit f));
+      none = λ e. for (ap (λ (u : List ℕ). files_verdict file_width mesh u claim) e
+          ∙ (no_table_file mesh).verdicts claim);
+      own_soils = λ f own. subst (λ (x : List ℤ). AnswersOn x claim z before number place after)
+          (read_as_it_was (t mesh table) (m mesh table) own) (for (files_fit f));
     }
 
     tabled : Room z before → TableReturned (t mesh table) (m mesh table) c number place
     unfolding files_verdict
-    tabled b = let w = (written (files_verdict file_width mesh table claim) files_sayable z before number place after h b).returns in record { number_is = w.0; place_is = w.1 }
+    tabled b = let w = (written (files_verdict file_width mesh table claim) files_sayable z before number place after h
+        b).returns in record { number_is = w.0; place_is = w.1 }
 
     pub on_table : Room z before → OnTable mesh table claim number place
     unfolding mesh_from
     on_table b = record {
       exactly = table_exactly (t mesh table) (m mesh table) c number place (tabled b);
-      listed = subst (λ (k : ℕ). k ∈ 45 ∷ 46 ∷ returned_numbers) (sym (tabled b).number_is) (tabled_listed (t mesh table) (m mesh table) c);
+      listed = subst (λ (k : ℕ). k ∈ 45 ∷ 46 ∷ returned_numbers) (sym (tabled b).number_is)
+          (tabled_listed (t mesh table) (m mesh table) c);
       filled = filled_mesh (t mesh table) (m mesh table);
     }
 
@@ -146,23 +158,28 @@ tells_read t m c {i} e h = by (came t m c)
     own (p, inr (inr l)) (inr z) = omega (arith, z.1)
 
     by : Came t m c → Returned (mesh_read t m) c i (place_of (verdict (mesh_read t m) c))
-    by (early k p r d) = absurd (own (early_number t m k p r) (subst (λ (n : ℕ). (n ≡ 0) ⊎ ((31 ≤ n) × (n ≤ 33))) (e ∙ ap number_of d) h))
+    by (early k p r d) = absurd
+        (own (early_number t m k p r) (subst (λ (n : ℕ). (n ≡ 0) ⊎ ((31 ≤ n) × (n ≤ 33))) (e ∙ ap number_of d) h))
     by (late f d) = record { number_is = e ∙ ap number_of d; place_is = refl }
 
 -- the number of a call that tells of a part, on files or on numbers
-call_read : {a : Handed} {i : ℕ} → Call a i → (i ≡ 0) ⊎ ((31 ≤ i) × (i ≤ 33)) → Returned (mesh_of a) (claim_of a) i (place_of (verdict (mesh_of a) (claim_of a)))
+call_read : {a : Handed} {i : ℕ} → Call a i → (i ≡ 0) ⊎ ((31 ≤ i) × (i ≤ 33))
+    → Returned (mesh_of a) (claim_of a) i (place_of (verdict (mesh_of a) (claim_of a)))
 unfolding mesh_of claim_of files_verdict mesh_from
 call_read (on_files mesh table claim z before number place after h) t =
-    tells_read (table_in table) (mesh_in mesh) (claim_in (mesh_with mesh table) claim) (by (by_cases v z before number place after h)) t
+    tells_read (table_in table) (mesh_in mesh) (claim_in (mesh_with mesh table) claim)
+    (by (by_cases v z before number place after h)) t
   where
     v : Verdict
     v = files_verdict file_width mesh table claim
 
-    not_above_lem : (k : ℕ) → 33 < k → Untouched v z before number place after k → (number ≡ 0) ⊎ ((31 ≤ number) × (number ≤ 33)) → ⊥
+    not_above_lem : (k : ℕ) → 33 < k → Untouched v z before number place after k
+        → (number ≡ 0) ⊎ ((31 ≤ number) × (number ≤ 33)) → ⊥
     not_above_lem k a u (inl e) = omega (arith, a, u.number_is)
     not_above_lem k a u (inr e) = omega (arith, a, u.number_is, e.1)
 
-    by : Cases v z before number place after → number ≡ number_of (tabled_verdict (table_in table) (mesh_in mesh) (claim_in (mesh_with mesh table) claim))
+    by : Cases v z before number place after → number ≡ number_of
+        (tabled_verdict (table_in table) (mesh_in mesh) (claim_in (mesh_with mesh table) claim))
     by (other o u) = absurd (not_above_lem 43 (omega arith) u t)
     by (short d l u) = absurd (not_above_lem 41 (omega arith) u t)
     by (line r w) = w.returns.0
@@ -170,12 +187,17 @@ call_read (on_numbers m t c r h) e = tells_read t m c (table_returned {t = t} {m
 
 -- an accepted field, and accepted multipliers, of a call
 pub call_field : {a : Handed} {i : ℕ} → Call a i → TellsField (claim_of a) i → FieldAccepted (mesh_of a) (claim_of a)
-call_field {a} {i} p t = (field_exactly (mesh_of a) (claim_of a) i (place_of (verdict (mesh_of a) (claim_of a))) (call_read p t.1)).told.1 t
+call_field {a} {i} p t =
+    (field_exactly (mesh_of a) (claim_of a) i (place_of (verdict (mesh_of a) (claim_of a))) (call_read p t.1)).told.1 t
 
-call_multipliers : {a : Handed} {i : ℕ} → Call a i → HasMultipliers (claim_of a) → i ≡ 0 → MultipliersAccepted (mesh_of a) (claim_of a)
-call_multipliers {a} {i} p t e = ((multipliers_exactly (mesh_of a) (claim_of a) i (place_of (verdict (mesh_of a) (claim_of a))) (call_read p (inl e))).told.0 (t, e)).0
+call_multipliers : {a : Handed} {i : ℕ} → Call a i → HasMultipliers (claim_of a) → i ≡ 0
+    → MultipliersAccepted (mesh_of a) (claim_of a)
+call_multipliers {a} {i} p t e =
+    ((multipliers_exactly (mesh_of a) (claim_of a) i (place_of (verdict (mesh_of a) (claim_of a)))
+    (call_read p (inl e))).told.0 (t, e)).0
 
--- the field of one call and the multipliers of another or of the same, each on files or on numbers, on meshes with the same rows
+-- the field of one call and the multipliers of another or of the same, each on files or on numbers, on meshes with the
+-- same rows
 pub calls_bracket : {a b : Handed} {i j : ℕ} → TwoCalls a b i j
 calls_bracket {a} {b} p q same t w z = handed_bracket a b same (call_field p t) (call_multipliers q w z)
 
@@ -185,7 +207,8 @@ accepted_parts {a} p b same t w = handed_bracket a b same (call_field p t) w
 
 -- a field in fractions against the multipliers of a call
 pub fractions_bracket : {b : Handed} {j : ℕ} → FractionsAndCall b j
-fractions_bracket {b} q w z m sound same = fractions_allowed m (mesh_of b) (claim_of b) sound same (call_multipliers q w z)
+fractions_bracket {b} q w z m sound same = fractions_allowed m (mesh_of b) (claim_of b) sound same
+    (call_multipliers q w z)
 
 -- ---- the sheets
 
@@ -202,7 +225,8 @@ printed_line s = append-nil (report_line 6 (files_verdict file_width s.mesh s.ta
 written_in : (ss : List Sheet) → map printed ss ≡ map (λ s. s.line) ss → (s : Sheet) → s ∈ ss → Written s
 unfolding usual_decimals
 written_in ss all s i before after number place h b =
-    line_is (files_verdict file_width s.mesh s.table s.claim) (files_sayable s.mesh s.table s.claim) (pos usual_decimals) before number place after h (record { decimals = these_decimals (omega arith); bytes = b })
+    line_is (files_verdict file_width s.mesh s.table s.claim) (files_sayable s.mesh s.table s.claim)
+    (pos usual_decimals) before number place after h (record { decimals = these_decimals (omega arith); bytes = b })
     ∙ sym (printed_line s)
     ∙ same_at printed (λ s. s.line) ss all s i
 

@@ -1,4 +1,5 @@
--- Every verdict is one that the line can hold: a refusal's number and place are small, l is within its limit, W fits 64 bits, and no more rows are open than there are.
+-- Every verdict is one that the line can hold: a refusal's number and place are small, l is within its limit, W fits
+-- 64 bits, and no more rows are open than there are.
 use mathlib.Core.Path.{◌≡◌, refl, sym, subst}
 use mathlib.Core.Logic.{◌⊎◌, inl, inr, ⊎_elim, ◌≢◌}
 use mathlib.Core.Bool.{Bool, true, false, cond, not, ◌&&◌}
@@ -84,7 +85,8 @@ module _ (m c : List ℤ) (a : ClaimAccepted m c) where
 
   pub lower_held : HeldLoad (lower_load m c)
   unfolding lower_load
-  lower_held = if_load (has_field c && not (some_by_direction m)) (l c) (n c) (λ t. omega (arith, (between claim.l_range).within))
+  lower_held = if_load (has_field c && not (some_by_direction m)) (l c) (n c)
+      (λ t. omega (arith, (between claim.l_range).within))
 
   pub upper_held : HeldLoad (upper_load m c)
   unfolding upper_load has_multipliers
@@ -95,9 +97,12 @@ module _ (m c : List ℤ) (a : ClaimAccepted m c) where
 pub held : (m c : List ℤ) → Held (verdict m c)
 held m c = by (verdict_cases m c)
   where
-    by : ((k : ℕ) × (p : Place) × (verdict m c ≡ Refused k p)) ⊎ (verdict m c ≡ Accepted (open_count m c) (lower_load m c) (upper_load m c)) → Held (verdict m c)
-    by (inl (k, p, e)) = let b = refusal_bounds ((refused_exactly m c k p).0 e) in subst Held (sym e) (omega (arith, b.0), omega (arith, b.1))
-    by (inr e) = let a = (accepted_exactly m c).0 e in subst Held (sym e) (rows_held m c a, lower_held m c a, upper_held m c a)
+    by : ((k : ℕ) × (p : Place) × (verdict m c ≡ Refused k p))
+        ⊎ (verdict m c ≡ Accepted (open_count m c) (lower_load m c) (upper_load m c)) → Held (verdict m c)
+    by (inl (k, p, e)) = let b = refusal_bounds ((refused_exactly m c k p).0 e) in subst Held (sym e)
+        (omega (arith, b.0), omega (arith, b.1))
+    by (inr e) = let a = (accepted_exactly m c).0 e in subst Held (sym e)
+        (rows_held m c a, lower_held m c a, upper_held m c a)
 
 -- ---- with a table
 
@@ -121,7 +126,8 @@ all_numbers = 45 ∷ 46 ∷ returned_numbers
 verdict_listed : (m c : List ℤ) → number_of (verdict m c) ∈ all_numbers
 verdict_listed m c =
     let v = verdict m c in
-    Memᴰ.tail (Memᴰ.tail (numbers_listed m c (number_of v) (place_of v) (record { number_is = refl; place_is = refl })).listed)
+    Memᴰ.tail (Memᴰ.tail (numbers_listed m c (number_of v) (place_of v)
+    (record { number_is = refl; place_is = refl })).listed)
 
 pub tabled_listed : (t m c : List ℤ) → number_of (tabled_verdict t m c) ∈ all_numbers
 tabled_listed t m c = by (came t m c)

@@ -1,4 +1,5 @@
--- "Whichever part the claim lacks gives the four letters none; open rows need both parts": an accepted part has a load over a number above 0, so its column says a number.
+-- "Whichever part the claim lacks gives the four letters none; open rows need both parts": an accepted part has a load
+-- over a number above 0, so its column says a number.
 use mathlib.Core.Path.{◌≡◌, refl}
 use mathlib.Core.Logic.Iff
 use mathlib.Core.Logic.{◌↔◌, ◌⊎◌, inl, inr, ◌≢◌}
@@ -42,7 +43,8 @@ load_if true num den p = (λ h. <ℤ_irrefl (<ℤ-≤ℤ_trans (p tt) h), λ t. 
 load_if false num den p = (λ h. tt, λ t. tt)
 
 -- a load that is there only where one test passes and another fails
-load_told : (a b : Bool) (num den : ℤ) {A B : Type 0} → Decides a A → Decides b B → (A → pos 0 <ℤ den) → NoLoad (cond (a && not b) (Exact num den) Absent) ↔ ((¬ A) ⊎ B)
+load_told : (a b : Bool) (num den : ℤ) {A B : Type 0} → Decides a A → Decides b B → (A → pos 0 <ℤ den)
+    → NoLoad (cond (a && not b) (Exact num den) Absent) ↔ ((¬ A) ⊎ B)
 load_told true true num den f g p = (λ h. inr (g.holds tt), λ h. tt)
 load_told true false num den {A} {B} f g p = (λ h. absurd (<ℤ_irrefl (<ℤ-≤ℤ_trans (p (f.holds tt)) h)), back)
   where
@@ -52,7 +54,8 @@ load_told true false num den {A} {B} f g p = (λ h. absurd (<ℤ_irrefl (<ℤ-�
 load_told false b num den f g p = (λ h. inl f.passes, λ h. tt)
 
 -- a count that is there only where two tests pass
-count_if : (a b : Bool) (k : ℕ) {A B : Type 0} → T (not a) ↔ (¬ A) → T (not b) ↔ (¬ B) → (cond (a && b) (Count k) NoCount ≡ NoCount) ↔ ((¬ A) ⊎ (¬ B))
+count_if : (a b : Bool) (k : ℕ) {A B : Type 0} → T (not a) ↔ (¬ A) → T (not b) ↔ (¬ B)
+    → (cond (a && b) (Count k) NoCount ≡ NoCount) ↔ ((¬ A) ⊎ (¬ B))
 count_if true true k {A} {B} f g = (λ e. let z : ◌≡◌ {A = ℕ} 0 1 = cc in absurd (omega arith), back)
   where
     back : (¬ A) ⊎ (¬ B) → Count k ≡ NoCount
@@ -96,11 +99,13 @@ module _ (m c : List ℤ) where
   unfolding upper_load has_multipliers
   upper_absent a =
       Iff.trans
-      (load_if (has_multipliers c) (limit_sum (multiplier m c) (rows_of m)) (live_sum (multiplier m c) (rows_of m)) (λ t. (a.multipliers_meet (eq_z_yes t)).live))
+      (load_if (has_multipliers c) (limit_sum (multiplier m c) (rows_of m)) (live_sum (multiplier m c) (rows_of m))
+      (λ t. (a.multipliers_meet (eq_z_yes t)).live))
       (not_equal (at c 1) (pos 1))
 
   -- what is said where 0 is returned
-  accepted_so : (P : Verdict → Type 0) → number_of (verdict m c) ≡ 0 → (ClaimAccepted m c → P (Accepted (open_count m c) (lower_load m c) (upper_load m c))) → P (verdict m c)
+  accepted_so : (P : Verdict → Type 0) → number_of (verdict m c) ≡ 0
+      → (ClaimAccepted m c → P (Accepted (open_count m c) (lower_load m c) (upper_load m c))) → P (verdict m c)
   accepted_so P e h = let a = (returns_zero m c).0 e in rw ((accepted_exactly m c).1 a) (h a)
 
   no_lower : NoLower (verdict m c) ↔ ((number_of (verdict m c) ≢ 0) ⊎ ((¬ HasField c) ⊎ ListsDirection m))
@@ -116,19 +121,24 @@ module _ (m c : List ℤ) where
   no_count : (open_count m c ≡ NoCount) ↔ ((¬ HasField c) ⊎ (¬ HasMultipliers c))
   unfolding open_count has_field has_multipliers
   no_count =
-      count_if (has_field c) (has_multipliers c) (open_rows (stress m c) (l c) (n c) (multiplier m c) (rows_of m)) (not_equal (at c 0) (pos 1)) (not_equal (at c 1) (pos 1))
+      count_if (has_field c) (has_multipliers c) (open_rows (stress m c) (l c) (n c) (multiplier m c) (rows_of m))
+      (not_equal (at c 0) (pos 1)) (not_equal (at c 1) (pos 1))
 
   -- the third and the fourth column have the word none exactly when the claim is refused or lacks that part; the third
   -- also where the mesh lists a soil by direction
-  pub lower_word : (d : ℕ) → d ≤ 7 → (said (column_of 2 (report_line d (verdict m c))) ≡ some word) ↔ ((number_of (verdict m c) ≢ 0) ⊎ ((¬ HasField c) ⊎ ListsDirection m))
+  pub lower_word : (d : ℕ) → d ≤ 7 → (said (column_of 2 (report_line d (verdict m c))) ≡ some word) ↔
+      ((number_of (verdict m c) ≢ 0) ⊎ ((¬ HasField c) ⊎ ListsDirection m))
   lower_word d h = Iff.trans (lower_none d (verdict m c) h (held m c)) no_lower
 
-  pub upper_word : (d : ℕ) → d ≤ 7 → (said (column_of 3 (report_line d (verdict m c))) ≡ some word) ↔ ((number_of (verdict m c) ≢ 0) ⊎ (¬ HasMultipliers c))
+  pub upper_word : (d : ℕ) → d ≤ 7 → (said (column_of 3 (report_line d (verdict m c))) ≡ some word) ↔
+      ((number_of (verdict m c) ≢ 0) ⊎ (¬ HasMultipliers c))
   upper_word d h = Iff.trans (upper_none d (verdict m c) h (held m c)) no_upper
 
   -- the second column of an accepted claim, exactly when it lacks a part
-  pub rows_word : (d : ℕ) → d ≤ 7 → number_of (verdict m c) ≡ 0 → (said (column_of 1 (report_line d (verdict m c))) ≡ some word) ↔ ((¬ HasField c) ⊎ (¬ HasMultipliers c))
+  pub rows_word : (d : ℕ) → d ≤ 7 → number_of (verdict m c) ≡ 0
+      → (said (column_of 1 (report_line d (verdict m c))) ≡ some word) ↔ ((¬ HasField c) ⊎ (¬ HasMultipliers c))
   rows_word d h e =
-      accepted_so (λ v. Held v → (said (column_of 1 (report_line d v)) ≡ some word) ↔ ((¬ HasField c) ⊎ (¬ HasMultipliers c))) e
+      accepted_so (λ v. Held v → (said (column_of 1 (report_line d v)) ≡ some word) ↔
+      ((¬ HasField c) ⊎ (¬ HasMultipliers c))) e
       (λ a y. Iff.trans (rows_none d (open_count m c) (lower_load m c) (upper_load m c) h y) no_count)
       (held m c)

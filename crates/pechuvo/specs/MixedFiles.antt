@@ -13,7 +13,8 @@ use Rattle.scope.specs.PrintedColumns.{MultipliersPrinted}
 use Rattle.scope.specs.AcceptedField.{MeetsCriterion}
 use Rattle.scope.specs.Jumps.{SameTraction}
 use Rattle.scope.specs.Parts.{carried, allowed}
-use Rattle.numbers.specs.MixedSheet.{MeshSays, unfilled, soils_written, two_layers, lower_layer, mixed_claim, claim_108, bedded_claim, even}
+use Rattle.numbers.specs.MixedSheet.{MeshSays, unfilled, soils_written, two_layers, lower_layer, mixed_claim}
+use Rattle.numbers.specs.MixedSheet.{claim_108, bedded_claim, even}
 use Rattle.numbers.specs.Promises.{returned_numbers, FractionsBracket}
 use Rattle.reader.specs.File.{file_of, table_of, file_width}
 use Rattle.judge.specs.Handed.{Handed, files, mesh_of, claim_of, HandedBracket, HandedBlends}
@@ -28,7 +29,8 @@ use Rattle.pechuvo.specs.BookPromises.{CommitAnswers, BookCall, KeepsTheBest}
 use Rattle.pechuvo.specs.Bytes.{bytes}
 use Rattle.pechuvo.specs.Answers.{AnswersOn}
 use Rattle.pechuvo.specs.Sheets.{Sheet}
-use Rattle.pechuvo.specs.Promises.{mesh_in, table_in, mesh_with, claim_in, MeshAccepted, UpperPrinted, Millionths, TextsFit, OpenRowsPrinted}
+use Rattle.pechuvo.specs.Promises.{mesh_in, table_in, mesh_with, claim_in, MeshAccepted, UpperPrinted, Millionths}
+use Rattle.pechuvo.specs.Promises.{TextsFit, OpenRowsPrinted}
 
 -- ---- the files
 

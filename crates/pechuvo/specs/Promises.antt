@@ -8,7 +8,8 @@
 -- handed over (`numbers/specs/Promises.antt`, `TablePromises.antt`).
 -- A table is refused before 5 with its own numbers; where it fits, and without one, a call is one on the mesh as it is
 -- read (`AsRead`), and what the promises say of a mesh with the numbers m they say of that one.
-use Rattle.std.specs.Prelude.{◌≡◌, ◌↔◌, ◌⊎◌, ◌≢◌, List, [], ◌∷◌, ◌++◌, ℕ, suc, ◌+◌, ◌*◌, ◌/◌, ◌^◌, ◌≤◌, ◌<◌, ℤ, pos, nat_abs, ◌+ℤ◌, ◌-ℤ◌, ◌<ℤ◌, length, take, drop, replicate}
+use Rattle.std.specs.Prelude.{◌≡◌, ◌↔◌, ◌⊎◌, ◌≢◌, List, [], ◌∷◌, ◌++◌, ℕ, suc, ◌+◌, ◌*◌, ◌/◌, ◌^◌, ◌≤◌, ◌<◌, ℤ, pos}
+use Rattle.std.specs.Prelude.{nat_abs, ◌+ℤ◌, ◌-ℤ◌, ◌<ℤ◌, length, take, drop, replicate}
 use Rattle.std.proofs.Math.Option.{some}
 use Rattle.integer.specs.Fraction.{◌over◌, ◌≈ᶠ◌, ◌≤ᶠ◌, ◌<ᶠ◌}
 use Rattle.scope.specs.Columns.{at, has_field, n, l}
@@ -28,19 +29,24 @@ use Rattle.scope.specs.Parts.{carried, allowed, SameRows, NumberOf}
 use Rattle.scope.specs.Tests.{row_at}
 use Rattle.scope.specs.Verdict.{mesh_check, verdict, lower_load, upper_load}
 use Rattle.numbers.specs.declared.numbers_answer.NumbersAnswer.{NumbersAnswer}
-use Rattle.numbers.specs.Promises.{returned_numbers, ReturnsZero, RefusesExactly, NumbersListed, TellsField, RowsRefused, FieldExactly, MultipliersExactly, CriterionForEachPair, DirectionsAsked, PairsAsked, SidesAsked, OverlapsAsked, JumpsAsked, TractionsOnJoints, FractionsBracket}
+use Rattle.numbers.specs.Promises.{returned_numbers, ReturnsZero, RefusesExactly, NumbersListed, TellsField}
+use Rattle.numbers.specs.Promises.{RowsRefused, FieldExactly, MultipliersExactly, CriterionForEachPair}
+use Rattle.numbers.specs.Promises.{DirectionsAsked, PairsAsked, SidesAsked, OverlapsAsked, JumpsAsked}
+use Rattle.numbers.specs.Promises.{TractionsOnJoints, FractionsBracket}
 use Rattle.numbers.specs.NumbersAnswer.{answer_of}
 use Rattle.numbers.specs.TablePromises.{TableAnswers, TableExactly, FilledMesh}
 use Rattle.reader.specs.File.{file_of, table_of, table_numbers_of, file_width, line_bytes}
 use Rattle.reader.specs.WellFormed.{Fit, FormFails}
 use Rattle.report.specs.Text.{word, number as shows, said}
-use Rattle.report.specs.Report.{column_bytes, report_bytes, lower_text, upper_text, report_line, Decimals, usual_decimals}
+use Rattle.report.specs.Report.{column_bytes, report_bytes, lower_text, upper_text, report_line, Decimals}
+use Rattle.report.specs.Report.{usual_decimals}
 use Rattle.report.specs.Says.{column_of, LineSays}
 use Rattle.judge.specs.Judge.{mesh_numbers, mesh_from, mesh_outcome, claim_numbers, files_verdict}
 use Rattle.judge.specs.Form.{MeshFormFails}
 use Rattle.judge.specs.declared.room.MeshSizes.{MeshSizes}
 use Rattle.judge.specs.Room.{no_sizes, mesh_sizes}
-use Rattle.judge.specs.Handed.{Handed, files, numbers, mesh_of, claim_of, HasAcceptedMultipliers, OnTheSameMesh, HandedBracket, HandedBlends}
+use Rattle.judge.specs.Handed.{Handed, files, numbers, mesh_of, claim_of, HasAcceptedMultipliers, OnTheSameMesh}
+use Rattle.judge.specs.Handed.{HandedBracket, HandedBlends}
 use Rattle.run.specs.declared.RunAnswer.{RunAnswer}
 use Rattle.run.specs.Run.{claims_judged, RunAnswers}
 use Rattle.run.specs.InTurn.{claim_at, InTurn}
@@ -94,16 +100,19 @@ pub record AnyCall (v : Verdict) (z : ℤ) (before : List ℕ) (number place : �
 -- bytes are"; so is a table
 pub record LongFiles (mesh table claim : List ℕ) (z : ℤ) (before : List ℕ) (number place : ℕ) (after : List ℕ)
     : Type 0 where
-  pub cut : Answers (take most_file_bytes mesh) (take most_file_bytes table) (take most_file_bytes claim) z before number place
+  pub cut : Answers (take most_file_bytes mesh) (take most_file_bytes table)
+      (take most_file_bytes claim) z before number place
       after
-  pub never_accepted : (most_file_bytes < length mesh) ⊎ ((most_file_bytes < length table) ⊎ (most_file_bytes < length claim))
+  pub never_accepted : (most_file_bytes < length mesh)
+      ⊎ ((most_file_bytes < length table) ⊎ (most_file_bytes < length claim))
       → number ≢ 0
 
 -- ==== Soils from a borehole table (document 02, N8)
 
 -- where the table fits, the call is one on the mesh that is read; with an empty file, on the mesh as it stands; and so
 -- it is where no element has soil 0
-pub record AsRead (mesh table claim : List ℕ) (z : ℤ) (before : List ℕ) (number place : ℕ) (after : List ℕ) : Type 0 where
+pub record AsRead (mesh table claim : List ℕ) (z : ℤ) (before : List ℕ) (number place : ℕ)
+    (after : List ℕ) : Type 0 where
   pub fits : TableFits (table_in table) (mesh_in mesh)
       → AnswersOn (mesh_with mesh table) claim z before number place after
   pub none : table ≡ [] → AnswersOn (mesh_in mesh) claim z before number place after

@@ -106,7 +106,8 @@ tabled_run =
     ∷ [])
 
 unfoldable pub table_refused : RunSheet
-table_refused = run_sheet_with soil_zero_mesh "0 1 1" (claims_on worked_mesh (good ∷ [])) 240 1 0 ("                          45                           4                        none                        none\n" ∷ [])
+table_refused = run_sheet_with soil_zero_mesh "0 1 1" (claims_on worked_mesh (good ∷ [])) 240 1 0
+    ("                          45                           4                        none                        none\n" ∷ [])
 
 unfoldable pub run_sheets : List RunSheet
 run_sheets =

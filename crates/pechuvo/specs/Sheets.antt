@@ -280,7 +280,8 @@ noticing =
     ∷ sheet "8 2 1 0 12 0 / 0 1 1 10 0 0 0 0 0 0 / 0 2 / 6 2 / 6 4 / 0 4 / 2 0 / 4 0 / 4 6 / 2 6 / 1 2 3 4 1 / 5 6 7 8 1"
     ""
     "                          47                           2                        none                        none\n"
-    -- a square on its corner and a bar that it touches, in both orders: only a side of the bar parts them, and they pass
+    -- a square on its corner and a bar that it touches, in both orders: only a side of the bar parts them, and they
+    -- pass
     ∷ sheet "8 2 1 0 12 0 / 0 1 1 10 0 0 0 0 0 0 / 2 0 / 4 2 / 2 4 / 0 2 / 4 0 / 6 0 / 6 4 / 4 4 / 1 2 3 4 1 / 5 6 7 8 1"
     ""
     "                          11                           1                        none                        none\n"
@@ -364,7 +365,8 @@ tabled_sheets =
     "5 6 1"
     ""
     "                          45                          24                        none                        none\n"
-    -- corners 0, 0, 2 and 1 high: three quarters, in the lower layer, whose soil holds; 0, 0, 3 and 2: five, in the upper one,
+    -- corners 0, 0, 2 and 1 high: three quarters, in the lower layer, whose soil holds; 0, 0, 3 and 2: five, in the
+    -- upper one,
     -- whose soil does not: 22, row 1; and a triangle of 0, 1 and twice 2: five too
     ∷ sheet_with "4 1 2 0 12 0 / 0 1 1 10 0 0 0 0 0 0 / 0 1 1 5 0 0 0 0 0 0 / 0 0 / 2 0 / 2 2 / 0 1 / 1 2 3 4 0"
     "0 1 1 / 1 4 2"
@@ -399,13 +401,37 @@ two_thirds_claim =
 unfoldable pub with_decimals : List (ℤ × Sheet)
 with_decimals =
     -- -1/3: lower to -1 and upper to 0, which has no minus; no point at 0 decimals
-    (pos 0, sheet pull_mesh pull_claim "                           0                           0                          -1                           0\n")
-    ∷ (pos 3, sheet pull_mesh pull_claim "                           0                           0                      -0.334                      -0.333\n")
-    ∷ (pos 7, sheet pull_mesh pull_claim "                           0                           0                  -0.3333334                  -0.3333333\n")
+    (
+      pos 0,
+      sheet pull_mesh pull_claim
+          "                           0                           0                          -1                           0\n",
+    )
+    ∷ (
+      pos 3,
+      sheet pull_mesh pull_claim
+          "                           0                           0                      -0.334                      -0.333\n",
+    )
+    ∷ (
+      pos 7,
+      sheet pull_mesh pull_claim
+          "                           0                           0                  -0.3333334                  -0.3333333\n",
+    )
     -- 2/3
-    ∷ (pos 0, sheet two_thirds_mesh two_thirds_claim "                           0                           0                           0                           1\n")
-    ∷ (pos 3, sheet two_thirds_mesh two_thirds_claim "                           0                           0                       0.666                       0.667\n")
-    ∷ (pos 7, sheet two_thirds_mesh two_thirds_claim "                           0                           0                   0.6666666                   0.6666667\n")
+    ∷ (
+      pos 0,
+      sheet two_thirds_mesh two_thirds_claim
+          "                           0                           0                           0                           1\n",
+    )
+    ∷ (
+      pos 3,
+      sheet two_thirds_mesh two_thirds_claim
+          "                           0                           0                       0.666                       0.667\n",
+    )
+    ∷ (
+      pos 7,
+      sheet two_thirds_mesh two_thirds_claim
+          "                           0                           0                   0.6666666                   0.6666667\n",
+    )
     -- the widest load that we have of an accepted claim, with loads and multipliers at their limits: m is 1, and W is
     -- 8·10,000 times 26,356, the cross products around the polygon, times 2·1,000·10,000 for strength, and 8·100,000
     -- times 999²·10,000 for the dead shear; the small square, at a corner of the large one, makes m

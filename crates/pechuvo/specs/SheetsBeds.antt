@@ -51,7 +51,8 @@ bedded_sheets =
     ∷ sheet "4 1 1 3 36 0 / 3 4 6 10 0 0 0 0 1 0 / 0 0 / 1 0 / 1 1 / 0 1 / 1 2 3 4 1 / 3 4 3 0 0 -1 0 / 2 3 3 0 0 0 0 / 4 1 3 0 0 0 0"
     ""
     "                           3                           2                        none                        none\n"
-    -- friction and shear: at the strength of pN - qT on the plane (4, 3), and beyond it: 22, row 4; of pN + qT on (3, 4), and
+    -- friction and shear: at the strength of pN - qT on the plane (4, 3), and beyond it: 22, row 4; of pN + qT on (3,
+    -- 4), and
     -- beyond it: row 5; of pN + qT on (-4, 3), and beyond it: row 11
     ∷ sheet "4 1 1 0 12 0 / 3 4 5 10 0 0 0 0 1 5 / 0 0 / 1 0 / 1 1 / 0 1 / 1 2 3 4 1"
     "1 0 1 0 / 4 -12 1 / 4 -12 1 / 4 -12 1 / 4 -12 1"
@@ -71,7 +72,8 @@ bedded_sheets =
     ∷ sheet "4 1 1 0 12 0 / 3 4 5 10 0 0 0 0 1 5 / 0 0 / 1 0 / 1 1 / 0 1 / 1 2 3 4 1"
     "1 0 1 0 / 4 -12 -2 / 4 -12 -2 / 4 -12 -2 / 4 -12 -2"
     "                          22                          11                        none                        none\n"
-    -- the second soil alone is bedded: within the strength of both, and beyond the beds' at node 2: 22, row 28 of the third pair
+    -- the second soil alone is bedded: within the strength of both, and beyond the beds' at node 2: 22, row 28 of the
+    -- third pair
     ∷ sheet "6 2 2 0 12 0 / 0 1 1 10 0 0 0 0 0 0 / 0 1 1 10 0 0 0 0 1 5 / 0 0 / 1 0 / 1 1 / 0 1 / 2 0 / 2 1 / 1 2 3 4 1 / 2 5 6 3 2"
     "1 0 1 0 / 0 -14 0 / 0 -14 0 / 0 -14 0 / 0 -14 0 / 0 -14 0 / 0 -14 0"
     "                           0                        none                        none                        none\n"

@@ -1,11 +1,13 @@
--- Sheets with joints (document 02, N6), beside those in Sheets, whose joints are upright: what may jump on a sloping one,
+-- Sheets with joints (document 02, N6), beside those in Sheets, whose joints are upright: what may jump on a sloping
+-- one,
 -- and which sides make no joint.
 use Rattle.std.specs.Prelude.{List, [], ◌∷◌}
 use Rattle.pechuvo.specs.Sheets.{Sheet, sheet}
 
 unfoldable pub joint_sheets : List Sheet
 joint_sheets =
-    -- a sloping joint, of step (1, 2): a stress along it, (1, 4, 2), jumps freely; what changes the shear on it alone does not:
+    -- a sloping joint, of step (1, 2): a stress along it, (1, 4, 2), jumps freely; what changes the shear on it alone
+    -- does not:
     -- 21, row 6; nor what changes the normal stress alone: 21, row 5
     sheet "8 2 1 0 12 1 / 0 1 1 10000 0 0 0 0 0 0 / 0 0 / 1 0 / 2 2 / 0 2 / 1 0 / 4 0 / 4 2 / 2 2 / 1 2 3 4 1 / 5 6 7 8 1 / 2 3 5 8"
     "1 0 1 0 / 10 20 3 / 10 20 3 / 10 20 3 / 10 20 3 / 11 24 5 / 11 24 5 / 11 24 5 / 11 24 5"

@@ -8,7 +8,8 @@ use Rattle.pechuvo.specs.SheetsBeds.{bedded_block, bedded_half, bedded_unused}
 
 -- the starred sheets that ship as files, the first five and 1/3; the fault; the joint; and the bedded ones
 unfoldable pub as_files : List Sheet
-as_files = take 5 starred ++ take 1 (drop 7 starred) ++ (seam_fault ∷ joint_blocks ∷ bedded_block ∷ bedded_half ∷ bedded_unused ∷ [])
+as_files = take 5 starred ++ take 1 (drop 7 starred)
+    ++ (seam_fault ∷ joint_blocks ∷ bedded_block ∷ bedded_half ∷ bedded_unused ∷ [])
 
 -- mesh and claim of each
 unfoldable pub shipped : List (List ℕ × List ℕ)

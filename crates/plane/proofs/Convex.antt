@@ -43,10 +43,16 @@ first_side a b c L h = record {
 }
 
 -- a list of the same corners
-good_as : {A B : List Corner} {s : Side} → ((v : Corner) → v ∈ A → v ∈ B) → ((v : Corner) → v ∈ B → v ∈ A) → Good A s → Good B s
+good_as : {A B : List Corner} {s : Side} → ((v : Corner) → v ∈ A → v ∈ B) → ((v : Corner) → v ∈ B → v ∈ A) → Good A s
+    → Good B s
 good_as to from g = record {
   none_right = λ v k. g.none_right v (from v k);
-  some_left = record { corner = g.some_left.corner; there = to g.some_left.corner g.some_left.there; left = g.some_left.left };
+  some_left = record {
+    corner = g.some_left.corner;
+    there = to g.some_left.corner g.some_left.there;
+    left =
+        g.some_left.left;
+  };
 }
 
 convex : (o : Corner) (cs : List Corner) → ((s : Side) → s ∈ sides (o ∷ cs) → Good (o ∷ cs) s) → Convex (o ∷ cs)

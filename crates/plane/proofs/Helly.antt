@@ -14,7 +14,8 @@ use lib.Signed.{◌≤ℤ◌, ◌<ℤ◌}
 use lib.ListN.{length}
 use Rattle.integer.proofs.RingLaws.{zero_product}
 use Rattle.integer.proofs.Ring.{ring, ring_from, terms}
-use Rattle.integer.proofs.Order.{by_pos, nn_diff, <ℤ→≤ℤ, <ℤ→≢, <ℤ_or_≤ℤ, +ℤ_mono_<, *ℤ_nonneg, *ℤ_pos, *ℤ_cancel_<, nonneg}
+use Rattle.integer.proofs.Order.{by_pos, nn_diff, <ℤ→≤ℤ, <ℤ→≢, <ℤ_or_≤ℤ, +ℤ_mono_<, *ℤ_nonneg, *ℤ_pos, *ℤ_cancel_<}
+use Rattle.integer.proofs.Order.{nonneg}
 use Rattle.integer.proofs.Linear.{linear, facts}
 use Rattle.integer.specs.Members.{◌∈◌}
 use Rattle.plane.specs.Points.{Point}
@@ -90,7 +91,8 @@ module _ {S : Region} (convex : ConvexRegion S) (g : Line) (v w : Point) (sv : S
 module _ {S : Region} (convex : ConvexRegion S) (n : ℕ)
     (lower : (g : Line) (v w : Point) → S v → S w → value g v ≤ℤ pos 0 → pos 0 <ℤ value g w → Helly n (S on g)) where
   -- c is left of all of L and not of g
-  past : (g : Line) (L : List Line) → Few (suc n) S (g ∷ L) → (c : Common S L) → value g c.point ≤ℤ pos 0 → Common S (g ∷ L)
+  past : (g : Line) (L : List Line) → Few (suc n) S (g ∷ L) → (c : Common S L) → value g c.point ≤ℤ pos 0
+      → Common S (g ∷ L)
   past g L few c h =
       let some : Common S (g ∷ []) = few_one few in
       let w : Point = some.point in
@@ -105,7 +107,8 @@ module _ {S : Region} (convex : ConvexRegion S) (n : ℕ)
       }
     where
       onto : (K : ℤ) (z w : Point) → value g z ≡ pos 0 → pos 0 <ℤ value g w → pos 0 <ℤ value g (mix K z (pos 1) w)
-      onto K z w e k = rw (value_mix g K z (pos 1) w, e) (by_pos k (ring (K ∷ value g w ∷ []) (search terms depth 100) refl))
+      onto K z w e k = rw (value_mix g K z (pos 1) w, e)
+          (by_pos k (ring (K ∷ value g w ∷ []) (search terms depth 100) refl))
 
       on_few : Few n (S on g) L
       on_few F s i =
@@ -170,7 +173,8 @@ slope_gap f v w =
 
 -- a step along two lines that are not parallel is none
 along_both : (f g h : Line) (a b c d s t : ℤ)
-    → slope g a b ≡ pos 0 → slope h a b ≡ pos 0 → slope g c d ≡ pos 0 → slope h c d <ℤ pos 0 → slope g s t <ℤ pos 0 → slope f a b ≡ pos 0
+    → slope g a b ≡ pos 0 → slope h a b ≡ pos 0 → slope g c d ≡ pos 0 → slope h c d <ℤ pos 0 → slope g s t <ℤ pos 0
+    → slope f a b ≡ pos 0
 unfolding slope
 along_both f g h a b c d s t ga ha gc hc gs =
     ⊎_elim (λ e. e) (λ e. absurd (<ℤ→≢ hc e)) (zero_product (slope f a b) (slope h c d) product)
@@ -188,7 +192,8 @@ along_both f g h a b c d s t ga ha gc hc gs =
         (ring (f.p ∷ f.q ∷ h.p ∷ h.q ∷ a ∷ b ∷ c ∷ d ∷ []) (search terms depth 100 fits 10000) refl))
 
 -- a step from left of a line to where it is not
-falls : (f : Line) (v w : Point) → Plane v → Plane w → value f v ≤ℤ pos 0 → pos 0 <ℤ value f w → slope f (gap_x v w) (gap_y v w) <ℤ pos 0
+falls : (f : Line) (v w : Point) → Plane v → Plane w → value f v ≤ℤ pos 0 → pos 0 <ℤ value f w
+    → slope f (gap_x v w) (gap_y v w) <ℤ pos 0
 falls f v w pv pw hv hw =
     rw (slope_gap f v w)
     (by_pos (+ℤ_mono_< (*ℤ_pos pv hw) (*ℤ_nonneg (<ℤ→≤ℤ pw) (nn_diff hv)))
@@ -199,7 +204,8 @@ level f v w hv hw = slope_gap f v w ∙ rw (hv, hw) (ring (v.e ∷ w.e ∷ []) (
 
 -- two lines that are not parallel have one point in common
 module _ (g : Line) (v w : Point) (pv : Plane v) (pw : Plane w) (hv : value g v ≤ℤ pos 0) (hw : pos 0 <ℤ value g w)
-    (h : Line) (t u : Point) (pt : (Plane on g) t) (pu : (Plane on g) u) (ht : value h t ≤ℤ pos 0) (hu : pos 0 <ℤ value h u) where
+    (h : Line) (t u : Point) (pt : (Plane on g) t) (pu : (Plane on g) u) (ht : value h t ≤ℤ pos 0)
+    (hu : pos 0 <ℤ value h u) where
   single : Single (Plane on g on h)
   single f z y pz py k =
       let still : slope f (gap_x z y) (gap_y z y) ≡ pos 0 =

@@ -25,7 +25,8 @@ Above L v = (f : Line) → f ∈ L → pos 0 <ℤ value f v
 abbrev pub mix : ℤ → Point → ℤ → Point → Point
 mix k v l w = record { x = k *ℤ v.x +ℤ l *ℤ w.x; y = k *ℤ v.y +ℤ l *ℤ w.y; e = k *ℤ v.e +ℤ l *ℤ w.e }
 
-pub value_mix : (f : Line) (k : ℤ) (v : Point) (l : ℤ) (w : Point) → value f (mix k v l w) ≡ k *ℤ value f v +ℤ l *ℤ value f w
+pub value_mix : (f : Line) (k : ℤ) (v : Point) (l : ℤ) (w : Point)
+    → value f (mix k v l w) ≡ k *ℤ value f v +ℤ l *ℤ value f w
 unfolding value
 value_mix f k v l w =
     ring (f.p ∷ f.q ∷ f.r ∷ k ∷ l ∷ v.x ∷ v.y ∷ v.e ∷ w.x ∷ w.y ∷ w.e ∷ []) (search terms depth 100 fits 10000) refl
@@ -43,5 +44,7 @@ unfolding value left_by
 line_value s v =
     ring (s.from.x ∷ s.from.y ∷ s.to.x ∷ s.to.y ∷ v.x ∷ v.y ∷ v.e ∷ []) (search terms depth 100 fits 10000) refl
 
-pub left_by_mix : (s : Side) (k : ℤ) (v : Point) (l : ℤ) (w : Point) → left_by s (mix k v l w) ≡ k *ℤ left_by s v +ℤ l *ℤ left_by s w
-left_by_mix s k v l w = sym (line_value s (mix k v l w)) ∙ value_mix (line s) k v l w ∙ rw (line_value s v, line_value s w)
+pub left_by_mix : (s : Side) (k : ℤ) (v : Point) (l : ℤ) (w : Point)
+    → left_by s (mix k v l w) ≡ k *ℤ left_by s v +ℤ l *ℤ left_by s w
+left_by_mix s k v l w = sym (line_value s (mix k v l w)) ∙ value_mix (line s) k v l w
+    ∙ rw (line_value s v, line_value s w)

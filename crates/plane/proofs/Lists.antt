@@ -29,7 +29,8 @@ module _ {A : Type 0} where
       ⊎_elim (λ e. Memᴰ.append_right L (Memᴰ.head e)) (λ j. Memᴰ.append_left (a ∷ []) j) (Memᴰ.cases_cons k)
 
   -- of two cases for each member: some member has the first, or each has the second
-  pub some_or_all : {P Q : A → Type 0} → ((v : A) → P v ⊎ Q v) → (L : List A) → ((v : A) × (v ∈ L) × P v) ⊎ ((v : A) → v ∈ L → Q v)
+  pub some_or_all : {P Q : A → Type 0} → ((v : A) → P v ⊎ Q v) → (L : List A)
+      → ((v : A) × (v ∈ L) × P v) ⊎ ((v : A) → v ∈ L → Q v)
   some_or_all cases [] = inr (λ v k. empty k)
   some_or_all cases (a ∷ L) =
       ⊎_elim
@@ -47,7 +48,14 @@ pub record Sorted {A : Type 0} (K L F : List A) : Type 0 where
   pub count : length of_first + length of_second ≡ length F
 
 pub sorted : {A : Type 0} (K L F : List A) → ((v : A) → v ∈ F → v ∈ K ++ L) → Sorted K L F
-sorted K L [] i = record { of_first = []; of_second = []; in_first = λ v k. empty k; in_second = λ v k. empty k; all = λ v k. empty k; count = refl }
+sorted K L [] i = record {
+  of_first = [];
+  of_second = [];
+  in_first = λ v k. empty k;
+  in_second = λ v k. empty k;
+  all = λ v k. empty k;
+  count = refl;
+}
 sorted K L (a ∷ F) i =
     let r : Sorted K L F = sorted K L F (λ v k. i v (later k)) in
     ⊎_elim

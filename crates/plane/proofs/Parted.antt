@@ -10,7 +10,8 @@ use native.Mathlib.Omega.{arith}
 use lib.IntN.{ℤ, pos, negsuc, ◌+ℤ◌, ◌-ℤ◌, ◌*ℤ◌, neg_ℤ}
 use lib.Signed.{◌≤ℤ◌, ◌<ℤ◌, clash_ℤ}
 use Rattle.integer.proofs.Ring.{ring, ring_from, terms, sides as both}
-use Rattle.integer.proofs.Order.{by_nn, by_pos, nn_diff, <ℤ→≤ℤ, <ℤ_or_≤ℤ, +ℤ_mono, +ℤ_mono_<, *ℤ_nonneg, *ℤ_pos, *ℤ_cancel_<, *ℤ_cancel_≤, ≡→≤ℤ}
+use Rattle.integer.proofs.Order.{by_nn, by_pos, nn_diff, <ℤ→≤ℤ, <ℤ_or_≤ℤ, +ℤ_mono, +ℤ_mono_<, *ℤ_nonneg, *ℤ_pos}
+use Rattle.integer.proofs.Order.{*ℤ_cancel_<, *ℤ_cancel_≤, ≡→≤ℤ}
 use Rattle.integer.proofs.Linear.{linear, facts, ◌&◌}
 use Rattle.integer.specs.Members.{◌∈◌}
 use Rattle.plane.specs.Points.{Corner, Point, corner_point, Side, ◌⟶◌, left_by}
@@ -41,13 +42,15 @@ above_inside A v above s k = rw (line_value s v) at (above (line s) (Memᴰ.map 
 -- Cramer's rule
 cramer : (g : Line) (o b c : Corner) (v : Point)
     → left_by (o ⟶ b) (corner_point c) *ℤ value g v
-    ≡ left_by (b ⟶ c) v *ℤ value g (corner_point o) -ℤ left_by (o ⟶ c) v *ℤ value g (corner_point b) +ℤ left_by (o ⟶ b) v *ℤ value g (corner_point c)
+    ≡ left_by (b ⟶ c) v *ℤ value g (corner_point o) -ℤ left_by (o ⟶ c) v *ℤ value g (corner_point b) +ℤ left_by
+    (o ⟶ b) v *ℤ value g (corner_point c)
 unfolding left_by corner_point value
 cramer g o b c v =
     ring (g.p ∷ g.q ∷ g.r ∷ o.x ∷ o.y ∷ b.x ∷ b.y ∷ c.x ∷ c.y ∷ v.x ∷ v.y ∷ v.e ∷ [])
     (both (search terms depth 100 fits 10000) (search terms depth 100 fits 10000)) refl
 
-area : (o b c : Corner) (v : Point) → left_by (o ⟶ b) (corner_point c) *ℤ v.e ≡ left_by (b ⟶ c) v -ℤ left_by (o ⟶ c) v +ℤ left_by (o ⟶ b) v
+area : (o b c : Corner) (v : Point) → left_by (o ⟶ b) (corner_point c) *ℤ v.e
+    ≡ left_by (b ⟶ c) v -ℤ left_by (o ⟶ c) v +ℤ left_by (o ⟶ b) v
 unfolding left_by corner_point
 area o b c v =
     ring (o.x ∷ o.y ∷ b.x ∷ b.y ∷ c.x ∷ c.y ∷ v.x ∷ v.y ∷ v.e ∷ [])
@@ -70,11 +73,13 @@ NotLeft g B = (c : Corner) → c ∈ B → value g (corner_point c) ≤ℤ pos 0
 module _ (g : Line) (v : Point) (positive : Plane v) where
   -- a point in the triangle o b c
   in_triangle : (o b c : Corner) → pos 0 ≤ℤ left_by (o ⟶ b) v → pos 0 <ℤ left_by (b ⟶ c) v → left_by (o ⟶ c) v ≤ℤ pos 0
-      → value g (corner_point o) ≤ℤ pos 0 → value g (corner_point b) ≤ℤ pos 0 → value g (corner_point c) ≤ℤ pos 0 → value g v ≤ℤ pos 0
+      → value g (corner_point o) ≤ℤ pos 0 → value g (corner_point b) ≤ℤ pos 0 → value g (corner_point c) ≤ℤ pos 0
+      → value g v ≤ℤ pos 0
   in_triangle o b c ob bc oc go gb gc =
       *ℤ_cancel_≤ wide
       (by_nn
-      (+ℤ_mono (+ℤ_mono (*ℤ_nonneg (<ℤ→≤ℤ bc) (nn_diff go)) (*ℤ_nonneg (nn_diff oc) (nn_diff gb))) (*ℤ_nonneg ob (nn_diff gc)))
+      (+ℤ_mono (+ℤ_mono (*ℤ_nonneg (<ℤ→≤ℤ bc) (nn_diff go)) (*ℤ_nonneg (nn_diff oc) (nn_diff gb)))
+      (*ℤ_nonneg ob (nn_diff gc)))
       (ring_from (negsuc 0) (cramer g o b c v)
       (ring
       (left_by (o ⟶ b) (corner_point c) ∷ left_by (o ⟶ b) v ∷ left_by (b ⟶ c) v ∷ left_by (o ⟶ c) v
@@ -86,11 +91,13 @@ module _ (g : Line) (v : Point) (positive : Plane v) where
           *ℤ_cancel_< (<ℤ→≤ℤ positive)
           (by_pos (+ℤ_mono_< bc (+ℤ_mono (nn_diff oc) ob))
           (ring_from (pos 1) (area o b c v)
-          (ring (left_by (o ⟶ b) (corner_point c) ∷ left_by (o ⟶ b) v ∷ left_by (b ⟶ c) v ∷ left_by (o ⟶ c) v ∷ v.e ∷ [])
+          (ring (left_by (o ⟶ b) (corner_point c) ∷ left_by (o ⟶ b) v ∷ left_by (b ⟶ c) v ∷ left_by (o ⟶ c) v ∷ v.e
+          ∷ [])
           (search terms depth 100 fits 10000) refl)))
 
   -- the first corner c of the fan with the point not left of o ⟶ c closes the triangle
-  fan : (o b : Corner) (cs : List Corner) → ((s : Side) → s ∈ sides_from o b cs → pos 0 <ℤ left_by s v) → pos 0 ≤ℤ left_by (o ⟶ b) v
+  fan : (o b : Corner) (cs : List Corner) → ((s : Side) → s ∈ sides_from o b cs → pos 0 <ℤ left_by s v)
+      → pos 0 ≤ℤ left_by (o ⟶ b) v
       → value g (corner_point o) ≤ℤ pos 0 → value g (corner_point b) ≤ℤ pos 0 → NotLeft g cs → value g v ≤ℤ pos 0
   unfolding sides_from
   fan o b [] inside ob go gb gs =
@@ -150,8 +157,10 @@ line_parts {A} {B} a b g d left level na nb shared =
     let still : Inside A w = above_inside A w (step_above (lines_of A) v d (inside_above A v shared.in_first)) in
     let proper : Plane w = in_plane K v d (step_positive (lines_of A) d) shared.proper level in
     let on_a : value g w ≤ℤ pos 0 = inner_not_left g w proper A a.first a.is_there still na in
-    let on_b : value (turned g) v ≤ℤ pos 0 = inner_not_left (turned g) v shared.proper B b.first b.is_there shared.in_second nb in
-    across K (value g v) (value g d) (step_positive (lines_of A) d) (rw (value_mix g K v (pos 1) d) at on_a) (rw (turned_value g v) at on_b) left
+    let on_b : value (turned g) v ≤ℤ pos 0 =
+    inner_not_left (turned g) v shared.proper B b.first b.is_there shared.in_second nb in
+    across K (value g v) (value g d) (step_positive (lines_of A) d) (rw (value_mix g K v (pos 1) d) at on_a)
+    (rw (turned_value g v) at on_b) left
   where
     in_plane : (K : ℤ) (v d : Point) → pos 0 <ℤ K → Plane v → d.e ≡ pos 0 → Plane (mix K v (pos 1) d)
     in_plane K v d h_k hv e = rw e (by_pos (*ℤ_pos h_k hv) (ring (K ∷ v.e ∷ []) (search terms depth 100) refl))

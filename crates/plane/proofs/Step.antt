@@ -9,7 +9,8 @@ use native.Mathlib.Omega.{arith}
 use lib.IntN.{ℤ, pos, negsuc, ◌+ℤ◌, ◌-ℤ◌, neg_ℤ, nat_abs}
 use lib.Signed.{◌≤ℤ◌, ◌<ℤ◌, lt_z_yes}
 use Rattle.integer.proofs.Ring.{ring, terms}
-use Rattle.integer.proofs.Order.{by_pos, nn_diff, ≤ℤ_trans, +ℤ_mono, +ℤ_mono_<, *ℤ_nonneg, nonneg, <ℤ→suc≤ℤ, pos_≤ℤ, ≡→≤ℤ}
+use Rattle.integer.proofs.Order.{by_pos, nn_diff, ≤ℤ_trans, +ℤ_mono, +ℤ_mono_<, *ℤ_nonneg, nonneg, <ℤ→suc≤ℤ, pos_≤ℤ}
+use Rattle.integer.proofs.Order.{≡→≤ℤ}
 use Rattle.integer.proofs.Linear.{linear, facts, nothing}
 use Rattle.integer.specs.Members.{◌∈◌}
 use Rattle.plane.specs.Points.{Point}
@@ -45,7 +46,8 @@ pub step_above : (L : List Line) (z w : Point) → Above L z → Above L (mix (s
 unfolding step_length
 step_above L z w h f k =
     let one : pos 0 ≤ℤ (value f z -ℤ pos 1) = nn_diff (<ℤ→suc≤ℤ (h f k)) in
-    let far : pos 0 ≤ℤ (pos (depth L w) +ℤ value f w) = linear (depth_bounds L w f k) (search facts depth 40) (omega arith) in
+    let far : pos 0 ≤ℤ (pos (depth L w) +ℤ value f w) = linear (depth_bounds L w f k) (search facts depth 40)
+    (omega arith) in
     rw (value_mix f (pos (suc (depth L w))) z (pos 1) w)
     (by_pos
     (+ℤ_mono_< {a = pos 0} {b = pos 1} (lt_z_yes tt) (+ℤ_mono (*ℤ_nonneg (nonneg (suc (depth L w))) one) far))

@@ -39,7 +39,8 @@ module _ (s : Side) where
   middle_left (a ∷ rest) h =
       rw (left_sum (corner_point a) (middle rest)) (+ℤ_mono (h a first) (middle_left rest (λ b k. h b (later k))))
 
-  middle_strictly : (A : List Corner) → NoneRight A s → (c : Corner) → c ∈ A → pos 0 <ℤ left_by s (corner_point c) → pos 0 <ℤ left_by s (middle A)
+  middle_strictly : (A : List Corner) → NoneRight A s → (c : Corner) → c ∈ A → pos 0 <ℤ left_by s (corner_point c)
+      → pos 0 <ℤ left_by s (middle A)
   unfolding middle
   middle_strictly [] h c k l = empty k
   middle_strictly (a ∷ rest) h c k l =
@@ -55,13 +56,15 @@ module _ (s : Side) where
 middle_e : (A : List Corner) → pos 0 ≤ℤ (middle A).e
 unfolding middle corner_point
 middle_e [] = ≤ℤ_refl (pos 0)
-middle_e (a ∷ rest) = by_nn (+ℤ_mono (nonneg 1) (middle_e rest)) (ring ((middle rest).e ∷ []) (search terms depth 100) refl)
+middle_e (a ∷ rest) = by_nn (+ℤ_mono (nonneg 1) (middle_e rest))
+    (ring ((middle rest).e ∷ []) (search terms depth 100) refl)
 
 middle_proper : (A : List Corner) (a : Corner) → a ∈ A → Plane (middle A)
 unfolding middle corner_point
 middle_proper [] a k = empty k
 middle_proper (b ∷ rest) a k =
-    by_pos (+ℤ_mono_< {a = pos 0} {b = pos 1} (lt_z_yes tt) (middle_e rest)) (ring ((middle rest).e ∷ []) (search terms depth 100) refl)
+    by_pos (+ℤ_mono_< {a = pos 0} {b = pos 1} (lt_z_yes tt) (middle_e rest))
+    (ring ((middle rest).e ∷ []) (search terms depth 100) refl)
 
 corner_proper : (a : Corner) → Plane (corner_point a)
 unfolding corner_point
@@ -91,11 +94,14 @@ module _ {A : List Corner} (convex : Convex A) where
       let inside : Inside A v = λ s j.
       rw (left_by_mix s K (corner_point a) (pos 1) (middle A))
       (by_pos (+ℤ_mono_< (middle_inside s j) (*ℤ_nonneg (<ℤ→≤ℤ positive) (convex.none_right s j a k)))
-      (ring (step_length (g ∷ []) (middle A) ∷ left_by s (corner_point a) ∷ left_by s (middle A) ∷ []) (search terms depth 100) refl)) in
+      (ring (step_length (g ∷ []) (middle A) ∷ left_by s (corner_point a) ∷ left_by s (middle A) ∷ [])
+      (search terms depth 100) refl)) in
       record {
         point = v;
-        in_region = plane_convex.between K (pos 1) (corner_point a) (middle A) positive (nonneg 1) (corner_proper a) (middle_proper A a k);
-        above = each (step_above (g ∷ []) (corner_point a) (middle A) (each h (λ v k. empty k)) g first) (inside_above A v inside);
+        in_region = plane_convex.between K (pos 1) (corner_point a) (middle A) positive (nonneg 1) (corner_proper a)
+            (middle_proper A a k);
+        above = each (step_above (g ∷ []) (corner_point a) (middle A) (each h (λ v k. empty k)) g first)
+            (inside_above A v inside);
       }
 
 -- ---- any three of the sides
@@ -114,13 +120,15 @@ left_or_none B s =
 parts_or_all : (A B : List Corner) → Parting A B ⊎ AllLeft (sides A) B
 unfolding AllLeft
 parts_or_all A B =
-    ⊎_elim (λ h. inl (record { side = h.0; of_first = h.1; none_left = h.2 })) (λ h. inr h) (some_or_all (left_or_none B) (sides A))
+    ⊎_elim (λ h. inl (record { side = h.0; of_first = h.1; none_left = h.2 })) (λ h. inr h)
+    (some_or_all (left_or_none B) (sides A))
 
 narrow : {L F : List Line} → ((f : Line) → f ∈ F → f ∈ L) → Common Plane L → Common Plane F
 narrow i c = record { point = c.point; in_region = c.in_region; above = λ f k. c.above f (i f k) }
 
 -- a point inside D and left of a side of C
-over_one : (C : List Corner) {D : List Corner} → Convex D → AllLeft (sides C) D → (g : Line) → g ∈ lines_of C → Common Plane (g ∷ lines_of D)
+over_one : (C : List Corner) {D : List Corner} → Convex D → AllLeft (sides C) D → (g : Line) → g ∈ lines_of C
+    → Common Plane (g ∷ lines_of D)
 unfolding AllLeft lines_of
 over_one C {D} d cd g k = let (s, j, e) = Memᴰ.of_map line (sides C) k in over s (cd s j) e
   where

@@ -17,7 +17,8 @@ every : (ℕ → ℕ → Bool) → ℕ → List ℕ → Bool
 every f i [] = true
 every f i (x ∷ xs) = f i x && every f (suc i) xs
 
-every_from : (f : ℕ → ℕ → Bool) (xs : List ℕ) (i : ℕ) → T (every f i xs) → (k : ℕ) → k < length xs → T (f (i + k) (get_or xs k 0))
+every_from : (f : ℕ → ℕ → Bool) (xs : List ℕ) (i : ℕ) → T (every f i xs) → (k : ℕ) → k < length xs
+    → T (f (i + k) (get_or xs k 0))
 unfolding every
 every_from f [] i t k h = absurd (omega arith)
 every_from f (x ∷ xs) i t zero h = rw (add-zero i) (and_yes (f i x) (every f (suc i) xs) t).0
@@ -40,7 +41,8 @@ module _ (b e : ℕ) where
   first_turns : (p : Phase) (ps : List Phase) → T (turns_test b e (p ∷ ps)) → e / 2 ^ shift p % 64 ≡ shift (turn p b)
   unfolding turns_test
   first_turns p ps t =
-      eqb→eq (e / 2 ^ shift p % 64) (shift (turn p b)) (and_yes (eqb (e / 2 ^ shift p % 64) (shift (turn p b))) (turns_test b e ps) t).0
+      eqb→eq (e / 2 ^ shift p % 64) (shift (turn p b))
+      (and_yes (eqb (e / 2 ^ shift p % 64) (shift (turn p b))) (turns_test b e ps) t).0
 
   rest_turns : (p : Phase) (ps : List Phase) → T (turns_test b e (p ∷ ps)) → T (turns_test b e ps)
   unfolding turns_test
@@ -53,7 +55,8 @@ module _ (b e : ℕ) where
   turns_all t sign = first_turns sign _ (rest_turns blank _ (rest_turns bad _ t))
   turns_all t nought = first_turns nought _ (rest_turns sign _ (rest_turns blank _ (rest_turns bad _ t)))
   turns_all t up = first_turns up _ (rest_turns nought _ (rest_turns sign _ (rest_turns blank _ (rest_turns bad _ t))))
-  turns_all t down = first_turns down _ (rest_turns up _ (rest_turns nought _ (rest_turns sign _ (rest_turns blank _ (rest_turns bad _ t)))))
+  turns_all t down = first_turns down _
+      (rest_turns up _ (rest_turns nought _ (rest_turns sign _ (rest_turns blank _ (rest_turns bad _ t)))))
 
   entry_means : T (entry_test b e) → Entry b e
   unfolding entry_test
@@ -71,4 +74,8 @@ pub table_means : (t : List ℕ) → T (table_test t) → Table t
 unfolding table_test
 table_means t h =
     let (n, q) = and_yes (eqb (length t) 256) (every entry_test 0 t) h in
-    record { entry = λ b l. entry_means b (get_or t b 0) (subst (λ i. T (entry_test i (get_or t b 0))) (zero-add b) (every_from entry_test t 0 q b (rw (eqb→eq (length t) 256 n) l))) }
+    record {
+      entry = λ b l. entry_means b (get_or t b 0)
+          (subst (λ i. T (entry_test i (get_or t b 0))) (zero-add b)
+          (every_from entry_test t 0 q b (rw (eqb→eq (length t) 256 n) l)));
+    }

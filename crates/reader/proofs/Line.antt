@@ -28,7 +28,9 @@ columns-length w (z ∷ zs) h =
     length-append (column w z) (columns w zs) ∙ omega (arith, column-length w z h.0, columns-length w zs h.1)
 
 -- a column and then the columns after it
-both_read : (o : Option ℤ) (r : Option (List ℤ)) (zs : List ℤ) → (elim o as (λ _. Option (List ℤ)) [ none ↦ none | some z ↦ map (λ rest. z ∷ rest) r ]) ≡ some zs → (z : ℤ) × (rest : List ℤ) × (o ≡ some z) × (r ≡ some rest) × (zs ≡ z ∷ rest)
+both_read : (o : Option ℤ) (r : Option (List ℤ)) (zs : List ℤ)
+    → (elim o as (λ _. Option (List ℤ)) [ none ↦ none | some z ↦ map (λ rest. z ∷ rest) r ]) ≡ some zs
+    → (z : ℤ) × (rest : List ℤ) × (o ≡ some z) × (r ≡ some rest) × (zs ≡ z ∷ rest)
 both_read none r zs e = absurd (none-ne-some zs e)
 both_read (some z) none zs e = absurd (none-ne-some zs e)
 both_read (some z) (some rest) zs e = (z, rest, refl, refl, cc)
@@ -53,7 +55,8 @@ columns_read w (suc k) bs zs e =
     rw n (record {
       count = ap suc i.count;
       fit = (omega arith, i.fit);
-      bytes = sym (take-append-drop w bs) ∙ ap₂ ◌++◌ front i.bytes ∙ sym (append_assoc (column w z) (columns w rest) (10 ∷ []));
+      bytes = sym (take-append-drop w bs) ∙ ap₂ ◌++◌ front i.bytes
+          ∙ sym (append_assoc (column w z) (columns w rest) (10 ∷ []));
     })
 
 read_columns_lem : (w k : ℕ) (bs : List ℕ) (zs : List ℤ) → WellFormedLine w k zs bs → read_columns w k bs ≡ some zs
@@ -63,18 +66,31 @@ read_columns_lem w zero bs (z ∷ zs) h = absurd (omega (arith, h.count))
 read_columns_lem w (suc k) bs [] h = absurd (omega (arith, h.count))
 read_columns_lem w (suc k) bs (z ∷ zs) h =
     let l = column-length w z h.fit.0 in
-    let e : bs ≡ column w z ++ (columns w zs ++ (10 ∷ [])) = h.bytes ∙ append_assoc (column w z) (columns w zs) (10 ∷ []) in
+    let e : bs ≡ column w z ++ (columns w zs ++ (10 ∷ [])) = h.bytes
+    ∙ append_assoc (column w z) (columns w zs) (10 ∷ []) in
     let front : take w bs ≡ column w z = rw e (take_at (column w z) (columns w zs ++ (10 ∷ [])) w l) in
     let back : drop w bs ≡ columns w zs ++ (10 ∷ []) = rw e (drop_at (column w z) (columns w zs ++ (10 ∷ [])) w l) in
-    rw (ap read_column front ∙ read_column_lem w z, read_columns) (rw (read_columns_lem w k (drop w bs) zs (record { count = omega (arith, h.count); fit = h.fit.1; bytes = back })))
+    rw (ap read_column front ∙ read_column_lem w z, read_columns)
+    (rw (read_columns_lem w k (drop w bs) zs
+    (record { count = omega (arith, h.count); fit = h.fit.1; bytes = back })))
 
 -- a line of k columns stands at the front of bs exactly when the front is well formed
-pub line_means : (w k : ℕ) (bs : List ℕ) (zs : List ℤ) → read_line w k bs ≡ some zs ↔ WellFormedLine w k zs (take (line_bytes w k) bs)
+pub line_means : (w k : ℕ) (bs : List ℕ) (zs : List ℤ) → read_line w k bs
+    ≡ some zs ↔ WellFormedLine w k zs (take (line_bytes w k) bs)
 unfolding read_line line_bytes
 line_means w k bs zs =
     cases (leb (line_bytes w k) (length bs))
-    (λ t. rw (t, read_line) (columns_read w k (take (line_bytes w k) bs) zs, read_columns_lem w k (take (line_bytes w k) bs) zs))
+    (λ t. rw (t, read_line)
+    (columns_read w k (take (line_bytes w k) bs) zs, read_columns_lem w k (take (line_bytes w k) bs) zs))
     (λ t. rw (t, read_line) (
       λ e. absurd (none-ne-some zs e),
-      λ h. absurd (omega (arith, leb-false (line_bytes w k) (length bs) t, length-take (line_bytes w k) bs, ap length h.bytes, length-append (columns w zs) (10 ∷ []), columns-length w zs h.fit, ap (λ x. x * w) h.count)),
+      λ h. absurd (omega (
+        arith,
+        leb-false (line_bytes w k) (length bs) t,
+        length-take (line_bytes w k) bs,
+        ap length h.bytes,
+        length-append (columns w zs) (10 ∷ []),
+        columns-length w zs h.fit,
+        ap (λ x. x * w) h.count,
+      )),
     ))

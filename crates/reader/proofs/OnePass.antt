@@ -200,7 +200,8 @@ value_fits a k (b ∷ bs) h =
 
 value_below : (bs : List ℕ) → length bs ≤ file_width → value_over 0 bs < value_bound
 value_below bs l =
-    lt_of_lt_of_le (value_fits 0 0 bs (omega arith)) (pow-le-pow_right {n = 10} (omega arith) {j = file_width} (omega arith))
+    lt_of_lt_of_le (value_fits 0 0 bs (omega arith))
+    (pow-le-pow_right {n = 10} (omega arith) {j = file_width} (omega arith))
 
 -- ---- the program's state after some bytes
 

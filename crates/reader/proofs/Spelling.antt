@@ -20,7 +20,9 @@ use Rattle.reader.specs.Spelling.{spelling, column, unsigned, negated, signed, r
 
 unsigned_proper : (bs : List ℕ) → T (proper_digits bs) → unsigned bs ≡ some (value_after 0 bs)
 unfolding unsigned
-unsigned_proper bs = elim (proper_digits bs) as (λ b. T b → cond b (some (value_after 0 bs)) none ≡ some (value_after 0 bs)) [ true ↦ λ t. refl | false ↦ λ t. absurd t ]
+unsigned_proper bs = elim (proper_digits bs) as
+    (λ b. T b → cond b (some (value_after 0 bs)) none ≡ some (value_after 0 bs))
+    [ true ↦ λ t. refl | false ↦ λ t. absurd t ]
 
 unsigned-digits : (k : ℕ) → unsigned (digits k) ≡ some k
 unsigned-digits k = unsigned_proper (digits k) (digits_proper k) ∙ ap some (value_digits k)
@@ -31,7 +33,8 @@ unfolding read_column signed proper_digits
 read_proper [] t = absurd t
 read_proper (b ∷ bs) t =
     let h = first_digit b bs (proper_all (b ∷ bs) t) in
-    rw (ne_eqb b 32 (omega arith), read_column) (rw (ne_eqb b 45 (omega arith), signed) (rw (unsigned_proper (b ∷ bs) t)))
+    rw (ne_eqb b 32 (omega arith), read_column)
+    (rw (ne_eqb b 45 (omega arith), signed) (rw (unsigned_proper (b ∷ bs) t)))
 
 read_spelling : (z : ℤ) → read_column (spelling z) ≡ some z
 unfolding read_column signed spelling negated
@@ -53,7 +56,8 @@ unsigned_read : (bs : List ℕ) (k : ℕ) → unsigned bs ≡ some k → bs ≡ 
 unfolding unsigned
 unsigned_read bs k e = go (proper_digits bs) (digits_value bs) e
   where
-    go : (b : Bool) → (T b → digits (value_after 0 bs) ≡ bs) → cond b (some (value_after 0 bs)) none ≡ some k → bs ≡ digits k
+    go : (b : Bool) → (T b → digits (value_after 0 bs) ≡ bs) → cond b (some (value_after 0 bs)) none ≡ some k
+        → bs ≡ digits k
     go true h e = cc (h tt)
     go false h e = cc
 
@@ -76,7 +80,8 @@ signed_read (b ∷ bs) z e =
     (λ t. cc (negated_read bs (unsigned bs) z refl (rw (t, signed) at e), eqb-true b 45 t))
     (λ t. mapped_read (b ∷ bs) (unsigned (b ∷ bs)) z refl (rw (t, signed) at e))
 
-column_read : (bs : List ℕ) (z : ℤ) → read_column bs ≡ some z → (bs ≡ column (length bs) z) × (length (spelling z) ≤ length bs)
+column_read : (bs : List ℕ) (z : ℤ) → read_column bs ≡ some z
+    → (bs ≡ column (length bs) z) × (length (spelling z) ≤ length bs)
 unfolding read_column column right_justified
 column_read [] z e = absurd (none-ne-some z e)
 column_read (b ∷ bs) z e =
@@ -91,5 +96,6 @@ column_read (b ∷ bs) z e =
     (rw h i, omega (arith, ap length i)))
 
 -- a column means z exactly when it is z's spelling right-justified in spaces
-pub column_means : (bs : List ℕ) (z : ℤ) → read_column bs ≡ some z ↔ ((bs ≡ column (length bs) z) × (length (spelling z) ≤ length bs))
+pub column_means : (bs : List ℕ) (z : ℤ) → read_column bs ≡ some z ↔
+    ((bs ≡ column (length bs) z) × (length (spelling z) ≤ length bs))
 column_means bs z = (column_read bs z, λ h. ap read_column h.0 ∙ read_column_lem (length bs) z)

@@ -76,20 +76,26 @@ short_line w k zs h l =
     rw (lt-leb (line_bytes w k) (length (columns w zs)) s, read_line)
 
 -- a first line of k columns, written and read
-pub first_whole : (w k : ℕ) (ks : List ℕ) (zs : List ℤ) → Fit w zs → k ≤ length zs → read_line w k (write_lines w (k ∷ ks) zs) ≡ some (take k zs)
+pub first_whole : (w k : ℕ) (ks : List ℕ) (zs : List ℤ) → Fit w zs → k ≤ length zs
+    → read_line w k (write_lines w (k ∷ ks) zs) ≡ some (take k zs)
 unfolding write_lines
 first_whole w k ks zs h l =
-    rw (le-leb k (length zs) l, write_lines) (rw (length-take-le k zs l) at (whole_line w (take k zs) (fit_take w k zs h) (write_lines w ks (drop k zs))))
+    rw (le-leb k (length zs) l, write_lines)
+    (rw (length-take-le k zs l) at (whole_line w (take k zs) (fit_take w k zs h) (write_lines w ks (drop k zs))))
 
-pub after_first : (w k : ℕ) (ks : List ℕ) (zs : List ℤ) → Fit w zs → k ≤ length zs → drop (line_bytes w k) (write_lines w (k ∷ ks) zs) ≡ write_lines w ks (drop k zs)
+pub after_first : (w k : ℕ) (ks : List ℕ) (zs : List ℤ) → Fit w zs → k ≤ length zs
+    → drop (line_bytes w k) (write_lines w (k ∷ ks) zs) ≡ write_lines w ks (drop k zs)
 unfolding write_lines
 after_first w k ks zs h l =
-    rw (le-leb k (length zs) l, write_lines) (rw (length-take-le k zs l) at (after_line w (take k zs) (fit_take w k zs h) (write_lines w ks (drop k zs))))
+    rw (le-leb k (length zs) l, write_lines)
+    (rw (length-take-le k zs l) at (after_line w (take k zs) (fit_take w k zs h) (write_lines w ks (drop k zs))))
 
-pub first_short : (w k : ℕ) (ks : List ℕ) (zs : List ℤ) → Fit w zs → length zs < k → read_line w k (write_lines w (k ∷ ks) zs) ≡ none
+pub first_short : (w k : ℕ) (ks : List ℕ) (zs : List ℤ) → Fit w zs → length zs < k
+    → read_line w k (write_lines w (k ∷ ks) zs) ≡ none
 unfolding write_lines
 first_short w k ks zs h l =
-    rw (lt-leb k (length zs) l, write_lines) (rw (take_all k zs (omega arith), append-nil (columns w zs)) (short_line w k zs h l))
+    rw (lt-leb k (length zs) l, write_lines)
+    (rw (take_all k zs (omega arith), append-nil (columns w zs)) (short_line w k zs h l))
 
 -- ---- all lines
 
@@ -98,7 +104,8 @@ write_all w ls zs = write_lines w (map width ls) zs
 
 -- the two lists are one, or get one refusal
 abbrev Alike : Layout → List Group → ℕ → List ℤ → List ℤ → Type 0
-Alike f ls j ms ns = (ms ≡ ns) ⊎ ((c : ℕ) × (p : Place) × (check_from f ls ms j ≡ Refused c p) × (check_from f ls ns j ≡ Refused c p))
+Alike f ls j ms ns = (ms ≡ ns)
+    ⊎ ((c : ℕ) × (p : Place) × (check_from f ls ms j ≡ Refused c p) × (check_from f ls ns j ≡ Refused c p))
 
 spelling_some : (z : ℤ) → 0 < length (spelling z)
 unfolding spelling
@@ -116,35 +123,49 @@ read_left_over w [] h = absurd (omega arith)
 read_left_over w (b ∷ bs) h = refl
 
 -- a line before two lists that are alike
-line_before : (f : Layout) (g : Group) (ls : List Group) (zs ms ns : List ℤ) (j : ℕ) → length zs ≡ width g → Alike f ls (suc j) ms ns → Alike f (g ∷ ls) j (zs ++ ms) (zs ++ ns)
+line_before : (f : Layout) (g : Group) (ls : List Group) (zs ms ns : List ℤ) (j : ℕ) → length zs ≡ width g
+    → Alike f ls (suc j) ms ns → Alike f (g ∷ ls) j (zs ++ ms) (zs ++ ns)
 line_before f g ls zs ms ns j e (inl h) = inl (ap (λ x. zs ++ x) h)
 line_before f g ls zs ms ns j e (inr (c, p, x, y)) = inr (by (line_check f g zs (Line (suc j))) refl)
   where
-    by : (v : Outcome) → line_check f g zs (Line (suc j)) ≡ v → (d : ℕ) × (q : Place) × (check_from f (g ∷ ls) (zs ++ ms) j ≡ Refused d q) × (check_from f (g ∷ ls) (zs ++ ns) j ≡ Refused d q)
+    by : (v : Outcome) → line_check f g zs (Line (suc j)) ≡ v
+        → (d : ℕ) × (q : Place) × (check_from f (g ∷ ls) (zs ++ ms) j ≡ Refused d q)
+        × (check_from f (g ∷ ls) (zs ++ ns) j ≡ Refused d q)
     by Passed v = (c, p, check_line f g ls zs ms j e ∙ rw v x, check_line f g ls zs ns j e ∙ rw v y)
     by (Refused d q) v = (d, q, check_line f g ls zs ms j e ∙ rw v, check_line f g ls zs ns j e ∙ rw v)
 
 -- the numbers of written lines
-back_whole : (w k : ℕ) (ks : List ℕ) (zs : List ℤ) → Fit w zs → k ≤ length zs → read_lines w (k ∷ ks) (write_lines w (k ∷ ks) zs) ≡ take k zs ++ read_lines w ks (write_lines w ks (drop k zs))
+back_whole : (w k : ℕ) (ks : List ℕ) (zs : List ℤ) → Fit w zs → k ≤ length zs
+    → read_lines w (k ∷ ks) (write_lines w (k ∷ ks) zs) ≡ take k zs ++ read_lines w ks (write_lines w ks (drop k zs))
 unfolding read_lines
-back_whole w k ks zs h l = rw (first_whole w k ks zs h l, read_lines) (ap (λ x. take k zs ++ read_lines w ks x) (after_first w k ks zs h l))
+back_whole w k ks zs h l = rw (first_whole w k ks zs h l, read_lines)
+    (ap (λ x. take k zs ++ read_lines w ks x) (after_first w k ks zs h l))
 
-back_short : (w k : ℕ) (ks : List ℕ) (zs : List ℤ) → Fit w zs → length zs < k → read_lines w (k ∷ ks) (write_lines w (k ∷ ks) zs) ≡ []
+back_short : (w k : ℕ) (ks : List ℕ) (zs : List ℤ) → Fit w zs → length zs < k
+    → read_lines w (k ∷ ks) (write_lines w (k ∷ ks) zs) ≡ []
 unfolding read_lines
 back_short w k ks zs h l = rw (first_short w k ks zs h l, read_lines)
 
-written : (w : ℕ) (f : Layout) (ls : List Group) → SomeColumns ls → (zs : List ℤ) → Fit w zs → (j : ℕ) → Alike f ls j (read_all w ls (write_all w ls zs)) zs
+written : (w : ℕ) (f : Layout) (ls : List Group) → SomeColumns ls → (zs : List ℤ) → Fit w zs → (j : ℕ)
+    → Alike f ls j (read_all w ls (write_all w ls zs)) zs
 unfolding write_lines read_lines check_from columns
 written w f [] c [] h j = inl refl
 written w f [] c (z ∷ zs) h j =
-    inr (f.form_number, Line (suc j), rw (read_left_over w (columns w (z ∷ zs)) (columns_some w z zs h)), rw (lt-leb (suc (length zs)) 0 (omega arith)))
+    inr (
+      f.form_number,
+      Line (suc j),
+      rw (read_left_over w (columns w (z ∷ zs)) (columns_some w z zs h)),
+      rw (lt-leb (suc (length zs)) 0 (omega arith)),
+    )
 written w f (g ∷ ls) c zs h j =
     let k = width g in
     cases (leb k (length zs))
     (λ t.
     let l = leb-true k (length zs) t in
     rw (back_whole w k (map width ls) zs h l)
-    (rw (take-append-drop k zs) at (line_before f g ls (take k zs) (read_all w ls (write_all w ls (drop k zs))) (drop k zs) j (length-take-le k zs l) (written w f ls c.1 (drop k zs) (fit_drop w k zs h) (suc j)))))
+    (rw (take-append-drop k zs) at
+    (line_before f g ls (take k zs) (read_all w ls (write_all w ls (drop k zs))) (drop k zs) j
+    (length-take-le k zs l) (written w f ls c.1 (drop k zs) (fit_drop w k zs h) (suc j)))))
     (λ t.
     let l = leb-false k (length zs) t in
     rw (back_short w k (map width ls) zs h l)
@@ -177,13 +198,16 @@ module _ (w : ℕ) (f : Layout) (r : Regular f) (zs : List ℤ) (x : Fit w zs) w
       (λ t. absurd (none-ne-some h (sym (first_short w k (widths (f.body zs)) zs x (leb-false k (length zs) t)) ∙ o)))
 
   alike : Alike f (file_lines f zs) 0 (read_all w (file_lines f zs) (file_of w f zs)) zs
-  alike = rw (file_lines_lem w f r zs) (written w f (file_lines f zs) (columns_of (groups f zs) (r.some_columns zs)) zs x 0)
+  alike = rw (file_lines_lem w f r zs)
+      (written w f (file_lines f zs) (columns_of (groups f zs) (r.some_columns zs)) zs x 0)
 
   -- a file written from a list of numbers is checked as the list is
   pub written_checked : lines_check f (numbers_of w f (file_of w f zs)) ≡ lines_check f zs
   written_checked = file_in_order w f r (file_of w f zs) zs same_lines ∙ by alike ∙ sym (lines_in_order f zs)
     where
-      by : Alike f (file_lines f zs) 0 (read_all w (file_lines f zs) (file_of w f zs)) zs → check_from f (file_lines f zs) (read_all w (file_lines f zs) (file_of w f zs)) 0 ≡ check_from f (file_lines f zs) zs 0
+      by : Alike f (file_lines f zs) 0 (read_all w (file_lines f zs) (file_of w f zs)) zs
+          → check_from f (file_lines f zs) (read_all w (file_lines f zs) (file_of w f zs)) 0
+          ≡ check_from f (file_lines f zs) zs 0
       by (inl e) = ap (λ ns. check_from f (file_lines f zs) ns 0) e
       by (inr (c, p, d, e)) = d ∙ sym e
 
@@ -213,6 +237,7 @@ module _ (w : ℕ) (f : Layout) (r : Regular f) (zs : List ℤ) (x : Fit w zs) w
       header_passed w f (file_of w f zs) (take k zs) (header_whole l) (header_check_passed e)
       ∙ rw (← told l, widths_of (f.body zs)) (rw (lines_header f zs r) at (by alike))
     where
-      by : Alike f (file_lines f zs) 0 (read_all w (file_lines f zs) (file_of w f zs)) zs → read_all w (file_lines f zs) (file_of w f zs) ≡ zs
+      by : Alike f (file_lines f zs) 0 (read_all w (file_lines f zs) (file_of w f zs)) zs
+          → read_all w (file_lines f zs) (file_of w f zs) ≡ zs
       by (inl s) = s
       by (inr (c, p, d, s)) = passed_is_not_refused (sym e ∙ lines_in_order f zs ∙ s)

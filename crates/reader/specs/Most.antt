@@ -1,6 +1,8 @@
 -- How many numbers a file has at most: by its bytes, and by the lines that a mesh and a claim can have.
 use Rattle.std.specs.Prelude.{ℕ, ◌+◌, ◌*◌, ◌/◌}
-use Rattle.scope.specs.Mesh.{most_nodes, most_elements, most_soils, most_edges, most_jumps, nodes_for_108, mesh_header_columns, soil_columns, node_columns, element_columns, edge_columns, jump_columns, element_rows, edge_rows, rows_per_jump}
+use Rattle.scope.specs.Mesh.{most_nodes, most_elements, most_soils, most_edges, most_jumps, nodes_for_108}
+use Rattle.scope.specs.Mesh.{mesh_header_columns, soil_columns, node_columns, element_columns, edge_columns}
+use Rattle.scope.specs.Mesh.{jump_columns, element_rows, edge_rows, rows_per_jump}
 use Rattle.scope.specs.Bounds.{most_strength_rows}
 use Rattle.scope.specs.Claim.{claim_header_columns, stress_columns}
 use Rattle.scope.specs.Layers.{most_layers, layer_columns}

@@ -26,8 +26,13 @@ abbrev pub header_bytes : ℕ
 header_bytes = claim_header_columns * file_width + 1
 
 -- room for its numbers
-pub header_room : (f : Layout) (bs : List ℕ) → length bs ≤ header_bytes → length (numbers_of file_width f bs) ≤ claim_header_columns + 1
-header_room f bs l = omega (arith, numbers_by_length f bs, (div-lt_iff_lt-mul {k = file_width} {x = length bs} {y = claim_header_columns + 1} (omega arith)).1 (omega arith))
+pub header_room : (f : Layout) (bs : List ℕ) → length bs ≤ header_bytes
+    → length (numbers_of file_width f bs) ≤ claim_header_columns + 1
+header_room f bs l = omega (
+  arith,
+  numbers_by_length f bs,
+  (div-lt_iff_lt-mul {k = file_width} {x = length bs} {y = claim_header_columns + 1} (omega arith)).1 (omega arith),
+)
 
 -- no more is taken than there is
 pub take_least : (n : ℕ) (l : List ℕ) → take (min n (length l)) l ≡ take n l
@@ -35,15 +40,18 @@ take_least n l = by (dec_le n (length l))
   where
     by : Dec (n ≤ length l) → take (min n (length l)) l ≡ take n l
     by (yes h) = let e : min n (length l) ≡ n = omega arith in rw e
-    by (no h) = let e : min n (length l) ≡ length l = omega arith in rw e (take-length l ∙ sym (take_all n l (omega arith)))
+    by (no h) = let e : min n (length l) ≡ length l = omega arith in rw e
+        (take-length l ∙ sym (take_all n l (omega arith)))
 
-pub own_length : (m : List ℤ) (left : List ℕ) → length (own_bytes m left) ≡ min (claim_bytes m (claim_numbers file_width m left)) (length left)
+pub own_length : (m : List ℤ) (left : List ℕ) → length (own_bytes m left)
+    ≡ min (claim_bytes m (claim_numbers file_width m left)) (length left)
 unfolding own_bytes
 own_length m left = length-take (claim_bytes m (claim_numbers file_width m left)) left
 
 pub own_front : (m : List ℤ) (left : List ℕ) → take (length (own_bytes m left)) left ≡ own_bytes m left
 unfolding own_bytes
-own_front m left = rw (length-take (claim_bytes m (claim_numbers file_width m left)) left) (take_least (claim_bytes m (claim_numbers file_width m left)) left)
+own_front m left = rw (length-take (claim_bytes m (claim_numbers file_width m left)) left)
+    (take_least (claim_bytes m (claim_numbers file_width m left)) left)
 
 -- the header's numbers, read alone, count them
 pub own_counted : (m : List ℤ) {before header : List ℤ} (left : List ℕ) {end count bytes : ℕ} → 0 < sides m

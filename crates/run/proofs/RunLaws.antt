@@ -32,12 +32,16 @@ unfolding claims_judged
 judged_none m zero = refl
 judged_none m (suc room) = refl
 
-pub judged-next : (m : List ℤ) (room : ℕ) (left : List ℕ) → 0 < length left → claims_judged (suc room) Passed m left ≡ own_bytes m left ∷ cond (ends_run (verdict_on Passed m (own_bytes m left))) [] (claims_judged room Passed m (drop (length (own_bytes m left)) left))
+pub judged-next : (m : List ℤ) (room : ℕ) (left : List ℕ) → 0 < length left
+    → claims_judged (suc room) Passed m left ≡ own_bytes m left ∷ cond
+    (ends_run (verdict_on Passed m (own_bytes m left))) []
+    (claims_judged room Passed m (drop (length (own_bytes m left)) left))
 unfolding claims_judged
 judged-next m room [] l = absurd (omega arith)
 judged-next m room (b ∷ bs) l = refl
 
-pub judged_refused : (o : Outcome) (k : ℕ) (p : Place) → o ≡ Fails k p → (room : ℕ) (m : List ℤ) (left : List ℕ) → claims_judged (suc room) o m left ≡ [] ∷ []
+pub judged_refused : (o : Outcome) (k : ℕ) (p : Place) → o ≡ Fails k p → (room : ℕ) (m : List ℤ) (left : List ℕ)
+    → claims_judged (suc room) o m left ≡ [] ∷ []
 unfolding claims_judged
 judged_refused o k p e room m left = rw (e, claims_judged)
 
@@ -56,7 +60,8 @@ up_to_end from l = take_all (length l - from) (drop from l) (omega (arith, lengt
 none_after : (from : ℕ) (l : List ℕ) → drop (length l - from) (drop from l) ≡ []
 none_after from l = drop_of_length-le (drop from l) {i = length l - from} (omega (arith, length-drop from l))
 
-written-there : {after : List ℕ} {w : Written} (v : Verdict) (before : List ℕ) → report_bytes ≤ length before → Reports (pos usual_decimals) v before after w → after ≡ report_line usual_decimals v ++ drop report_bytes before
+written-there : {after : List ℕ} {w : Written} (v : Verdict) (before : List ℕ) → report_bytes ≤ length before
+    → Reports (pos usual_decimals) v before after w → after ≡ report_line usual_decimals v ++ drop report_bytes before
 unfolding after_report after_answer reported is_decimals usual_decimals
 written-there v before l r = r.buffer ∙ rw (le-ltb (length before) report_bytes l, reported)
 
@@ -65,9 +70,11 @@ written-there v before l r = r.buffer ∙ rw (le-ltb (length before) report_byte
 pub flat_append : (f : List ℕ → List ℕ) (xs ys : List (List ℕ)) → flat_map f (xs ++ ys) ≡ flat_map f xs ++ flat_map f ys
 unfolding flat_map
 flat_append f [] ys = refl
-flat_append f (x ∷ xs) ys = ap (λ (l : List ℕ). f x ++ l) (flat_append f xs ys) ∙ sym (append_assoc (f x) (flat_map f xs) (flat_map f ys))
+flat_append f (x ∷ xs) ys = ap (λ (l : List ℕ). f x ++ l) (flat_append f xs ys)
+    ∙ sym (append_assoc (f x) (flat_map f xs) (flat_map f ys))
 
-pub flat_last : (f : List ℕ → List ℕ) (xs : List (List ℕ)) (x : List ℕ) → flat_map f (xs ++ (x ∷ [])) ≡ flat_map f xs ++ f x
+pub flat_last : (f : List ℕ → List ℕ) (xs : List (List ℕ)) (x : List ℕ)
+    → flat_map f (xs ++ (x ∷ [])) ≡ flat_map f xs ++ f x
 unfolding flat_map
 flat_last f xs x = flat_append f xs (x ∷ []) ∙ ap (λ (l : List ℕ). flat_map f xs ++ l) (append-nil (f x))
 
@@ -76,16 +83,20 @@ module _ (f : List ℕ → List ℕ) (k : ℕ) (each : (x : List ℕ) → length
   pub flat_length : (xs : List (List ℕ)) → length (flat_map f xs) ≡ length xs * k
   unfolding flat_map
   flat_length [] = sym (zero-mul k)
-  flat_length (x ∷ xs) = omega (arith, length-append (f x) (flat_map f xs), each x, flat_length xs, suc-mul (length xs) k)
+  flat_length (x ∷ xs) =
+      omega (arith, length-append (f x) (flat_map f xs), each x, flat_length xs, suc-mul (length xs) k)
 
-  pub flat_at : (xs : List (List ℕ)) (tail : List ℕ) (i : ℕ) → i < length xs → take k (drop (i * k) (flat_map f xs ++ tail)) ≡ f (get_or xs i [])
+  pub flat_at : (xs : List (List ℕ)) (tail : List ℕ) (i : ℕ) → i < length xs
+      → take k (drop (i * k) (flat_map f xs ++ tail)) ≡ f (get_or xs i [])
   unfolding flat_map
   flat_at [] tail i l = absurd (omega arith)
-  flat_at (x ∷ xs) tail zero l = rw (zero-mul k, append_assoc (f x) (flat_map f xs) tail) (take_at (f x) (flat_map f xs ++ tail) k (each x))
+  flat_at (x ∷ xs) tail zero l = rw (zero-mul k, append_assoc (f x) (flat_map f xs) tail)
+      (take_at (f x) (flat_map f xs ++ tail) k (each x))
   flat_at (x ∷ xs) tail (suc i) l =
       let e : suc i * k ≡ k + i * k = omega (arith, suc-mul i k) in
       rw (e, append_assoc (f x) (flat_map f xs) tail)
-      (ap (take k) (sym (drop-drop (i * k) k (f x ++ (flat_map f xs ++ tail))) ∙ ap (drop (i * k)) (drop_at (f x) (flat_map f xs ++ tail) k (each x)))
+      (ap (take k) (sym (drop-drop (i * k) k (f x ++ (flat_map f xs ++ tail)))
+      ∙ ap (drop (i * k)) (drop_at (f x) (flat_map f xs ++ tail) k (each x)))
       ∙ flat_at xs tail i (omega arith))
 
 -- ---- so far
@@ -94,7 +105,8 @@ module _ (f : List ℕ → List ℕ) (k : ℕ) (each : (x : List ℕ) → length
 -- `from` are written
 pub record SoFar (m : List ℤ) (claims before : List ℕ) (at from count : ℕ) (buffer : List ℕ) : Type 0 where
   pub done : List (List ℕ)
-  pub all : claims_judged (length before / report_bytes) Passed m claims ≡ done ++ claims_judged ((length before - from) / report_bytes) Passed m (drop at claims)
+  pub all : claims_judged (length before / report_bytes) Passed m claims
+      ≡ done ++ claims_judged ((length before - from) / report_bytes) Passed m (drop at claims)
   pub counts : count ≡ length done
   pub places : from ≡ count * report_bytes
   pub room : from ≤ length before
@@ -118,19 +130,27 @@ none_done m claims before = record {
 }
 
 -- a run whose claims are `done`
-pub ran_over : {o : Outcome} {m : List ℤ} {claims before after : List ℕ} {r : RunAnswer} (done : List (List ℕ)) → claims_judged (length before / report_bytes) o m claims ≡ done → r.reports ≡ length done → r.bytes ≡ length (flat_map (taken_of o m) done) → after ≡ flat_map (line_of o m) done ++ drop (length (flat_map (line_of o m) done)) before → RunAnswers o m claims before r after
+pub ran_over : {o : Outcome} {m : List ℤ} {claims before after : List ℕ} {r : RunAnswer} (done : List (List ℕ))
+    → claims_judged (length before / report_bytes) o m claims ≡ done → r.reports ≡ length done
+    → r.bytes ≡ length (flat_map (taken_of o m) done) → after
+    ≡ flat_map (line_of o m) done ++ drop (length (flat_map (line_of o m) done)) before
+    → RunAnswers o m claims before r after
 unfolding run ran
 ran_over {o} {m} {claims} {before} done e a b w = record {
   reports_are = a ∙ ap length (sym e);
   bytes_are = b ∙ ap (λ (cs : List (List ℕ)). length (flat_map (taken_of o m) cs)) (sym e);
-  buffer_is = w ∙ ap (λ (cs : List (List ℕ)). flat_map (line_of o m) cs ++ drop (length (flat_map (line_of o m) cs)) before) (sym e);
+  buffer_is = w ∙ ap (λ (cs : List (List ℕ)). flat_map (line_of o m) cs ++ drop
+      (length (flat_map (line_of o m) cs)) before) (sym e);
 }
 
-pub same_mesh : {o q : Outcome} {m n : List ℤ} {claims before after : List ℕ} {r : RunAnswer} → o ≡ q → m ≡ n → RunAnswers o m claims before r after → RunAnswers q n claims before r after
+pub same_mesh : {o q : Outcome} {m n : List ℤ} {claims before after : List ℕ} {r : RunAnswer} → o ≡ q → m ≡ n
+    → RunAnswers o m claims before r after → RunAnswers q n claims before r after
 same_mesh {q = q} {m} {claims = claims} {before} {after} {r} e f h =
-    subst (λ (n : List ℤ). RunAnswers q n claims before r after) f (subst (λ (o : Outcome). RunAnswers o m claims before r after) e h)
+    subst (λ (n : List ℤ). RunAnswers q n claims before r after) f
+    (subst (λ (o : Outcome). RunAnswers o m claims before r after) e h)
 
-module _ {m : List ℤ} {claims before : List ℕ} {at from count : ℕ} {buffer : List ℕ} (h : SoFar m claims before at from count buffer) where
+module _ {m : List ℤ} {claims before : List ℕ} {at from count : ℕ} {buffer : List ℕ}
+    (h : SoFar m claims before at from count buffer) where
   ended : claims_judged ((length before - from) / report_bytes) Passed m (drop at claims) ≡ []
       → RunAnswers Passed m claims before (record { reports = count; bytes = at }) buffer
   ended e =
@@ -156,7 +176,14 @@ module _ {m : List ℤ} {claims before : List ℕ} {at from count : ℕ} {buffer
       ∙ judged_none m ((length before - from) / report_bytes))
 
   pub same_size : length buffer ≡ length before
-  same_size = ap length h.written ∙ omega (arith, length-append (flat_map (line_of Passed m) h.done) (drop from before), length-drop from before, h.lines, h.room)
+  same_size = ap length h.written
+      ∙ omega (
+        arith,
+        length-append (flat_map (line_of Passed m) h.done) (drop from before),
+        length-drop from before,
+        h.lines,
+        h.room,
+      )
 
   -- the next claim, the verdict on it, and the part of the buffer that its report was written into
   module _ (more : report_bytes ≤ length buffer - from) (left : at < length claims) {claim : List ℕ} {v : Verdict}
@@ -184,29 +211,49 @@ module _ {m : List ℤ} {claims before : List ℕ} {at from count : ℕ} {buffer
         ∙ ap (λ (l : List ℕ). report_line usual_decimals v ++ drop report_bytes l) (up_to_end from buffer)
 
     long : length (report_line usual_decimals v) ≡ report_bytes
-    long = omega (arith, ap length part_is, same, mid_long, length-append (report_line usual_decimals v) (drop report_bytes (drop from buffer)), length-drop report_bytes (drop from buffer), length-drop from buffer)
+    long = omega (
+      arith,
+      ap length part_is,
+      same,
+      mid_long,
+      length-append (report_line usual_decimals v)
+          (drop report_bytes (drop from buffer)),
+      length-drop report_bytes (drop from buffer),
+      length-drop from buffer,
+    )
 
     -- the buffer with one report more
     abbrev pub one_more : List ℕ
     one_more = put_mid from (length buffer - from) buffer part
 
     put_is : one_more ≡ take from buffer ++ (report_line usual_decimals v ++ drop report_bytes (drop from buffer))
-    put_is = ap (λ (l : List ℕ). take from buffer ++ l) (ap (λ (l : List ℕ). part ++ l) (none_after from buffer) ∙ append-nil part ∙ part_is)
+    put_is = ap (λ (l : List ℕ). take from buffer ++ l)
+        (ap (λ (l : List ℕ). part ++ l) (none_after from buffer) ∙ append-nil part ∙ part_is)
 
     line_is : line_of Passed m own ≡ report_line usual_decimals v
     unfolding line_of
     line_is = ap (report_line usual_decimals) (sym verdict_is)
 
-    lines_more : flat_map (line_of Passed m) (h.done ++ (own ∷ [])) ≡ flat_map (line_of Passed m) h.done ++ report_line usual_decimals v
-    lines_more = flat_last (line_of Passed m) h.done own ∙ ap (λ (l : List ℕ). flat_map (line_of Passed m) h.done ++ l) line_is
+    lines_more : flat_map (line_of Passed m) (h.done ++ (own ∷ []))
+        ≡ flat_map (line_of Passed m) h.done ++ report_line usual_decimals v
+    lines_more = flat_last (line_of Passed m) h.done own ∙ ap
+        (λ (l : List ℕ). flat_map (line_of Passed m) h.done ++ l) line_is
 
     lines_long : length (flat_map (line_of Passed m) (h.done ++ (own ∷ []))) ≡ from + report_bytes
-    lines_long = ap length lines_more ∙ omega (arith, length-append (flat_map (line_of Passed m) h.done) (report_line usual_decimals v), h.lines, long)
+    lines_long = ap length lines_more
+        ∙ omega (
+          arith,
+          length-append (flat_map (line_of Passed m) h.done) (report_line usual_decimals v),
+          h.lines,
+          long,
+        )
 
     written_more : one_more ≡ flat_map (line_of Passed m) (h.done ++ (own ∷ [])) ++ drop (from + report_bytes) before
     written_more =
-        let front = ap (take from) h.written ∙ take_at (flat_map (line_of Passed m) h.done) (drop from before) from h.lines in
-        let back = ap (drop from) h.written ∙ drop_at (flat_map (line_of Passed m) h.done) (drop from before) from h.lines in
+        let front = ap (take from) h.written ∙ take_at (flat_map (line_of Passed m) h.done)
+        (drop from before) from h.lines in
+        let back = ap (drop from) h.written ∙ drop_at (flat_map (line_of Passed m) h.done)
+        (drop from before) from h.lines in
         put_is
         ∙ ap₂ (λ (x y : List ℕ). x ++ (report_line usual_decimals v ++ drop report_bytes y)) front back
         ∙ rw (drop-drop report_bytes from before, lines_more, append_assoc)
@@ -216,25 +263,32 @@ module _ {m : List ℤ} {claims before : List ℕ} {at from count : ℕ} {buffer
         let e : length before - from - report_bytes ≡ length before - (from + report_bytes) = omega arith in
         one_room (length before - from) (omega (arith, same_size)) ∙ ap (λ (n : ℕ). suc (n / report_bytes)) e
 
-    all_next : claims_judged (length before / report_bytes) Passed m claims ≡ h.done ++ (own ∷ cond (ends_run v) [] (claims_judged ((length before - (from + report_bytes)) / report_bytes) Passed m (drop (at + length claim) claims)))
+    all_next : claims_judged (length before / report_bytes) Passed m claims
+        ≡ h.done ++ (own ∷ cond (ends_run v) []
+        (claims_judged ((length before - (from + report_bytes)) / report_bytes) Passed m
+        (drop (at + length claim) claims)))
     unfolding own
     all_next =
         h.all
         ∙ ap (λ (cs : List (List ℕ)). h.done ++ cs)
         (ap (λ (n : ℕ). claims_judged n Passed m (drop at claims)) room_less
-        ∙ judged-next m ((length before - (from + report_bytes)) / report_bytes) (drop at claims) (omega (arith, length-drop at claims))
+        ∙ judged-next m ((length before - (from + report_bytes)) / report_bytes) (drop at claims)
+        (omega (arith, length-drop at claims))
         ∙ rw (verdict_is, own_is, drop-drop (length own) at claims))
 
-    taken_more : flat_map (taken_of Passed m) (h.done ++ (own ∷ [])) ≡ flat_map (taken_of Passed m) h.done ++ cond (ends_run v) [] own
+    taken_more : flat_map (taken_of Passed m) (h.done ++ (own ∷ []))
+        ≡ flat_map (taken_of Passed m) h.done ++ cond (ends_run v) [] own
     unfolding taken_of
     taken_more =
         flat_last (taken_of Passed m) h.done own
         ∙ ap (λ (u : Verdict). flat_map (taken_of Passed m) h.done ++ cond (ends_run u) [] own) (sym verdict_is)
 
-    none_more : ends_run v ≡ true → flat_map (taken_of Passed m) (h.done ++ (own ∷ [])) ≡ flat_map (taken_of Passed m) h.done
+    none_more : ends_run v ≡ true → flat_map (taken_of Passed m) (h.done ++ (own ∷ []))
+        ≡ flat_map (taken_of Passed m) h.done
     none_more e = taken_more ∙ rw e (append-nil (flat_map (taken_of Passed m) h.done))
 
-    own_more : ends_run v ≡ false → flat_map (taken_of Passed m) (h.done ++ (own ∷ [])) ≡ flat_map (taken_of Passed m) h.done ++ own
+    own_more : ends_run v ≡ false → flat_map (taken_of Passed m) (h.done ++ (own ∷ []))
+        ≡ flat_map (taken_of Passed m) h.done ++ own
     own_more e = taken_more ∙ rw e
 
     counts_more : count + 1 ≡ length (h.done ++ (own ∷ []))
@@ -248,7 +302,8 @@ module _ {m : List ℤ} {claims before : List ℕ} {at from count : ℕ} {buffer
         (all_next ∙ rw e)
         counts_more
         (h.takes ∙ ap length (sym (none_more e)))
-        (written_more ∙ ap (λ (n : ℕ). flat_map (line_of Passed m) (h.done ++ (own ∷ [])) ++ drop n before) (sym lines_long))
+        (written_more ∙ ap (λ (n : ℕ). flat_map (line_of Passed m) (h.done ++ (own ∷ [])) ++ drop n before)
+        (sym lines_long))
 
     pub taken_within : at + length claim ≤ length claims
     unfolding own
@@ -261,10 +316,14 @@ module _ {m : List ℤ} {claims before : List ℕ} {at from count : ℕ} {buffer
         ∙ ap length (sym (own_more e))
 
     -- "Bytes after a full claim begin the next"
-    pub goes_on : ends_run v ≡ false → SoFar m claims before (at + length claim) (from + report_bytes) (count + 1) one_more
+    pub goes_on : ends_run v ≡ false → SoFar m claims before (at + length claim) (from + report_bytes)
+        (count + 1) one_more
     goes_on e = record {
       done = h.done ++ (own ∷ []);
-      all = all_next ∙ rw e (sym (append_assoc h.done (own ∷ []) (claims_judged ((length before - (from + report_bytes)) / report_bytes) Passed m (drop (at + length claim) claims))));
+      all = all_next ∙ rw e
+          (sym (append_assoc h.done (own ∷ [])
+          (claims_judged ((length before - (from + report_bytes)) / report_bytes) Passed m
+          (drop (at + length claim) claims))));
       counts = counts_more;
       places = omega (arith, h.places);
       room = omega (arith, h.room, same_size);
@@ -277,7 +336,8 @@ module _ {m : List ℤ} {claims before : List ℕ} {at from count : ℕ} {buffer
 -- ---- a refused mesh
 
 -- the verdict on every claim is the mesh's refusal
-refused_line_lem : (k : ℕ) (p : Place) (m : List ℤ) → line_of (Fails k p) m [] ≡ report_line usual_decimals (Refused k p)
+refused_line_lem : (k : ℕ) (p : Place) (m : List ℤ) → line_of (Fails k p) m []
+    ≡ report_line usual_decimals (Refused k p)
 unfolding line_of verdict_on answer
 refused_line_lem k p m = refl
 
@@ -298,13 +358,24 @@ module _ (k : ℕ) (p : Place) (m : List ℤ) (claims before : List ℕ) where
   unfolding flat_map
   mesh_reported {after = after} room w same =
       let is = written-there (Refused k p) before room w in
-      let long : length (report_line usual_decimals (Refused k p)) ≡ report_bytes = omega (arith, ap length is, same, length-append (report_line usual_decimals (Refused k p)) (drop report_bytes before), length-drop report_bytes before) in
-      let line : flat_map (line_of (Fails k p) m) ([] ∷ []) ≡ report_line usual_decimals (Refused k p) = append-nil (line_of (Fails k p) m []) ∙ refused_line_lem k p m in
+      let long : length (report_line usual_decimals (Refused k p)) ≡ report_bytes =
+      omega (
+        arith,
+        ap length is,
+        same,
+        length-append (report_line usual_decimals (Refused k p))
+            (drop report_bytes before),
+        length-drop report_bytes before,
+      ) in
+      let line : flat_map (line_of (Fails k p) m) ([] ∷ []) ≡ report_line usual_decimals (Refused k p) =
+      append-nil (line_of (Fails k p) m []) ∙ refused_line_lem k p m in
       ran_over ([] ∷ [])
-      (ap (λ (n : ℕ). claims_judged n (Fails k p) m claims) (one_room (length before) room) ∙ judged_refused (Fails k p) k p refl ((length before - report_bytes) / report_bytes) m claims)
+      (ap (λ (n : ℕ). claims_judged n (Fails k p) m claims) (one_room (length before) room)
+      ∙ judged_refused (Fails k p) k p refl ((length before - report_bytes) / report_bytes) m claims)
       refl
       (sym (none_taken (Fails k p) m))
-      (is ∙ sym (ap (λ (l : List ℕ). l ++ drop (length l) before) line ∙ ap (λ (n : ℕ). report_line usual_decimals (Refused k p) ++ drop n before) long))
+      (is ∙ sym (ap (λ (l : List ℕ). l ++ drop (length l) before) line
+      ∙ ap (λ (n : ℕ). report_line usual_decimals (Refused k p) ++ drop n before) long))
 
   pub no_report : length before < report_bytes
       → RunAnswers (Fails k p) m claims before (record { reports = 0; bytes = 0 }) before

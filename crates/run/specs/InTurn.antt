@@ -54,7 +54,8 @@ pub record InTurn (m : List ℤ) (room : ℕ) (claims : List ℕ) (judged : List
 -- own, the verdict is that on all that is left
 abbrev pub HeaderAlone : Type 0
 HeaderAlone = (o : Outcome) (m : List ℤ) (left : List ℕ)
-    → ((h : List ℤ) → read_line file_width claim_header_columns left ≡ some h → header_passes (claim_layout m) h ≡ false)
+    → ((h : List ℤ) → read_line file_width claim_header_columns left ≡ some h
+    → header_passes (claim_layout m) h ≡ false)
     → verdict_on o m (own_bytes m left) ≡ verdict_on o m left
 
 -- "A refused mesh writes its report once, even with no claim byte, and takes no claim"

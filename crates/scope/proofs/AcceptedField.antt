@@ -26,25 +26,29 @@ accepted_criterion m c field a j d =
     let claim = claim_facts m c field.lines mesh in
     let soil = mesh.soil a.soil (((pairs m).exactly a).0 j).1 in
     record {
-      n_above_0 = ⊎_elim (λ above. above) (λ e. absurd (claim.parts_fit.with_field field.there (sym e))) (≤ℤ_split claim.n_range.least);
+      n_above_0 = ⊎_elim (λ above. above) (λ e. absurd (claim.parts_fit.with_field field.there (sym e)))
+          (≤ℤ_split claim.n_range.least);
       right_angle_lem = soil.right_angle;
       p_not_below_0 = soil.p_range.least;
       q_above_0 = suc≤ℤ→<ℤ soil.q_range.least;
       h_above_0 = suc≤ℤ→<ℤ soil.h_range.least;
-      criterion = field_criterion m (stress m c) (l c) (n c) ((field-printed m (stress m c) (l c) (n c)).0 field.meets) a j d;
+      criterion = field_criterion m (stress m c) (l c) (n c) ((field-printed m (stress m c) (l c) (n c)).0 field.meets)
+          a j d;
     }
 
 pub criterion_around : (m c : List ℤ) → FieldAccepted m c → CriterionAround m c
 criterion_around m c field v e h corner d =
     accepted_criterion m c field (record { at = v; soil = element_soil m e })
-    (((sound_pairs m field.mesh).exactly (record { at = v; soil = element_soil m e })).1 (record { element = e; there = h; has-corner = corner; same = refl })) d
+    (((sound_pairs m field.mesh).exactly (record { at = v; soil = element_soil m e })).1
+    (record { element = e; there = h; has-corner = corner; same = refl })) d
 
 pub planes_everywhere : (m c : List ℤ) → FieldAccepted m c → PlanesEverywhere m c
 planes_everywhere m c field a j d v k =
     let x = stress m c (sx a.at) in
     let y = stress m c (sy a.at) in
     let z = stress m c (t a.at) in
-    (plane_meaning (polygon_of (sides m)).radius v (p m a.soil) (q m a.soil) (cohesion m a.soil) (cohesion_across m a.soil) (n c) x y z).both.0
+    (plane_meaning (polygon_of (sides m)).radius v (p m a.soil) (q m a.soil) (cohesion m a.soil)
+    (cohesion_across m a.soil) (n c) x y z).both.0
     (((field-printed m (stress m c) (l c) (n c)).0 field.meets).planes a j d v k)
 
 pub tractions_agree : (m c : List ℤ) → FieldAccepted m c → TractionsAgree m c

@@ -21,7 +21,8 @@ use Rattle.scope.proofs.Parts.{nodes-named, multipliers_meet_lem, whole_bracket}
 pub mesh_fractions : (m : List ℤ) → MeshSound m → MeshFractions m
 unfolding allowed
 mesh_fractions m sound =
-    let laws : FractionLaws (3 * nodes m) (rows_of m) = fraction_laws (3 * nodes m) (rows_of m) (mesh_columns m (nodes-named m sound)) in
+    let laws : FractionLaws (3 * nodes m) (rows_of m) = fraction_laws (3 * nodes m) (rows_of m)
+    (mesh_columns m (nodes-named m sound)) in
     record {
       laws = laws;
       accepted_field = λ c h field. laws.whole_numbers (n c) h (stress m c) (l c) field.meets;
@@ -29,8 +30,10 @@ mesh_fractions m sound =
     }
 
 -- against accepted multipliers for the same rows
-pub fraction_at_most : (m d k : List ℤ) → SameRows m d → MultipliersAccepted d k → (f : FractionField) → MeetsMesh m f → f.load.value ≤ᶠ allowed d k
+pub fraction_at_most : (m d k : List ℤ) → SameRows m d → MultipliersAccepted d k → (f : FractionField) → MeetsMesh m f
+    → f.load.value ≤ᶠ allowed d k
 unfolding allowed
 fraction_at_most m d k same w f met =
-    ≤ᶠ_trans f.load.proper (record { positive = met.written.above_0 }) (record { positive = w.meet.live }) (≈ᶠ→≤ᶠ (≈ᶠ_sym met.written.load))
+    ≤ᶠ_trans f.load.proper (record { positive = met.written.above_0 }) (record { positive = w.meet.live })
+    (≈ᶠ→≤ᶠ (≈ᶠ_sym met.written.load))
     (record { cross-≤ = (whole_bracket m d k same w met.numerators met.numerator met.denominator met.meets).at_most })

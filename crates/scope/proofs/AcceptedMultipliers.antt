@@ -25,7 +25,13 @@ unfolding allowed
 multipliers_as_printed m c = record {
   exactly = (
     λ a. (a.mesh, a.lines, a.there, (multipliers_printed m (listed m a.mesh) (multiplier m c)).0 a.meet),
-    λ p. record { mesh = p.0; lines = p.1; there = p.2; meet = (multipliers_printed m (listed m p.0) (multiplier m c)).1 p.3 },
+    λ p. record {
+      mesh = p.0;
+      lines = p.1;
+      there = p.2;
+      meet =
+          (multipliers_printed m (listed m p.0) (multiplier m c)).1 p.3;
+    },
   );
   limit = λ a. let sums = sums_printed m c a.mesh in ap₂ ◌over◌ sums.limit sums.live;
 }

@@ -14,12 +14,15 @@ use Rattle.scope.specs.Answer.{place_number}
 use Rattle.scope.specs.Columns.{has_field, has_multipliers, n, l}
 use Rattle.scope.specs.Layout.{Layout, group_at, numbers_at, groups, line_count, lines_before}
 use Rattle.scope.specs.Bounds.{most_strength_rows}
-use Rattle.scope.specs.Mesh.{mesh_header, soil_lines, node_lines, element_lines, edge_lines, jump_lines, mesh_layout, mesh_groups, nodes, elements, soils, edges, sides, jumps, edge_line, jump_line}
-use Rattle.scope.specs.Claim.{claim_header, stress_lines, element_multipliers, edge_multipliers, jump_multipliers, strength_multipliers, claim_layout, stress, multiplier}
+use Rattle.scope.specs.Mesh.{mesh_header, soil_lines, node_lines, element_lines, edge_lines, jump_lines, mesh_layout}
+use Rattle.scope.specs.Mesh.{mesh_groups, nodes, elements, soils, edges, sides, jumps, edge_line, jump_line}
+use Rattle.scope.specs.Claim.{claim_header, stress_lines, element_multipliers, edge_multipliers, jump_multipliers}
+use Rattle.scope.specs.Claim.{strength_multipliers, claim_layout, stress, multiplier}
 use Rattle.scope.specs.Rows.{pair_count, equality_rows, strength_rows, rows_of}
 use Rattle.scope.specs.Statements.{LineSound, MeshSound}
 use Rattle.scope.specs.Phases.{Below, AllHold}
-use Rattle.scope.specs.Refusals.{line_steps, line_phases, shape_phases, mesh_phases, field_phases, multiplier_phases, field_part, multiplier_part, part_phases, claim_phases, Refusal}
+use Rattle.scope.specs.Refusals.{line_steps, line_phases, shape_phases, mesh_phases, field_phases, multiplier_phases}
+use Rattle.scope.specs.Refusals.{field_part, multiplier_part, part_phases, claim_phases, Refusal}
 use Rattle.scope.specs.NumberRanges.{Counts}
 use Rattle.scope.proofs.NumberRanges.{header_counts, mesh_facts}
 use Rattle.scope.proofs.Phases.{EachIn, each_refusal, each_join, each_part, own_number}
@@ -36,7 +39,8 @@ unfolding mesh_layout groups mesh_header soil_lines node_lines element_lines edg
 mesh_lines_lem m c = omega (arith, c)
 
 claim_lines_lem : (m c : List ℤ) → MeshSound m → line_count (groups (claim_layout m) c) ≤ 421
-unfolding claim_layout groups claim_header stress_lines element_multipliers edge_multipliers jump_multipliers strength_multipliers line_count
+unfolding claim_layout groups claim_header stress_lines element_multipliers edge_multipliers jump_multipliers
+    strength_multipliers line_count
 claim_lines_lem m c s =
     omega (
       arith,
@@ -50,26 +54,31 @@ claim_lines_lem m c s =
     )
 
 -- a place among lines whose number is bounded once the first line is sound
-pub line_places : {f : Layout} {ns : List ℤ} {B most : ℕ} → 0 < B → suc B ≤ most → (LineSound f ns 0 → line_count (groups f ns) ≤ B) → EachIn (λ c p. place_number p ≤ most) (line_phases f ns)
+pub line_places : {f : Layout} {ns : List ℤ} {B most : ℕ} → 0 < B → suc B ≤ most
+    → (LineSound f ns 0 → line_count (groups f ns) ≤ B) → EachIn (λ c p. place_number p ≤ most) (line_phases f ns)
 line_places {f} {ns} {B} {most} z top few = (
   λ k c h b r. at k h b,
   λ e. (λ k c h b r. end e (dec_lt 0 (line_count (groups f ns))), λ i. tt),
 )
   where
-    at : (k : ℕ) → k < line_count (groups f ns) → Below k (λ j. AllHold (line_steps f (group_at f ns j) (numbers_at f ns j))) → suc k ≤ most
+    at : (k : ℕ) → k < line_count (groups f ns)
+        → Below k (λ j. AllHold (line_steps f (group_at f ns j) (numbers_at f ns j))) → suc k ≤ most
     at zero h b = omega arith
     at (suc k) h b = omega (arith, few (line_sound f ns 0 (b 0 (omega arith))))
 
-    end : Below (line_count (groups f ns)) (λ j. AllHold (line_steps f (group_at f ns j) (numbers_at f ns j))) → Dec (0 < line_count (groups f ns)) → suc (line_count (groups f ns)) ≤ most
+    end : Below (line_count (groups f ns)) (λ j. AllHold (line_steps f (group_at f ns j) (numbers_at f ns j)))
+        → Dec (0 < line_count (groups f ns)) → suc (line_count (groups f ns)) ≤ most
     end e (yes l) = omega (arith, few (line_sound f ns 0 (e 0 l)))
     end e (no l) = omega arith
 
 edge_line_lem : (m : List ℤ) (g : ℕ) → edge_line m g ≡ 1 + soils m + nodes m + elements m + g
-unfolding edge_line mesh_groups mesh_layout groups mesh_header soil_lines node_lines element_lines edge_lines lines_before
+unfolding edge_line mesh_groups mesh_layout groups mesh_header soil_lines node_lines element_lines edge_lines
+    lines_before
 edge_line_lem m g = omega arith
 
 jump_line_lem : (m : List ℤ) (j : ℕ) → jump_line m j ≡ 1 + soils m + nodes m + elements m + edges m + j
-unfolding jump_line mesh_groups mesh_layout groups mesh_header soil_lines node_lines element_lines edge_lines jump_lines lines_before
+unfolding jump_line mesh_groups mesh_layout groups mesh_header soil_lines node_lines element_lines edge_lines
+    jump_lines lines_before
 jump_line_lem m j = omega arith
 
 pub few_strengths : (m : List ℤ) → MeshSound m → length (strength_rows m) ≤ most_strength_rows
@@ -93,11 +102,17 @@ mesh_most {k} e = by e.1
 
 numbers_most : (m c : List ℤ) → EachIn (λ k p. k ≤ most_number) (mesh_phases m ++ claim_phases m c)
 numbers_most m c =
-    each_number (λ k p. k ≤ most_number) m c (λ k p e. mesh_most e)
-    (λ k n h l r. omega (arith, own_number {k = 21} refl r), λ e. (λ k n h l r. omega (arith, own_number {k = 22} refl r), λ i. tt))
+    each_number (λ k p. k ≤ most_number) m c (λ k p e. mesh_most e) (
+      λ k n h l r. omega (arith, own_number {k = 21} refl r),
+      λ e.
+          (λ k n h l r. omega (arith, own_number {k = 22} refl r), λ i. tt),
+    )
     (λ a b d. (
       λ k n h l r. omega (arith, own_number {k = 31} refl r),
-      λ e. (λ k n h l r. omega (arith, own_number {k = 32} refl r), λ e. (λ k n h l r. omega (arith, own_number {k = 33} refl r), λ i. tt)),
+      λ e. (
+        λ k n h l r. omega (arith, own_number {k = 32} refl r),
+        λ e. (λ k n h l r. omega (arith, own_number {k = 33} refl r), λ i. tt),
+      ),
     ))
 
 -- ---- places
@@ -119,7 +134,13 @@ places_most m c =
           λ k n h b r. omega (arith, counts),
           λ e. (
             λ k n h b r. omega (arith, counts),
-            λ e. (λ g n h b r. omega (arith, counts, edge_line_lem m g), λ e. (λ j n h b r. omega (arith, counts, jump_line_lem m j), λ e. (λ k n h b r. omega (arith, counts), λ i. tt))),
+            λ e. (
+              λ g n h b r. omega (arith, counts, edge_line_lem m g),
+              λ e. (
+                λ j n h b r. omega (arith, counts, jump_line_lem m j),
+                λ e. (λ k n h b r. omega (arith, counts), λ i. tt),
+              ),
+            ),
           ),
         ),
       ),
@@ -135,7 +156,8 @@ places_most m c =
       λ k n h b r. omega (arith, equality_count_lem m, counts),
       λ e. (λ k n h b r. omega (arith, few_strengths m sound), λ i. tt),
     ))
-    (λ d. each_part Q (has_multipliers c) (multiplier_phases (equality_rows m) (rows_of m) (3 * nodes m) (multiplier m c)) (
+    (λ d. each_part Q (has_multipliers c)
+    (multiplier_phases (equality_rows m) (rows_of m) (3 * nodes m) (multiplier m c)) (
       λ k n h b r. omega (arith, equality_count_lem m, counts),
       λ e. (λ k n h b r. omega (arith, counts), λ e. (λ k n h b r. omega arith, λ i. tt)),
     ))))
@@ -143,5 +165,9 @@ places_most m c =
     Q : ℕ → Place → Type 0
     Q k p = place_number p ≤ most_place
 
-pub refusal_bounds : {m c : List ℤ} {k : ℕ} {p : Place} → Refusal m c k p → (k ≤ most_number) × (place_number p ≤ most_place)
-refusal_bounds {m} {c} r = (each_refusal (λ k p. k ≤ most_number) (mesh_phases m ++ claim_phases m c) (numbers_most m c) r.by, each_refusal (λ k p. place_number p ≤ most_place) (mesh_phases m ++ claim_phases m c) (places_most m c) r.by)
+pub refusal_bounds : {m c : List ℤ} {k : ℕ} {p : Place} → Refusal m c k p
+    → (k ≤ most_number) × (place_number p ≤ most_place)
+refusal_bounds {m} {c} r = (
+  each_refusal (λ k p. k ≤ most_number) (mesh_phases m ++ claim_phases m c) (numbers_most m c) r.by,
+  each_refusal (λ k p. place_number p ≤ most_place) (mesh_phases m ++ claim_phases m c) (places_most m c) r.by,
+)

@@ -26,7 +26,12 @@ use Rattle.scope.specs.AcceptedField.{TractionsAgree}
 use Rattle.scope.proofs.AcceptedField.{tractions_agree}
 use Rattle.scope.specs.Bracket.{to_spare}
 use Rattle.scope.specs.Parts.{carried, allowed, SameRows, PartsBracket}
-use Rattle.scope.specs.Worked.{zeros, worked_mesh, worked_stresses, worked_multipliers, worked_claim, multipliers_alone, sheet, sheet19, sheet29, nineteen_fractions, nineteen_sixths, one_edge, free_shear, fill_over_clay, over_clay, blocks, block_edges, joint, two_blocks, on_joint, shared_blocks, on_shared, cut_with_tip, on_cut, against_its_side, facing_turned, side_with_edge, facing_with_edge, jump_twice, sides_apart, joint_from_behind, crossing_bars}
+use Rattle.scope.specs.Worked.{zeros, worked_mesh, worked_stresses, worked_multipliers, worked_claim}
+use Rattle.scope.specs.Worked.{multipliers_alone, sheet, sheet19, sheet29, nineteen_fractions, nineteen_sixths}
+use Rattle.scope.specs.Worked.{one_edge, free_shear, fill_over_clay, over_clay, blocks, block_edges, joint}
+use Rattle.scope.specs.Worked.{two_blocks, on_joint, shared_blocks, on_shared, cut_with_tip, on_cut, against_its_side}
+use Rattle.scope.specs.Worked.{facing_turned, side_with_edge, facing_with_edge, jump_twice, sides_apart}
+use Rattle.scope.specs.Worked.{joint_from_behind, crossing_bars}
 use Rattle.scope.specs.Fractions.{FractionField, WrittenOver}
 use Rattle.scope.specs.AcceptedFractions.{MeetsMesh}
 use Rattle.integer.specs.Tests.{eq_z}
@@ -41,7 +46,8 @@ use Rattle.scope.proofs.Refusals.{mesh_passed, lines_passed, field_passed, multi
 
 -- ---- what passes is accepted
 
-pub field_accepted : (m c : List ℤ) → mesh_check m ≡ Passed → lines_check (claim_layout m) c ≡ Passed → HasField c → field_check (equality_rows m) (strength_rows m) (stress m c) (l c) (n c) ≡ Passed → FieldAccepted m c
+pub field_accepted : (m c : List ℤ) → mesh_check m ≡ Passed → lines_check (claim_layout m) c ≡ Passed → HasField c
+    → field_check (equality_rows m) (strength_rows m) (stress m c) (l c) (n c) ≡ Passed → FieldAccepted m c
 unfolding rows_of
 field_accepted m c a b h e = record {
   mesh = (mesh_passed m).says a;
@@ -50,7 +56,9 @@ field_accepted m c a b h e = record {
   meets = (field_passed (equality_rows m) (strength_rows m) (stress m c) (l c) (n c)).says e;
 }
 
-pub multipliers_accepted : (m c : List ℤ) → mesh_check m ≡ Passed → lines_check (claim_layout m) c ≡ Passed → HasMultipliers c → multipliers_check (equality_rows m) (rows_of m) (3 * nodes m) (multiplier m c) ≡ Passed → MultipliersAccepted m c
+pub multipliers_accepted : (m c : List ℤ) → mesh_check m ≡ Passed → lines_check (claim_layout m) c ≡ Passed
+    → HasMultipliers c → multipliers_check (equality_rows m) (rows_of m) (3 * nodes m) (multiplier m c) ≡ Passed
+    → MultipliersAccepted m c
 multipliers_accepted m c a b h e = record {
   mesh = (mesh_passed m).says a;
   lines = (lines_passed (claim_layout m) c).says b;
@@ -61,20 +69,26 @@ multipliers_accepted m c a b h e = record {
 -- ---- the sheet: m = 30, W = 600
 
 pub sheet-field : FieldAccepted worked_mesh sheet
-unfolding computed zeros worked_mesh worked_stresses worked_multipliers worked_claim multipliers_alone sheet sheet19 sheet29
+unfolding computed zeros worked_mesh worked_stresses worked_multipliers worked_claim multipliers_alone sheet sheet19
+    sheet29
 sheet-field = field_accepted worked_mesh sheet refl refl refl refl
 
 pub sheet_multipliers : MultipliersAccepted worked_mesh sheet
-unfolding computed zeros worked_mesh worked_stresses worked_multipliers worked_claim multipliers_alone sheet sheet19 sheet29
+unfolding computed zeros worked_mesh worked_stresses worked_multipliers worked_claim multipliers_alone sheet sheet19
+    sheet29
 sheet_multipliers = multipliers_accepted worked_mesh sheet refl refl refl refl
 
-pub sheet_sums : (live_sum (multiplier worked_mesh sheet) (rows_of worked_mesh) ≡ pos 30) × (limit_sum (multiplier worked_mesh sheet) (rows_of worked_mesh) ≡ pos 600)
-unfolding computed zeros worked_mesh worked_stresses worked_multipliers worked_claim multipliers_alone sheet sheet19 sheet29
+pub sheet_sums : (live_sum (multiplier worked_mesh sheet) (rows_of worked_mesh) ≡ pos 30)
+    × (limit_sum (multiplier worked_mesh sheet) (rows_of worked_mesh) ≡ pos 600)
+unfolding computed zeros worked_mesh worked_stresses worked_multipliers worked_claim multipliers_alone sheet sheet19
+    sheet29
 sheet_sums = (refl, refl)
 
 -- the same as sums over the printed rows
-pub sheet-printed : (printed_live worked_mesh (multiplier worked_mesh sheet) ≡ pos 30) × (printed_limit worked_mesh (multiplier worked_mesh sheet) ≡ pos 600)
-sheet-printed = let sums = sums_printed worked_mesh sheet sheet_multipliers.mesh in (sym sums.live ∙ sheet_sums.0, sym sums.limit ∙ sheet_sums.1)
+pub sheet-printed : (printed_live worked_mesh (multiplier worked_mesh sheet) ≡ pos 30)
+    × (printed_limit worked_mesh (multiplier worked_mesh sheet) ≡ pos 600)
+sheet-printed = let sums = sums_printed worked_mesh sheet sheet_multipliers.mesh in
+    (sym sums.live ∙ sheet_sums.0, sym sums.limit ∙ sheet_sums.1)
 
 -- the t column of node 3, as printed
 pub sheet-column-9 : printed_column worked_mesh (multiplier worked_mesh sheet) (t 2) ≡ pos 0
@@ -85,8 +99,10 @@ sheet-column-9 = (((multipliers_as_printed worked_mesh sheet).exactly.0 sheet_mu
 pub sheet_bracket : PartsBracket worked_mesh sheet worked_mesh sheet
 sheet_bracket = parts_bracket worked_mesh sheet worked_mesh sheet refl sheet-field sheet_multipliers
 
-pub sheet_open : open_rows (stress worked_mesh sheet) (l sheet) (n sheet) (multiplier worked_mesh sheet) (rows_of worked_mesh) ≡ 0
-unfolding computed zeros worked_mesh worked_stresses worked_multipliers worked_claim multipliers_alone sheet sheet19 sheet29
+pub sheet_open : open_rows (stress worked_mesh sheet) (l sheet) (n sheet) (multiplier worked_mesh sheet)
+    (rows_of worked_mesh) ≡ 0
+unfolding computed zeros worked_mesh worked_stresses worked_multipliers worked_claim multipliers_alone sheet sheet19
+    sheet29
 sheet_open = refl
 
 pub sheet_closed : carried sheet ≈ᶠ allowed worked_mesh sheet
@@ -95,23 +111,30 @@ sheet_closed = (open_rows_count worked_mesh sheet sheet-field sheet_multipliers)
 -- ---- l 19: 600 - 570 = 15 + 15
 
 pub nineteen_field : FieldAccepted worked_mesh sheet19
-unfolding computed zeros worked_mesh worked_stresses worked_multipliers worked_claim multipliers_alone sheet sheet19 sheet29
+unfolding computed zeros worked_mesh worked_stresses worked_multipliers worked_claim multipliers_alone sheet sheet19
+    sheet29
 nineteen_field = field_accepted worked_mesh sheet19 refl refl refl refl
 
 -- the strength rows 25 and 36, sides 1 and 12 of node 3, each with multiplier 1 and 15 to spare; they follow 14
 -- equality rows
-pub nineteen_spare : (to_spare (stress worked_mesh sheet19) (l sheet19) (n sheet19) (row_at (strength_rows worked_mesh) 24) ≡ pos 15) × (to_spare (stress worked_mesh sheet19) (l sheet19) (n sheet19) (row_at (strength_rows worked_mesh) 35) ≡ pos 15)
-unfolding computed zeros worked_mesh worked_stresses worked_multipliers worked_claim multipliers_alone sheet sheet19 sheet29 to_spare
+pub nineteen_spare : (to_spare (stress worked_mesh sheet19) (l sheet19) (n sheet19)
+    (row_at (strength_rows worked_mesh) 24) ≡ pos 15)
+    × (to_spare (stress worked_mesh sheet19) (l sheet19) (n sheet19) (row_at (strength_rows worked_mesh) 35) ≡ pos 15)
+unfolding computed zeros worked_mesh worked_stresses worked_multipliers worked_claim multipliers_alone sheet sheet19
+    sheet29 to_spare
 nineteen_spare = (refl, refl)
 
-pub nineteen_gap : weighted_sum (to_spare (stress worked_mesh sheet19) (l sheet19) (n sheet19)) (weighed (multiplier worked_mesh sheet19) (rows_of worked_mesh)) ≡ pos 600 *ℤ pos 1 -ℤ pos 19 *ℤ pos 30
-unfolding computed zeros worked_mesh worked_stresses worked_multipliers worked_claim multipliers_alone sheet sheet19 sheet29 to_spare
+pub nineteen_gap : weighted_sum (to_spare (stress worked_mesh sheet19) (l sheet19) (n sheet19))
+    (weighed (multiplier worked_mesh sheet19) (rows_of worked_mesh)) ≡ pos 600 *ℤ pos 1 -ℤ pos 19 *ℤ pos 30
+unfolding computed zeros worked_mesh worked_stresses worked_multipliers worked_claim multipliers_alone sheet sheet19
+    sheet29 to_spare
 nineteen_gap = refl
 
 -- ---- the field of l 19 against the multipliers of another claim
 
 pub alone_multipliers : MultipliersAccepted worked_mesh multipliers_alone
-unfolding computed zeros worked_mesh worked_stresses worked_multipliers worked_claim multipliers_alone sheet sheet19 sheet29
+unfolding computed zeros worked_mesh worked_stresses worked_multipliers worked_claim multipliers_alone sheet sheet19
+    sheet29
 alone_multipliers = multipliers_accepted worked_mesh multipliers_alone refl refl refl refl
 
 pub nineteen_alone : PartsBracket worked_mesh sheet19 worked_mesh multipliers_alone
@@ -120,11 +143,13 @@ nineteen_alone = parts_bracket worked_mesh sheet19 worked_mesh multipliers_alone
 -- ---- an accepted field within a refused claim
 
 pub refused_claim : verdict worked_mesh sheet29 ≡ Refused 32 (Column 7)
-unfolding computed zeros worked_mesh worked_stresses worked_multipliers worked_claim multipliers_alone sheet sheet19 sheet29
+unfolding computed zeros worked_mesh worked_stresses worked_multipliers worked_claim multipliers_alone sheet sheet19
+    sheet29
 refused_claim = refl
 
 pub field_of_refused : FieldAccepted worked_mesh sheet29
-unfolding computed zeros worked_mesh worked_stresses worked_multipliers worked_claim multipliers_alone sheet sheet19 sheet29
+unfolding computed zeros worked_mesh worked_stresses worked_multipliers worked_claim multipliers_alone sheet sheet19
+    sheet29
 field_of_refused = field_accepted worked_mesh sheet29 refl refl refl refl
 
 pub refused_bracket : PartsBracket worked_mesh sheet29 worked_mesh sheet
@@ -137,16 +162,25 @@ above_0 num d = record { positive = record { lt = lt→ltb 0 (suc d) (omega arit
 
 fractions : FractionField
 fractions = record {
-  stress = λ k. record { value = (nineteen_fractions k).0 over pos (suc (nineteen_fractions k).1); proper = above_0 (nineteen_fractions k).0 (nineteen_fractions k).1 };
+  stress = λ k. record {
+    value = (nineteen_fractions k).0 over pos (suc (nineteen_fractions k).1);
+    proper =
+        above_0 (nineteen_fractions k).0 (nineteen_fractions k).1;
+  };
   load = record { value = pos 38 over pos 2; proper = above_0 (pos 38) 1 };
 }
 
 -- each is the one over 6, tested at the twelve columns
 sixths : WrittenOver (3 * nodes worked_mesh) fractions (pos 6) nineteen_sixths (pos 114)
-unfolding computed zeros worked_mesh worked_stresses worked_multipliers worked_claim multipliers_alone sheet sheet19 sheet29 nineteen_fractions nineteen_sixths fractions
+unfolding computed zeros worked_mesh worked_stresses worked_multipliers worked_claim multipliers_alone sheet sheet19
+    sheet29 nineteen_fractions nineteen_sixths fractions
 sixths = record {
   above_0 = lt_z_yes tt;
-  stresses = λ j h. record { cross-≡ = (all_below_lem {f = test} {P = Same} (λ j. equalℤ (nineteen_sixths j *ℤ pos (suc (nineteen_fractions j).1)) ((nineteen_fractions j).0 *ℤ pos 6)) 12).holds tt j h };
+  stresses = λ j h. record {
+    cross-≡ = (all_below_lem {f = test} {P = Same}
+        (λ j. equalℤ (nineteen_sixths j *ℤ pos (suc (nineteen_fractions j).1)) ((nineteen_fractions j).0 *ℤ pos 6))
+        12).holds tt j h;
+  };
   load = record { cross-≡ = refl };
 }
   where
@@ -157,18 +191,21 @@ sixths = record {
     Same j = nineteen_sixths j *ℤ pos (suc (nineteen_fractions j).1) ≡ (nineteen_fractions j).0 *ℤ pos 6
 
 fractions_meet : MeetsMesh worked_mesh fractions
-unfolding computed zeros worked_mesh worked_stresses worked_multipliers worked_claim multipliers_alone sheet sheet19 sheet29 nineteen_fractions nineteen_sixths fractions
+unfolding computed zeros worked_mesh worked_stresses worked_multipliers worked_claim multipliers_alone sheet sheet19
+    sheet29 nineteen_fractions nineteen_sixths fractions
 fractions_meet = record {
   denominator = pos 6;
   numerators = nineteen_sixths;
   numerator = pos 114;
   written = sixths;
-  meets = (field_passed (equality_rows worked_mesh) (strength_rows worked_mesh) nineteen_sixths (pos 114) (pos 6)).says refl;
+  meets = (field_passed (equality_rows worked_mesh) (strength_rows worked_mesh) nineteen_sixths (pos 114) (pos 6)).says
+      refl;
 }
 
 pub fractions_at_most : pos 38 over pos 2 ≤ᶠ allowed worked_mesh sheet
 unfolding fractions
-fractions_at_most = (mesh_fractions worked_mesh sheet-field.mesh).at_most sheet fractions sheet_multipliers fractions_meet
+fractions_at_most = (mesh_fractions worked_mesh sheet-field.mesh).at_most sheet fractions sheet_multipliers
+    fractions_meet
 
 -- ---- meshes that differ in a number of an unfixed part: the same rows, though not the same numbers
 
@@ -179,7 +216,8 @@ one_edge_rows = refl
 -- row 4 of each, the unfixed shear at the edge's from-node, has another right side
 pub one_edge_numbers : ¬ (rows_of (one_edge (pos 0)) ≡ rows_of (one_edge (pos 5)))
 unfolding computed zeros one_edge
-one_edge_numbers e = let z : ◌≡◌ {A = ℤ} (pos 0) (pos 5) = ap (λ (rs : List Row). (row_at rs 3).right) e in let y : ◌≡◌ {A = ℕ} 0 5 = cc in omega arith
+one_edge_numbers e = let z : ◌≡◌ {A = ℤ} (pos 0) (pos 5) = ap (λ (rs : List Row). (row_at rs 3).right) e in let y : ◌≡◌
+    {A = ℕ} 0 5 = cc in omega arith
 
 -- a field on the one mesh and multipliers on the other
 pub free_field : FieldAccepted (free_shear (pos 0)) sheet19
@@ -195,7 +233,8 @@ unfolding computed zeros free_shear
 free_rows = refl
 
 pub free_bracket : PartsBracket (free_shear (pos 0)) sheet19 (free_shear (pos 5)) sheet
-free_bracket = parts_bracket (free_shear (pos 0)) sheet19 (free_shear (pos 5)) sheet free_rows free_field free_multipliers
+free_bracket = parts_bracket (free_shear (pos 0)) sheet19 (free_shear (pos 5)) sheet free_rows free_field
+    free_multipliers
 
 -- ---- fill over clay: nodes 3 and 4 have two pairs each
 
@@ -205,7 +244,8 @@ unfolding computed zeros fill_over_clay
 clay_pairs = refl
 
 -- at 20 document 01's rows were met: a field within the fill's strength passed
-pub clay_passed_before : field_check (equality_rows fill_over_clay) (rows_before fill_over_clay) (stress fill_over_clay (over_clay 20)) (l (over_clay 20)) (n (over_clay 20)) ≡ Passed
+pub clay_passed_before : field_check (equality_rows fill_over_clay) (rows_before fill_over_clay)
+    (stress fill_over_clay (over_clay 20)) (l (over_clay 20)) (n (over_clay 20)) ≡ Passed
 unfolding computed zeros fill_over_clay over_clay soil_before rows_before
 clay_passed_before = refl
 
@@ -267,8 +307,10 @@ cut_field = field_accepted cut_with_tip on_cut refl refl refl refl
 
 pub refused_44 : (mesh_check against_its_side ≡ Fails 44 (Line 15)) × (mesh_check facing_turned ≡ Fails 44 (Line 15))
     × (mesh_check side_with_edge ≡ Fails 44 (Line 14)) × (mesh_check facing_with_edge ≡ Fails 44 (Line 14))
-    × (mesh_check sides_apart ≡ Fails 44 (Line 13)) × (mesh_check jump_twice ≡ Fails 44 (Line 14)) × (mesh_check joint_from_behind ≡ Fails 44 (Line 14))
-unfolding computed zeros blocks block_edges joint against_its_side facing_turned side_with_edge facing_with_edge jump_twice sides_apart joint_from_behind
+    × (mesh_check sides_apart ≡ Fails 44 (Line 13)) × (mesh_check jump_twice ≡ Fails 44 (Line 14))
+    × (mesh_check joint_from_behind ≡ Fails 44 (Line 14))
+unfolding computed zeros blocks block_edges joint against_its_side facing_turned side_with_edge facing_with_edge
+    jump_twice sides_apart joint_from_behind
 refused_44 = (refl, refl, refl, refl, refl, refl, refl)
 
 -- ---- 47: no corner of a bar is inside the other, and the block touches both

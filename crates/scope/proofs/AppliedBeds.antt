@@ -15,13 +15,15 @@ use Rattle.scope.specs.Accepted.{FieldAccepted, MultipliersAccepted}
 use Rattle.scope.specs.AcceptedField.{PlanesEverywhere}
 use Rattle.scope.specs.Criterion.{CriterionAt}
 use Rattle.scope.specs.Parts.{carried, allowed}
-use Rattle.scope.specs.Worked.{zeros, worked_stresses, worked_multipliers, worked_claim, sheet, beds, on_beds, unused_beds}
+use Rattle.scope.specs.Worked.{zeros, worked_stresses, worked_multipliers, worked_claim, sheet, beds, on_beds}
+use Rattle.scope.specs.Worked.{unused_beds}
 use Rattle.scope.proofs.Computed.{computed}
 use Rattle.scope.proofs.AcceptedField.{planes_everywhere}
 use Rattle.scope.proofs.Applied.{field_accepted, multipliers_accepted}
 use Rattle.scope.proofs.Parts.{open_rows_count}
 
--- ---- ch = cv = 10: 250/12 is carried and allowed, where the same square without directions carries 20; no load is told
+-- ---- ch = cv = 10: 250/12 is carried and allowed, where the same square without directions carries 20; no load is
+-- told
 
 pub bedded_field : FieldAccepted (beds 12 1 1 10) (on_beds 125)
 unfolding computed zeros worked_stresses beds on_beds
@@ -43,7 +45,8 @@ pub bedded_planes : PlanesEverywhere (beds 12 1 1 10) (on_beds 125)
 bedded_planes = planes_everywhere (beds 12 1 1 10) (on_beds 125) bedded_field
 
 -- "A field that meets these rows may lie outside the criterion": 125² is above 120²
-pub outside_criterion : ¬ CriterionAt (beds 12 1 1 10) (stress (beds 12 1 1 10) (on_beds 125)) (n (on_beds 125)) (record { at = 0; soil = 0 })
+pub outside_criterion : ¬ CriterionAt (beds 12 1 1 10) (stress (beds 12 1 1 10) (on_beds 125)) (n (on_beds 125))
+    (record { at = 0; soil = 0 })
 unfolding computed zeros worked_stresses beds on_beds
 outside_criterion h = h.squares.le
 
@@ -72,9 +75,11 @@ pub unused_verdict : verdict unused_beds sheet ≡ Accepted (Count 0) Absent (Ex
 unfolding computed zeros worked_stresses worked_multipliers worked_claim sheet unused_beds
 unused_verdict = refl
 
--- ---- 2 with the soil's line: kind 2, cv beyond its limit, kind 1 with 108 sides, before 3; and 3 is asked of kind 1 too
+-- ---- 2 with the soil's line: kind 2, cv beyond its limit, kind 1 with 108 sides, before 3; and 3 is asked of kind 1
+-- too
 
-pub refused_kinds : (mesh_check (beds 12 1 2 0) ≡ Fails 2 (Line 2)) × (mesh_check (beds 12 1 0 10001) ≡ Fails 2 (Line 2))
+pub refused_kinds : (mesh_check (beds 12 1 2 0) ≡ Fails 2 (Line 2))
+    × (mesh_check (beds 12 1 0 10001) ≡ Fails 2 (Line 2))
     × (mesh_check (beds 108 1 1 0) ≡ Fails 2 (Line 2)) × (mesh_check (beds 108 2 1 0) ≡ Fails 2 (Line 2))
     × (mesh_check (beds 12 2 1 0) ≡ Fails 3 (Line 2))
 unfolding computed zeros beds

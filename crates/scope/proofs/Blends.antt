@@ -48,7 +48,8 @@ module _ (a b : ℕ) (h : 0 < a + b) where
       record {
         cross-≡ = ring_from (pos a *ℤ s *ℤ g.den *ℤ g′.den) p.cross-≡
             (ring_from (pos b *ℤ s *ℤ f.den *ℤ f′.den) q.cross-≡
-            (ring (pos a ∷ pos b ∷ f.num ∷ f.den ∷ f′.num ∷ f′.den ∷ g.num ∷ g.den ∷ g′.num ∷ g′.den ∷ []) (search terms depth 100) refl));
+            (ring (pos a ∷ pos b ∷ f.num ∷ f.den ∷ f′.num ∷ f′.den ∷ g.num ∷ g.den ∷ g′.num ∷ g′.den ∷ [])
+            (search terms depth 100) refl));
       }
 
   mean_above : {f g : Frac} → Positive f → Positive g → f ≤ᶠ g → f ≤ᶠ mean a b f g
@@ -76,7 +77,8 @@ mean_first : (a : ℕ) (f g : Frac) → mean a 0 f g ≈ᶠ f
 mean_first a f g = record { cross-≡ = ring (pos a ∷ f.num ∷ f.den ∷ g.num ∷ g.den ∷ []) (search terms depth 100) refl }
 
 first_back : (a : ℕ) → 0 < a → (f g k : Fraction) → k.value ≈ᶠ mean a 0 f.value g.value → k.value ≈ᶠ f.value
-first_back a h f g k e = ≈ᶠ_trans k.proper (mean_proper a 0 (omega arith) f.proper g.proper) f.proper e (mean_first a f.value g.value)
+first_back a h f g k e = ≈ᶠ_trans k.proper (mean_proper a 0 (omega arith) f.proper g.proper) f.proper e
+    (mean_first a f.value g.value)
 
 -- ---- a row's two sides
 
@@ -85,29 +87,35 @@ abbrev blended : (a b : ℕ) (d e : ℤ) → ℤ → ℤ → ℤ
 blended a b d e x y = pos a *ℤ x *ℤ e +ℤ pos b *ℤ y *ℤ d
 
 module _ (a b : ℕ) (d e : ℤ) (s t : ℕ → ℤ) (l j : ℤ) where
-  weighted_blend : (ws : List (ℤ × ℕ)) → weighted_sum (λ k. blended a b d e (s k) (t k)) ws ≡ blended a b d e (weighted_sum s ws) (weighted_sum t ws)
+  weighted_blend : (ws : List (ℤ × ℕ)) → weighted_sum (λ k. blended a b d e (s k) (t k)) ws
+      ≡ blended a b d e (weighted_sum s ws) (weighted_sum t ws)
   unfolding weighted_sum
   weighted_blend [] = ring (pos a ∷ pos b ∷ d ∷ e ∷ []) (search terms depth 100) refl
   weighted_blend (w ∷ ws) =
       ap (λ z. w.0 *ℤ blended a b d e (s w.1) (t w.1) +ℤ z) (weighted_blend ws)
-      ∙ ring (pos a ∷ pos b ∷ d ∷ e ∷ w.0 ∷ s w.1 ∷ t w.1 ∷ weighted_sum s ws ∷ weighted_sum t ws ∷ []) (search terms depth 100) refl
+      ∙ ring (pos a ∷ pos b ∷ d ∷ e ∷ w.0 ∷ s w.1 ∷ t w.1 ∷ weighted_sum s ws ∷ weighted_sum t ws ∷ [])
+      (search terms depth 100) refl
 
-  left_blend : (r : Row) → left_side (λ k. blended a b d e (s k) (t k)) (blended a b d e l j) r ≡ blended a b d e (left_side s l r) (left_side t j r)
+  left_blend : (r : Row) → left_side (λ k. blended a b d e (s k) (t k)) (blended a b d e l j) r
+      ≡ blended a b d e (left_side s l r) (left_side t j r)
   unfolding left_side
   left_blend r =
       ap (λ z. z +ℤ r.live *ℤ blended a b d e l j) (weighted_blend r.entries)
-      ∙ ring (pos a ∷ pos b ∷ d ∷ e ∷ l ∷ j ∷ r.live ∷ weighted_sum s r.entries ∷ weighted_sum t r.entries ∷ []) (search terms depth 100) refl
+      ∙ ring (pos a ∷ pos b ∷ d ∷ e ∷ l ∷ j ∷ r.live ∷ weighted_sum s r.entries ∷ weighted_sum t r.entries ∷ [])
+      (search terms depth 100) refl
 
   right_blend : (r : Row) → right_side (pos (a + b) *ℤ (d *ℤ e)) r ≡ blended a b d e (right_side d r) (right_side e r)
   unfolding right_side
   right_blend r = ring (pos a ∷ pos b ∷ d ∷ e ∷ r.right ∷ []) (search terms depth 100) refl
 
 -- what two fields meet their blend meets
-asks_blend : (k : Kind) (a b : ℕ) {d e : ℤ} (x y x′ y′ : ℤ) → pos 0 <ℤ d → pos 0 <ℤ e → Asks k x x′ → Asks k y y′ → Asks k (blended a b d e x y) (blended a b d e x′ y′)
+asks_blend : (k : Kind) (a b : ℕ) {d e : ℤ} (x y x′ y′ : ℤ) → pos 0 <ℤ d → pos 0 <ℤ e → Asks k x x′ → Asks k y y′
+    → Asks k (blended a b d e x y) (blended a b d e x′ y′)
 asks_blend asked a b {d} {e} x y x′ y′ D E p q = ap₂ (blended a b d e) p q
 asks_blend unfixed a b x y x′ y′ D E p q = tt
 asks_blend strength a b {d} {e} x y x′ y′ D E p q =
-    by_nn (+ℤ_mono (*ℤ_nonneg (*ℤ_nonneg (nonneg a) (<ℤ→≤ℤ E)) (nn_diff p)) (*ℤ_nonneg (*ℤ_nonneg (nonneg b) (<ℤ→≤ℤ D)) (nn_diff q)))
+    by_nn (+ℤ_mono (*ℤ_nonneg (*ℤ_nonneg (nonneg a) (<ℤ→≤ℤ E)) (nn_diff p))
+    (*ℤ_nonneg (*ℤ_nonneg (nonneg b) (<ℤ→≤ℤ D)) (nn_diff q)))
     (ring (pos a ∷ pos b ∷ d ∷ e ∷ x ∷ y ∷ x′ ∷ y′ ∷ []) (search terms depth 100) refl)
 
 -- ---- any rows
@@ -119,14 +127,17 @@ module _ (N a b : ℕ) (h : 0 < a + b) where
         → WrittenOver N k (pos (a + b) *ℤ (d *ℤ e)) (λ i. blended a b d e (s i) (t i)) (blended a b d e l j)
     written {d} {e} {s} {t} {l} {j} v w = record {
       above_0 = *ℤ_pos (above_0 a b h) (*ℤ_pos v.above_0 w.above_0);
-      stresses = λ i r. same (f.stress i) (g.stress i) (k.stress i) (v.stresses i r) (w.stresses i r) (blend.stresses i r);
+      stresses = λ i r. same (f.stress i) (g.stress i) (k.stress i) (v.stresses i r) (w.stresses i r)
+          (blend.stresses i r);
       load = same f.load g.load k.load v.load w.load blend.load;
     }
       where
-        same : {x y : ℤ} (p q r : Fraction) → x over d ≈ᶠ p.value → y over e ≈ᶠ q.value → r.value ≈ᶠ mean a b p.value q.value
+        same : {x y : ℤ} (p q r : Fraction) → x over d ≈ᶠ p.value → y over e ≈ᶠ q.value
+            → r.value ≈ᶠ mean a b p.value q.value
             → blended a b d e x y over (pos (a + b) *ℤ (d *ℤ e)) ≈ᶠ r.value
         same {x} {y} p q r m o e′ =
-            ≈ᶠ_trans (mean_proper a b h {f = x over d} {g = y over e} (record { positive = v.above_0 }) (record { positive = w.above_0 })) (mean_proper a b h p.proper q.proper) r.proper
+            ≈ᶠ_trans (mean_proper a b h {f = x over d} {g = y over e} (record { positive = v.above_0 })
+            (record { positive = w.above_0 })) (mean_proper a b h p.proper q.proper) r.proper
             (mean_same a b h m o) (≈ᶠ_sym e′)
 
     meets : (rs : List Row) → FractionsMeet N f rs → FractionsMeet N g rs → FractionsMeet N k rs
@@ -136,7 +147,8 @@ module _ (N a b : ℕ) (h : 0 < a + b) where
       numerator = blended a b d e l j;
       written = written v.written w.written;
       meets = λ r m. subst₂ (Asks r.kind) (sym (left_blend a b d e s t l j r)) (sym (right_blend a b d e s t l j r))
-          (asks_blend r.kind a b (left_side s l r) (left_side t j r) (right_side d r) (right_side e r) v.written.above_0 w.written.above_0 (v.meets r m) (w.meets r m));
+          (asks_blend r.kind a b (left_side s l r) (left_side t j r) (right_side d r)
+          (right_side e r) v.written.above_0 w.written.above_0 (v.meets r m) (w.meets r m));
     }
       where
         d : ℤ
@@ -171,7 +183,8 @@ pub blend_laws : (N : ℕ) (rs : List Row) → Columns N rs → BlendLaws N rs
 blend_laws N rs within = record {
   can_be_blended = λ a b h f g. blend_of N a b h f g;
   meets = λ a b h f g k blend v w. meets N a b h f g k blend rs v w;
-  at_most = λ a b h f g k blend v w y mults. (fraction_laws N rs within).at_most k y (meets N a b h f g k blend rs v w) mults;
+  at_most = λ a b h f g k blend v w y mults. (fraction_laws N rs within).at_most k y
+      (meets N a b h f g k blend rs v w) mults;
   between = λ a b h f g k blend l. between a b h f.load.proper g.load.proper k.load.proper blend.load l;
   first_alone = λ a h f g k blend. record {
     stresses = λ j l. first_back a h (f.stress j) (g.stress j) (k.stress j) (blend.stresses j l);
@@ -187,11 +200,13 @@ mesh_blends m sound = record {
   carries = λ f met. record {
     meets = met;
     at_most = λ d k same w. fraction_at_most m d k same w f met;
-    criterion = λ a i d e s j v. field_criterion m s j e ((field-printed m s j e).0 (((mesh_fractions m sound).laws.same_for_each f).0 met e s j v)) a i d;
+    criterion = λ a i d e s j v. field_criterion m s j e
+        ((field-printed m s j e).0 (((mesh_fractions m sound).laws.same_for_each f).0 met e s j v)) a i d;
   };
 }
 
-pub blended_claims : (a b : ℕ) (m c d k : List ℤ) → 0 < a + b → SameRows m d → FieldAccepted m c → FieldAccepted d k → BlendedClaims a b m c d k
+pub blended_claims : (a b : ℕ) (m c d k : List ℤ) → 0 < a + b → SameRows m d → FieldAccepted m c → FieldAccepted d k
+    → BlendedClaims a b m c d k
 unfolding carried
 blended_claims a b m c d k h same v w =
     let N = field-n m c v in
@@ -200,7 +215,8 @@ blended_claims a b m c d k h same v w =
     let g : FractionField = field_over (n k) K (stress d k) (l k) in
     let in_fractions : FractionLaws (3 * nodes m) (rows_of m) = (mesh_fractions m v.mesh).laws in
     let first : MeetsMesh m f = in_fractions.whole_numbers (n c) N (stress m c) (l c) v.meets in
-    let second : MeetsMesh m g = in_fractions.whole_numbers (n k) K (stress d k) (l k) (same_met d m (sym same) (stress d k) (l k) (n k) w.meets) in
+    let second : MeetsMesh m g = in_fractions.whole_numbers (n k) K (stress d k) (l k)
+    (same_met d m (sym same) (stress d k) (l k) (n k) w.meets) in
     let blends : MeshBlends m = mesh_blends m v.mesh in
     record {
       n_above_0 = N;

@@ -31,7 +31,8 @@ pub then_passed : (a b : Outcome) → (a then b ≡ Passed) ↔ ((a ≡ Passed) 
 then_passed Passed b = (λ e. (refl, e), λ h. h.1)
 then_passed (Refused n p) b = (λ e. (e, passed_is_not_refused (sym e)), λ h. h.0)
 
-pub then_refused : (a b : Outcome) (n : ℕ) (p : Place) → (a then b ≡ Refused n p) ↔ ((a ≡ Refused n p) ⊎ ((a ≡ Passed) × (b ≡ Refused n p)))
+pub then_refused : (a b : Outcome) (n : ℕ) (p : Place) → (a then b ≡ Refused n p) ↔
+    ((a ≡ Refused n p) ⊎ ((a ≡ Passed) × (b ≡ Refused n p)))
 then_refused Passed b n p = (λ e. inr (refl, e), λ h. from h)
   where
     from : (Passed ≡ Refused n p) ⊎ ((Passed ≡ Passed) × (b ≡ Refused n p)) → b ≡ Refused n p
@@ -68,7 +69,8 @@ below_suc {k} {n} h = from (dec_lt k n)
 pub lowest_all : (f : ℕ → Outcome) (n : ℕ) → lowest f n ≡ Passed → (k : ℕ) → k < n → f k ≡ Passed
 unfolding lowest
 lowest_all f zero e k h = absurd (omega arith)
-lowest_all f (suc n) e k h = by (lowest_all f n ((then_passed (lowest f n) (f n)).0 e).0 k) ((then_passed (lowest f n) (f n)).0 e).1 (below_suc h)
+lowest_all f (suc n) e k h = by (lowest_all f n ((then_passed (lowest f n) (f n)).0 e).0 k)
+    ((then_passed (lowest f n) (f n)).0 e).1 (below_suc h)
   where
     by : (k < n → f k ≡ Passed) → f n ≡ Passed → (k < n) ⊎ (k ≡ n) → f k ≡ Passed
     by lower last (inl l) = lower l
@@ -90,7 +92,8 @@ first_refused f zero c p k h = absurd (omega (arith, h.0))
 first_refused f (suc n) c p k h =
     (then_refused (lowest f n) (f n) c p).1 (by (λ l. first_refused f n c p k (l, h.1, h.2)) (below_suc h.0))
   where
-    by : (k < n → lowest f n ≡ Refused c p) → (k < n) ⊎ (k ≡ n) → (lowest f n ≡ Refused c p) ⊎ ((lowest f n ≡ Passed) × (f n ≡ Refused c p))
+    by : (k < n → lowest f n ≡ Refused c p) → (k < n) ⊎ (k ≡ n)
+        → (lowest f n ≡ Refused c p) ⊎ ((lowest f n ≡ Passed) × (f n ≡ Refused c p))
     by lower (inl l) = inl (lower l)
     by lower (inr l) = inr (all_lowest f n (λ j i. h.1 j (omega arith)), rw l at h.2)
 

@@ -9,9 +9,13 @@ use Rattle.scope.proofs.Lists.{of_count, each_nil, each_cons, each_++, each_map,
 use Rattle.scope.proofs.Directions.{by_kind}
 use Rattle.scope.proofs.Pairs.{pairs}
 use Rattle.integer.specs.Members.{◌∈◌}
-use Rattle.scope.specs.Mesh.{nodes, elements, edges, sides, jumps, corner, from_node, to_node, jump_from, jump_to, facing_from, facing_to}
+use Rattle.scope.specs.Mesh.{nodes, elements, edges, sides, jumps, corner, from_node, to_node, jump_from, jump_to}
+use Rattle.scope.specs.Mesh.{facing_from, facing_to}
 use Rattle.scope.specs.Polygon.{Side, polygon_sides, polygon_of, Point, half_turn}
-use Rattle.scope.specs.Rows.{Row, sx, sy, t, count_from, node, balance_x, balance_y, balance_rows, normal_row, shear_row, side_rows, agree_row, jump_normal, jump_shear, jump_rows, strength_pairs, strength_row, strength_rows, equality_rows, rows_of, plane_row, rows_by_sides, rows_by_planes}
+use Rattle.scope.specs.Rows.{Row, sx, sy, t, count_from, node, balance_x, balance_y, balance_rows, normal_row}
+use Rattle.scope.specs.Rows.{shear_row, side_rows, agree_row, jump_normal, jump_shear, jump_rows, strength_pairs}
+use Rattle.scope.specs.Rows.{strength_row, strength_rows, equality_rows, rows_of, plane_row, rows_by_sides}
+use Rattle.scope.specs.Rows.{rows_by_planes}
 use Rattle.scope.specs.Bracket.{MeshColumns}
 
 module _ (m : List ℤ) where
@@ -34,8 +38,12 @@ module _ (m : List ℤ) where
   balance_in : (e : ℕ) → ((i : ℕ) → i < 4 → corner m e i < nodes m) → RowIn (balance_x m e) × RowIn (balance_y m e)
   unfolding In RowIn balance_x balance_y node
   balance_in e h = (
-    each_joined In _ (count_from 0 4) (λ i j. let v = columns_of (corner m e (i % 4)) (h (i % 4) (mod-lt i (lit< tt))) in each_cons In v.at-sx (each_cons In v.at-t (each_nil In))),
-    each_joined In _ (count_from 0 4) (λ i j. let v = columns_of (corner m e (i % 4)) (h (i % 4) (mod-lt i (lit< tt))) in each_cons In v.at-sy (each_cons In v.at-t (each_nil In))),
+    each_joined In _ (count_from 0 4)
+        (λ i j. let v = columns_of (corner m e (i % 4)) (h (i % 4) (mod-lt i (lit< tt))) in each_cons In v.at-sx
+        (each_cons In v.at-t (each_nil In))),
+    each_joined In _ (count_from 0 4)
+        (λ i j. let v = columns_of (corner m e (i % 4)) (h (i % 4) (mod-lt i (lit< tt))) in each_cons In v.at-sy
+        (each_cons In v.at-t (each_nil In))),
   )
 
   edge_in : (g v : ℕ) → v < nodes m → RowIn (normal_row m g v) × RowIn (shear_row m g v)
@@ -52,17 +60,21 @@ module _ (m : List ℤ) where
   jump_in j v f h k =
       let c = columns_of v h in
       let d = columns_of f k in (
-        each_cons In c.at-sx (each_cons In c.at-t (each_cons In c.at-sy (each_cons In d.at-sx (each_cons In d.at-t (each_cons In d.at-sy (each_nil In)))))),
-        each_cons In c.at-sx (each_cons In c.at-sy (each_cons In c.at-t (each_cons In d.at-sx (each_cons In d.at-sy (each_cons In d.at-t (each_nil In)))))),
+        each_cons In c.at-sx (each_cons In c.at-t
+            (each_cons In c.at-sy (each_cons In d.at-sx (each_cons In d.at-t (each_cons In d.at-sy (each_nil In)))))),
+        each_cons In c.at-sx (each_cons In c.at-sy
+            (each_cons In c.at-t (each_cons In d.at-sx (each_cons In d.at-sy (each_cons In d.at-t (each_nil In)))))),
       )
 
   strength_in : (r p q h C : ℤ) (v : ℕ) (d : Side) → v < nodes m → RowIn (strength_row r p q h C v d)
   unfolding In RowIn strength_row
-  strength_in r p q h C v d k = let c = columns_of v k in each_cons In c.at-sx (each_cons In c.at-sy (each_cons In c.at-t (each_nil In)))
+  strength_in r p q h C v d k = let c = columns_of v k in each_cons In c.at-sx
+      (each_cons In c.at-sy (each_cons In c.at-t (each_nil In)))
 
   plane_in : (r p q ch cv : ℤ) (v : ℕ) (c : Point) (k : ℤ) → v < nodes m → RowIn (plane_row r p q ch cv v c k)
   unfolding In RowIn plane_row
-  plane_in r p q ch cv v c k h = let w = columns_of v h in each_cons In w.at-sx (each_cons In w.at-sy (each_cons In w.at-t (each_nil In)))
+  plane_in r p q ch cv v c k h = let w = columns_of v h in each_cons In w.at-sx
+      (each_cons In w.at-sy (each_cons In w.at-t (each_nil In)))
 
   pub mesh_columns : MeshColumns m
   unfolding RowIn In rows_of equality_rows balance_rows side_rows jump_rows strength_rows rows_by_sides rows_by_planes
@@ -88,5 +100,7 @@ module _ (m : List ℤ) where
       by_kind (polygon_of (sides m)) m a (λ rs. (r : Row) → r ∈ rs → RowIn r)
       (λ e.
       each_joined RowIn _ (half_turn (polygon_of (sides m)).corners) (λ v k.
-      each_cons RowIn (plane_in _ _ _ _ _ a.at v _ there) (each_cons RowIn (plane_in _ _ _ _ _ a.at v _ there) (each_nil RowIn))))
-      (λ e. each_map RowIn _ (polygon_sides (polygon_of (sides m)).corners) (λ d k. strength_in _ _ _ _ _ a.at d there))))
+      each_cons RowIn (plane_in _ _ _ _ _ a.at v _ there)
+      (each_cons RowIn (plane_in _ _ _ _ _ a.at v _ there) (each_nil RowIn))))
+      (λ e. each_map RowIn _ (polygon_sides (polygon_of (sides m)).corners)
+      (λ d k. strength_in _ _ _ _ _ a.at d there))))

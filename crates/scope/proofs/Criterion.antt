@@ -12,7 +12,8 @@ use Prim.Native.Nat.{ℕ}
 use lib.IntN.{ℤ, pos, negsuc, ◌+ℤ◌, ◌-ℤ◌, ◌*ℤ◌, neg_ℤ}
 use lib.Signed.{◌≤ℤ◌, ◌<ℤ◌}
 use Rattle.integer.proofs.Ring.{ring, ring_from, terms}
-use Rattle.integer.proofs.Order.{by_nn, nn_diff, ≤ℤ_trans, ≤ℤ_total, <ℤ→≤ℤ, +ℤ_mono, *ℤ_nonneg, square_nonneg, *ℤ_pos, *ℤ_cancel_≤}
+use Rattle.integer.proofs.Order.{by_nn, nn_diff, ≤ℤ_trans, ≤ℤ_total, <ℤ→≤ℤ, +ℤ_mono, *ℤ_nonneg, square_nonneg, *ℤ_pos}
+use Rattle.integer.proofs.Order.{*ℤ_cancel_≤}
 use Rattle.scope.proofs.PolygonRule.{polygon_rule}
 use Rattle.integer.specs.Members.{◌∈◌}
 use Rattle.scope.specs.Mesh.{sides, p, q, h, cohesion, ByDirection}
@@ -34,13 +35,16 @@ module _ (P : Point) where
   among : {ss ts : List Side} → ((s : Side) → s ∈ ss → s ∈ ts) → Between ss → Between ts
   among f b = record { side = b.side; listed = f b.side b.listed; after = b.after; before = b.before }
 
-  between : (end v : Point) (rest : List Point) → pos 0 ≤ℤ cross v P → pos 0 ≤ℤ cross P end → Between (sides_to end (v ∷ rest))
+  between : (end v : Point) (rest : List Point) → pos 0 ≤ℤ cross v P → pos 0 ≤ℤ cross P end
+      → Between (sides_to end (v ∷ rest))
   unfolding sides_to cross
   between end v [] h k = record { side = record { from = v; to = end }; listed = Memᴰ.head refl; after = h; before = k }
   between end v (w ∷ rest) h k =
       ⊎_elim
       (λ g. record { side = record { from = v; to = w }; listed = Memᴰ.head refl; after = h; before = g })
-      (λ g. among (λ s m. Memᴰ.tail m) (between end w rest (by_nn (nn_diff g) (ring (P.px ∷ P.py ∷ w.px ∷ w.py ∷ []) (search terms depth 100) refl)) k))
+      (λ g. among (λ s m. Memᴰ.tail m)
+      (between end w rest (by_nn (nn_diff g) (ring (P.px ∷ P.py ∷ w.px ∷ w.py ∷ []) (search terms depth 100) refl))
+      k))
       (≤ℤ_total (pos 0) (cross P w))
 
 sides_to-++ : (e w : Point) (us ls : List Point) → sides_to e (us ++ (w ∷ ls)) ≡ sides_to w us ++ sides_to e (w ∷ ls)
@@ -54,10 +58,12 @@ record Ends (c : List Point) (s : Side) : Type 0 where
   from_corner : s.from ∈ c
   to_corner : s.to ∈ c
 
-ends : (c : List Point) (end : Point) → end ∈ c → (part : List Point) → ((v : Point) → v ∈ part → v ∈ c) → (s : Side) → s ∈ sides_to end part → Ends c s
+ends : (c : List Point) (end : Point) → end ∈ c → (part : List Point) → ((v : Point) → v ∈ part → v ∈ c) → (s : Side)
+    → s ∈ sides_to end part → Ends c s
 unfolding sides_to
 ends c end h (v ∷ []) among s (Memᴰ.head e) = rw e (record { from_corner = among v (Memᴰ.head refl); to_corner = h })
-ends c end h (v ∷ w ∷ rest) among s (Memᴰ.head e) = rw e (record { from_corner = among v (Memᴰ.head refl); to_corner = among w (Memᴰ.tail (Memᴰ.head refl)) })
+ends c end h (v ∷ w ∷ rest) among s (Memᴰ.head e) =
+    rw e (record { from_corner = among v (Memᴰ.head refl); to_corner = among w (Memᴰ.tail (Memᴰ.head refl)) })
 ends c end h (v ∷ w ∷ rest) among s (Memᴰ.tail m) = ends c end h (w ∷ rest) (λ u k. among u (Memᴰ.tail k)) s m
 ends c end h [] among s x'' = elim x'' [ ]
 ends c end h (v ∷ []) among s (Memᴰ.tail m) = elim m [ ]
@@ -75,7 +81,8 @@ around P r c hr o =
     let west : Point = point (neg_ℤ r) (pos 0) in
     let first : List Side = sides_to west (east ∷ o.upper) in
     let second : List Side = sides_to east (west ∷ o.lower) in
-    let both : polygon_sides c ≡ first ++ second = ap polygon_sides o.halves ∙ sides_to-++ east west (east ∷ o.upper) o.lower in
+    let both : polygon_sides c ≡ first ++ second = ap polygon_sides o.halves
+    ∙ sides_to-++ east west (east ∷ o.upper) o.lower in
     rw both
     (⊎_elim
     (λ h.
@@ -101,7 +108,8 @@ square v = v.px *ℤ v.px +ℤ v.py *ℤ v.py
 abbrev apart : Point → Point → ℤ
 apart v w = (w.px -ℤ v.px) *ℤ (w.px -ℤ v.px) +ℤ (w.py -ℤ v.py) *ℤ (w.py -ℤ v.py)
 
-identity : (v w P : Point) → cross v w *ℤ cross v w *ℤ square P +ℤ cross P w *ℤ cross v P *ℤ apart v w ≡ (cross P w +ℤ cross v P) *ℤ (cross P w *ℤ square v +ℤ cross v P *ℤ square w)
+identity : (v w P : Point) → cross v w *ℤ cross v w *ℤ square P +ℤ cross P w *ℤ cross v P *ℤ apart v w
+    ≡ (cross P w +ℤ cross v P) *ℤ (cross P w *ℤ square v +ℤ cross v P *ℤ square w)
 unfolding cross
 identity v w P = ring (v.px ∷ v.py ∷ w.px ∷ w.py ∷ P.px ∷ P.py ∷ []) (search terms depth 100) refl
 
@@ -117,7 +125,8 @@ bounded k α β r R Q S hk hα hβ hr h_s e row =
           (ring_from (negsuc 0) e (ring (k ∷ α ∷ β ∷ r ∷ R ∷ Q ∷ S ∷ []) (search terms depth 100) refl))),
     )
 
-inside : (r R : ℤ) (v w P : Point) → pos 0 ≤ℤ r → OnCircle r v → OnCircle r w → pos 0 <ℤ cross v w → pos 0 ≤ℤ cross P w → pos 0 ≤ℤ cross v P
+inside : (r R : ℤ) (v w P : Point) → pos 0 ≤ℤ r → OnCircle r v → OnCircle r w → pos 0 <ℤ cross v w → pos 0 ≤ℤ cross P w
+    → pos 0 ≤ℤ cross v P
     → (r *ℤ (cross P w +ℤ cross v P)) ≤ℤ (cross v w *ℤ R) → (pos 0 ≤ℤ R) × (square P ≤ℤ (R *ℤ R))
 inside r R v w P hr on_v on_w turn before after row =
     bounded (cross v w) (cross P w) (cross v P) r R (square P) (apart v w) turn before after hr
@@ -143,7 +152,8 @@ criterion {g} rule p q h C n sx sy t rows =
     let on = sides_ends g.corners s at.listed in
     let both =
     inside g.radius (circle_radius p q C n sx sy) s.from s.to (P h sx sy t) (<ℤ→≤ℤ rule.has_radius)
-    (rule.on_circle_lem s.from on.from_corner) (rule.on_circle_lem s.to on.to_corner) (rule.left_turns_lem s at.listed) at.before at.after
+    (rule.on_circle_lem s.from on.from_corner) (rule.on_circle_lem s.to on.to_corner)
+    (rule.left_turns_lem s at.listed) at.before at.after
     (rw (in_row h sx sy t g.radius s) at (rows s at.listed)) in
     record { radius_not_below_0 = both.0; squares = rw (in_criterion h sx sy t) at both.1 }
 
@@ -152,6 +162,8 @@ criterion {g} rule p q h C n sx sy t rows =
 pub criterion_of : (k : ℕ) → WithinCriterion (polygon_of k)
 criterion_of k = let (sides, step, product, rule) = polygon_rule k in criterion rule
 
-pub field_criterion : (m : List ℤ) (s : ℕ → ℤ) (l n : ℤ) → MeetsPrinted m s l n → (a : Pair) → a ∈ strength_pairs m → ¬ ByDirection m a.soil → CriterionAt m s n a
+pub field_criterion : (m : List ℤ) (s : ℕ → ℤ) (l n : ℤ) → MeetsPrinted m s l n → (a : Pair) → a ∈ strength_pairs m
+    → ¬ ByDirection m a.soil → CriterionAt m s n a
 field_criterion m s l n f a k d =
-    criterion_of (sides m) (p m a.soil) (q m a.soil) (h m a.soil) (cohesion m a.soil) n (s (sx a.at)) (s (sy a.at)) (s (t a.at)) (f.strength a k d)
+    criterion_of (sides m) (p m a.soil) (q m a.soil) (h m a.soil) (cohesion m a.soil) n (s (sx a.at)) (s (sy a.at))
+    (s (t a.at)) (f.strength a k d)

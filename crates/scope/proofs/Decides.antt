@@ -79,7 +79,8 @@ belowℤ a b = record { holds = lt_z_yes; passes = yes_lt_z }
 
 -- ---- some and all below n
 
-pub some_below_lem : {f : ℕ → Bool} {P : ℕ → Type 0} → ((k : ℕ) → Decides (f k) (P k)) → (n : ℕ) → Decides (some_below f n) ((k : ℕ) × (k < n) × P k)
+pub some_below_lem : {f : ℕ → Bool} {P : ℕ → Type 0} → ((k : ℕ) → Decides (f k) (P k)) → (n : ℕ)
+    → Decides (some_below f n) ((k : ℕ) × (k < n) × P k)
 unfolding some_below
 some_below_lem d zero = record { holds = λ t. absurd t; passes = λ h. absurd (omega (arith, h.1)) }
 some_below_lem {f} {P} d (suc n) = said_as (either (some_below_lem d n) (d n)) up (λ h. down (below_suc h.1) h.2)
@@ -119,19 +120,29 @@ pub record First (f : ℕ → Bool) (n k : ℕ) : Type 0 where
 
 pub first_where_lem : (f : ℕ → Bool) (n : ℕ) → First f n (first_where f n)
 unfolding first_where
-first_where_lem f zero = record { fits = zero-le; before = λ j h. absurd (omega arith); passes = λ h. absurd (omega arith) }
-first_where_lem f (suc n) = step (first_where f n) (first_where_lem f n) (eqb (first_where f n) n) (equal (first_where f n) n) (f n) (λ t. t) (λ t. t)
+first_where_lem f zero =
+    record { fits = zero-le; before = λ j h. absurd (omega arith); passes = λ h. absurd (omega arith) }
+first_where_lem f (suc n) = step (first_where f n) (first_where_lem f n) (eqb (first_where f n) n)
+    (equal (first_where f n) n) (f n) (λ t. t) (λ t. t)
   where
-    step : (k : ℕ) → First f n k → (same : Bool) → Decides same (k ≡ n) → (b : Bool) → (T b → T (f n)) → (T (not b) → T (not (f n)))
+    step : (k : ℕ) → First f n k → (same : Bool) → Decides same (k ≡ n) → (b : Bool) → (T b → T (f n))
+        → (T (not b) → T (not (f n)))
         → First f (suc n) (elim same [ true ↦ cond b n (suc n) | false ↦ k ])
-    step k g true is true pass fail = record { fits = omega arith; before = rw (is.holds tt) at g.before; passes = λ h. pass tt }
+    step k g true is true pass fail =
+        record { fits = omega arith; before = rw (is.holds tt) at g.before; passes = λ h. pass tt }
     step k g true is false pass fail = record {
       fits = omega arith;
-      before = λ j h. let small : j ≤ n = omega arith in ⊎_elim (λ p. rw p (fail tt)) (λ l. g.before j (rw (is.holds tt) l)) (eq-or-lt_of_le small);
+      before = λ j h. let small : j ≤ n = omega arith in ⊎_elim (λ p. rw p (fail tt))
+          (λ l. g.before j (rw (is.holds tt) l)) (eq-or-lt_of_le small);
       passes = λ h. absurd (omega arith);
     }
     step k g false is b pass fail =
-        let small = g.fits in record { fits = omega arith; before = g.before; passes = λ h. ⊎_elim (λ e. absurd (is.passes e)) g.passes (eq-or-lt_of_le small) }
+        let small = g.fits in record {
+          fits = omega arith;
+          before = g.before;
+          passes =
+              λ h. ⊎_elim (λ e. absurd (is.passes e)) g.passes (eq-or-lt_of_le small);
+        }
 
 -- ---- checks of such tests
 
@@ -144,18 +155,22 @@ pub put_as : {o : Outcome} {A B : Type 0} → Passes o A → (A → B) → (B �
 put_as h f g = record { says = λ e. f (h.says e); passed = λ b. h.passed (g b) }
 
 pub one_check : {b : Bool} {A : Type 0} → Decides b A → (c : ℕ) (p : Place) → Passes (demand b c p) A
-one_check {b} d c p = record { says = λ e. d.holds ((demand_passed b c p).0 e); passed = λ h. (demand_passed b c p).1 (d.passes h) }
+one_check {b} d c p =
+    record { says = λ e. d.holds ((demand_passed b c p).0 e); passed = λ h. (demand_passed b c p).1 (d.passes h) }
 
 -- checks are refused with a number and a place exactly when a statement about them holds
 pub record Refuses (o : Outcome) (R : ℕ → Place → Type 0) : Type 0 where
   pub why : (c : ℕ) (p : Place) → o ≡ Refused c p → R c p
   pub refused : (c : ℕ) (p : Place) → R c p → o ≡ Refused c p
 
-pub told_as : {o : Outcome} {R S : ℕ → Place → Type 0} → Refuses o R → ((c : ℕ) (p : Place) → R c p → S c p) → ((c : ℕ) (p : Place) → S c p → R c p) → Refuses o S
+pub told_as : {o : Outcome} {R S : ℕ → Place → Type 0} → Refuses o R → ((c : ℕ) (p : Place) → R c p → S c p)
+    → ((c : ℕ) (p : Place) → S c p → R c p) → Refuses o S
 told_as h f g = record { why = λ c p e. f c p (h.why c p e); refused = λ c p s. h.refused c p (g c p s) }
 
-pub one_refusal : {b : Bool} {A : Type 0} → Decides b A → (k : ℕ) (q : Place) → Refuses (demand b k q) (λ c p. (¬ A) × (k ≡ c) × (q ≡ p))
+pub one_refusal : {b : Bool} {A : Type 0} → Decides b A → (k : ℕ) (q : Place)
+    → Refuses (demand b k q) (λ c p. (¬ A) × (k ≡ c) × (q ≡ p))
 one_refusal {b} d k q = record {
-  why = λ c p e. let r : T (not b) × (k ≡ c) × (q ≡ p) = (demand_refused b k c q p).0 e in ((opposite d).holds r.0, r.1, r.2);
+  why = λ c p e. let r : T (not b) × (k ≡ c) × (q ≡ p) = (demand_refused b k c q p).0 e in
+      ((opposite d).holds r.0, r.1, r.2);
   refused = λ c p r. (demand_refused b k c q p).1 ((opposite d).passes r.0, r.1, r.2);
 }

@@ -7,7 +7,8 @@ use native.Mathlib.Omega.{arith}
 use lib.IntN.{ℤ, pos}
 use lib.Dec.{eqb}
 use Rattle.integer.proofs.Order.{≤ℤ_pos}
-use Rattle.scope.specs.Mesh.{most_sides, kind_with, soils, sides, by_direction, some_by_direction, ByDirection, ListsDirection}
+use Rattle.scope.specs.Mesh.{most_sides, kind_with, soils, sides, by_direction, some_by_direction, ByDirection}
+use Rattle.scope.specs.Mesh.{ListsDirection}
 use Rattle.scope.specs.Polygon.{Polygon}
 use Rattle.scope.specs.Rows.{Row, Pair, rows_by_sides, rows_by_planes, pair_rows}
 use Rattle.scope.specs.Bounds.{most_cross, twice_strength, plane_right, strength_right_with}
@@ -40,7 +41,8 @@ module _ (m : List ℤ) (s : ℕ) where
 -- ---- the rows of a pair
 
 module _ (g : Polygon) (m : List ℤ) (a : Pair) where
-  pub by_kind : (P : List Row → Type 0) → (by_direction m a.soil ≡ true → P (rows_by_planes g m a)) → (by_direction m a.soil ≡ false → P (rows_by_sides g m a)) → P (pair_rows g m a)
+  pub by_kind : (P : List Row → Type 0) → (by_direction m a.soil ≡ true → P (rows_by_planes g m a))
+      → (by_direction m a.soil ≡ false → P (rows_by_sides g m a)) → P (pair_rows g m a)
   unfolding pair_rows
   by_kind P planes sides = by (by_direction m a.soil) refl
     where
@@ -54,7 +56,8 @@ pub kind_one : (k : ℕ) → 1 ≤ kind_with k → (kind_with k ≡ 1) × (stren
 unfolding kind_with strength_right_with
 kind_one k h = by (eqb k most_sides) h
   where
-    by : (b : Bool) → 1 ≤ cond b 0 1 → (◌≡◌ {A = ℕ} (cond b 0 1) 1) × (cond b (most_cross * twice_strength) plane_right ≡ plane_right)
+    by : (b : Bool) → 1 ≤ cond b 0 1 → (◌≡◌ {A = ℕ} (cond b 0 1) 1)
+        × (cond b (most_cross * twice_strength) plane_right ≡ plane_right)
     by true h = absurd (omega arith)
     by false h = (refl, refl)
 

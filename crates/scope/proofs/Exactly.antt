@@ -22,15 +22,19 @@ use Rattle.scope.specs.Layout.{Layout, numbers_at, group_at}
 use Rattle.scope.specs.Mesh.{mesh_layout, nodes}
 use Rattle.scope.specs.Claim.{claim_layout, if_there, stress, multiplier}
 use Rattle.scope.specs.Rows.{equality_rows, strength_rows, rows_of}
-use Rattle.scope.specs.Verdict.{claim_check, lower_load, upper_load, open_count, answer, claim_verdict, verdict, mesh_check}
+use Rattle.scope.specs.Verdict.{claim_check, lower_load, upper_load, open_count, answer, claim_verdict, verdict}
+use Rattle.scope.specs.Verdict.{mesh_check}
 use Rattle.scope.specs.Statements.{LinesSound, MeshSound, HasField, HasMultipliers, RowsMet, ColumnsMet}
 use Rattle.scope.specs.Phases.{FirstFails, AllPass, RefusedBy}
-use Rattle.scope.specs.Refusals.{rule_number, rule_steps, line_steps, line_phases, shape_phases, mesh_phases, field_phases, multiplier_phases, field_part, multiplier_part, part_phases, claim_phases, Refusal}
+use Rattle.scope.specs.Refusals.{rule_number, rule_steps, line_steps, line_phases, shape_phases, mesh_phases}
+use Rattle.scope.specs.Refusals.{field_phases, multiplier_phases, field_part, multiplier_part, part_phases}
+use Rattle.scope.specs.Refusals.{claim_phases, Refusal}
 use Rattle.scope.specs.AnsweredClaim.{AcceptedExactly, RefusedExactly, ZeroExactly, ByParts}
 use Rattle.scope.specs.Accepted.{FieldAccepted, ClaimAccepted}
 use Rattle.scope.proofs.Checks.{passed_is_not_refused}
 use Rattle.scope.proofs.Phases.{EachIn, each_refusal, each_join, each_passed, each_part, own_number, refused_join}
-use Rattle.scope.proofs.Refusals.{lines_sound, sound_lines, mesh_sound, sound_mesh, field_part_sound, sound_field_part, claim_passed, all_exact, mesh_passed}
+use Rattle.scope.proofs.Refusals.{lines_sound, sound_lines, mesh_sound, sound_mesh, field_part_sound}
+use Rattle.scope.proofs.Refusals.{sound_field_part, claim_passed, all_exact, mesh_passed}
 
 -- ---- a refusal or what is accepted
 
@@ -38,13 +42,15 @@ never_both : {X : Type 0} {k : ℕ} {p : Place} {o : OpenRows} {a b : Load} → 
 never_both e = let z : ◌≡◌ {A = ℕ} 0 1 = cc in absurd (omega arith)
 
 -- refused by the one, or by the other where the one has passed
-pub answer_refused : (a b : Outcome) (o : OpenRows) (lower upper : Load) {k : ℕ} {p : Place} → (answer a (answer b (Accepted o lower upper)) ≡ Refused k p) ↔ (a then b ≡ Fails k p)
+pub answer_refused : (a b : Outcome) (o : OpenRows) (lower upper : Load) {k : ℕ} {p : Place}
+    → (answer a (answer b (Accepted o lower upper)) ≡ Refused k p) ↔ (a then b ≡ Fails k p)
 unfolding answer
 answer_refused Passed Passed o lower upper = (λ e. never_both (sym e), λ e. passed_is_not_refused e)
 answer_refused Passed (Fails c q) o lower upper = (λ e. cc, λ e. cc)
 answer_refused (Fails c q) b o lower upper = (λ e. cc, λ e. cc)
 
-answer_accepted : (c : Outcome) (v : Verdict) (o : OpenRows) (a b : Load) → (answer c v ≡ Accepted o a b) ↔ ((c ≡ Passed) × (v ≡ Accepted o a b))
+answer_accepted : (c : Outcome) (v : Verdict) (o : OpenRows) (a b : Load)
+    → (answer c v ≡ Accepted o a b) ↔ ((c ≡ Passed) × (v ≡ Accepted o a b))
 unfolding answer
 answer_accepted Passed v o a b = (λ e. (refl, e), λ h. h.1)
 answer_accepted (Fails k p) v o a b = (λ e. never_both e, λ h. passed_is_not_refused (sym h.0))
@@ -60,8 +66,12 @@ module _ (m c : List ℤ) where
 
       to : verdict m c ≡ good → ClaimAccepted m c
       to e =
-          let h : (mesh_check m ≡ Passed) × (claim_verdict m c ≡ good) = (answer_accepted (mesh_check m) (claim_verdict m c) (open_count m c) (lower_load m c) (upper_load m c)).0 e in
-          let r : LinesSound (claim_layout m) c × ((HasField c → RowsMet m c) × (HasMultipliers c → ColumnsMet m c)) = (claim_passed m c).says ((answer_accepted (claim_check m c) good (open_count m c) (lower_load m c) (upper_load m c)).0 h.1).0 in
+          let h : (mesh_check m ≡ Passed) × (claim_verdict m c ≡ good) =
+          (answer_accepted (mesh_check m) (claim_verdict m c) (open_count m c) (lower_load m c) (upper_load m c)).0
+          e in
+          let r : LinesSound (claim_layout m) c × ((HasField c → RowsMet m c) × (HasMultipliers c → ColumnsMet m c)) =
+          (claim_passed m c).says
+          ((answer_accepted (claim_check m c) good (open_count m c) (lower_load m c) (upper_load m c)).0 h.1).0 in
           record { mesh = (mesh_passed m).says h.0; lines = r.0; field_meets = r.1.0; multipliers_meet = r.1.1 }
 
       from : ClaimAccepted m c → verdict m c ≡ good
@@ -76,7 +86,8 @@ module _ (m c : List ℤ) where
   pub refused_exactly : RefusedExactly m c
   unfolding verdict claim_verdict
   refused_exactly k p =
-      let checks : (verdict m c ≡ Refused k p) ↔ (mesh_check m then claim_check m c ≡ Fails k p) = answer_refused (mesh_check m) (claim_check m c) (open_count m c) (lower_load m c) (upper_load m c) in
+      let checks : (verdict m c ≡ Refused k p) ↔ (mesh_check m then claim_check m c ≡ Fails k p) =
+      answer_refused (mesh_check m) (claim_check m c) (open_count m c) (lower_load m c) (upper_load m c) in
       (λ e. (all_exact m c).refuses.why k p (checks.0 e), λ r. checks.1 ((all_exact m c).refuses.refused k p r))
 
 -- ---- what is returned
@@ -111,21 +122,25 @@ rule_number_lem (naming cs ∷ rs) line c (inl h) = omega (arith, h.1)
 rule_number_lem (parts ∷ rs) line c (inl h) = omega (arith, h.1)
 rule_number_lem (r ∷ rs) line c (inr h) = rule_number_lem rs line c h.1
 
-step_number : (f : Layout) (ns : List ℤ) (k c : ℕ) → OfLines f.form_number → OfLines f.limit_number → FirstFails (line_steps f (group_at f ns k) (numbers_at f ns k)) c → OfLines c
+step_number : (f : Layout) (ns : List ℤ) (k c : ℕ) → OfLines f.form_number → OfLines f.limit_number
+    → FirstFails (line_steps f (group_at f ns k) (numbers_at f ns k)) c → OfLines c
 step_number f ns k c a b (inl h) = omega (arith, h.1, a)
 step_number f ns k c a b (inr (x, inl h)) = omega (arith, h.1, b)
 step_number f ns k c a b (inr (x, inr (y, h))) = rule_number_lem (group_at f ns k).rules (numbers_at f ns k) c h
 
-line_numbers_lem : (Q : ℕ → Place → Type 0) (f : Layout) (ns : List ℤ) → OfLines f.form_number → OfLines f.limit_number → ((c : ℕ) (p : Place) → OfMesh c → Q c p) → EachIn Q (line_phases f ns)
+line_numbers_lem : (Q : ℕ → Place → Type 0) (f : Layout) (ns : List ℤ) → OfLines f.form_number → OfLines f.limit_number
+    → ((c : ℕ) (p : Place) → OfMesh c → Q c p) → EachIn Q (line_phases f ns)
 line_numbers_lem Q f ns a b q = (
   λ k c h l r. let s = step_number f ns k c a b r in q c (Line (suc k)) (s.0, inl s.1),
   λ e. (λ k c h l r. let s = subst OfLines (own_number refl r) a in q c _ (s.0, inl s.1), λ i. tt),
 )
 
-pub mesh_numbers_lem : (Q : ℕ → Place → Type 0) (m : List ℤ) → ((c : ℕ) (p : Place) → OfMesh c → Q c p) → EachIn Q (mesh_phases m)
+pub mesh_numbers_lem : (Q : ℕ → Place → Type 0) (m : List ℤ) → ((c : ℕ) (p : Place) → OfMesh c → Q c p)
+    → EachIn Q (mesh_phases m)
 unfolding mesh_layout
 mesh_numbers_lem Q m q =
-    each_join Q (line_phases mesh_layout m) (shape_phases m) (line_numbers_lem Q mesh_layout m (omega arith) (omega arith) q) (λ a. (
+    each_join Q (line_phases mesh_layout m) (shape_phases m)
+    (line_numbers_lem Q mesh_layout m (omega arith) (omega arith) q) (λ a. (
       λ k c h l r. q c _ (subst OfMesh (own_number refl r) (omega arith, inl (omega arith))),
       λ t. (
         λ k c h l r. q c _ (subst OfMesh (own_number refl r) (omega arith, inl (omega arith))),
@@ -137,7 +152,11 @@ mesh_numbers_lem Q m q =
               λ k c h l r. q c _ (subst OfMesh (own_number refl r) (omega arith, inl (omega arith))),
               λ g. (
                 λ k c h l r. q c _ (subst OfMesh (own_number refl r) (omega arith, inr (omega arith, omega arith))),
-                λ j. (λ k c h l r. q c _ (subst OfMesh (own_number refl r) (omega arith, inr (omega arith, omega arith))), λ i. tt),
+                λ j. (
+                  λ k c h l r. q c _
+                      (subst OfMesh (own_number refl r) (omega arith, inr (omega arith, omega arith))),
+                  λ i. tt,
+                ),
               ),
             ),
           ),
@@ -145,31 +164,45 @@ mesh_numbers_lem Q m q =
       ),
     ))
 
-pub claim_line_numbers : (Q : ℕ → Place → Type 0) (m c : List ℤ) → ((k : ℕ) (p : Place) → OfMesh k → Q k p) → EachIn Q (line_phases (claim_layout m) c)
+pub claim_line_numbers : (Q : ℕ → Place → Type 0) (m c : List ℤ) → ((k : ℕ) (p : Place) → OfMesh k → Q k p)
+    → EachIn Q (line_phases (claim_layout m) c)
 unfolding claim_layout
 claim_line_numbers Q m c q = line_numbers_lem Q (claim_layout m) c (omega arith) (omega arith) q
 
 -- what holds of each number of a mesh or of lines, of 21 and 22, and of 31 to 33 after them, holds of every refusal
-pub each_number : (Q : ℕ → Place → Type 0) (m c : List ℤ) → ((k : ℕ) (p : Place) → OfMesh k → Q k p) → EachIn Q (field_phases (equality_rows m) (strength_rows m) (stress m c) (l c) (n c)) → (AllPass (mesh_phases m) → AllPass (line_phases (claim_layout m) c) → AllPass (field_part m c) → EachIn Q (multiplier_phases (equality_rows m) (rows_of m) (3 * nodes m) (multiplier m c))) → EachIn Q (mesh_phases m ++ claim_phases m c)
+pub each_number : (Q : ℕ → Place → Type 0) (m c : List ℤ) → ((k : ℕ) (p : Place) → OfMesh k → Q k p)
+    → EachIn Q (field_phases (equality_rows m) (strength_rows m) (stress m c) (l c) (n c))
+    → (AllPass (mesh_phases m) → AllPass (line_phases (claim_layout m) c) → AllPass (field_part m c)
+    → EachIn Q (multiplier_phases (equality_rows m) (rows_of m) (3 * nodes m) (multiplier m c)))
+    → EachIn Q (mesh_phases m ++ claim_phases m c)
 each_number Q m c early field after =
     each_join Q (mesh_phases m) (claim_phases m c) (mesh_numbers_lem Q m early) (λ a.
     each_join Q (line_phases (claim_layout m) c) (part_phases m c) (claim_line_numbers Q m c early) (λ b.
-    each_join Q (field_part m c) (multiplier_part m c) (each_part Q (has_field c) (field_phases (equality_rows m) (strength_rows m) (stress m c) (l c) (n c)) field) (λ d.
-    each_part Q (has_multipliers c) (multiplier_phases (equality_rows m) (rows_of m) (3 * nodes m) (multiplier m c)) (after a b d))))
+    each_join Q (field_part m c) (multiplier_part m c)
+    (each_part Q (has_field c) (field_phases (equality_rows m) (strength_rows m) (stress m c) (l c) (n c)) field)
+    (λ d.
+    each_part Q (has_multipliers c) (multiplier_phases (equality_rows m) (rows_of m) (3 * nodes m) (multiplier m c))
+    (after a b d))))
 
 refusal_number : {m c : List ℤ} {k : ℕ} {p : Place} → Refusal m c k p → 0 < k
 refusal_number {m} {c} r =
     each_refusal (λ k p. 0 < k) (mesh_phases m ++ claim_phases m c)
-    (each_number (λ k p. 0 < k) m c (λ k p e. e.0)
-    (λ k n h l r. subst (λ n. 0 < n) (own_number refl r) (omega arith), λ e. (λ k n h l r. subst (λ n. 0 < n) (own_number refl r) (omega arith), λ i. tt))
+    (each_number (λ k p. 0 < k) m c (λ k p e. e.0) (
+      λ k n h l r. subst (λ n. 0 < n) (own_number refl r) (omega arith),
+      λ e. (λ k n h l r. subst (λ n. 0 < n) (own_number refl r) (omega arith), λ i. tt),
+    )
     (λ a b d. (
       λ k n h l r. subst (λ n. 0 < n) (own_number refl r) (omega arith),
-      λ e. (λ k n h l r. subst (λ n. 0 < n) (own_number refl r) (omega arith), λ e. (λ k n h l r. subst (λ n. 0 < n) (own_number refl r) (omega arith), λ i. tt)),
+      λ e. (
+        λ k n h l r. subst (λ n. 0 < n) (own_number refl r) (omega arith),
+        λ e. (λ k n h l r. subst (λ n. 0 < n) (own_number refl r) (omega arith), λ i. tt),
+      ),
     )))
     r.by
 
 -- a verdict is a refusal, or accepts with the claim's own open rows and loads
-pub verdict_cases : (m c : List ℤ) → ((k : ℕ) × (p : Place) × (verdict m c ≡ Refused k p)) ⊎ (verdict m c ≡ Accepted (open_count m c) (lower_load m c) (upper_load m c))
+pub verdict_cases : (m c : List ℤ) → ((k : ℕ) × (p : Place) × (verdict m c ≡ Refused k p))
+    ⊎ (verdict m c ≡ Accepted (open_count m c) (lower_load m c) (upper_load m c))
 unfolding verdict claim_verdict answer
 verdict_cases m c = of_mesh' (mesh_check m)
   where
@@ -180,7 +213,8 @@ verdict_cases m c = of_mesh' (mesh_check m)
     of_claim' Passed = inr refl
     of_claim' (Fails k p) = inl (k, p, refl)
 
-    of_mesh' : (o : Outcome) → ((k : ℕ) × (p : Place) × (answer o (claim_verdict m c) ≡ Refused k p)) ⊎ (answer o (claim_verdict m c) ≡ good)
+    of_mesh' : (o : Outcome) → ((k : ℕ) × (p : Place) × (answer o (claim_verdict m c) ≡ Refused k p))
+        ⊎ (answer o (claim_verdict m c) ≡ good)
     of_mesh' Passed = of_claim' (claim_check m c)
     of_mesh' (Fails k p) = inl (k, p, refl)
 
@@ -188,8 +222,11 @@ verdict_cases m c = of_mesh' (mesh_check m)
 pub returns_zero : (m c : List ℤ) → ZeroExactly m c
 returns_zero m c = (λ e. to (verdict_cases m c) e, λ a. ap number_of ((accepted_exactly m c).1 a))
   where
-    to : ((k : ℕ) × (p : Place) × (verdict m c ≡ Refused k p)) ⊎ (verdict m c ≡ Accepted (open_count m c) (lower_load m c) (upper_load m c)) → number_of (verdict m c) ≡ 0 → ClaimAccepted m c
-    to (inl (k, p, d)) e = absurd (omega (arith, refusal_number ((refused_exactly m c k p).0 d), sym (ap number_of d) ∙ e))
+    to : ((k : ℕ) × (p : Place) × (verdict m c ≡ Refused k p))
+        ⊎ (verdict m c ≡ Accepted (open_count m c) (lower_load m c) (upper_load m c)) → number_of (verdict m c) ≡ 0
+        → ClaimAccepted m c
+    to (inl (k, p, d)) e =
+        absurd (omega (arith, refusal_number ((refused_exactly m c k p).0 d), sym (ap number_of d) ∙ e))
     to (inr d) e = (accepted_exactly m c).0 d
 
 -- ---- parts and claims
@@ -207,7 +244,8 @@ claim_by_parts m c = (
 )
 
 -- a claim that has a field and is refused with 31, 32 or 33 has an accepted field
-pub field_before_multipliers : {m c : List ℤ} {k : ℕ} {p : Place} → Refusal m c k p → OfMultipliers k → HasField c → FieldAccepted m c
+pub field_before_multipliers : {m c : List ℤ} {k : ℕ} {p : Place} → Refusal m c k p → OfMultipliers k → HasField c
+    → FieldAccepted m c
 field_before_multipliers {m} {c} r = each_refusal Q (mesh_phases m ++ claim_phases m c) all r.by
   where
     Q : ℕ → Place → Type 0
@@ -215,10 +253,18 @@ field_before_multipliers {m} {c} r = each_refusal Q (mesh_phases m ++ claim_phas
 
     all : EachIn Q (mesh_phases m ++ claim_phases m c)
     all =
-        each_number Q m c (λ k p e h f. not_of_parts e (omega (arith, h)))
-        (λ k n h l r g f. absurd (omega (arith, own_number {k = 21} refl r)), λ e. (λ k n h l r g f. absurd (omega (arith, own_number {k = 22} refl r)), λ i. tt))
+        each_number Q m c (λ k p e h f. not_of_parts e (omega (arith, h))) (
+          λ k n h l r g f. absurd (omega (arith, own_number {k = 21} refl r)),
+          λ e. (λ k n h l r g f. absurd (omega (arith, own_number {k = 22} refl r)), λ i. tt),
+        )
         (λ a b d.
-        let accepted : HasField c → FieldAccepted m c = λ f. record { mesh = mesh_sound m a; lines = lines_sound (claim_layout m) c b; there = f; meets = field_part_sound m c d f } in (
+        let accepted : HasField c → FieldAccepted m c = λ f. record {
+          mesh = mesh_sound m a;
+          lines = lines_sound (claim_layout m) c b;
+          there = f;
+          meets =
+              field_part_sound m c d f;
+        } in (
           λ k n h l r g f. accepted f,
           λ e. (λ k n h l r g f. accepted f, λ e. (λ k n h l r g f. accepted f, λ i. tt)),
         ))
@@ -239,10 +285,17 @@ refused_after_field {m} {c} a r = each_refusal Q (mesh_phases m ++ claim_phases 
     all : EachIn Q (mesh_phases m ++ claim_phases m c)
     all =
         each_join Q (mesh_phases m) (claim_phases m c) (each_passed Q (mesh_phases m) (sound_mesh m a.mesh)) (λ h.
-        each_join Q (line_phases (claim_layout m) c) (part_phases m c) (each_passed Q (line_phases (claim_layout m) c) (sound_lines (claim_layout m) c a.lines)) (λ h.
-        each_join Q (field_part m c) (multiplier_part m c) (each_passed Q (field_part m c) (sound_field_part m c (λ t. a.meets))) (λ h. each_part Q (has_multipliers c) (multiplier_phases (equality_rows m) (rows_of m) (3 * nodes m) (multiplier m c)) (
+        each_join Q (line_phases (claim_layout m) c) (part_phases m c)
+        (each_passed Q (line_phases (claim_layout m) c) (sound_lines (claim_layout m) c a.lines)) (λ h.
+        each_join Q (field_part m c) (multiplier_part m c)
+        (each_passed Q (field_part m c) (sound_field_part m c (λ t. a.meets)))
+        (λ h. each_part Q (has_multipliers c)
+        (multiplier_phases (equality_rows m) (rows_of m) (3 * nodes m) (multiplier m c)) (
           λ k n h l r. omega (arith, own_number {k = 31} refl r),
-          λ e. (λ k n h l r. omega (arith, own_number {k = 32} refl r), λ e. (λ k n h l r. omega (arith, own_number {k = 33} refl r), λ i. tt)),
+          λ e. (
+            λ k n h l r. omega (arith, own_number {k = 32} refl r),
+            λ e. (λ k n h l r. omega (arith, own_number {k = 33} refl r), λ i. tt),
+          ),
         ))))
 
 -- a refusal with 21 to 33 is one of a claim on a mesh that passes
@@ -250,5 +303,6 @@ pub refused_on_mesh : {m c : List ℤ} {k : ℕ} {p : Place} → Refusal m c k p
 refused_on_mesh {m} {c} {k} {p} r h = by (refused_join (mesh_phases m) (claim_phases m c) k p r.by)
   where
     by : RefusedBy (mesh_phases m) k p ⊎ (AllPass (mesh_phases m) × RefusedBy (claim_phases m c) k p) → MeshSound m
-    by (inl x) = not_of_parts (each_refusal (λ k p. OfMesh k) (mesh_phases m) (mesh_numbers_lem (λ k p. OfMesh k) m (λ k p e. e)) x) h
+    by (inl x) = not_of_parts
+        (each_refusal (λ k p. OfMesh k) (mesh_phases m) (mesh_numbers_lem (λ k p. OfMesh k) m (λ k p e. e)) x) h
     by (inr x) = mesh_sound m x.0

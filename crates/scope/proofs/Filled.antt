@@ -17,9 +17,14 @@ use Rattle.integer.specs.Tests.{eq_z}
 use Rattle.scope.specs.Columns.{at}
 use Rattle.scope.specs.Layout.{Group, width, groups, numbers_before, count, entry}
 use Rattle.scope.specs.Polygon.{SidesListed}
-use Rattle.scope.specs.Mesh.{nodes_with, kind_with, mesh_header_columns, soil_columns, element_columns, mesh_header, soil_lines, node_lines, element_lines, edge_lines, jump_lines, mesh_layout, mesh_groups, nodes, elements, soils, edges, sides, jumps, p, q, h, cohesion, soil_kind, cohesion_across, soil_entry, x, y, corner, element_soil, edge_entry, from_node, to_node, jump_entry, jump_from, jump_to, facing_from, facing_to}
+use Rattle.scope.specs.Mesh.{nodes_with, kind_with, mesh_header_columns, soil_columns, element_columns, mesh_header}
+use Rattle.scope.specs.Mesh.{soil_lines, node_lines, element_lines, edge_lines, jump_lines, mesh_layout, mesh_groups}
+use Rattle.scope.specs.Mesh.{nodes, elements, soils, edges, sides, jumps, p, q, h, cohesion, soil_kind}
+use Rattle.scope.specs.Mesh.{cohesion_across, soil_entry, x, y, corner, element_soil, edge_entry, from_node, to_node}
+use Rattle.scope.specs.Mesh.{jump_entry, jump_from, jump_to, facing_from, facing_to}
 use Rattle.scope.specs.Rows.{count_from}
-use Rattle.scope.specs.NumberRanges.{Between, Counts, SoilFacts, NodeFacts, ElementFacts, EdgeFacts, JumpFacts, MeshFacts}
+use Rattle.scope.specs.NumberRanges.{Between, Counts, SoilFacts, NodeFacts, ElementFacts, EdgeFacts, JumpFacts}
+use Rattle.scope.specs.NumberRanges.{MeshFacts}
 use Rattle.scope.specs.Bounds.{most_coordinate}
 use Rattle.scope.specs.Layers.{layers, soil, soil_at, lowest, highest}
 use Rattle.scope.specs.Filled.{height_of, soil_place, soil_of, given_number, given, filled, with_soils}
@@ -63,7 +68,9 @@ module _ (m : List ℤ) where
   its_place : (k e : ℕ) → e < elements m → soil_of m k ≡ e → soil_place m e ≡ k
   unfolding soil_of
   its_place k e l d =
-      (equal (soil_place m e) k).holds (subst (λ (i : ℕ). T (eqb (soil_place m i) k)) d ((first_where_lem (λ i. eqb (soil_place m i) k) (elements m)).passes (omega (arith, d))))
+      (equal (soil_place m e) k).holds
+      (subst (λ (i : ℕ). T (eqb (soil_place m i) k)) d
+      ((first_where_lem (λ i. eqb (soil_place m i) k) (elements m)).passes (omega (arith, d))))
 
 -- ---- what stands where
 
@@ -80,7 +87,8 @@ module _ (f : ℕ → ℤ) (m : List ℤ) where
 
   past : (k : ℕ) → length m ≤ k → at (given f m) k ≡ at m k
   unfolding at
-  past k l = get_or-eq_default (given f m) (pos 0) {n = k} (omega (arith, given-length)) ∙ sym (get_or-eq_default m (pos 0) {n = k} l)
+  past k l = get_or-eq_default (given f m) (pos 0) {n = k} (omega (arith, given-length))
+      ∙ sym (get_or-eq_default m (pos 0) {n = k} l)
 
   pub given_other : (k : ℕ) → NoSoil m k → at (given f m) k ≡ at m k
   unfolding given_number
@@ -89,7 +97,8 @@ module _ (f : ℕ → ℤ) (m : List ℤ) where
       by : Dec (k < length m) → at (given f m) k ≡ at m k
       by (yes l) =
           at-given k l
-          ∙ ap (λ (b : Bool). cond (b && eq_z (at m k) (pos 0)) (f (soil_of m k)) (at m k)) (le-ltb (soil_of m k) (elements m) (omega (arith, no_element m k none)))
+          ∙ ap (λ (b : Bool). cond (b && eq_z (at m k) (pos 0)) (f (soil_of m k)) (at m k))
+          (le-ltb (soil_of m k) (elements m) (omega (arith, no_element m k none)))
       by (no l) = past k (omega arith)
 
   -- a number that is not 0
@@ -100,30 +109,38 @@ module _ (f : ℕ → ℤ) (m : List ℤ) where
       by : Dec (k < length m) → at (given f m) k ≡ at m k
       by (yes l) =
           at-given k l
-          ∙ ap (λ (b : Bool). cond (ltb (soil_of m k) (elements m) && b) (f (soil_of m k)) (at m k)) (is_no (equalℤ (at m k) (pos 0)) z)
+          ∙ ap (λ (b : Bool). cond (ltb (soil_of m k) (elements m) && b) (f (soil_of m k)) (at m k))
+          (is_no (equalℤ (at m k) (pos 0)) z)
           ∙ ap (λ (b : Bool). cond b (f (soil_of m k)) (at m k)) (and-false (ltb (soil_of m k) (elements m)))
       by (no l) = past k (omega arith)
 
   -- the soil of element e, where it is 0
-  pub given_zero : (e : ℕ) → e < elements m → soil_place m e < length m → at m (soil_place m e) ≡ pos 0 → at (given f m) (soil_place m e) ≡ f e
+  pub given_zero : (e : ℕ) → e < elements m → soil_place m e < length m → at m (soil_place m e) ≡ pos 0
+      → at (given f m) (soil_place m e) ≡ f e
   unfolding given_number
   given_zero e l b z =
       at-given (soil_place m e) b
-      ∙ ap₂ (λ (c d : Bool). cond (c && d) (f (soil_of m (soil_place m e))) (at m (soil_place m e))) (lt-ltb (soil_of m (soil_place m e)) (elements m) (omega (arith, its_element m e l))) (is_yes (equalℤ (at m (soil_place m e)) (pos 0)) z)
+      ∙ ap₂ (λ (c d : Bool). cond (c && d) (f (soil_of m (soil_place m e))) (at m (soil_place m e)))
+      (lt-ltb (soil_of m (soil_place m e)) (elements m) (omega (arith, its_element m e l)))
+      (is_yes (equalℤ (at m (soil_place m e)) (pos 0)) z)
       ∙ ap f (its_element m e l)
 
   -- an element that is given soil 0 stays as it was
   pub given_still : (e : ℕ) → e < elements m → f e ≡ pos 0 → at (given f m) (soil_place m e) ≡ at m (soil_place m e)
-  given_still e l z = by (dec_lt (soil_place m e) (length m)) (eq_z (at m (soil_place m e)) (pos 0)) (equalℤ (at m (soil_place m e)) (pos 0))
+  given_still e l z = by (dec_lt (soil_place m e) (length m)) (eq_z (at m (soil_place m e)) (pos 0))
+      (equalℤ (at m (soil_place m e)) (pos 0))
     where
-      by : Dec (soil_place m e < length m) → (b : Bool) → Decides b (at m (soil_place m e) ≡ pos 0) → at (given f m) (soil_place m e) ≡ at m (soil_place m e)
+      by : Dec (soil_place m e < length m) → (b : Bool) → Decides b (at m (soil_place m e) ≡ pos 0)
+          → at (given f m) (soil_place m e) ≡ at m (soil_place m e)
       by (yes k) true d = given_zero e l k (d.holds tt) ∙ z ∙ sym (d.holds tt)
       by (yes k) false d = given_own (soil_place m e) (λ s. d.passes s)
       by (no k) b d = past (soil_place m e) (omega arith)
 
   pub given_none : ((e : ℕ) → f e ≡ pos 0) → given f m ≡ m
   unfolding at given_number
-  given_none none = ext_get_or (pos 0) (given f m) m given-length (λ k l. at-given k (omega (arith, l, given-length)) ∙ by k (ltb (soil_of m k) (elements m)) (eq_z (at m k) (pos 0)) (equalℤ (at m k) (pos 0)))
+  given_none none = ext_get_or (pos 0) (given f m) m given-length
+      (λ k l. at-given k (omega (arith, l, given-length)) ∙ by k (ltb (soil_of m k) (elements m))
+      (eq_z (at m k) (pos 0)) (equalℤ (at m k) (pos 0)))
     where
       by : (k : ℕ) (a b : Bool) → Decides b (at m k ≡ pos 0) → cond (a && b) (f (soil_of m k)) (at m k) ≡ at m k
       by k true true d = none (soil_of m k) ∙ sym (d.holds tt)
@@ -131,32 +148,41 @@ module _ (f : ℕ → ℤ) (m : List ℤ) where
       by k false b d = refl
 
 -- a mesh with no soil 0 stays as it is
-pub given_all_own : (f : ℕ → ℤ) (m : List ℤ) → ((e : ℕ) → e < elements m → ¬ (at m (soil_place m e) ≡ pos 0)) → given f m ≡ m
+pub given_all_own : (f : ℕ → ℤ) (m : List ℤ) → ((e : ℕ) → e < elements m → ¬ (at m (soil_place m e) ≡ pos 0))
+    → given f m ≡ m
 unfolding at
-given_all_own f m own = ext_get_or (pos 0) (given f m) m (given-length f m) (λ k l. by k (dec_lt (soil_of m k) (elements m)))
+given_all_own f m own = ext_get_or (pos 0) (given f m) m (given-length f m)
+    (λ k l. by k (dec_lt (soil_of m k) (elements m)))
   where
     by : (k : ℕ) → Dec (soil_of m k < elements m) → at (given f m) k ≡ at m k
-    by k (yes l) = given_own f m k (subst (λ (i : ℕ). ¬ (at m i ≡ pos 0)) (its_place m k (soil_of m k) l refl) (own (soil_of m k) l))
+    by k (yes l) = given_own f m k
+        (subst (λ (i : ℕ). ¬ (at m i ≡ pos 0)) (its_place m k (soil_of m k) l refl) (own (soil_of m k) l))
     by k (no l) = given_other f m k (λ e b s. absurd (omega (arith, its_element m e b, ap (soil_of m) s)))
 
 -- ---- where the soils that are given are the same
 
 module _ (f g : ℕ → ℤ) (m : List ℤ) where
   -- .. at one number
-  same_number : (k : ℕ) → ((e : ℕ) → e < elements m → soil_place m e ≡ k → f e ≡ g e) → given_number f m k ≡ given_number g m k
+  same_number : (k : ℕ) → ((e : ℕ) → e < elements m → soil_place m e ≡ k → f e ≡ g e)
+      → given_number f m k ≡ given_number g m k
   unfolding given_number
   same_number k same = by (dec_lt (soil_of m k) (elements m))
     where
-      by : Dec (soil_of m k < elements m) → cond (ltb (soil_of m k) (elements m) && eq_z (at m k) (pos 0)) (f (soil_of m k)) (at m k) ≡ cond (ltb (soil_of m k) (elements m) && eq_z (at m k) (pos 0)) (g (soil_of m k)) (at m k)
-      by (yes l) = ap (λ (z : ℤ). cond (ltb (soil_of m k) (elements m) && eq_z (at m k) (pos 0)) z (at m k)) (same (soil_of m k) l (its_place m k (soil_of m k) l refl))
-      by (no l) = ap (λ (b : Bool). cond (b && eq_z (at m k) (pos 0)) (f (soil_of m k)) (at m k)) none ∙ sym (ap (λ (b : Bool). cond (b && eq_z (at m k) (pos 0)) (g (soil_of m k)) (at m k)) none)
+      by : Dec (soil_of m k < elements m) → cond (ltb (soil_of m k) (elements m) && eq_z (at m k) (pos 0))
+          (f (soil_of m k)) (at m k) ≡ cond (ltb (soil_of m k) (elements m) && eq_z (at m k) (pos 0)) (g (soil_of m k))
+          (at m k)
+      by (yes l) = ap (λ (z : ℤ). cond (ltb (soil_of m k) (elements m) && eq_z (at m k) (pos 0)) z (at m k))
+          (same (soil_of m k) l (its_place m k (soil_of m k) l refl))
+      by (no l) = ap (λ (b : Bool). cond (b && eq_z (at m k) (pos 0)) (f (soil_of m k)) (at m k)) none
+          ∙ sym (ap (λ (b : Bool). cond (b && eq_z (at m k) (pos 0)) (g (soil_of m k)) (at m k)) none)
         where
           none : ltb (soil_of m k) (elements m) ≡ false
           none = le-ltb (soil_of m k) (elements m) (omega arith)
 
   given_by : ((k : ℕ) → k < length m → at (given f m) k ≡ at (given g m) k) → given f m ≡ given g m
   unfolding at
-  given_by same = ext_get_or (pos 0) (given f m) (given g m) (given-length f m ∙ sym (given-length g m)) (λ k l. same k (omega (arith, given-length f m)))
+  given_by same = ext_get_or (pos 0) (given f m) (given g m) (given-length f m ∙ sym (given-length g m))
+      (λ k l. same k (omega (arith, given-length f m)))
 
   -- .. for each element
   pub given_cong : ((e : ℕ) → e < elements m → f e ≡ g e) → given f m ≡ given g m
@@ -165,27 +191,35 @@ module _ (f g : ℕ → ℤ) (m : List ℤ) where
   -- .. for each but one whose soil is not there
   pub given-beyond : (e : ℕ) → length m ≤ soil_place m e → ((d : ℕ) → ¬ (d ≡ e) → f d ≡ g d) → given f m ≡ given g m
   given-beyond e far same =
-      given_by (λ k b. at-given f m k b ∙ same_number k (λ d c s. same d (λ z. absurd (omega (arith, b, far, s, ap (soil_place m) z)))) ∙ sym (at-given g m k b))
+      given_by (λ k b. at-given f m k b
+      ∙ same_number k (λ d c s. same d (λ z. absurd (omega (arith, b, far, s, ap (soil_place m) z))))
+      ∙ sym (at-given g m k b))
 
   -- .. for each but e: where it has soil 0 its number is set, and where it has not nothing is to be done
-  module _ (e : ℕ) (l : e < elements m) (there : soil_place m e < length m) (same : (d : ℕ) → ¬ (d ≡ e) → f d ≡ g d) where
+  module _ (e : ℕ) (l : e < elements m) (there : soil_place m e < length m)
+      (same : (d : ℕ) → ¬ (d ≡ e) → f d ≡ g d) where
     elsewhere : (k : ℕ) → k < length m → ¬ (k ≡ soil_place m e) → at (given f m) k ≡ at (given g m) k
-    elsewhere k b n = at-given f m k b ∙ same_number k (λ d c s. same d (λ z. n (sym s ∙ ap (soil_place m) z))) ∙ sym (at-given g m k b)
+    elsewhere k b n = at-given f m k b ∙ same_number k (λ d c s. same d (λ z. n (sym s ∙ ap (soil_place m) z)))
+        ∙ sym (at-given g m k b)
 
     pub given_kept : ¬ (at m (soil_place m e) ≡ pos 0) → given f m ≡ given g m
     given_kept z = given_by (λ k b. by k b (ℕ_discrete k (soil_place m e)))
       where
         by : (k : ℕ) → k < length m → Dec (k ≡ soil_place m e) → at (given f m) k ≡ at (given g m) k
-        by k b (yes d) = let n : ¬ (at m k ≡ pos 0) = subst (λ (i : ℕ). ¬ (at m i ≡ pos 0)) (sym d) z in given_own f m k n ∙ sym (given_own g m k n)
+        by k b (yes d) = let n : ¬ (at m k ≡ pos 0) = subst (λ (i : ℕ). ¬ (at m i ≡ pos 0))
+            (sym d) z in given_own f m k n ∙ sym (given_own g m k n)
         by k b (no d) = elsewhere k b d
 
     pub given_set : at m (soil_place m e) ≡ pos 0 → set (given f m) (soil_place m e) (g e) ≡ given g m
     unfolding at
     given_set z =
-        ext_get_or (pos 0) (set (given f m) (soil_place m e) (g e)) (given g m) (length-set (given f m) (soil_place m e) (g e) ∙ given-length f m ∙ sym (given-length g m))
-        (λ k b. by k (omega (arith, b, length-set (given f m) (soil_place m e) (g e), given-length f m)) (ℕ_discrete k (soil_place m e)))
+        ext_get_or (pos 0) (set (given f m) (soil_place m e) (g e)) (given g m)
+        (length-set (given f m) (soil_place m e) (g e) ∙ given-length f m ∙ sym (given-length g m))
+        (λ k b. by k (omega (arith, b, length-set (given f m) (soil_place m e) (g e), given-length f m))
+        (ℕ_discrete k (soil_place m e)))
       where
-        by : (k : ℕ) → k < length m → Dec (k ≡ soil_place m e) → get_or (set (given f m) (soil_place m e) (g e)) k (pos 0) ≡ at (given g m) k
+        by : (k : ℕ) → k < length m → Dec (k ≡ soil_place m e)
+            → get_or (set (given f m) (soil_place m e) (g e)) k (pos 0) ≡ at (given g m) k
         by k b (yes d) =
             ap (λ (i : ℕ). get_or (set (given f m) (soil_place m e) (g e)) i (pos 0)) d
             ∙ get_or-set_same (given f m) (soil_place m e) (g e) (pos 0) (omega (arith, there, given-length f m))
@@ -236,26 +270,32 @@ module _ (f : ℕ → ℤ) (m : List ℤ) where
   abbrev place : ℕ → ℕ → ℕ → ℕ
   place j i c = numbers_before (mesh_groups m) j + i * width (group (mesh_groups m) j) + c
 
-  entry_kept : (j i c : ℕ) → NoSoil m (place j i c) → entry (mesh_groups (given f m)) (given f m) j i c ≡ entry (mesh_groups m) m j i c
+  entry_kept : (j i c : ℕ) → NoSoil m (place j i c) → entry (mesh_groups (given f m)) (given f m) j i c
+      ≡ entry (mesh_groups m) m j i c
   unfolding entry
   entry_kept j i c none =
       ap (λ (gs : List Group). at (given f m) (numbers_before gs j + i * width (group gs j) + c)) groups_kept
       ∙ given_other f m (place j i c) none
 
   soil_kept : (s c : ℕ) → s < soils m → c < soil_columns → soil_entry (given f m) s c ≡ soil_entry m s c
-  unfolding soil_entry soil_place numbers_before mesh_groups groups mesh_layout mesh_header soil_lines node_lines element_lines edge_lines jump_lines
+  unfolding soil_entry soil_place numbers_before mesh_groups groups mesh_layout mesh_header soil_lines node_lines
+      element_lines edge_lines jump_lines
   soil_kept s c l k = entry_kept 1 s c (λ e d z. absurd (omega arith))
 
   x_kept : (v : ℕ) → v < nodes m → x (given f m) v ≡ x m v
-  unfolding x soil_place numbers_before mesh_groups groups mesh_layout mesh_header soil_lines node_lines element_lines edge_lines jump_lines
+  unfolding x soil_place numbers_before mesh_groups groups mesh_layout mesh_header soil_lines node_lines element_lines
+      edge_lines jump_lines
   x_kept v l = entry_kept 2 v 0 (λ e d z. absurd (omega arith))
 
   pub y_kept : (v : ℕ) → v < nodes m → y (given f m) v ≡ y m v
-  unfolding y soil_place numbers_before mesh_groups groups mesh_layout mesh_header soil_lines node_lines element_lines edge_lines jump_lines
+  unfolding y soil_place numbers_before mesh_groups groups mesh_layout mesh_header soil_lines node_lines element_lines
+      edge_lines jump_lines
   y_kept v l = entry_kept 2 v 1 (λ e d z. absurd (omega arith))
 
-  pub element_kept : (e c : ℕ) → c < 4 → entry (mesh_groups (given f m)) (given f m) 3 e c ≡ entry (mesh_groups m) m 3 e c
-  unfolding soil_place numbers_before mesh_groups groups mesh_layout mesh_header soil_lines node_lines element_lines edge_lines jump_lines
+  pub element_kept : (e c : ℕ) → c < 4 → entry (mesh_groups (given f m)) (given f m) 3 e c
+      ≡ entry (mesh_groups m) m 3 e c
+  unfolding soil_place numbers_before mesh_groups groups mesh_layout mesh_header soil_lines node_lines element_lines
+      edge_lines jump_lines
   element_kept e c l = entry_kept 3 e c (λ d k z. absurd (omega arith))
 
   pub corner_kept : (e i : ℕ) → i < 4 → corner (given f m) e i ≡ corner m e i
@@ -263,37 +303,52 @@ module _ (f : ℕ → ℤ) (m : List ℤ) where
   corner_kept e i l = ap (λ (z : ℤ). count z - 1) (element_kept e i l)
 
   edge_kept : (g c : ℕ) → edge_entry (given f m) g c ≡ edge_entry m g c
-  unfolding edge_entry soil_place numbers_before mesh_groups groups mesh_layout mesh_header soil_lines node_lines element_lines edge_lines jump_lines
+  unfolding edge_entry soil_place numbers_before mesh_groups groups mesh_layout mesh_header soil_lines node_lines
+      element_lines edge_lines jump_lines
   edge_kept g c = entry_kept 4 g c (λ e d z. absurd (omega arith))
 
   jump_kept : (j c : ℕ) → jump_entry (given f m) j c ≡ jump_entry m j c
-  unfolding jump_entry soil_place numbers_before mesh_groups groups mesh_layout mesh_header soil_lines node_lines element_lines edge_lines jump_lines
+  unfolding jump_entry soil_place numbers_before mesh_groups groups mesh_layout mesh_header soil_lines node_lines
+      element_lines edge_lines jump_lines
   jump_kept j c = entry_kept 5 j c (λ e d z. absurd (omega arith))
 
   pub soil_number_lem : (e : ℕ) → soil_number (given f m) e ≡ at (given f m) (soil_place m e)
-  unfolding entry soil_place numbers_before mesh_groups groups mesh_layout mesh_header soil_lines node_lines element_lines edge_lines jump_lines
-  soil_number_lem e = ap (λ (gs : List Group). at (given f m) (numbers_before gs 3 + e * width (group gs 3) + 4)) groups_kept
+  unfolding entry soil_place numbers_before mesh_groups groups mesh_layout mesh_header soil_lines node_lines
+      element_lines edge_lines jump_lines
+  soil_number_lem e = ap (λ (gs : List Group). at (given f m) (numbers_before gs 3 + e * width (group gs 3) + 4))
+      groups_kept
 
 pub soil_stands : (m : List ℤ) (e : ℕ) → soil_number m e ≡ at m (soil_place m e)
-unfolding entry soil_place numbers_before mesh_groups groups mesh_layout mesh_header soil_lines node_lines element_lines edge_lines jump_lines
+unfolding entry soil_place numbers_before mesh_groups groups mesh_layout mesh_header soil_lines node_lines
+    element_lines edge_lines jump_lines
 soil_stands m e = refl
 
 -- ---- what sound lines say
 
 module _ (f : ℕ → ℤ) (m : List ℤ) (k : MeshFacts (given f m)) where
   pub soil-there : (e : ℕ) → e < elements m → soil_place m e < length m
-  unfolding soil_place numbers_before mesh_groups groups mesh_layout mesh_header soil_lines node_lines element_lines edge_lines jump_lines
+  unfolding soil_place numbers_before mesh_groups groups mesh_layout mesh_header soil_lines node_lines element_lines
+      edge_lines jump_lines
   soil-there e l = omega (arith, k.size, given-length f m, soils_kept f m, nodes_kept f m, elements_kept f m)
 
   corner-there : (e i : ℕ) → e < elements m → i < 4 → corner m e i < nodes m
-  corner-there e i l h = omega (arith, (k.element e (omega (arith, elements_kept f m))).corner_there i h, corner_kept f m e i h, nodes_kept f m)
+  corner-there e i l h =
+      omega (
+        arith,
+        (k.element e (omega (arith, elements_kept f m))).corner_there i h,
+        corner_kept f m e i h,
+        nodes_kept f m,
+      )
 
   pub height_kept : (e : ℕ) → e < elements m → height_of (given f m) e ≡ height_of m e
   unfolding height_of
-  height_kept e l = ap₂ ◌+◌ (ap₂ ◌+◌ (ap₂ ◌+◌ (at-corner 0 (omega arith)) (at-corner 1 (omega arith))) (at-corner 2 (omega arith))) (at-corner 3 (omega arith))
+  height_kept e l = ap₂ ◌+◌
+      (ap₂ ◌+◌ (ap₂ ◌+◌ (at-corner 0 (omega arith)) (at-corner 1 (omega arith))) (at-corner 2 (omega arith)))
+      (at-corner 3 (omega arith))
     where
       at-corner : (i : ℕ) → i < 4 → count (y (given f m) (corner (given f m) e i)) ≡ count (y m (corner m e i))
-      at-corner i h = ap (λ (v : ℕ). count (y (given f m) v)) (corner_kept f m e i h) ∙ ap count (y_kept f m (corner m e i) (corner-there e i l h))
+      at-corner i h = ap (λ (v : ℕ). count (y (given f m) v)) (corner_kept f m e i h)
+          ∙ ap count (y_kept f m (corner m e i) (corner-there e i l h))
 
   node_most : (v : ℕ) → v < nodes m → count (y m v) ≤ most_coordinate
   node_most v l =
@@ -314,12 +369,15 @@ module _ (f : ℕ → ℤ) (m : List ℤ) (k : MeshFacts (given f m)) where
       moved = record {
         not_below = λ v l. omega (arith, old.not_below v (omega (arith, nodes_kept f m)), ap count (y_kept f m v l));
         not_above = λ v l. omega (arith, old.not_above v (omega (arith, nodes_kept f m)), ap count (y_kept f m v l));
-        some_lowest = let (v, l, e) = old.some_lowest in let b : v < nodes m = omega (arith, l, nodes_kept f m) in (v, b, omega (arith, e, ap count (y_kept f m v b)));
-        some_highest = let (v, l, e) = old.some_highest in let b : v < nodes m = omega (arith, l, nodes_kept f m) in (v, b, omega (arith, e, ap count (y_kept f m v b)));
+        some_lowest = let (v, l, e) = old.some_lowest in let b : v < nodes m =
+            omega (arith, l, nodes_kept f m) in (v, b, omega (arith, e, ap count (y_kept f m v b)));
+        some_highest = let (v, l, e) = old.some_highest in let b : v < nodes m =
+            omega (arith, l, nodes_kept f m) in (v, b, omega (arith, e, ap count (y_kept f m v b)));
       }
 
   -- where the table passes, each element's height is in exactly one layer
-  pub element_layer : (t : List ℤ) → TableSound t (lowest m) (highest m) → (e : ℕ) → e < elements m → OneLayer t (height_of m e)
+  pub element_layer : (t : List ℤ) → TableSound t (lowest m) (highest m) → (e : ℕ) → e < elements m
+      → OneLayer t (height_of m e)
   unfolding height_of
   element_layer t s e l =
       s.once (height_of m e)
@@ -333,7 +391,8 @@ module _ (f : ℕ → ℤ) (m : List ℤ) (k : MeshFacts (given f m)) where
       high i h = heights.not_above (corner m e i) (corner-there e i l h)
 
   -- other soils of the mesh can be given as well
-  module _ (g : ℕ → ℤ) (ok : (e : ℕ) → e < elements m → at m (soil_place m e) ≡ pos 0 → Between (pos 1) (pos (soils m)) (g e)) where
+  module _ (g : ℕ → ℤ) (ok : (e : ℕ) → e < elements m → at m (soil_place m e) ≡ pos 0
+      → Between (pos 1) (pos (soils m)) (g e)) where
     counts_kept : Counts (given g m)
     counts_kept =
         let c = k.counts in
@@ -344,11 +403,14 @@ module _ (f : ℕ → ℤ) (m : List ℤ) (k : MeshFacts (given f m)) where
           elements_most = omega (arith, c.elements_most, elements_kept f m, elements_kept g m);
           soils_least = omega (arith, c.soils_least, soils_kept f m, soils_kept g m);
           soils_most = omega (arith, c.soils_most, soils_kept f m, soils_kept g m);
-          edges_least = subst (λ (z : ℤ). pos 0 ≤ℤ z) (header_kept f m 3 (omega arith) ∙ sym (header_kept g m 3 (omega arith))) c.edges_least;
+          edges_least = subst (λ (z : ℤ). pos 0 ≤ℤ z)
+              (header_kept f m 3 (omega arith) ∙ sym (header_kept g m 3 (omega arith))) c.edges_least;
           edges_most = omega (arith, c.edges_most, edges_kept f m, edges_kept g m);
           sides_listed = subst SidesListed (sides_kept f m ∙ sym (sides_kept g m)) c.sides_listed;
-          nodes_fit = subst (λ (n : ℕ). nodes (given g m) ≤ nodes_with n) (sides_kept f m ∙ sym (sides_kept g m)) (omega (arith, c.nodes_fit, nodes_kept f m, nodes_kept g m));
-          jumps_least = subst (λ (z : ℤ). pos 0 ≤ℤ z) (header_kept f m 5 (omega arith) ∙ sym (header_kept g m 5 (omega arith))) c.jumps_least;
+          nodes_fit = subst (λ (n : ℕ). nodes (given g m) ≤ nodes_with n) (sides_kept f m ∙ sym (sides_kept g m))
+              (omega (arith, c.nodes_fit, nodes_kept f m, nodes_kept g m));
+          jumps_least = subst (λ (z : ℤ). pos 0 ≤ℤ z)
+              (header_kept f m 5 (omega arith) ∙ sym (header_kept g m 5 (omega arith))) c.jumps_least;
           jumps_most = omega (arith, c.jumps_most, jumps_kept f m, jumps_kept g m);
         }
 
@@ -359,17 +421,21 @@ module _ (f : ℕ → ℤ) (m : List ℤ) (k : MeshFacts (given f m)) where
       q_range = subst (Between (pos 1) (pos 1000)) (same 1 (omega arith)) old.q_range;
       h_range = subst (Between (pos 1) (pos 1000)) (same 2 (omega arith)) old.h_range;
       cohesion_range = subst (Between (pos 0) (pos 10000)) (same 3 (omega arith)) old.cohesion_range;
-      force_range = λ c b. subst (Between (neg_ℤ (pos 1000)) (pos 1000)) (same (4 + c) (omega arith)) (old.force_range c b);
-      kind_range = subst₂ (λ (n : ℕ) (z : ℤ). Between (pos 0) (pos (kind_with n)) z) (sides_kept f m ∙ sym (sides_kept g m)) (same 8 (omega arith)) old.kind_range;
+      force_range = λ c b. subst (Between (neg_ℤ (pos 1000)) (pos 1000)) (same (4 + c) (omega arith))
+          (old.force_range c b);
+      kind_range = subst₂ (λ (n : ℕ) (z : ℤ). Between (pos 0) (pos (kind_with n)) z)
+          (sides_kept f m ∙ sym (sides_kept g m)) (same 8 (omega arith)) old.kind_range;
       across_range = subst (Between (pos 0) (pos 10000)) (same 9 (omega arith)) old.across_range;
-      right_angle = subst₃ (λ (a b c : ℤ). a *ℤ a +ℤ b *ℤ b ≡ c *ℤ c) (same 0 (omega arith)) (same 1 (omega arith)) (same 2 (omega arith)) old.right_angle;
+      right_angle = subst₃ (λ (a b c : ℤ). a *ℤ a +ℤ b *ℤ b ≡ c *ℤ c) (same 0 (omega arith)) (same 1 (omega arith))
+          (same 2 (omega arith)) old.right_angle;
     }
       where
         old : SoilFacts (given f m) s
         old = k.soil s (omega (arith, l, soils_kept f m, soils_kept g m))
 
         same : (c : ℕ) → c < soil_columns → soil_entry (given f m) s c ≡ soil_entry (given g m) s c
-        same c b = soil_kept f m s c (omega (arith, l, soils_kept g m)) b ∙ sym (soil_kept g m s c (omega (arith, l, soils_kept g m)) b)
+        same c b = soil_kept f m s c (omega (arith, l, soils_kept g m)) b
+            ∙ sym (soil_kept g m s c (omega (arith, l, soils_kept g m)) b)
 
     node_facts : (v : ℕ) → v < nodes (given g m) → NodeFacts (given g m) v
     node_facts v l =
@@ -381,24 +447,33 @@ module _ (f : ℕ → ℤ) (m : List ℤ) (k : MeshFacts (given f m)) where
         }
 
     -- the soil that an element has: what it had, or what it is given
-    has-soil : (e : ℕ) → e < elements m → (pos 1 ≤ℤ soil_number (given g m) e) × (count (soil_number (given g m) e) - 1 < soils m)
+    has-soil : (e : ℕ) → e < elements m → (pos 1 ≤ℤ soil_number (given g m) e)
+        × (count (soil_number (given g m) e) - 1 < soils m)
     unfolding element_soil
-    has-soil e l = subst (λ (z : ℤ). (pos 1 ≤ℤ z) × (count z - 1 < soils m)) (sym (soil_number_lem g m e)) (by (eq_z (at m (soil_place m e)) (pos 0)) (equalℤ (at m (soil_place m e)) (pos 0)))
+    has-soil e l = subst (λ (z : ℤ). (pos 1 ≤ℤ z) × (count z - 1 < soils m)) (sym (soil_number_lem g m e))
+        (by (eq_z (at m (soil_place m e)) (pos 0)) (equalℤ (at m (soil_place m e)) (pos 0)))
       where
         old : ElementFacts (given f m) e
         old = k.element e (omega (arith, elements_kept f m))
 
-        by : (b : Bool) → Decides b (at m (soil_place m e) ≡ pos 0) → (pos 1 ≤ℤ at (given g m) (soil_place m e)) × (count (at (given g m) (soil_place m e)) - 1 < soils m)
+        by : (b : Bool) → Decides b (at m (soil_place m e) ≡ pos 0)
+            → (pos 1 ≤ℤ at (given g m) (soil_place m e)) × (count (at (given g m) (soil_place m e)) - 1 < soils m)
         by true d =
             let z : at m (soil_place m e) ≡ pos 0 = d.holds tt in
             let r = ok e l z in
             let c = count_range (g e) r.least r.most in
-            let gives : g e ≡ at (given g m) (soil_place m e) = sym (given_zero g m e l (soil-there e l) z) in
-            (subst (λ (a : ℤ). pos 1 ≤ℤ a) gives r.least, subst (λ (a : ℤ). count a - 1 < soils m) gives (omega (arith, c.0, c.1)))
+            let gives : g e ≡ at (given g m) (soil_place m e) = sym (given_zero g m e l (soil-there e l) z) in (
+              subst (λ (a : ℤ). pos 1 ≤ℤ a) gives r.least,
+              subst (λ (a : ℤ). count a - 1 < soils m) gives
+                  (omega (arith, c.0, c.1)),
+            )
         by false d =
             let n : ¬ (at m (soil_place m e) ≡ pos 0) = λ z. d.passes z in
-            let same : soil_number (given f m) e ≡ at (given g m) (soil_place m e) = soil_number_lem f m e ∙ given_own f m (soil_place m e) n ∙ sym (given_own g m (soil_place m e) n) in
-            (subst (λ (a : ℤ). pos 1 ≤ℤ a) same (old.from_one 4 (omega arith)), subst (λ (a : ℤ). count a - 1 < soils m) same (omega (arith, old.soil_there, soils_kept f m)))
+            let same : soil_number (given f m) e ≡ at (given g m) (soil_place m e) = soil_number_lem f m e
+            ∙ given_own f m (soil_place m e) n ∙ sym (given_own g m (soil_place m e) n) in (
+              subst (λ (a : ℤ). pos 1 ≤ℤ a) same (old.from_one 4 (omega arith)),
+              subst (λ (a : ℤ). count a - 1 < soils m) same (omega (arith, old.soil_there, soils_kept f m)),
+            )
 
     element_facts : (e : ℕ) → e < elements (given g m) → ElementFacts (given g m) e
     unfolding element_soil
@@ -412,8 +487,10 @@ module _ (f : ℕ → ℤ) (m : List ℤ) (k : MeshFacts (given f m)) where
         here = omega (arith, elements_kept g m)
 
         by : (c : ℕ) → Dec (c < 4) → c < element_columns → pos 1 ≤ℤ entry (mesh_groups (given g m)) (given g m) 3 e c
-        by c (yes d) b = subst (λ (z : ℤ). pos 1 ≤ℤ z) (element_kept f m e c d ∙ sym (element_kept g m e c d)) ((k.element e (omega (arith, here, elements_kept f m))).from_one c b)
-        by c (no d) b = let four : 4 ≡ c = omega arith in subst (λ (i : ℕ). pos 1 ≤ℤ entry (mesh_groups (given g m)) (given g m) 3 e i) four (has-soil e here).0
+        by c (yes d) b = subst (λ (z : ℤ). pos 1 ≤ℤ z) (element_kept f m e c d ∙ sym (element_kept g m e c d))
+            ((k.element e (omega (arith, here, elements_kept f m))).from_one c b)
+        by c (no d) b = let four : 4 ≡ c = omega arith in subst
+            (λ (i : ℕ). pos 1 ≤ℤ entry (mesh_groups (given g m)) (given g m) 3 e i) four (has-soil e here).0
 
     edge_facts : (i : ℕ) → i < edges (given g m) → EdgeFacts (given g m) i
     unfolding from_node to_node
@@ -447,13 +524,29 @@ module _ (f : ℕ → ℤ) (m : List ℤ) (k : MeshFacts (given f m)) where
         same : (c : ℕ) → jump_entry (given f m) j c ≡ jump_entry (given g m) j c
         same c = jump_kept f m j c ∙ sym (jump_kept g m j c)
 
-        there : (c : ℕ) → count (jump_entry (given f m) j c) - 1 < nodes (given f m) → count (jump_entry (given g m) j c) - 1 < nodes (given g m)
+        there : (c : ℕ) → count (jump_entry (given f m) j c) - 1 < nodes (given f m)
+            → count (jump_entry (given g m) j c) - 1 < nodes (given g m)
         there c h = omega (arith, h, ap (λ (z : ℤ). count z - 1) (same c), nodes_kept f m, nodes_kept g m)
 
     pub given_facts : MeshFacts (given g m)
     given_facts = record {
       counts = counts_kept;
-      size = omega (arith, k.size, given-length f m, given-length g m, soils_kept f m, soils_kept g m, nodes_kept f m, nodes_kept g m, elements_kept f m, elements_kept g m, edges_kept f m, edges_kept g m, jumps_kept f m, jumps_kept g m);
+      size = omega (
+        arith,
+        k.size,
+        given-length f m,
+        given-length g m,
+        soils_kept f m,
+        soils_kept g m,
+        nodes_kept f m,
+        nodes_kept g m,
+        elements_kept f m,
+        elements_kept g m,
+        edges_kept f m,
+        edges_kept g m,
+        jumps_kept f m,
+        jumps_kept g m,
+      );
       soil = soil_facts;
       node = node_facts;
       element = element_facts;
@@ -469,8 +562,10 @@ module _ (t m : List ℤ) where
   filled_from_lem = record {
     size = given-length soils-at m;
     kept = given_other soils-at m;
-    own = λ e l n. soil_number_lem soils-at m e ∙ given_own soils-at m (soil_place m e) (λ z. n (soil_stands m e ∙ z)) ∙ sym (soil_stands m e);
-    layered = λ e l b z o. soil_number_lem soils-at m e ∙ given_zero soils-at m e l b (sym (soil_stands m e) ∙ z) ∙ soil-at t (height_of m e) o;
+    own = λ e l n. soil_number_lem soils-at m e ∙ given_own soils-at m (soil_place m e) (λ z. n (soil_stands m e ∙ z))
+        ∙ sym (soil_stands m e);
+    layered = λ e l b z o. soil_number_lem soils-at m e ∙ given_zero soils-at m e l b (sym (soil_stands m e) ∙ z)
+        ∙ soil-at t (height_of m e) o;
   }
     where
       soils-at : ℕ → ℤ
@@ -480,9 +575,12 @@ module _ (t m : List ℤ) where
     -- all that sound lines say holds of the filled mesh, where the table names soils of the mesh
     pub filled_facts : ((i : ℕ) → i < layers t → Between (pos 1) (pos (soils m)) (soil t i)) → MeshFacts (filled t m)
     unfolding filled with_soils
-    filled_facts named = given_facts (λ e. pos 1) m k (λ e. soil_at t (height_of m e)) (λ e l z. let o = element_layer (λ e. pos 1) m k t s e l in subst (Between (pos 1) (pos (soils m))) (sym (soil-at t (height_of m e) o)) (named o.layer o.there))
+    filled_facts named = given_facts (λ e. pos 1) m k (λ e. soil_at t (height_of m e))
+        (λ e l z. let o = element_layer (λ e. pos 1) m k t s e l in subst (Between (pos 1) (pos (soils m)))
+        (sym (soil-at t (height_of m e) o)) (named o.layer o.there))
 
     -- the lines in another order fill the mesh the same way
     pub reordered_filled : {u : List ℤ} → Reordered t u → filled t m ≡ filled u m
     unfolding filled with_soils
-    reordered_filled {u} r = given_cong (λ e. soil_at t (height_of m e)) (λ e. soil_at u (height_of m e)) m (λ e l. reordered_soil r (height_of m e) (element_layer (λ e. pos 1) m k t s e l))
+    reordered_filled {u} r = given_cong (λ e. soil_at t (height_of m e)) (λ e. soil_at u (height_of m e)) m
+        (λ e l. reordered_soil r (height_of m e) (element_layer (λ e. pos 1) m k t s e l))

@@ -52,7 +52,8 @@ module _ (f : FractionField) where
   with_load : (n : ℕ) → stresses_all n *ℤ f.load.value.den ≡ all n
   unfolding all stresses_all
   with_load zero = ring (f.load.value.den ∷ []) (search terms depth 100) refl
-  with_load (suc n) = ring_from (den n) (with_load n) (ring (stresses_all n ∷ f.load.value.den ∷ all n ∷ den n ∷ []) (search terms depth 100) refl)
+  with_load (suc n) = ring_from (den n) (with_load n)
+      (ring (stresses_all n ∷ f.load.value.den ∷ all n ∷ den n ∷ []) (search terms depth 100) refl)
 
   beyond : (j n : ℕ) → n ≤ j → all_but j n ≡ all n
   unfolding all all_but
@@ -66,7 +67,9 @@ module _ (f : FractionField) where
       let small : j ≤ n = omega arith in
       ⊎_elim
       (λ e. rw (e, eq-eqb n n refl, beyond j n (omega arith)) (ring (all n ∷ den n ∷ []) (search terms depth 100) refl))
-      (λ l. rw (ne_eqb j n (omega arith)) (ring_from (den n) (with_one j n l) (ring (all_but j n ∷ all n ∷ den n ∷ den j ∷ []) (search terms depth 100) refl)))
+      (λ l. rw (ne_eqb j n (omega arith))
+      (ring_from (den n) (with_one j n l)
+      (ring (all_but j n ∷ all n ∷ den n ∷ den j ∷ []) (search terms depth 100) refl)))
       (eq-or-lt_of_le small)
 
   one_denominator : (n : ℕ) → (d : ℤ) × (s : ℕ → ℤ) × (l : ℤ) × WrittenOver n f d s l
@@ -85,35 +88,43 @@ module _ (f : FractionField) where
 -- ---- every denominator
 
 -- a row's two sides times d' are its two sides in the other writing times d
-asks_too : (k : Kind) (a b a' b' : ℤ) {d d' : ℤ} → pos 0 <ℤ d → pos 0 <ℤ d' → a *ℤ d' ≡ a' *ℤ d → b *ℤ d' ≡ b' *ℤ d → Asks k a b → Asks k a' b'
+asks_too : (k : Kind) (a b a' b' : ℤ) {d d' : ℤ} → pos 0 <ℤ d → pos 0 <ℤ d' → a *ℤ d' ≡ a' *ℤ d → b *ℤ d' ≡ b' *ℤ d
+    → Asks k a b → Asks k a' b'
 asks_too asked a b a' b' {d} {d'} h h' e f g = *ℤ_cancel h (sym e ∙ ap (λ z. z *ℤ d') g ∙ f)
 asks_too unfixed a b a' b' h h' e f g = tt
 asks_too strength a b a' b' h h' e f g = *ℤ_cancel_≤ h (subst₂ ◌≤ℤ◌ e f (*ℤ_mono g (<ℤ→≤ℤ h')))
 
 module _ (N : ℕ) (rs : List Row) (within : Columns N rs) (f : FractionField) where
-  same_left : {d d' : ℤ} {s s' : ℕ → ℤ} {l l' : ℤ} → WrittenOver N f d s l → WrittenOver N f d' s' l' → (r : Row) → r ∈ rs → left_side s l r *ℤ d' ≡ left_side s' l' r *ℤ d
+  same_left : {d d' : ℤ} {s s' : ℕ → ℤ} {l l' : ℤ} → WrittenOver N f d s l → WrittenOver N f d' s' l' → (r : Row)
+      → r ∈ rs → left_side s l r *ℤ d' ≡ left_side s' l' r *ℤ d
   unfolding left_side
   same_left {d} {d'} {s} {s'} {l} {l'} w w' r m =
       let es = r.entries in
       let columns : weighted_sum s es *ℤ d' ≡ weighted_sum s' es *ℤ d =
       sym (weighted_multiple d' s es)
-      ∙ weighted_same (λ j. s j *ℤ d') (λ j. s' j *ℤ d) es (λ e k. let h = within r m e k in across (f.stress e.1) (w.stresses e.1 h) (w'.stresses e.1 h))
+      ∙ weighted_same (λ j. s j *ℤ d') (λ j. s' j *ℤ d) es
+      (λ e k. let h = within r m e k in across (f.stress e.1) (w.stresses e.1 h) (w'.stresses e.1 h))
       ∙ weighted_multiple d s' es in
-      regroup (weighted_sum s es) l d' ∙ ap₂ (λ y z. y +ℤ r.live *ℤ z) columns (across f.load w.load w'.load) ∙ sym (regroup (weighted_sum s' es) l' d)
+      regroup (weighted_sum s es) l d' ∙ ap₂ (λ y z. y +ℤ r.live *ℤ z) columns (across f.load w.load w'.load)
+      ∙ sym (regroup (weighted_sum s' es) l' d)
     where
       -- two writings of one fraction
       across : {a a' : ℤ} (v : Fraction) → a over d ≈ᶠ v.value → a' over d' ≈ᶠ v.value → a *ℤ d' ≡ a' *ℤ d
-      across v e e' = (≈ᶠ_trans (record { positive = w.above_0 }) v.proper (record { positive = w'.above_0 }) e (≈ᶠ_sym e')).cross-≡
+      across v e e' = (≈ᶠ_trans (record { positive = w.above_0 }) v.proper (record { positive = w'.above_0 }) e
+          (≈ᶠ_sym e')).cross-≡
 
       regroup : (y l d : ℤ) → (y +ℤ r.live *ℤ l) *ℤ d ≡ y *ℤ d +ℤ r.live *ℤ (l *ℤ d)
       regroup y l d = ring (y ∷ r.live ∷ l ∷ d ∷ []) (search terms depth 100) refl
 
-  other_writing : {d d' : ℤ} {s s' : ℕ → ℤ} {l l' : ℤ} → WrittenOver N f d s l → WrittenOver N f d' s' l' → FieldMeets s l d rs → FieldMeets s' l' d' rs
+  other_writing : {d d' : ℤ} {s s' : ℕ → ℤ} {l l' : ℤ} → WrittenOver N f d s l → WrittenOver N f d' s' l'
+      → FieldMeets s l d rs → FieldMeets s' l' d' rs
   unfolding right_side
   other_writing {d} {d'} {s} {s'} {l} {l'} w w' met r m =
-      asks_too r.kind (left_side s l r) (right_side d r) (left_side s' l' r) (right_side d' r) w.above_0 w'.above_0 (same_left w w' r m) (ring (r.right ∷ d ∷ d' ∷ []) (search terms depth 100) refl) (met r m)
+      asks_too r.kind (left_side s l r) (right_side d r) (left_side s' l' r) (right_side d' r) w.above_0 w'.above_0
+      (same_left w w' r m) (ring (r.right ∷ d ∷ d' ∷ []) (search terms depth 100) refl) (met r m)
 
-  load_at_most : (w : ℕ → ℤ) → FractionsMeet N f rs → MultipliersMeet w rs N → f.load.value ≤ᶠ limit_sum w rs over live_sum w rs
+  load_at_most : (w : ℕ → ℤ) → FractionsMeet N f rs → MultipliersMeet w rs N
+      → f.load.value ≤ᶠ limit_sum w rs over live_sum w rs
   load_at_most w h mults =
       let d = h.denominator in
       let l = h.numerator in
@@ -135,7 +146,9 @@ fraction_laws N rs within = record {
   can_be_written = λ f. one_denominator f N;
   same_for_each = λ f. (
     λ h d s l w. other_writing N rs within f h.written w h.meets,
-    λ h. let (d, s, l, w) = one_denominator f N in record { denominator = d; numerators = s; numerator = l; written = w; meets = h d s l w },
+    λ h. let (d, s, l, w) =
+        one_denominator f N in record
+        { denominator = d; numerators = s; numerator = l; written = w; meets = h d s l w },
   );
   whole_numbers = λ n h s l met. record {
     denominator = n;

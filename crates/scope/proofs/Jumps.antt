@@ -13,7 +13,8 @@ use Rattle.integer.proofs.Ring.{ring, ring_from, sides as both_sides, terms}
 use Rattle.integer.proofs.Order.{by_pos, square_nonneg, +ℤ_mono_<, *ℤ_pos, *ℤ_cancel}
 use Rattle.integer.specs.Members.{◌∈◌}
 use Rattle.scope.specs.Mesh.{jumps, x, y, corner_count, around, from_node, to_node, jump_from, jump_to}
-use Rattle.scope.specs.Rows.{sx, sy, t, count_from, joined, balance_rows, side_rows, jump_step_x, jump_step_y, agree_row, jump_normal, jump_shear, jump_rows, equality_rows}
+use Rattle.scope.specs.Rows.{sx, sy, t, count_from, joined, balance_rows, side_rows, jump_step_x, jump_step_y}
+use Rattle.scope.specs.Rows.{agree_row, jump_normal, jump_shear, jump_rows, equality_rows}
 use Rattle.scope.specs.Sums.{weighted_sum, left_side}
 use Rattle.scope.specs.Tests.{turn}
 use Rattle.scope.specs.Statements.{LeftTurns, SideAt, IsSide, UsedByJump, FreeSide, Joint, MeshSound}
@@ -27,12 +28,20 @@ pub jump_meaning : (u w : ℤ) → pos 0 <ℤ (u *ℤ u +ℤ w *ℤ w) → JumpM
 jump_meaning u w long = record {
   same_traction = λ a b c p q r. (
     λ h. (
-      *ℤ_cancel long (ring_from w h.0 (ring_from u h.1 (ring (u ∷ w ∷ a ∷ b ∷ c ∷ p ∷ q ∷ r ∷ []) (both_sides (search terms depth 200 fits 100000) (search terms depth 200 fits 100000)) refl))),
-      *ℤ_cancel long (ring_from (neg_ℤ u) h.0 (ring_from w h.1 (ring (u ∷ w ∷ a ∷ b ∷ c ∷ p ∷ q ∷ r ∷ []) (both_sides (search terms depth 200 fits 100000) (search terms depth 200 fits 100000)) refl))),
+      *ℤ_cancel long (ring_from w h.0
+          (ring_from u h.1 (ring (u ∷ w ∷ a ∷ b ∷ c ∷ p ∷ q ∷ r ∷ [])
+          (both_sides (search terms depth 200 fits 100000) (search terms depth 200 fits 100000)) refl))),
+      *ℤ_cancel long (ring_from (neg_ℤ u) h.0
+          (ring_from w h.1 (ring (u ∷ w ∷ a ∷ b ∷ c ∷ p ∷ q ∷ r ∷ [])
+          (both_sides (search terms depth 200 fits 100000) (search terms depth 200 fits 100000)) refl))),
     ),
     λ h. (
-      ring_from w h.0 (ring_from (neg_ℤ u) h.1 (ring (u ∷ w ∷ a ∷ b ∷ c ∷ p ∷ q ∷ r ∷ []) (both_sides (search terms depth 200 fits 100000) (search terms depth 200 fits 100000)) refl)),
-      ring_from u h.0 (ring_from w h.1 (ring (u ∷ w ∷ a ∷ b ∷ c ∷ p ∷ q ∷ r ∷ []) (both_sides (search terms depth 200 fits 100000) (search terms depth 200 fits 100000)) refl)),
+      ring_from w h.0 (ring_from (neg_ℤ u) h.1
+          (ring (u ∷ w ∷ a ∷ b ∷ c ∷ p ∷ q ∷ r ∷ [])
+          (both_sides (search terms depth 200 fits 100000) (search terms depth 200 fits 100000)) refl)),
+      ring_from u h.0 (ring_from w h.1
+          (ring (u ∷ w ∷ a ∷ b ∷ c ∷ p ∷ q ∷ r ∷ [])
+          (both_sides (search terms depth 200 fits 100000) (search terms depth 200 fits 100000)) refl)),
     ),
   );
   along_is_free = λ a b c k. (
@@ -45,15 +54,20 @@ jump_meaning u w long = record {
 
 square_or_zero : (a : ℤ) → (a ≡ pos 0) ⊎ (pos 0 <ℤ (a *ℤ a))
 square_or_zero (pos zero) = inl refl
-square_or_zero (pos (suc n)) = inr (*ℤ_pos {a = pos (suc n)} {b = pos (suc n)} (record { lt = lt→ltb 0 (suc n) (omega arith) }) (record { lt = lt→ltb 0 (suc n) (omega arith) }))
-square_or_zero (negsuc n) = inr (*ℤ_pos {a = pos (suc n)} {b = pos (suc n)} (record { lt = lt→ltb 0 (suc n) (omega arith) }) (record { lt = lt→ltb 0 (suc n) (omega arith) }))
+square_or_zero (pos (suc n)) =
+    inr (*ℤ_pos {a = pos (suc n)} {b = pos (suc n)} (record { lt = lt→ltb 0 (suc n) (omega arith) })
+    (record { lt = lt→ltb 0 (suc n) (omega arith) }))
+square_or_zero (negsuc n) =
+    inr (*ℤ_pos {a = pos (suc n)} {b = pos (suc n)} (record { lt = lt→ltb 0 (suc n) (omega arith) })
+    (record { lt = lt→ltb 0 (suc n) (omega arith) }))
 
 long_step : (u w : ℤ) → ¬ ((u ≡ pos 0) × (w ≡ pos 0)) → pos 0 <ℤ (u *ℤ u +ℤ w *ℤ w)
 long_step u w some = by (square_or_zero u) (square_or_zero w)
   where
     by : (u ≡ pos 0) ⊎ (pos 0 <ℤ (u *ℤ u)) → (w ≡ pos 0) ⊎ (pos 0 <ℤ (w *ℤ w)) → pos 0 <ℤ (u *ℤ u +ℤ w *ℤ w)
     by (inr h) k = +ℤ_mono_< h (square_nonneg w)
-    by (inl e) (inr k) = subst (λ z. pos 0 <ℤ (z *ℤ z +ℤ w *ℤ w)) (sym e) (by_pos k (ring (w ∷ []) (search terms depth 100) refl))
+    by (inl e) (inr k) = subst (λ z. pos 0 <ℤ (z *ℤ z +ℤ w *ℤ w)) (sym e)
+        (by_pos k (ring (w ∷ []) (search terms depth 100) refl))
     by (inl e) (inl f) = absurd (some (e, f))
 
 -- a left turn at its end leaves a side some length
@@ -64,9 +78,11 @@ turn_long m z a b h e = <ℤ_irrefl (subst (λ k. pos 0 <ℤ k) flat h)
     flat : turn m z a b ≡ pos 0
     flat =
         ring_from (x m a -ℤ x m z) e.1
-        (ring_from (neg_ℤ (y m a -ℤ y m z)) e.0 (ring (x m a ∷ x m b ∷ x m z ∷ y m a ∷ y m b ∷ y m z ∷ []) (search terms depth 100) refl))
+        (ring_from (neg_ℤ (y m a -ℤ y m z)) e.0
+        (ring (x m a ∷ x m b ∷ x m z ∷ y m a ∷ y m b ∷ y m z ∷ []) (search terms depth 100) refl))
 
-side_long : (m : List ℤ) (a b e i : ℕ) → LeftTurns m e → i < corner_count m e → SideAt m a b e i → ¬ ((x m b -ℤ x m a ≡ pos 0) × (y m b -ℤ y m a ≡ pos 0))
+side_long : (m : List ℤ) (a b e i : ℕ) → LeftTurns m e → i < corner_count m e → SideAt m a b e i
+    → ¬ ((x m b -ℤ x m a ≡ pos 0) × (y m b -ℤ y m a ≡ pos 0))
 side_long m a b e i left h s =
     let z : ℕ = around m e (i + (corner_count m e - 1)) in
     turn_long m z a b (subst₂ (λ (p q : ℕ). pos 0 <ℤ turn m z p q) s.0 s.1 (left i h))
@@ -99,13 +115,16 @@ module _ (m : List ℤ) where
     );
   }
     where
-      once : (j k : ℕ) → j < jumps m → k < jumps m → (a : ℕ × ℕ) → a ∈ jump_sides m j → a ∈ jump_sides m k → Dec (j < k) → Dec (k < j) → j ≡ k
+      once : (j k : ℕ) → j < jumps m → k < jumps m → (a : ℕ × ℕ) → a ∈ jump_sides m j → a ∈ jump_sides m k
+          → Dec (j < k) → Dec (k < j) → j ≡ k
       once j k h g a i l (yes d) e = absurd ((free k (s.joints k g) a l).no_earlier_jump j d (uses j a i))
       once j k h g a i l (no d) (yes e) = absurd ((free j (s.joints j h) a i).no_earlier_jump k e (uses k a l))
       once j k h g a i l (no d) (no e) = omega arith
 
-      long : (j : ℕ) → IsSide m (jump_from m j) (jump_to m j) → pos 0 <ℤ (jump_step_x m j *ℤ jump_step_x m j +ℤ jump_step_y m j *ℤ jump_step_y m j)
-      long j i = long_step (jump_step_x m j) (jump_step_y m j) (side_long m (jump_from m j) (jump_to m j) i.element i.place (s.left_turns i.element i.there) i.inside i.same)
+      long : (j : ℕ) → IsSide m (jump_from m j) (jump_to m j)
+          → pos 0 <ℤ (jump_step_x m j *ℤ jump_step_x m j +ℤ jump_step_y m j *ℤ jump_step_y m j)
+      long j i = long_step (jump_step_x m j) (jump_step_y m j)
+          (side_long m (jump_from m j) (jump_to m j) i.element i.place (s.left_turns i.element i.there) i.inside i.same)
 
       turned : {a b c d : ℤ} → a ≡ b → c ≡ d → b -ℤ d ≡ neg_ℤ (c -ℤ a)
       turned {a} {b} {c} {d} e f = ap₂ (λ p q. p -ℤ q) (sym e) (sym f) ∙ ring (a ∷ c ∷ []) (search terms depth 100) refl
@@ -115,8 +134,10 @@ module _ (m : List ℤ) where
   pub tip_asks_nothing : TipAsksNothing m
   unfolding jump_normal jump_shear agree_row left_side weighted_sum
   tip_asks_nothing s l j v = (
-    ring (jump_step_x m j ∷ jump_step_y m j ∷ s (sx v) ∷ s (sy v) ∷ s (t v) ∷ l ∷ []) (both_sides (search terms depth 200 fits 100000) (search terms depth 200 fits 100000)) refl,
-    ring (jump_step_x m j ∷ jump_step_y m j ∷ s (sx v) ∷ s (sy v) ∷ s (t v) ∷ l ∷ []) (both_sides (search terms depth 200 fits 100000) (search terms depth 200 fits 100000)) refl,
+    ring (jump_step_x m j ∷ jump_step_y m j ∷ s (sx v) ∷ s (sy v) ∷ s (t v) ∷ l ∷ [])
+        (both_sides (search terms depth 200 fits 100000) (search terms depth 200 fits 100000)) refl,
+    ring (jump_step_x m j ∷ jump_step_y m j ∷ s (sx v) ∷ s (sy v) ∷ s (t v) ∷ l ∷ [])
+        (both_sides (search terms depth 200 fits 100000) (search terms depth 200 fits 100000)) refl,
   )
 
   pub no_jumps : NoJumps m
@@ -124,7 +145,8 @@ module _ (m : List ℤ) where
   no_jumps e = rw e (ap (λ rs. balance_rows m ++ rs) (append-nil (side_rows m)))
 
   -- a field that meets the printed rows
-  pub same_traction : MeshSound m → (s : ℕ → ℤ) (l n : ℤ) → MeetsPrinted m s l n → (j : ℕ) → j < jumps m → SameTraction m s j
+  pub same_traction : MeshSound m → (s : ℕ → ℤ) (l n : ℤ) → MeetsPrinted m s l n → (j : ℕ) → j < jumps m
+      → SameTraction m s j
   same_traction sound s l n f j h =
       let side = jump_meaning (jump_step_x m j) (jump_step_y m j) ((sound_jumps sound).has-length j h) in
       record {

@@ -10,7 +10,10 @@ use Rattle.scope.specs.LayerRows.{OneLayer, TableSound, LowestGap, SameLine, Reo
 use Rattle.scope.proofs.Layers.{soil-at}
 
 same_has : {t u : List ℤ} {i j : ℕ} → SameLine t u i j → (q : ℕ) → Has t q i → Has u q j
-same_has s q h = (subst (λ (z : ℤ). (pos 4 *ℤ z) ≤ℤ pos q) s.bottoms h.0, subst (λ (z : ℤ). pos q <ℤ (pos 4 *ℤ z)) s.tops h.1)
+same_has s q h = (
+  subst (λ (z : ℤ). (pos 4 *ℤ z) ≤ℤ pos q) s.bottoms h.0,
+  subst (λ (z : ℤ). pos q <ℤ (pos 4 *ℤ z)) s.tops h.1,
+)
 
 -- the order the other way round
 pub reordered_back : {t u : List ℤ} → Reordered t u → Reordered u t
@@ -27,7 +30,12 @@ reordered_back {t} {u} r = record {
     back : (j : ℕ) → j < layers u → SameLine t u (r.from j) (r.to (r.from j)) → SameLine u t j (r.from j)
     back j l s =
         let e = sym (r.to_from j l) in
-        record { bottoms = ap (bottom u) e ∙ sym s.bottoms; tops = ap (top u) e ∙ sym s.tops; soils = ap (soil u) e ∙ sym s.soils }
+        record {
+          bottoms = ap (bottom u) e ∙ sym s.bottoms;
+          tops = ap (top u) e ∙ sym s.tops;
+          soils = ap (soil u) e
+              ∙ sym s.soils;
+        }
 
 module _ {t u : List ℤ} (r : Reordered t u) where
   to_has : (q i : ℕ) → i < layers t → Has t q i → Has u q (r.to i)
@@ -57,7 +65,8 @@ module _ {t u : List ℤ} (r : Reordered t u) where
   unfolding reordered_back
   reordered_tops h j l =
       let s = (reordered_back r).same j l in
-      subst (λ (z : ℤ). z <ℤ top u j) (sym s.bottoms) (subst (λ (z : ℤ). bottom t (r.from j) <ℤ z) (sym s.tops) (h (r.from j) (r.from_there_lem j l)))
+      subst (λ (z : ℤ). z <ℤ top u j) (sym s.bottoms)
+      (subst (λ (z : ℤ). bottom t (r.from j) <ℤ z) (sym s.tops) (h (r.from j) (r.from_there_lem j l)))
 
   -- the table passes as before
   pub reordered_sound : (lo hi : ℕ) → TableSound t lo hi → TableSound u lo hi

@@ -14,17 +14,28 @@ use Rattle.scope.specs.Claim.{claim_layout, stress, multiplier}
 use Rattle.scope.specs.Rows.{equality_rows, strength_rows, rows_of}
 use Rattle.scope.specs.Statements.{MeshSound}
 use Rattle.scope.specs.Phases.{FirstFails, AllPass, RefusedBy}
-use Rattle.scope.specs.Refusals.{rule_number, line_steps, line_phases, shape_phases, mesh_phases, field_phases, multiplier_phases, field_part, multiplier_part, part_phases, claim_phases, LineRefusal, Refusal}
+use Rattle.scope.specs.Refusals.{rule_number, line_steps, line_phases, shape_phases, mesh_phases, field_phases}
+use Rattle.scope.specs.Refusals.{multiplier_phases, field_part, multiplier_part, part_phases, claim_phases}
+use Rattle.scope.specs.Refusals.{LineRefusal, Refusal}
 use Rattle.scope.proofs.Phases.{EachIn, each_refusal, each_join, each_part, refused_join, join_refused, own_number}
 use Rattle.scope.proofs.Refusals.{mesh_sound, sound_mesh, rule_number_lem}
 
 -- ---- among all
 
 pub line_of_mesh : {m c : List ℤ} {k : ℕ} {p : Place} → LineRefusal mesh_layout m k p → Refusal m c k p
-line_of_mesh {m} {c} {k} {p} r = record { by = join_refused (mesh_phases m) (claim_phases m c) k p (inl (join_refused (line_phases mesh_layout m) (shape_phases m) k p (inl r.by))) }
+line_of_mesh {m} {c} {k} {p} r =
+    record {
+      by = join_refused (mesh_phases m) (claim_phases m c) k p
+          (inl (join_refused (line_phases mesh_layout m) (shape_phases m) k p (inl r.by)));
+    }
 
-pub line_of_claim : {m c : List ℤ} {k : ℕ} {p : Place} → MeshSound m → LineRefusal (claim_layout m) c k p → Refusal m c k p
-line_of_claim {m} {c} {k} {p} s r = record { by = join_refused (mesh_phases m) (claim_phases m c) k p (inr (sound_mesh m s, join_refused (line_phases (claim_layout m) c) (part_phases m c) k p (inl r.by))) }
+pub line_of_claim : {m c : List ℤ} {k : ℕ} {p : Place} → MeshSound m → LineRefusal (claim_layout m) c k p
+    → Refusal m c k p
+line_of_claim {m} {c} {k} {p} s r =
+    record {
+      by = join_refused (mesh_phases m) (claim_phases m c) k p
+          (inr (sound_mesh m s, join_refused (line_phases (claim_layout m) c) (part_phases m c) k p (inl r.by)));
+    }
 
 -- ---- the others, by their number
 
@@ -69,7 +80,8 @@ part_number m c k p r = each_refusal Q (part_phases m c) all r
           λ k n h l r. omega (arith, own_number {k = 21} refl r),
           λ e. (λ k n h l r. omega (arith, own_number {k = 22} refl r), λ i. tt),
         ))
-        (λ a. each_part Q (has_multipliers c) (multiplier_phases (equality_rows m) (rows_of m) (3 * nodes m) (multiplier m c)) (
+        (λ a. each_part Q (has_multipliers c)
+        (multiplier_phases (equality_rows m) (rows_of m) (3 * nodes m) (multiplier m c)) (
           λ k n h l r. omega (arith, own_number {k = 31} refl r),
           λ e. (
             λ k n h l r. omega (arith, own_number {k = 32} refl r),
@@ -83,11 +95,13 @@ ByLines m c k p = LineRefusal mesh_layout m k p ⊎ ((MeshSound m × LineRefusal
 pub by_lines : {m c : List ℤ} {k : ℕ} {p : Place} → Refusal m c k p → ByLines m c k p
 by_lines {m} {c} {k} {p} r = by (refused_join (mesh_phases m) (claim_phases m c) k p r.by)
   where
-    of_mesh : RefusedBy (line_phases mesh_layout m) k p ⊎ (AllPass (line_phases mesh_layout m) × RefusedBy (shape_phases m) k p) → ByLines m c k p
+    of_mesh : RefusedBy (line_phases mesh_layout m) k p
+        ⊎ (AllPass (line_phases mesh_layout m) × RefusedBy (shape_phases m) k p) → ByLines m c k p
     of_mesh (inl x) = inl (record { by = x })
     of_mesh (inr x) = inr (inr (shape_number m k p x.1))
 
-    of_claim : MeshSound m → RefusedBy (line_phases (claim_layout m) c) k p ⊎ (AllPass (line_phases (claim_layout m) c) × RefusedBy (part_phases m c) k p) → ByLines m c k p
+    of_claim : MeshSound m → RefusedBy (line_phases (claim_layout m) c) k p
+        ⊎ (AllPass (line_phases (claim_layout m) c) × RefusedBy (part_phases m c) k p) → ByLines m c k p
     of_claim s (inl x) = inr (inl (s, record { by = x }))
     of_claim s (inr x) = inr (inr (inr (part_number m c k p x.1)))
 
@@ -97,10 +111,13 @@ by_lines {m} {c} {k} {p} r = by (refused_join (mesh_phases m) (claim_phases m c)
 
 -- ---- a number that a file's lines don't have
 
-pub other_number : {f : Layout} {ns : List ℤ} {c : ℕ} {p : Place} (k : ℕ) → k ≢ f.form_number → k ≢ f.limit_number → ((r : Rule) → k ≢ rule_number r) → LineRefusal f ns c p → c ≢ k
-other_number {f} {ns} k a b d r = each_refusal (λ c p. c ≢ k) (line_phases f ns) (λ i c h l r. step i c r, λ e. (λ i c h l r z. a (sym (own_number refl r ∙ z)), λ i. tt)) r.by
+pub other_number : {f : Layout} {ns : List ℤ} {c : ℕ} {p : Place} (k : ℕ) → k ≢ f.form_number → k ≢ f.limit_number
+    → ((r : Rule) → k ≢ rule_number r) → LineRefusal f ns c p → c ≢ k
+other_number {f} {ns} k a b d r = each_refusal (λ c p. c ≢ k) (line_phases f ns)
+    (λ i c h l r. step i c r, λ e. (λ i c h l r z. a (sym (own_number refl r ∙ z)), λ i. tt)) r.by
   where
     step : (i c : ℕ) → FirstFails (line_steps f (group_at f ns i) (numbers_at f ns i)) c → c ≢ k
     step i c (inl h) z = a (sym (h.1 ∙ z))
     step i c (inr (x, inl h)) z = b (sym (h.1 ∙ z))
-    step i c (inr (x, inr (y, h))) z = let (r, s) = rule_number_lem (group_at f ns i).rules (numbers_at f ns i) c h in d r (sym z ∙ s)
+    step i c (inr (x, inr (y, h))) z = let (r, s) = rule_number_lem (group_at f ns i).rules
+        (numbers_at f ns i) c h in d r (sym z ∙ s)

@@ -47,7 +47,8 @@ count-length k (suc n) = ap suc (count-length (suc k) n)
 pub count_last : (k n : ℕ) → count_from k (suc n) ≡ count_from k n ++ ((k + n) ∷ [])
 unfolding count_from
 count_last k zero = ap (λ (i : ℕ). i ∷ []) (sym (add-zero k))
-count_last k (suc n) = ap (λ (l : List ℕ). k ∷ l) (count_last (suc k) n ∙ ap (λ (i : ℕ). count_from (suc k) n ++ (i ∷ [])) (omega arith))
+count_last k (suc n) =
+    ap (λ (l : List ℕ). k ∷ l) (count_last (suc k) n ∙ ap (λ (i : ℕ). count_from (suc k) n ++ (i ∷ [])) (omega arith))
 
 -- ---- a fact of each element, by how the list is made
 
@@ -65,7 +66,8 @@ module _ {A : Type 0} (P : A → Type 0) where
   pub each_map : {B : Type 0} (f : B → A) (l : List B) → ((b : B) → b ∈ l → P (f b)) → (a : A) → a ∈ map f l → P a
   each_map f l h a m = let (b, k, e) = Memᴰ.of_map f l m in subst P e (h b k)
 
-  pub each_joined : {B : Type 0} (f : B → List A) (l : List B) → ((b : B) → b ∈ l → (a : A) → a ∈ f b → P a) → (a : A) → a ∈ joined f l → P a
+  pub each_joined : {B : Type 0} (f : B → List A) (l : List B) → ((b : B) → b ∈ l → (a : A) → a ∈ f b → P a) → (a : A)
+      → a ∈ joined f l → P a
   each_joined f l h a m = let (b, k, j) = of_joined f l m in h b k a j
 
 -- ---- what stands at a place
@@ -76,7 +78,8 @@ at_count k zero i d h = absurd (omega arith)
 at_count k (suc n) zero d h = sym (add-zero k)
 at_count k (suc n) (suc i) d h = at_count (suc k) n i d (omega arith) ∙ (omega arith)
 
-pub at_map : {A B : Type 0} (f : A → B) (l : List A) (k : ℕ) (a : A) (b : B) → k < length l → get_or (map f l) k b ≡ f (get_or l k a)
+pub at_map : {A B : Type 0} (f : A → B) (l : List A) (k : ℕ) (a : A) (b : B) → k < length l
+    → get_or (map f l) k b ≡ f (get_or l k a)
 at_map f [] k a b h = absurd (omega arith)
 at_map f (c ∷ l) zero a b h = refl
 at_map f (c ∷ l) (suc k) a b h = at_map f l k a b (omega arith)
@@ -92,7 +95,8 @@ pub row_in : (rs : List Row) (k : ℕ) → k < length rs → row_at rs k ∈ rs
 unfolding row_at
 row_in rs k h = at_in rs _ k h
 
-pub by_place : (P : Row → Type 0) (rs : List Row) → ((k : ℕ) → k < length rs → P (row_at rs k)) → (r : Row) → r ∈ rs → P r
+pub by_place : (P : Row → Type 0) (rs : List Row) → ((k : ℕ) → k < length rs → P (row_at rs k)) → (r : Row) → r ∈ rs
+    → P r
 unfolding row_at
 by_place P (a ∷ rs) h r (Memᴰ.head e) = rw e (h 0 (omega arith))
 by_place P (a ∷ rs) h r (Memᴰ.tail m) = by_place P rs (λ k b. h (suc k) (omega arith)) r m

@@ -15,7 +15,12 @@ pub row_holds_lem : (s : ℕ → ℤ) (l n : ℤ) (r : Row) → T (row_holds s l
 unfolding row_holds
 row_holds_lem s l n r = go r.kind
   where
-    go : (k : Kind) → T (elim k [ asked ↦ eq_z (left_side s l r) (right_side n r) | unfixed ↦ true | strength ↦ le_z (left_side s l r) (right_side n r) ]) ↔ Asks k (left_side s l r) (right_side n r)
+    go : (k : Kind) → T (elim k [
+      | asked ↦ eq_z (left_side s l r) (right_side n r)
+      | unfixed ↦ true
+      | strength ↦ le_z (left_side s l r)
+          (right_side n r)
+    ]) ↔ Asks k (left_side s l r) (right_side n r)
     go asked = (eq_z_yes, yes_eq_z)
     go unfixed = (λ t. t, λ t. t)
     go strength = (le_z_yes, yes_le_z)

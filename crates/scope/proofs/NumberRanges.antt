@@ -14,9 +14,14 @@ use Rattle.integer.proofs.Order.{≤ℤ_pos}
 use Rattle.scope.specs.Columns.{one_of, free, up_to, at}
 use Rattle.scope.specs.Layout.{width, groups, line_count, number_count, lines_before, numbers_before, count, entry}
 use Rattle.scope.specs.Polygon.{SidesListed}
-use Rattle.scope.specs.Mesh.{most_nodes, most_sides, listed_sides, nodes_for_108, nodes_with, mesh_header, soil_lines, node_lines, element_lines, edge_lines, jump_lines, mesh_layout, mesh_groups, nodes, elements, soils, edges, sides, jumps, p, q, h, cohesion, soil_entry, x, y, corner, element_soil, edge_entry, from_node, to_node, jump_entry, jump_from, jump_to, facing_from, facing_to, soil_kind, cohesion_across}
+use Rattle.scope.specs.Mesh.{most_nodes, most_sides, listed_sides, nodes_for_108, nodes_with, mesh_header, soil_lines}
+use Rattle.scope.specs.Mesh.{node_lines, element_lines, edge_lines, jump_lines, mesh_layout, mesh_groups, nodes}
+use Rattle.scope.specs.Mesh.{elements, soils, edges, sides, jumps, p, q, h, cohesion, soil_entry, x, y, corner}
+use Rattle.scope.specs.Mesh.{element_soil, edge_entry, from_node, to_node, jump_entry, jump_from, jump_to}
+use Rattle.scope.specs.Mesh.{facing_from, facing_to, soil_kind, cohesion_across}
 use Rattle.scope.specs.Statements.{Within, LineSound, LinesSound}
-use Rattle.scope.specs.NumberRanges.{Between, Counts, SoilFacts, NodeFacts, ElementFacts, EdgeFacts, JumpFacts, MeshFacts}
+use Rattle.scope.specs.NumberRanges.{Between, Counts, SoilFacts, NodeFacts, ElementFacts, EdgeFacts, JumpFacts}
+use Rattle.scope.specs.NumberRanges.{MeshFacts}
 use Rattle.scope.proofs.PolygonRule.{listed_polygon}
 use Rattle.scope.proofs.Lines.{group, line_in, LineFacts, line_facts_of, line_facts, at_line_in}
 
@@ -38,7 +43,8 @@ count_is (pos n) e = ap pos e
 count_is (negsuc n) e = absurd (omega arith)
 
 -- v nodes with z sides
-nodes_fit : (v z : ℤ) → pos 4 ≤ℤ v → v ≤ℤ pos most_nodes → (z ≡ pos most_sides → v ≤ℤ pos nodes_for_108) → count v ≤ nodes_with (count z)
+nodes_fit : (v z : ℤ) → pos 4 ≤ℤ v → v ≤ℤ pos most_nodes → (z ≡ pos most_sides → v ≤ℤ pos nodes_for_108)
+    → count v ≤ nodes_with (count z)
 unfolding nodes_with
 nodes_fit v z least most few = by (eqb (count z) most_sides) (eqb→eq (count z) most_sides)
   where
@@ -54,7 +60,8 @@ header_counts m s =
     let w = facts.within in
     let few : at m 4 ≡ pos most_sides → at m 0 ≤ℤ pos nodes_for_108 =
     subst₂ (λ (z v : ℤ). z ≡ pos most_sides → v ≤ℤ pos nodes_for_108)
-    (at_line_in (groups mesh_layout m) m 0 0 4 (omega arith)) (at_line_in (groups mesh_layout m) m 0 0 0 (omega arith)) facts.rules.0 in
+    (at_line_in (groups mesh_layout m) m 0 0 4 (omega arith))
+    (at_line_in (groups mesh_layout m) m 0 0 0 (omega arith)) facts.rules.0 in
     let ns : (4 ≤ nodes m) × (nodes m ≤ 100) = count_range (at m 0) (w 0 (omega arith)).0 (w 0 (omega arith)).1 in
     let es : (1 ≤ elements m) × (elements m ≤ 100) = count_range (at m 1) (w 1 (omega arith)).0 (w 1 (omega arith)).1 in
     let ss : (1 ≤ soils m) × (soils m ≤ 16) = count_range (at m 2) (w 2 (omega arith)).0 (w 2 (omega arith)).1 in
@@ -92,7 +99,8 @@ module _ (m : List ℤ) (s : LinesSound mesh_layout m) where
   counts = header_counts m (s.lines 0 (omega arith))
 
   soil_facts : (k : ℕ) → k < soils m → SoilFacts m k
-  unfolding mesh_layout groups mesh_groups mesh_header soil_lines up_to soil_entry p q h cohesion soil_kind cohesion_across
+  unfolding mesh_layout groups mesh_groups mesh_header soil_lines up_to soil_entry p q h cohesion soil_kind
+      cohesion_across
   soil_facts k l =
       let f : LineFacts (groups mesh_layout m) m 1 k = line_facts mesh_layout m s 1 k l (omega arith) in
       let w = f.within in
@@ -112,7 +120,8 @@ module _ (m : List ℤ) (s : LinesSound mesh_layout m) where
             f.rules.0;
       }
     where
-      force : (c : ℕ) → c < 4 → Within (get_or (soil_lines (soils m) (sides m)).limits (4 + c) free) (soil_entry m k (4 + c)) → Between (neg_ℤ (pos 1000)) (pos 1000) (soil_entry m k (4 + c))
+      force : (c : ℕ) → c < 4 → Within (get_or (soil_lines (soils m) (sides m)).limits (4 + c) free)
+          (soil_entry m k (4 + c)) → Between (neg_ℤ (pos 1000)) (pos 1000) (soil_entry m k (4 + c))
       force zero h w = record { least = w.0; most = w.1 }
       force (suc zero) h w = record { least = w.0; most = w.1 }
       force (suc (suc zero)) h w = record { least = w.0; most = w.1 }
@@ -132,7 +141,9 @@ module _ (m : List ℤ) (s : LinesSound mesh_layout m) where
   abbrev Names : ℕ → ℕ → ℕ → ℕ → Type 0
   Names j i c k = count (entry (groups mesh_layout m) m j i c) - 1 < k
 
-  names : (j i c k : ℕ) → c < width (group (groups mesh_layout m) j) → (pos 1 ≤ℤ at (line_in (groups mesh_layout m) m j i) c) × (at (line_in (groups mesh_layout m) m j i) c ≤ℤ pos k) → Names j i c k
+  names : (j i c k : ℕ) → c < width (group (groups mesh_layout m) j)
+      → (pos 1 ≤ℤ at (line_in (groups mesh_layout m) m j i) c) × (at (line_in (groups mesh_layout m) m j i) c ≤ℤ pos k)
+      → Names j i c k
   names j i c k l r =
       subst (λ (z : ℤ). count z - 1 < k) (at_line_in (groups mesh_layout m) m j i c l)
       (named (at (line_in (groups mesh_layout m) m j i) c) k r.0 r.1)
@@ -141,7 +152,8 @@ module _ (m : List ℤ) (s : LinesSound mesh_layout m) where
   abbrev FromOne : ℕ → ℕ → ℕ → Type 0
   FromOne j i c = pos 1 ≤ℤ entry (groups mesh_layout m) m j i c
 
-  from_one_lem : (j i c : ℕ) → c < width (group (groups mesh_layout m) j) → pos 1 ≤ℤ at (line_in (groups mesh_layout m) m j i) c → FromOne j i c
+  from_one_lem : (j i c : ℕ) → c < width (group (groups mesh_layout m) j)
+      → pos 1 ≤ℤ at (line_in (groups mesh_layout m) m j i) c → FromOne j i c
   from_one_lem j i c l h = subst (λ (z : ℤ). pos 1 ≤ℤ z) (at_line_in (groups mesh_layout m) m j i c l) h
 
   element_facts : (e : ℕ) → e < elements m → ElementFacts m e
@@ -149,12 +161,17 @@ module _ (m : List ℤ) (s : LinesSound mesh_layout m) where
   element_facts e l =
       let r = (line_facts mesh_layout m s 3 e l (omega arith)).rules.0 in
       record {
-        from_one = λ c h. five c h (from_one_lem 3 e 0 (omega arith) r.0.0) (from_one_lem 3 e 1 (omega arith) r.1.0.0) (from_one_lem 3 e 2 (omega arith) r.1.1.0.0) (from_one_lem 3 e 3 (omega arith) r.1.1.1.0.0) (from_one_lem 3 e 4 (omega arith) r.1.1.1.1.0.0);
-        corner_there = λ i h. four i h (names 3 e 0 (nodes m) (omega arith) r.0) (names 3 e 1 (nodes m) (omega arith) r.1.0) (names 3 e 2 (nodes m) (omega arith) r.1.1.0) (names 3 e 3 (nodes m) (omega arith) r.1.1.1.0);
+        from_one = λ c h. five c h (from_one_lem 3 e 0 (omega arith) r.0.0) (from_one_lem 3 e 1 (omega arith) r.1.0.0)
+            (from_one_lem 3 e 2 (omega arith) r.1.1.0.0) (from_one_lem 3 e 3 (omega arith) r.1.1.1.0.0)
+            (from_one_lem 3 e 4 (omega arith) r.1.1.1.1.0.0);
+        corner_there = λ i h. four i h (names 3 e 0 (nodes m) (omega arith) r.0)
+            (names 3 e 1 (nodes m) (omega arith) r.1.0) (names 3 e 2 (nodes m) (omega arith) r.1.1.0)
+            (names 3 e 3 (nodes m) (omega arith) r.1.1.1.0);
         soil_there = names 3 e 4 (soils m) (omega arith) r.1.1.1.1.0;
       }
     where
-      five : (c : ℕ) → c < 5 → FromOne 3 e 0 → FromOne 3 e 1 → FromOne 3 e 2 → FromOne 3 e 3 → FromOne 3 e 4 → FromOne 3 e c
+      five : (c : ℕ) → c < 5 → FromOne 3 e 0 → FromOne 3 e 1 → FromOne 3 e 2 → FromOne 3 e 3 → FromOne 3 e 4
+          → FromOne 3 e c
       five zero h a b c d f = a
       five (suc zero) h a b c d f = b
       five (suc (suc zero)) h a b c d f = c
@@ -162,7 +179,8 @@ module _ (m : List ℤ) (s : LinesSound mesh_layout m) where
       five (suc (suc (suc (suc zero)))) h a b c d f = f
       five (suc (suc (suc (suc (suc k))))) h a b c d f = absurd (omega arith)
 
-      four : (i : ℕ) → i < 4 → corner m e 0 < nodes m → corner m e 1 < nodes m → corner m e 2 < nodes m → corner m e 3 < nodes m → corner m e i < nodes m
+      four : (i : ℕ) → i < 4 → corner m e 0 < nodes m → corner m e 1 < nodes m → corner m e 2 < nodes m
+          → corner m e 3 < nodes m → corner m e i < nodes m
       four zero h a b c d = a
       four (suc zero) h a b c d = b
       four (suc (suc zero)) h a b c d = c
@@ -170,12 +188,14 @@ module _ (m : List ℤ) (s : LinesSound mesh_layout m) where
       four (suc (suc (suc (suc i)))) h a b c d = absurd (omega arith)
 
   edge_facts : (g : ℕ) → g < edges m → EdgeFacts m g
-  unfolding mesh_layout groups mesh_groups mesh_header soil_lines node_lines element_lines edge_lines up_to edge_entry from_node to_node
+  unfolding mesh_layout groups mesh_groups mesh_header soil_lines node_lines element_lines edge_lines up_to edge_entry
+      from_node to_node
   edge_facts g l =
       let f : LineFacts (groups mesh_layout m) m 4 g = line_facts mesh_layout m s 4 g l (omega arith) in
       let w = f.within in
       record {
-        from_one = λ c h. two c h (from_one_lem 4 g 0 (omega arith) f.rules.0.0.0) (from_one_lem 4 g 1 (omega arith) f.rules.0.1.0.0);
+        from_one = λ c h. two c h (from_one_lem 4 g 0 (omega arith) f.rules.0.0.0)
+            (from_one_lem 4 g 1 (omega arith) f.rules.0.1.0.0);
         from_there = names 4 g 0 (nodes m) (omega arith) f.rules.0.0;
         to_there = names 4 g 1 (nodes m) (omega arith) f.rules.0.1.0;
         fixed_range = record { least = (w 2 (omega arith)).0; most = (w 2 (omega arith)).1 };
@@ -187,7 +207,8 @@ module _ (m : List ℤ) (s : LinesSound mesh_layout m) where
       two (suc zero) h a b = b
       two (suc (suc c)) h a b = absurd (omega arith)
 
-      load : (c : ℕ) → c < 4 → Within (get_or (edge_lines (edges m) (nodes m)).limits (3 + c) free) (edge_entry m g (3 + c)) → Between (neg_ℤ (pos 10000)) (pos 10000) (edge_entry m g (3 + c))
+      load : (c : ℕ) → c < 4 → Within (get_or (edge_lines (edges m) (nodes m)).limits (3 + c) free)
+          (edge_entry m g (3 + c)) → Between (neg_ℤ (pos 10000)) (pos 10000) (edge_entry m g (3 + c))
       load zero h w = record { least = w.0; most = w.1 }
       load (suc zero) h w = record { least = w.0; most = w.1 }
       load (suc (suc zero)) h w = record { least = w.0; most = w.1 }
@@ -195,11 +216,13 @@ module _ (m : List ℤ) (s : LinesSound mesh_layout m) where
       load (suc (suc (suc (suc c)))) h w = absurd (omega arith)
 
   jump_facts : (j : ℕ) → j < jumps m → JumpFacts m j
-  unfolding mesh_layout groups mesh_groups mesh_header soil_lines node_lines element_lines edge_lines jump_lines jump_entry jump_from jump_to facing_from facing_to
+  unfolding mesh_layout groups mesh_groups mesh_header soil_lines node_lines element_lines edge_lines jump_lines
+      jump_entry jump_from jump_to facing_from facing_to
   jump_facts j l =
       let r = (line_facts mesh_layout m s 5 j l (omega arith)).rules.0 in
       record {
-        from_one = λ c h. four c h (from_one_lem 5 j 0 (omega arith) r.0.0) (from_one_lem 5 j 1 (omega arith) r.1.0.0) (from_one_lem 5 j 2 (omega arith) r.1.1.0.0) (from_one_lem 5 j 3 (omega arith) r.1.1.1.0.0);
+        from_one = λ c h. four c h (from_one_lem 5 j 0 (omega arith) r.0.0) (from_one_lem 5 j 1 (omega arith) r.1.0.0)
+            (from_one_lem 5 j 2 (omega arith) r.1.1.0.0) (from_one_lem 5 j 3 (omega arith) r.1.1.1.0.0);
         from_there = names 5 j 0 (nodes m) (omega arith) r.0;
         to_there = names 5 j 1 (nodes m) (omega arith) r.1.0;
         facing_from_there = names 5 j 2 (nodes m) (omega arith) r.1.1.0;
@@ -218,7 +241,11 @@ module _ (m : List ℤ) (s : LinesSound mesh_layout m) where
   unfolding mesh_layout groups mesh_header soil_lines node_lines element_lines numbers_before
   last_element =
       let c : Counts m = counts in
-      omega (arith, c.elements_least, (line_facts mesh_layout m s 3 (elements m - 1) (omega (arith, c.elements_least)) (omega arith)).there)
+      omega (
+        arith,
+        c.elements_least,
+        (line_facts mesh_layout m s 3 (elements m - 1) (omega (arith, c.elements_least)) (omega arith)).there,
+      )
 
   last_edge : 0 < edges m → 6 + soils m * 10 + nodes m * 2 + elements m * 5 + edges m * 7 ≤ length m
   unfolding mesh_layout groups mesh_header soil_lines node_lines element_lines edge_lines numbers_before
@@ -232,10 +259,19 @@ module _ (m : List ℤ) (s : LinesSound mesh_layout m) where
   unfolding mesh_layout groups mesh_header soil_lines node_lines element_lines edge_lines jump_lines number_count
   size = by (dec_lt 0 (edges m)) (dec_lt 0 (jumps m))
     where
-      by : Dec (0 < edges m) → Dec (0 < jumps m) → length m ≡ 6 + soils m * 10 + nodes m * 2 + elements m * 5 + edges m * 7 + jumps m * 4
+      by : Dec (0 < edges m) → Dec (0 < jumps m)
+          → length m ≡ 6 + soils m * 10 + nodes m * 2 + elements m * 5 + edges m * 7 + jumps m * 4
       by h (yes j) = omega (arith, s.none_left, last_jump j)
       by (yes h) (no j) = omega (arith, s.none_left, last_edge h)
       by (no h) (no j) = omega (arith, s.none_left, last_element)
 
   pub mesh_facts : MeshFacts m
-  mesh_facts = record { counts = counts; size = size; soil = soil_facts; node = node_facts; element = element_facts; edge = edge_facts; jump = jump_facts }
+  mesh_facts = record {
+    counts = counts;
+    size = size;
+    soil = soil_facts;
+    node = node_facts;
+    element = element_facts;
+    edge = edge_facts;
+    jump = jump_facts;
+  }

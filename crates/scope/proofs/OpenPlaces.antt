@@ -28,7 +28,8 @@ module _ (f : ℤ × Row → Bool) where
   count w [] = refl
   count w (r ∷ rs) = by (f (w 0, r)) (count (λ k. w (suc k)) rs)
     where
-      by : (b : Bool) → length (places (λ k. w (suc k)) rs) ≡ how_many f (weighed (λ k. w (suc k)) rs) → length (front b (places (λ k. w (suc k)) rs)) ≡ cond b 1 0 + how_many f (weighed (λ k. w (suc k)) rs)
+      by : (b : Bool) → length (places (λ k. w (suc k)) rs) ≡ how_many f (weighed (λ k. w (suc k)) rs)
+          → length (front b (places (λ k. w (suc k)) rs)) ≡ cond b 1 0 + how_many f (weighed (λ k. w (suc k)) rs)
       by true e = omega (arith, length-map (places (λ k. w (suc k)) rs) suc)
       by false e = omega (arith, length-map (places (λ k. w (suc k)) rs) suc)
 
@@ -62,13 +63,16 @@ module _ (f : ℤ × Row → Bool) where
       Here : ℕ → Type 0
       Here i = (i < suc (length rs)) × T (f (w i, row_at (r ∷ rs) i))
 
-      after : ((k : ℕ) → k ∈ places (λ j. w (suc j)) rs → (k < length rs) × T (f (w (suc k), row_at rs k))) → i ∈ map suc (places (λ j. w (suc j)) rs) → Here i
+      after : ((k : ℕ) → k ∈ places (λ j. w (suc j)) rs → (k < length rs) × T (f (w (suc k), row_at rs k)))
+          → i ∈ map suc (places (λ j. w (suc j)) rs) → Here i
       after ih m =
           let (k, n, e) = Memᴰ.of_map suc (places (λ j. w (suc j)) rs) m in
           let h : (k < length rs) × T (f (w (suc k), row_at rs k)) = ih k n in
           subst Here e (omega (arith, h.0), h.1)
 
-      by : (b : Bool) → f (w 0, r) ≡ b → ((k : ℕ) → k ∈ places (λ j. w (suc j)) rs → (k < length rs) × T (f (w (suc k), row_at rs k))) → i ∈ front b (places (λ j. w (suc j)) rs) → Here i
+      by : (b : Bool) → f (w 0, r) ≡ b
+          → ((k : ℕ) → k ∈ places (λ j. w (suc j)) rs → (k < length rs) × T (f (w (suc k), row_at rs k)))
+          → i ∈ front b (places (λ j. w (suc j)) rs) → Here i
       by true e ih (Memᴰ.head d) = subst Here (sym d) (omega arith, subst T (sym e) tt)
       by true e ih (Memᴰ.tail n) = after ih n
       by false e ih n = after ih n
@@ -87,7 +91,8 @@ module _ (f : ℤ × Row → Bool) where
       by true m = Memᴰ.tail m
       by false m = m
 
-  pub number_of_lem : (w : ℕ → ℤ) (rs : List Row) → NumberOf (λ k. T (f (w k, row_at rs k))) (length rs) (how_many f (weighed w rs))
+  pub number_of_lem : (w : ℕ → ℤ) (rs : List Row) → NumberOf (λ k. T (f (w k, row_at rs k))) (length rs)
+      (how_many f (weighed w rs))
   number_of_lem w rs = record {
     places = places w rs;
     count = count w rs;

@@ -12,7 +12,9 @@ use Rattle.scope.specs.Columns.{Rule, right_angle, naming, parts, at_most_where}
 use Rattle.scope.specs.Mesh.{mesh_layout}
 use Rattle.scope.specs.Claim.{claim_layout}
 use Rattle.scope.specs.Refusals.{rule_number}
-use Rattle.scope.specs.RefusalTable.{MeshRow, of_lines, five, six, seven, forty_seven, eight, forty_four, forty_two, TableRow, of_mesh, of_claim_lines, twenty_one, twenty_two, thirty_one, thirty_two, thirty_three}
+use Rattle.scope.specs.RefusalTable.{MeshRow, of_lines, five, six, seven, forty_seven, eight, forty_four, forty_two}
+use Rattle.scope.specs.RefusalTable.{TableRow, of_mesh, of_claim_lines, twenty_one, twenty_two, thirty_one}
+use Rattle.scope.specs.RefusalTable.{thirty_two, thirty_three}
 use Rattle.scope.specs.Overlaps.{OnEachOther, OverlapNamed, NeverForThis}
 use Rattle.scope.proofs.LineRefusals.{other_number}
 use Rattle.scope.proofs.Overlaps.{on_each_other}

@@ -41,7 +41,8 @@ listed n l = in_count 0 n zero-le (omega arith)
 -- ---- an outline, corner by corner and side by side
 
 -- how far node c is left of the line from node a to node b
-left_by_turn : (m : List ℤ) (a b c : ℕ) → left_by (node_point m a ⟶ node_point m b) (corner_point (node_point m c)) ≡ turn m a b c
+left_by_turn : (m : List ℤ) (a b c : ℕ) → left_by (node_point m a ⟶ node_point m b) (corner_point (node_point m c))
+    ≡ turn m a b c
 unfolding left_by corner_point turn
 left_by_turn m a b c =
     ring (x m a ∷ y m a ∷ x m b ∷ y m b ∷ x m c ∷ y m c ∷ []) (search terms depth 100 fits 10000) refl

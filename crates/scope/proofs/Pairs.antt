@@ -17,7 +17,8 @@ use lib.Seq.{get_or-append-add}
 use Rattle.integer.specs.Members.{◌∈◌}
 use Rattle.scope.specs.Mesh.{pairs_with, nodes, elements, soils, sides, element_soil}
 use Rattle.scope.specs.Polygon.{polygon_of}
-use Rattle.scope.specs.Rows.{Pair, joined, count_from, first_where, has_corner, has_soil, passing, node_pairs, pairs_below, pair_rows, strength_pairs, pair_count, pair_at, strength_rows}
+use Rattle.scope.specs.Rows.{Pair, joined, count_from, first_where, has_corner, has_soil, passing, node_pairs}
+use Rattle.scope.specs.Rows.{pairs_below, pair_rows, strength_pairs, pair_count, pair_at, strength_rows}
 use Rattle.scope.specs.Statements.{InElement, MeshSound, PairsFit}
 use Rattle.scope.specs.RefusalTable.{LowestFails}
 use Rattle.scope.specs.NumberRanges.{MeshFacts}
@@ -101,9 +102,11 @@ module _ (f : ℕ → Bool) where
   one_passing zero s h t only = absurd (omega arith)
   one_passing (suc n) s h t only =
       ⊎_elim
-      (λ l. ap₂ ◌++◌ (one_passing n s l t (λ i k. only i (omega arith))) (none (f n) (λ u. omega (arith, only n (omega arith) u))))
+      (λ l. ap₂ ◌++◌ (one_passing n s l t (λ i k. only i (omega arith)))
+      (none (f n) (λ u. omega (arith, only n (omega arith) u))))
       (λ e.
-      ap₂ ◌++◌ (none_passing n (λ i k u. omega (arith, only i (omega arith) u))) (one (f n) (subst (λ (a : ℕ). T (f a)) e t))
+      ap₂ ◌++◌ (none_passing n (λ i k u. omega (arith, only i (omega arith) u)))
+      (one (f n) (subst (λ (a : ℕ). T (f a)) e t))
       ∙ ap (λ (a : ℕ). a ∷ []) (sym e))
       (below_suc h)
     where
@@ -149,7 +152,9 @@ module _ (m : List ℤ) where
       (λ e.
       Memᴰ.append_right (pairs_below m k)
       (Memᴰ.cast (ap (λ (u : ℕ). pair_of u s) e)
-      (Memᴰ.map (pair_of k) (in_passing (has_soil m k) (soils m) r.0 ((soil-around m k s).passes (subst (λ (u : ℕ). SoilAround m u s) e r.1))))))
+      (Memᴰ.map (pair_of k)
+      (in_passing (has_soil m k) (soils m) r.0
+      ((soil-around m k s).passes (subst (λ (u : ℕ). SoilAround m u s) e r.1))))))
       (below_suc h)
 
   node_sorted : (v : ℕ) (l : List ℕ) → Sorted (λ a b. a < b) l → Sorted Before (map (pair_of v) l)
@@ -163,7 +168,8 @@ module _ (m : List ℤ) where
   unfolding pairs_below node_pairs
   below_sorted zero = tt
   below_sorted (suc k) =
-      sorted_++ Before (pairs_below m k) (node_pairs m k) (below_sorted k) (node_sorted k (passing (has_soil m k) (soils m)) (passing_sorted (has_soil m k) (soils m)))
+      sorted_++ Before (pairs_below m k) (node_pairs m k) (below_sorted k)
+      (node_sorted k (passing (has_soil m k) (soils m)) (passing_sorted (has_soil m k) (soils m)))
       (λ a b i j. inl (omega (arith, (of_below k i).0, (of_node k j).0)))
 
   -- ---- how many, and at which place
@@ -175,33 +181,40 @@ module _ (m : List ℤ) where
   pub pairs_more : (n k : ℕ) → k ≤ n → length (pairs_below m k) ≤ length (pairs_below m n)
   pairs_more zero k h = let e : k ≡ 0 = omega arith in rw e (omega arith)
   pairs_more (suc n) k h =
-      ⊎_elim (λ e. rw e (omega arith)) (λ l. omega (arith, pairs_next n, pairs_more n k (omega arith))) (eq-or-lt_of_le h)
+      ⊎_elim (λ e. rw e (omega arith)) (λ l. omega (arith, pairs_next n, pairs_more n k (omega arith)))
+      (eq-or-lt_of_le h)
 
   -- the pairs of the nodes below k stand first among those of the nodes below n, and the others after them
-  pub place_below : (n k i : ℕ) (d : Pair) → k ≤ n → i < length (pairs_below m k) → get_or (pairs_below m n) i d ≡ get_or (pairs_below m k) i d
+  pub place_below : (n k i : ℕ) (d : Pair) → k ≤ n → i < length (pairs_below m k)
+      → get_or (pairs_below m n) i d ≡ get_or (pairs_below m k) i d
   unfolding pairs_below
   place_below zero k i d h l = let e : k ≡ 0 = omega arith in rw e refl
   place_below (suc n) k i d h l =
       ⊎_elim
       (λ e. rw e refl)
-      (λ g. get_or-append (pairs_below m n) (node_pairs m n) d i (omega (arith, pairs_more n k (omega arith))) ∙ place_below n k i d (omega arith) l)
+      (λ g. get_or-append (pairs_below m n) (node_pairs m n) d i (omega (arith, pairs_more n k (omega arith)))
+      ∙ place_below n k i d (omega arith) l)
       (eq-or-lt_of_le h)
 
-  place_from : (n k i : ℕ) (d : Pair) → k ≤ n → length (pairs_below m k) ≤ i → i < length (pairs_below m n) → k ≤ (get_or (pairs_below m n) i d).at
+  place_from : (n k i : ℕ) (d : Pair) → k ≤ n → length (pairs_below m k) ≤ i → i < length (pairs_below m n)
+      → k ≤ (get_or (pairs_below m n) i d).at
   unfolding pairs_below
   place_from zero k i d h l g = omega arith
-  place_from (suc n) k i d h l g = ⊎_elim (λ e. absurd (whole e)) (λ j. by j (place_from n k i d (omega arith) l) (dec_lt i (length (pairs_below m n)))) (eq-or-lt_of_le h)
+  place_from (suc n) k i d h l g = ⊎_elim (λ e. absurd (whole e))
+      (λ j. by j (place_from n k i d (omega arith) l) (dec_lt i (length (pairs_below m n)))) (eq-or-lt_of_le h)
     where
       whole : ¬ (k ≡ suc n)
       whole e = omega (arith, ap (λ (u : ℕ). length (pairs_below m u)) e)
 
-      by : k < suc n → (i < length (pairs_below m n) → k ≤ (get_or (pairs_below m n) i d).at) → Dec (i < length (pairs_below m n)) → k ≤ (get_or (pairs_below m (suc n)) i d).at
+      by : k < suc n → (i < length (pairs_below m n) → k ≤ (get_or (pairs_below m n) i d).at)
+          → Dec (i < length (pairs_below m n)) → k ≤ (get_or (pairs_below m (suc n)) i d).at
       by j ih (yes f) = rw (get_or-append (pairs_below m n) (node_pairs m n) d i f) (ih f)
       by j ih (no f) =
           let c : ℕ = i - length (pairs_below m n) in
           let e : i ≡ length (pairs_below m n) + c = omega arith in
           let at : get_or (pairs_below m n ++ node_pairs m n) i d ≡ get_or (node_pairs m n) c d =
-          ap (λ (u : ℕ). get_or (pairs_below m n ++ node_pairs m n) u d) e ∙ get_or-append-add (pairs_below m n) (node_pairs m n) c d in
+          ap (λ (u : ℕ). get_or (pairs_below m n ++ node_pairs m n) u d) e
+          ∙ get_or-append-add (pairs_below m n) (node_pairs m n) c d in
           let s = (of_node n (at_in (node_pairs m n) d c (omega (arith, pairs_next n)))).0 in
           subst (λ (b : Pair). k ≤ b.at) (sym at) (omega (arith, s))
 
@@ -212,7 +225,8 @@ module _ (m : List ℤ) where
   pair_there a h = let r = of_below (nodes m) (at_in (strength_pairs m) _ a h) in (r.0, r.1.0)
 
   -- pair a is one of a node below k exactly when these have more than a pairs
-  pub node_of_pair : (k a : ℕ) → k ≤ nodes m → a < pair_count m → ((pair_at m a).at < k) ↔ (a < length (pairs_below m k))
+  pub node_of_pair : (k a : ℕ) → k ≤ nodes m → a < pair_count m
+      → ((pair_at m a).at < k) ↔ (a < length (pairs_below m k))
   unfolding pair_count pair_at strength_pairs
   node_of_pair k a h l = (
     λ g. by g (dec_lt a (length (pairs_below m k))),
@@ -242,7 +256,8 @@ module _ (m : List ℤ) where
           let here : ¬ (length (pairs_below m (suc v)) ≤ most) = h.fails in
           let many : most < pair_count m = omega (arith, pairs_more (nodes m) (suc v) (omega arith)) in
           let small = (node_of_pair (suc v) most (omega arith) many).1 (omega arith) in
-          let large : ¬ ((pair_at m most).at < v) = λ g. omega (arith, (node_of_pair v most (omega arith) many).0 g, before_fits v h.lower) in
+          let large : ¬ ((pair_at m most).at < v) = λ g. omega
+          (arith, (node_of_pair v most (omega arith) many).0 g, before_fits v h.lower) in
           (many, omega arith)
 
       from : (most < pair_count m) × ((pair_at m most).at ≡ v) → LowestFails (nodes m) (PairsFit m) v
@@ -255,7 +270,12 @@ module _ (m : List ℤ) where
           }
         where
           fits : (j : ℕ) → j < v → Dec (most < length (pairs_below m (suc j))) → PairsFit m j
-          fits j l (yes k) = absurd (omega (arith, (pair_there most many).0, (node_of_pair (suc j) most (omega (arith, (pair_there most many).0)) many).1 k))
+          fits j l (yes k) = absurd
+              (omega (
+                arith,
+                (pair_there most many).0,
+                (node_of_pair (suc j) most (omega (arith, (pair_there most many).0)) many).1 k,
+              ))
           fits j l (no k) = omega arith
 
   pub pairs : Pairs m
@@ -282,7 +302,13 @@ module _ (m : List ℤ) where
   unfolding pair_count
   some_pairs f =
       some (strength_pairs m)
-      (pair_of_lem f (record { element = 0; there = omega (arith, f.counts.elements_least); has-corner = (0, omega arith, refl); same = refl }))
+      (pair_of_lem f (record {
+        element = 0;
+        there = omega (arith, f.counts.elements_least);
+        has-corner = (0, omega arith, refl);
+        same =
+            refl;
+      }))
     where
       some : (l : List Pair) {a : Pair} → a ∈ l → 0 < length l
       some [] k = absurd (Memᴰ.not-nil k)
@@ -300,8 +326,10 @@ module _ (m : List ℤ) (s : MeshSound m) where
 
   at-node : (v : ℕ) → v < nodes m → (t : ℕ) × SoilAround m v t
   at-node v h =
-      let i = s.in_element v h in
-      (element_soil m i.element, record { element = i.element; there = i.there; has-corner = (i.place, i.four, i.same); same = refl })
+      let i = s.in_element v h in (
+        element_soil m i.element,
+        record { element = i.element; there = i.there; has-corner = (i.place, i.four, i.same); same = refl },
+      )
 
   one_each : (soil : ℕ → ℕ) → ((v t : ℕ) → v < nodes m → SoilAround m v t → t ≡ soil v)
       → (k : ℕ) → k ≤ nodes m → pairs_below m k ≡ map (λ v. pair_of v (soil v)) (count_from 0 k)
@@ -310,7 +338,8 @@ module _ (m : List ℤ) (s : MeshSound m) where
   one_each soil only (suc k) h =
       ap₂ ◌++◌ (one_each soil only k (omega arith)) here
       ∙ sym (map-append (λ v. pair_of v (soil v)) (count_from 0 k) (k ∷ []))
-      ∙ ap (map (λ v. pair_of v (soil v))) (sym (count_last 0 k ∙ ap (λ (i : ℕ). count_from 0 k ++ (i ∷ [])) (zero-add k)))
+      ∙ ap (map (λ v. pair_of v (soil v)))
+      (sym (count_last 0 k ∙ ap (λ (i : ℕ). count_from 0 k ++ (i ∷ [])) (zero-add k)))
     where
       here : node_pairs m k ≡ pair_of k (soil k) ∷ []
       here =
@@ -318,7 +347,8 @@ module _ (m : List ℤ) (s : MeshSound m) where
           let there = around-there m facts r in
           let e = only k t (omega arith) r in
           ap (map (pair_of k))
-          (one_passing (has_soil m k) (soils m) (soil k) (omega (arith, there.1, e)) ((soil-around m k (soil k)).passes (subst (SoilAround m k) e r))
+          (one_passing (has_soil m k) (soils m) (soil k) (omega (arith, there.1, e))
+          ((soil-around m k (soil k)).passes (subst (SoilAround m k) e r))
           (λ i l u. only k i (omega arith) ((soil-around m k i).holds u)))
 
   -- the lowest element around a node is found
@@ -338,7 +368,8 @@ module _ (m : List ℤ) (s : MeshSound m) where
       found {k} i first =
           let small = first.fits in
           ⊎_elim
-          (λ p. absurd (T_not (has_corner m v i.element) (first.before i.element (rw p i.there)) ((corner_of m v i.element).passes (i.place, i.four, i.same))))
+          (λ p. absurd (T_not (has_corner m v i.element) (first.before i.element (rw p i.there))
+          ((corner_of m v i.element).passes (i.place, i.four, i.same))))
           (λ l. l)
           (eq-or-lt_of_le small)
 

@@ -75,7 +75,8 @@ never e f = let z : ◌≡◌ {A = ℕ} 0 1 = cc in absurd (omega arith)
 if_unfixed : (w : ℤ) (r : Row) → NoneOnUnfixed w r → r.kind ≡ unfixed → w ≡ pos 0
 if_unfixed w r h e = by r.kind h e
   where
-    by : (k : Kind) → elim k as (λ x. Type 0) [ asked ↦ Unit {0} | unfixed ↦ w ≡ pos 0 | strength ↦ Unit {0} ] → k ≡ unfixed → w ≡ pos 0
+    by : (k : Kind) → elim k as (λ x. Type 0) [ asked ↦ Unit {0} | unfixed ↦ w ≡ pos 0 | strength ↦ Unit {0} ]
+        → k ≡ unfixed → w ≡ pos 0
     by asked h e = let z : ◌≡◌ {A = ℕ} 0 1 = cc in absurd (omega arith)
     by unfixed h e = h
     by strength h e = never refl e
@@ -91,20 +92,26 @@ module _ (m c : List ℤ) (a : MultipliersAccepted m c) where
   none_unfixed k h e = by (front_or_back m k h)
     where
       by : (k < length (equality_rows m)) ⊎ BackPlace m k → multiplier m c k ≡ pos 0
-      by (inl f) = if_unfixed (multiplier m c k) (row_at (equality_rows m) k) (a.meet.unfixed k f) (ap (λ (r : Row). r.kind) (sym (rows_front m k f)) ∙ e)
-      by (inr b) = never (strength_kind m (row_at (strength_rows m) b.place) (row_in (strength_rows m) b.place b.there)) (ap (λ (r : Row). r.kind) (sym (rows_back m b.place) ∙ ap (row_at (rows_of m)) (sym b.after)) ∙ e)
+      by (inl f) = if_unfixed (multiplier m c k) (row_at (equality_rows m) k) (a.meet.unfixed k f)
+          (ap (λ (r : Row). r.kind) (sym (rows_front m k f)) ∙ e)
+      by (inr b) = never (strength_kind m (row_at (strength_rows m) b.place)
+          (row_in (strength_rows m) b.place b.there))
+          (ap (λ (r : Row). r.kind) (sym (rows_back m b.place) ∙ ap (row_at (rows_of m)) (sym b.after)) ∙ e)
 
   none_negative : (k : ℕ) → k < length (rows_of m) → (row_at (rows_of m) k).kind ≡ strength → pos 0 ≤ℤ multiplier m c k
   none_negative k h e = by (front_or_back m k h)
     where
       by : (k < length (equality_rows m)) ⊎ BackPlace m k → pos 0 ≤ℤ multiplier m c k
-      by (inl f) = absurd (equality_kind m (row_at (equality_rows m) k) (row_in (equality_rows m) k f) (ap (λ (r : Row). r.kind) (sym (rows_front m k f)) ∙ e))
+      by (inl f) = absurd (equality_kind m (row_at (equality_rows m) k) (row_in (equality_rows m) k f)
+          (ap (λ (r : Row). r.kind) (sym (rows_front m k f)) ∙ e))
       by (inr b) =
           subst (λ (i : ℕ). pos 0 ≤ℤ multiplier m c i) (omega (arith, b.after, equality_count_lem m))
-          (facts.strength_range a.there b.place (omega (arith, b.there, strength_count m mesh.counts.sides_listed))).least
+          (facts.strength_range a.there b.place
+          (omega (arith, b.there, strength_count m mesh.counts.sides_listed))).least
 
   pub multipliers_meet_lem : MultipliersMeet (multiplier m c) (rows_of m) (3 * nodes m)
-  multipliers_meet_lem = record { none_unfixed = none_unfixed; none_negative = none_negative; columns_zero = a.meet.sums }
+  multipliers_meet_lem =
+      record { none_unfixed = none_unfixed; none_negative = none_negative; columns_zero = a.meet.sums }
 
 -- ---- the bracket
 
@@ -141,15 +148,19 @@ field-n m c a =
     above_0 f.n_range.least (f.parts_fit.with_field a.there)
 
 -- a field of whole numbers that meets the rows of m, against accepted multipliers for the same rows
-pub whole_bracket : (m d k : List ℤ) → SameRows m d → MultipliersAccepted d k → (t : ℕ → ℤ) (j e : ℤ) → FieldMeets t j e (rows_of m) → Bracket t j e (multiplier d k) (rows_of d)
+pub whole_bracket : (m d k : List ℤ) → SameRows m d → MultipliersAccepted d k → (t : ℕ → ℤ) (j e : ℤ)
+    → FieldMeets t j e (rows_of m) → Bracket t j e (multiplier d k) (rows_of d)
 whole_bracket m d k same w t j e met =
-    bracket t j e (multiplier d k) (rows_of d) (3 * nodes d) (mesh_columns d (nodes-named d w.mesh)) (same_met m d same t j e met) (multipliers_meet_lem d k w)
+    bracket t j e (multiplier d k) (rows_of d) (3 * nodes d) (mesh_columns d (nodes-named d w.mesh))
+    (same_met m d same t j e met) (multipliers_meet_lem d k w)
 
 -- any accepted field and any accepted multipliers, of one claim or of two, on meshes with the same rows
-pub parts_bracket : (m c d k : List ℤ) → SameRows m d → FieldAccepted m c → MultipliersAccepted d k → PartsBracket m c d k
+pub parts_bracket : (m c d k : List ℤ) → SameRows m d → FieldAccepted m c → MultipliersAccepted d k
+    → PartsBracket m c d k
 unfolding carried allowed
 parts_bracket m c d k same f w =
-    let sums : Bracket (stress m c) (l c) (n c) (multiplier d k) (rows_of d) = whole_bracket m d k same w (stress m c) (l c) (n c) f.meets in
+    let sums : Bracket (stress m c) (l c) (n c) (multiplier d k) (rows_of d) =
+    whole_bracket m d k same w (stress m c) (l c) (n c) f.meets in
     record {
       n_above_0 = field-n m c f;
       m_above_0 = w.meet.live;
@@ -173,8 +184,10 @@ open_rows_count m c f w =
         count = places.count;
         ascending = places.ascending;
         exactly = λ i. (
-          λ j. let h = (places.exactly i).0 j in (h.0, (is_open_lem (stress m c) (l c) (n c) (multiplier m c i, row_at (rows_of m) i)).0 h.1),
-          λ h. (places.exactly i).1 (h.0, (is_open_lem (stress m c) (l c) (n c) (multiplier m c i, row_at (rows_of m) i)).1 h.1),
+          λ j. let h = (places.exactly i).0 j in
+              (h.0, (is_open_lem (stress m c) (l c) (n c) (multiplier m c i, row_at (rows_of m) i)).0 h.1),
+          λ h. (places.exactly i).1
+              (h.0, (is_open_lem (stress m c) (l c) (n c) (multiplier m c i, row_at (rows_of m) i)).1 h.1),
         );
       };
       none = (

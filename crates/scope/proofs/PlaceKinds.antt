@@ -21,7 +21,9 @@ use Rattle.scope.specs.Rows.{equality_rows, strength_rows, rows_of}
 use Rattle.scope.specs.Verdict.{mesh_check}
 use Rattle.scope.specs.Statements.{MeshSound}
 use Rattle.scope.specs.Phases.{FirstFails}
-use Rattle.scope.specs.Refusals.{rule_number, rule_steps, line_steps, line_phases, shape_phases, mesh_phases, field_phases, multiplier_phases, field_part, multiplier_part, part_phases, claim_phases, MeshRefusal, Refusal}
+use Rattle.scope.specs.Refusals.{rule_number, rule_steps, line_steps, line_phases, shape_phases, mesh_phases}
+use Rattle.scope.specs.Refusals.{field_phases, multiplier_phases, field_part, multiplier_part, part_phases}
+use Rattle.scope.specs.Refusals.{claim_phases, MeshRefusal, Refusal}
 use Rattle.scope.specs.AnsweredMesh.{MeshExactly}
 use Rattle.scope.proofs.Checks.{passed_is_not_refused}
 use Rattle.scope.proofs.Phases.{EachIn, each_refusal, each_join, each_part, own_number}
@@ -44,12 +46,14 @@ rule_of_line (naming cs ∷ rs) line c (inl h) = subst OfLine h.1 (λ j. refl)
 rule_of_line (parts ∷ rs) line c (inl h) = subst OfLine h.1 (λ j. refl)
 rule_of_line (r ∷ rs) line c (inr h) = rule_of_line rs line c h.1
 
-pub step_of_line : (f : Layout) (ns : List ℤ) (k c : ℕ) → OfLine f.form_number → OfLine f.limit_number → FirstFails (line_steps f (group_at f ns k) (numbers_at f ns k)) c → OfLine c
+pub step_of_line : (f : Layout) (ns : List ℤ) (k c : ℕ) → OfLine f.form_number → OfLine f.limit_number
+    → FirstFails (line_steps f (group_at f ns k) (numbers_at f ns k)) c → OfLine c
 step_of_line f ns k c a b (inl h) = subst OfLine h.1 a
 step_of_line f ns k c a b (inr (x, inl h)) = subst OfLine h.1 b
 step_of_line f ns k c a b (inr (x, inr (y, h))) = rule_of_line (group_at f ns k).rules (numbers_at f ns k) c h
 
-pub line_kinds : (f : Layout) (ns : List ℤ) → OfLine f.form_number → OfLine f.limit_number → EachIn Kind (line_phases f ns)
+pub line_kinds : (f : Layout) (ns : List ℤ) → OfLine f.form_number → OfLine f.limit_number
+    → EachIn Kind (line_phases f ns)
 line_kinds f ns a b = (
   λ k c h l r. step_of_line f ns k c a b r (suc k),
   λ e. (λ k c h l r. subst OfLine (own_number refl r) a _, λ i. tt),
@@ -62,22 +66,37 @@ one_kind {p} k r = subst (λ i. Kind i p) (own_number refl r) k
 pub mesh_kinds : (m : List ℤ) → EachIn Kind (mesh_phases m)
 unfolding place_for mesh_layout
 mesh_kinds m =
-    each_join Kind (line_phases mesh_layout m) (shape_phases m) (line_kinds mesh_layout m (λ j. refl) (λ j. refl)) (λ a. (
+    each_join Kind (line_phases mesh_layout m) (shape_phases m) (line_kinds mesh_layout m (λ j. refl) (λ j. refl))
+    (λ a. (
       λ k c h l r. one_kind refl r,
-      λ e. (λ k c h l r. one_kind refl r, λ e. (λ k c h l r. one_kind refl r, λ e. (λ k c h l r. one_kind refl r, λ e. (λ k c h l r. one_kind refl r, λ e. (λ k c h l r. one_kind refl r, λ e. (λ k c h l r. one_kind refl r, λ i. tt)))))),
+      λ e. (
+        λ k c h l r. one_kind refl r,
+        λ e. (
+          λ k c h l r. one_kind refl r,
+          λ e. (
+            λ k c h l r. one_kind refl r,
+            λ e. (
+              λ k c h l r. one_kind refl r,
+              λ e. (λ k c h l r. one_kind refl r, λ e. (λ k c h l r. one_kind refl r, λ i. tt)),
+            ),
+          ),
+        ),
+      ),
     ))
 
 pub all_kinds : (m c : List ℤ) → EachIn Kind (mesh_phases m ++ claim_phases m c)
 unfolding place_for claim_layout
 all_kinds m c =
     each_join Kind (mesh_phases m) (claim_phases m c) (mesh_kinds m) (λ a.
-    each_join Kind (line_phases (claim_layout m) c) (part_phases m c) (line_kinds (claim_layout m) c (λ j. refl) (λ j. refl)) (λ b.
+    each_join Kind (line_phases (claim_layout m) c) (part_phases m c)
+    (line_kinds (claim_layout m) c (λ j. refl) (λ j. refl)) (λ b.
     each_join Kind (field_part m c) (multiplier_part m c)
     (each_part Kind (has_field c) (field_phases (equality_rows m) (strength_rows m) (stress m c) (l c) (n c)) (
       λ k c h l r. one_kind refl r,
       λ e. (λ k c h l r. one_kind refl r, λ i. tt),
     ))
-    (λ d. each_part Kind (has_multipliers c) (multiplier_phases (equality_rows m) (rows_of m) (3 * nodes m) (multiplier m c)) (
+    (λ d. each_part Kind (has_multipliers c)
+    (multiplier_phases (equality_rows m) (rows_of m) (3 * nodes m) (multiplier m c)) (
       λ k c h l r. one_kind refl r,
       λ e. (λ k c h l r. one_kind refl r, λ e. (λ k c h l r. one_kind refl r, λ i. tt)),
     ))))
@@ -90,9 +109,12 @@ mesh_place_kind {m} r = each_refusal Kind (mesh_phases m) (mesh_kinds m) r.by
 
 pub place_number_lem : (k j : ℕ) → place_number (place_for k j) ≡ j
 unfolding place_for
-place_number_lem k j = by (eqb k 5 || eqb k 6 || eqb k 47) (eqb k 7 || eqb k 42) (eqb k 21 || eqb k 22 || eqb k 31) (eqb k 32 || eqb k 33) (eqb k 45)
+place_number_lem k j = by (eqb k 5 || eqb k 6 || eqb k 47) (eqb k 7 || eqb k 42) (eqb k 21 || eqb k 22 || eqb k 31)
+    (eqb k 32 || eqb k 33) (eqb k 45)
   where
-    by : (a b c d e : Bool) → place_number (cond a (Element j) (cond b (Node j) (cond c (Row j) (cond d (Column j) (cond e (Height j) (Line j)))))) ≡ j
+    by : (a b c d e : Bool)
+        → place_number (cond a (Element j)
+        (cond b (Node j) (cond c (Row j) (cond d (Column j) (cond e (Height j) (Line j)))))) ≡ j
     by true b c d e = refl
     by false true c d e = refl
     by false false true d e = refl
@@ -111,15 +133,26 @@ mesh_exactly m Passed e =
     record {
       passes = (λ z. sound, λ s. refl);
       place_zero = λ z. refl;
-      refuses = λ k j nonzero. (λ h. absurd (nonzero (sym h.0)), λ r. passed_is_not_refused (e ∙ (mesh_exact m).refuses.refused k (place_for k j) r));
+      refuses = λ k j nonzero. (
+        λ h. absurd (nonzero (sym h.0)),
+        λ r. passed_is_not_refused
+            (e ∙ (mesh_exact m).refuses.refused k (place_for k j) r),
+      );
     }
 mesh_exactly m (Refused n p) e =
     let r : MeshRefusal m n p = (mesh_exact m).refuses.why n p (sym e) in
     record {
-      passes = (λ z. absurd (omega (arith, (of_mesh r).0)), λ s. passed_is_not_refused (sym ((mesh_exact m).passes.passed s) ∙ sym e));
+      passes = (
+        λ z. absurd (omega (arith, (of_mesh r).0)),
+        λ s. passed_is_not_refused
+            (sym ((mesh_exact m).passes.passed s) ∙ sym e),
+      );
       place_zero = λ z. absurd (omega (arith, (of_mesh r).0));
       refuses = λ k j nonzero. (
-        λ h. subst₂ (MeshRefusal m) h.0 (mesh_place_kind r ∙ ap (λ i. place_for i (place_number p)) h.0 ∙ ap (place_for k) h.1) r,
-        λ r. let same : Refused n p ≡ Refused k (place_for k j) = e ∙ (mesh_exact m).refuses.refused k (place_for k j) r in (ap mesh_number_of same, ap mesh_place_of same ∙ place_number_lem k j),
+        λ h. subst₂ (MeshRefusal m) h.0
+            (mesh_place_kind r ∙ ap (λ i. place_for i (place_number p)) h.0 ∙ ap (place_for k) h.1) r,
+        λ r. let same : Refused n p ≡ Refused k (place_for k j) = e
+            ∙ (mesh_exact m).refuses.refused k (place_for k j) r in
+            (ap mesh_number_of same, ap mesh_place_of same ∙ place_number_lem k j),
       );
     }

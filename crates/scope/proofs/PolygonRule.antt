@@ -22,12 +22,15 @@ use Rattle.integer.proofs.RingLaws.{pos_injective}
 use Rattle.scope.proofs.Lists.{each_nil, each_cons}
 use Rattle.scope.proofs.Decides.{Decides, both, either, said_as, equalℤ, belowℤ}
 use Rattle.integer.specs.Members.{◌∈◌}
-use Rattle.scope.specs.Polygon.{Point, point, Polygon, Side, sides_to, polygon_sides, quarter_turn, four_quadrants, twelve, twenty, thirty_six, one_hundred_eight, polygon_of, SidesListed, half_turn}
+use Rattle.scope.specs.Polygon.{Point, point, Polygon, Side, sides_to, polygon_sides, quarter_turn, four_quadrants}
+use Rattle.scope.specs.Polygon.{twelve, twenty, thirty_six, one_hundred_eight, polygon_of, SidesListed, half_turn}
 use Rattle.scope.specs.Rows.{cross}
 use Rattle.scope.specs.Mesh.{most_sides, nodes_for_108, nodes_with, pairs_with, strength_multiplier, kind_with}
 use Rattle.scope.specs.Claim.{stress_columns}
-use Rattle.scope.specs.Bounds.{most_radius, most_step, most_cross, weighted_step, weighted_cross, most_strength_rows, most_plane_radius, twice_strength, strength_right_with, strength_sum}
-use Rattle.scope.specs.PolygonRule.{OnCircle, OnceAround, step_size, cross_size, Largest, PolygonRule, PolygonFits, ListedPolygon, HalfTurn}
+use Rattle.scope.specs.Bounds.{most_radius, most_step, most_cross, weighted_step, weighted_cross, most_strength_rows}
+use Rattle.scope.specs.Bounds.{most_plane_radius, twice_strength, strength_right_with, strength_sum}
+use Rattle.scope.specs.PolygonRule.{OnCircle, OnceAround, step_size, cross_size, Largest, PolygonRule, PolygonFits}
+use Rattle.scope.specs.PolygonRule.{ListedPolygon, HalfTurn}
 
 -- ---- tests
 
@@ -63,7 +66,8 @@ walk listed rr (suc steps) a (suc b) =
 from_upper : ℤ → List Point → Bool
 from_upper r [] = false
 from_upper r (v ∷ c) =
-    elim (lt_z (pos 0) v.py) [ true ↦ from_upper r c | false ↦ is_point (neg_ℤ r) (pos 0) v && every (λ w. lt_z w.py (pos 0)) c ]
+    elim (lt_z (pos 0) v.py)
+    [ true ↦ from_upper r c | false ↦ is_point (neg_ℤ r) (pos 0) v && every (λ w. lt_z w.py (pos 0)) c ]
 
 once_around : ℤ → List Point → Bool
 once_around r [] = false
@@ -110,7 +114,8 @@ some_yes : {A : Type 0} (f : A → Bool) (l : List A) → T (some f l) → (a : 
 unfolding some
 some_yes f [] t = absurd t
 some_yes f (b ∷ l) t =
-    ⊎_elim (λ h. (b, Memᴰ.head refl, h)) (λ h. let (a, m, k) = some_yes f l h in (a, Memᴰ.tail m, k)) (or_yes (f b) (some f l) t)
+    ⊎_elim (λ h. (b, Memᴰ.head refl, h)) (λ h. let (a, m, k) = some_yes f l h in (a, Memᴰ.tail m, k))
+    (or_yes (f b) (some f l) t)
 
 point_yes : (a b : ℤ) (v : Point) → T (is_point a b v) → v ≡ point a b
 unfolding is_point
@@ -140,7 +145,8 @@ outside {a} {b} {x} {y} hx hy h = by (dec_lt y b)
     by (no q) = let e : y ≡ b = omega arith in absurd (omega (arith, mul-le-mul hx hx, rw e at h))
 
 module _ (listed : ℕ → ℕ → Bool) (rr : ℕ) where
-  walk_yes : (steps a b : ℕ) → T (walk listed rr steps a b) → (x y : ℕ) → a ≤ x → y < b → x * x + y * y ≡ rr → T (listed x y)
+  walk_yes : (steps a b : ℕ) → T (walk listed rr steps a b) → (x y : ℕ) → a ≤ x → y < b → x * x + y * y ≡ rr
+      → T (listed x y)
   unfolding walk
   walk_yes steps a zero t x y hx hy e = absurd (omega arith)
   walk_yes zero a (suc b) t x y hx hy e = absurd t
@@ -158,8 +164,13 @@ module _ (listed : ℕ → ℕ → Bool) (rr : ℕ) where
           (or_yes (ltb (a * a + b * b) rr) (listed a b) t)
 
       go : (near : Bool) → (T near → a * a + b * b ≤ rr) → (T (not near) → rr < a * a + b * b)
-          → (T (walk listed rr steps (suc a) (suc b)) → a < x → T (listed x y)) → (T (walk listed rr steps a b) → y < b → T (listed x y))
-          → T (elim near [ true ↦ (ltb (a * a + b * b) rr || listed a b) && walk listed rr steps (suc a) (suc b) | false ↦ walk listed rr steps a b ])
+          → (T (walk listed rr steps (suc a) (suc b)) → a < x → T (listed x y))
+          → (T (walk listed rr steps a b) → y < b → T (listed x y))
+          → T (elim near [
+            | true ↦ (ltb (a * a + b * b) rr || listed a b)
+                && walk listed rr steps (suc a) (suc b)
+            | false ↦ walk listed rr steps a b
+          ])
           → T (listed x y)
       go true is far right down t =
           let h = and_yes (ltb (a * a + b * b) rr || listed a b) (walk listed rr steps (suc a) (suc b)) t in
@@ -185,20 +196,26 @@ leg_≤ x y r e = by (dec_lt r y)
     by (no h) = omega arith
 
 -- the legs of a point of the circle, and that neither is longer than the radius
-legs : (r : ℤ) (v : Point) → OnCircle r v → nat_abs v.px * nat_abs v.px + nat_abs v.py * nat_abs v.py ≡ nat_abs r * nat_abs r
+legs : (r : ℤ) (v : Point) → OnCircle r v → nat_abs v.px * nat_abs v.px + nat_abs v.py * nat_abs v.py
+    ≡ nat_abs r * nat_abs r
 legs r v on = pos_injective (sym (ap₂ ◌+ℤ◌ (square_abs v.px) (square_abs v.py)) ∙ on ∙ square_abs r)
 
 pub legs_within : (r : ℤ) (v : Point) → OnCircle r v → (nat_abs v.px ≤ nat_abs r) × (nat_abs v.py ≤ nat_abs r)
 legs_within r v on =
-    let e = legs r v on in
-    (leg_≤ (nat_abs v.py) (nat_abs v.px) (nat_abs r) (omega (arith, e)), leg_≤ (nat_abs v.px) (nat_abs v.py) (nat_abs r) e)
+    let e = legs r v on in (
+      leg_≤ (nat_abs v.py) (nat_abs v.px) (nat_abs r) (omega (arith, e)),
+      leg_≤ (nat_abs v.px) (nat_abs v.py) (nat_abs r) e,
+    )
 
-none_left_out : (c : List Point) (r : ℤ) (steps : ℕ) → T (walk (has_signed c) (nat_abs r * nat_abs r) steps 0 (suc (nat_abs r))) → (v : Point) → OnCircle r v → v ∈ c
+none_left_out : (c : List Point) (r : ℤ) (steps : ℕ)
+    → T (walk (has_signed c) (nat_abs r * nat_abs r) steps 0 (suc (nat_abs r))) → (v : Point) → OnCircle r v → v ∈ c
 none_left_out c r steps t v on =
     let x : ℕ = nat_abs v.px in
     let y : ℕ = nat_abs v.py in
     let e : x * x + y * y ≡ nat_abs r * nat_abs r = legs r v on in
-    signed_yes c v.px v.py (walk_yes (has_signed c) (nat_abs r * nat_abs r) steps 0 (suc (nat_abs r)) t x y zero-le (suc-le-suc (leg_≤ x y (nat_abs r) e)) e)
+    signed_yes c v.px v.py
+    (walk_yes (has_signed c) (nat_abs r * nat_abs r) steps 0 (suc (nat_abs r)) t x y zero-le
+    (suc-le-suc (leg_≤ x y (nat_abs r) e)) e)
 
 from_upper_lem : (r : ℤ) (c : List Point) → T (from_upper r c) → OnceAround r (point r (pos 0) ∷ c)
 unfolding from_upper
@@ -215,7 +232,11 @@ from_upper_lem r (v ∷ c) t = go (lt_z (pos 0) v.py) lt_z_yes (from_upper_lem r
     }
 
     go : (up : Bool) → (T up → pos 0 <ℤ v.py) → (T (from_upper r c) → OnceAround r (point r (pos 0) ∷ c))
-        → T (elim up [ true ↦ from_upper r c | false ↦ is_point (neg_ℤ r) (pos 0) v && every (λ w. lt_z w.py (pos 0)) c ]) → OnceAround r (point r (pos 0) ∷ v ∷ c)
+        → T (elim up [
+          | true ↦ from_upper r c
+          | false ↦ is_point (neg_ℤ r) (pos 0) v
+              && every (λ w. lt_z w.py (pos 0)) c
+        ]) → OnceAround r (point r (pos 0) ∷ v ∷ c)
     go true up rest t = one_more (up tt) (rest t)
     go false up rest t =
         let h = and_yes (is_point (neg_ℤ r) (pos 0) v) (every (λ w. lt_z w.py (pos 0)) c) t in
@@ -237,7 +258,8 @@ half_says : (r : ℤ) (v : Point) → Decides (in_half r v) ((v ≡ point r (pos
 unfolding in_half is_point
 half_says r v =
     either
-    (said_as (both (equalℤ v.px r) (equalℤ v.py (pos 0))) (λ h. ap₂ point h.0 h.1) (λ e. (ap (λ (w : Point). w.px) e, ap (λ (w : Point). w.py) e)))
+    (said_as (both (equalℤ v.px r) (equalℤ v.py (pos 0))) (λ h. ap₂ point h.0 h.1)
+    (λ e. (ap (λ (w : Point). w.px) e, ap (λ (w : Point). w.py) e)))
     (belowℤ (pos 0) v.py)
 
 half_turn_lem : (r : ℤ) (c : List Point) → T (halves r c) → HalfTurn r c
@@ -245,10 +267,14 @@ unfolding halves half_turn
 half_turn_lem r c t v =
     let h = and_yes (every (in_half r) (half_turn c)) (every (λ v. not (in_half r v)) (drop (length c / 2) c)) t in
     let parts = take-append-drop (length c / 2) c in (
-      λ m. (subst (λ l. v ∈ l) parts (Memᴰ.append_left (drop (length c / 2) c) m), (half_says r v).holds (every_yes (in_half r) (half_turn c) h.0 v m)),
+      λ m. (
+        subst (λ l. v ∈ l) parts (Memᴰ.append_left (drop (length c / 2) c) m),
+        (half_says r v).holds (every_yes (in_half r) (half_turn c) h.0 v m),
+      ),
       λ k.
           ⊎_elim (λ m. m)
-          (λ m. absurd (T_not (in_half r v) (every_yes (λ v. not (in_half r v)) (drop (length c / 2) c) h.1 v m) ((half_says r v).passes k.1)))
+          (λ m. absurd (T_not (in_half r v) (every_yes (λ v. not (in_half r v)) (drop (length c / 2) c) h.1 v m)
+          ((half_says r v).passes k.1)))
           (Memᴰ.append_cases (half_turn c) (subst (λ l. v ∈ l) (sym parts) k.0)),
     )
 
@@ -257,10 +283,15 @@ unfolding largest
 largest_yes size ss k t =
     let h = and_yes (every (λ s. leb (size s) k) ss) (some (λ s. eqb (size s) k) ss) t in
     let (s, m, e) = some_yes (λ s. eqb (size s) k) ss h.1 in
-    record { bounds = λ s m. leb→le (size s) k (every_yes (λ s. leb (size s) k) ss h.0 s m); reached = (s, m, eqb→eq (size s) k e) }
+    record {
+      bounds = λ s m. leb→le (size s) k (every_yes (λ s. leb (size s) k) ss h.0 s m);
+      reached =
+          (s, m, eqb→eq (size s) k e);
+    }
 
 -- the test says the rule
-tested : (g : Polygon) (sides step product : ℕ) → T (polygon_test g sides step product) → PolygonRule g sides step product
+tested : (g : Polygon) (sides step product : ℕ) → T (polygon_test g sides step product)
+    → PolygonRule g sides step product
 unfolding polygon_test on_circle turns_left
 tested g sides step product t = record {
   has_radius = lt_z_yes (search (and_l, and_r) depth 10);
@@ -269,7 +300,8 @@ tested g sides step product t = record {
   none_left_out = none_left_out g.corners g.radius (2 * nat_abs g.radius + 2) (search (and_l, and_r) depth 10);
   once_around_lem = once_around_lem g.radius g.corners (search (and_l, and_r) depth 10);
   half_turn_lem = half_turn_lem g.radius g.corners (search (and_l, and_r) depth 10);
-  left_turns_lem = λ s m. lt_z_yes (every_yes turns_left (polygon_sides g.corners) (search (and_l, and_r) depth 10) s m);
+  left_turns_lem = λ s m. lt_z_yes
+      (every_yes turns_left (polygon_sides g.corners) (search (and_l, and_r) depth 10) s m);
   largest_step = largest_yes step_size (polygon_sides g.corners) step (search (and_l, and_r) depth 10);
   largest_cross = largest_yes cross_size (polygon_sides g.corners) product (search (and_l, and_r) depth 10);
 }
@@ -278,7 +310,9 @@ tested g sides step product t = record {
 
 -- every definition that a table's test computes with
 shown : Unit {0}
-unfolding polygon_test on_circle turns_left largest once_around halves in_half half_turn from_upper walk has_signed is_point some every twelve twenty thirty_six one_hundred_eight four_quadrants quarter_turn polygon_sides sides_to cross polygon_of
+unfolding polygon_test on_circle turns_left largest once_around halves in_half half_turn from_upper walk has_signed
+    is_point some every twelve twenty thirty_six one_hundred_eight four_quadrants quarter_turn polygon_sides sides_to
+    cross polygon_of
 shown = tt
 
 pub twelve-sides : PolygonRule (polygon_of 12) 12 3 15
@@ -302,7 +336,12 @@ pub polygon_rule : (k : ℕ) → (sides step product : ℕ) × PolygonRule (poly
 unfolding polygon_of
 polygon_rule k = go (eqb k 12) (eqb k 20) (eqb k 36)
   where
-    go : (a b c : Bool) → (sides step product : ℕ) × PolygonRule (elim a [ true ↦ twelve | false ↦ elim b [ true ↦ twenty | false ↦ elim c [ true ↦ thirty_six | false ↦ one_hundred_eight ] ] ]) sides step product
+    go : (a b c : Bool) → (sides step product : ℕ) × PolygonRule
+        (elim a [
+          | true ↦ twelve
+          | false ↦ elim b
+              [ true ↦ twenty | false ↦ elim c [ true ↦ thirty_six | false ↦ one_hundred_eight ] ]
+        ]) sides step product
     go true b c = (12, 3, 15, twelve-sides)
     go false true c = (20, 8, 220, twenty-sides)
     go false false true = (36, 16, 1183, thirty_six_sides)
@@ -324,7 +363,8 @@ bounds_test sides radius step product =
     && leb (product * twice_strength) (strength_right_with sides)
     && leb (strength_multiplier sides * strength_right_with sides) strength_sum
     && leb (pairs_with sides * sides) most_strength_rows
-    && leb (nodes_with sides * stress_columns + pairs_with sides * sides) (nodes_for_108 * stress_columns + most_strength_rows)
+    && leb (nodes_with sides * stress_columns + pairs_with sides * sides)
+    (nodes_for_108 * stress_columns + most_strength_rows)
 
 bounded : {g : Polygon} {sides step product : ℕ} (radius : ℕ) → PolygonRule g sides step product → g.radius ≡ pos radius
     → T (bounds_test sides radius step product) → PolygonFits g sides radius step product
@@ -342,14 +382,21 @@ bounded {sides = sides} {step = step} {product = product} radius rule e t = reco
   step_weighted = leb→le (strength_multiplier sides * step) weighted_step (search (and_l, and_r) depth 15);
   product_weighted = leb→le (strength_multiplier sides * product) weighted_cross (search (and_l, and_r) depth 15);
   right_fits = leb→le (product * twice_strength) (strength_right_with sides) (search (and_l, and_r) depth 15);
-  right_weighted = leb→le (strength_multiplier sides * strength_right_with sides) strength_sum (search (and_l, and_r) depth 15);
+  right_weighted = leb→le (strength_multiplier sides * strength_right_with sides) strength_sum
+      (search (and_l, and_r) depth 15);
   rows_fit = leb→le (pairs_with sides * sides) most_strength_rows (search (and_l, and_r) depth 15);
-  numbers_fit = leb→le (nodes_with sides * stress_columns + pairs_with sides * sides) (nodes_for_108 * stress_columns + most_strength_rows) (search (and_l, and_r) depth 15);
+  numbers_fit = leb→le (nodes_with sides * stress_columns + pairs_with sides * sides)
+      (nodes_for_108 * stress_columns + most_strength_rows) (search (and_l, and_r) depth 15);
 }
 
 pub listed_polygon : (k : ℕ) → SidesListed k → ListedPolygon k
 unfolding shown bounds_test nodes_with pairs_with strength_multiplier kind_with strength_right_with
-listed_polygon k (inl e) = subst ListedPolygon (sym e) (record { radius = 5; step = 3; product = 15; fits = bounded 5 twelve-sides refl tt })
-listed_polygon k (inr (inl e)) = subst ListedPolygon (sym e) (record { radius = 25; step = 8; product = 220; fits = bounded 25 twenty-sides refl tt })
-listed_polygon k (inr (inr (inl e))) = subst ListedPolygon (sym e) (record { radius = 65; step = 16; product = 1183; fits = bounded 65 thirty_six_sides refl tt })
-listed_polygon k (inr (inr (inr e))) = subst ListedPolygon (sym e) (record { radius = 1105; step = 153; product = 177735; fits = bounded 1105 one_hundred_eight_sides refl tt })
+listed_polygon k (inl e) =
+    subst ListedPolygon (sym e) (record { radius = 5; step = 3; product = 15; fits = bounded 5 twelve-sides refl tt })
+listed_polygon k (inr (inl e)) =
+    subst ListedPolygon (sym e)
+    (record { radius = 25; step = 8; product = 220; fits = bounded 25 twenty-sides refl tt })
+listed_polygon k (inr (inr (inl e))) = subst ListedPolygon (sym e)
+    (record { radius = 65; step = 16; product = 1183; fits = bounded 65 thirty_six_sides refl tt })
+listed_polygon k (inr (inr (inr e))) = subst ListedPolygon (sym e)
+    (record { radius = 1105; step = 153; product = 177735; fits = bounded 1105 one_hundred_eight_sides refl tt })

@@ -22,14 +22,21 @@ use Rattle.scope.specs.Rows.{equality_rows, strength_rows, rows_of}
 use Rattle.scope.specs.Sums.{column_sum, live_sum}
 use Rattle.scope.specs.Tests.{row_at}
 use Rattle.scope.specs.Meets.{RowMet, FieldMeets}
-use Rattle.scope.specs.Statements.{AllWithin, AllSay, LineSound, LinesSound, MeshSound, MeetsColumns, HasField, HasMultipliers, RowsMet, ColumnsMet}
-use Rattle.scope.specs.Refusals.{rule_number, rule_steps, line_steps, line_phases, shape_phases, mesh_phases, field_phases, multiplier_phases, field_part, multiplier_part, part_phases, claim_phases, LineRefusal, MeshRefusal, Refusal}
-use Rattle.scope.specs.Verdict.{line_check, line_at, lines_check, mesh_check, claim_check, field_check, multipliers_check}
+use Rattle.scope.specs.Statements.{AllWithin, AllSay, LineSound, LinesSound, MeshSound, MeetsColumns, HasField}
+use Rattle.scope.specs.Statements.{HasMultipliers, RowsMet, ColumnsMet}
+use Rattle.scope.specs.Refusals.{rule_number, rule_steps, line_steps, line_phases, shape_phases, mesh_phases}
+use Rattle.scope.specs.Refusals.{field_phases, multiplier_phases, field_part, multiplier_part, part_phases}
+use Rattle.scope.specs.Refusals.{claim_phases, LineRefusal, MeshRefusal, Refusal}
+use Rattle.scope.specs.Verdict.{line_check, line_at, lines_check, mesh_check, claim_check, field_check}
+use Rattle.scope.specs.Verdict.{multipliers_check}
 use Rattle.scope.proofs.Decides.{Decides, equal, at_most, equalℤ, belowℤ, Passes, put_as, Refuses}
-use Rattle.scope.proofs.Statements.{all_within_lem, rule_says, left_turns_lem, own_sides_lem, in_element_lem, outer_edge_lem, is_joint_lem, pairs_fit_lem, row_meets, none_on_unfixed}
+use Rattle.scope.proofs.Statements.{all_within_lem, rule_says, left_turns_lem, own_sides_lem, in_element_lem}
+use Rattle.scope.proofs.Statements.{outer_edge_lem, is_joint_lem, pairs_fit_lem, row_meets, none_on_unfixed}
 use Rattle.scope.proofs.Overlaps.{lies_apart_lem}
 use Rattle.scope.proofs.Lists.{each_++, row_in, by_place}
-use Rattle.scope.proofs.Phases.{Exact, exact_as, DecidedSteps, Decided, one_step, steps_exact, phases_exact, check_join, pass_join, pass_parts, decided_join, decided_part, part_passes, passes_part}
+use Rattle.scope.proofs.Phases.{Exact, exact_as, DecidedSteps, Decided, one_step, steps_exact, phases_exact}
+use Rattle.scope.proofs.Phases.{check_join, pass_join, pass_parts, decided_join, decided_part, part_passes}
+use Rattle.scope.proofs.Phases.{passes_part}
 
 -- ---- one line
 
@@ -46,7 +53,8 @@ say_rules [] line h = tt
 say_rules (r ∷ rs) line h = (h.0, say_rules rs line h.1)
 
 -- the number of a rule that fails is one of a rule
-pub rule_number_lem : (rs : List Rule) (line : List ℤ) (c : ℕ) → FirstFails (rule_steps rs line) c → (r : Rule) × (c ≡ rule_number r)
+pub rule_number_lem : (rs : List Rule) (line : List ℤ) (c : ℕ) → FirstFails (rule_steps rs line) c
+    → (r : Rule) × (c ≡ rule_number r)
 rule_number_lem [] line c h = absurd h
 rule_number_lem (r ∷ rs) line c (inl h) = (r, sym h.1)
 rule_number_lem (r ∷ rs) line c (inr h) = rule_number_lem rs line c h.1
@@ -55,12 +63,14 @@ module _ (f : Layout) (g : Group) (line : List ℤ) where
   line_decided : DecidedSteps (line_steps f g line)
   line_decided = (equal (length line) (width g), λ c. (all_within_lem g.limits line, λ i. rules_decided g.rules line))
 
-  pub line_exact : (p : Place) → Exact (line_check f g line p) (AllHold (line_steps f g line)) (λ c q. FirstFails (line_steps f g line) c × (p ≡ q))
+  pub line_exact : (p : Place) → Exact (line_check f g line p) (AllHold (line_steps f g line))
+      (λ c q. FirstFails (line_steps f g line) c × (p ≡ q))
   unfolding line_check
   line_exact p = steps_exact (line_steps f g line) p line_decided
 
   -- a line passes exactly when its numbers are all there, each is within its limit and the line's rules hold
-  pub line_check_passed : (p : Place) → Passes (line_check f g line p) ((length line ≡ width g) × AllWithin g.limits line × AllSay g.rules line)
+  pub line_check_passed : (p : Place) → Passes (line_check f g line p)
+      ((length line ≡ width g) × AllWithin g.limits line × AllSay g.rules line)
   line_check_passed p =
       put_as (line_exact p).passes
       (λ h. (h.0, h.1.0, rules_say g.rules line h.1.1))
@@ -70,7 +80,8 @@ module _ (f : Layout) (g : Group) (line : List ℤ) where
 
 module _ (f : Layout) (ns : List ℤ) where
   -- line by line, and then what is left over
-  pub lines_checked : lines_check f ns ≡ lowest (line_at f ns) (line_count (groups f ns)) then demand (leb (length ns) (number_count (groups f ns))) f.form_number (Line (suc (line_count (groups f ns))))
+  pub lines_checked : lines_check f ns ≡ lowest (line_at f ns) (line_count (groups f ns))
+      then demand (leb (length ns) (number_count (groups f ns))) f.form_number (Line (suc (line_count (groups f ns))))
   unfolding lines_check line_at line_check check_phases check_phase lowest
   lines_checked = refl
 
@@ -81,14 +92,16 @@ module _ (f : Layout) (ns : List ℤ) where
   )
 
   pub line_sound : (k : ℕ) → AllHold (line_steps f (group_at f ns k) (numbers_at f ns k)) → LineSound f ns k
-  line_sound k r = record { complete = r.0; in_limits = r.1.0; rules_hold = rules_say (group_at f ns k).rules (numbers_at f ns k) r.1.1 }
+  line_sound k r = record
+      { complete = r.0; in_limits = r.1.0; rules_hold = rules_say (group_at f ns k).rules (numbers_at f ns k) r.1.1 }
 
   pub sound_line : (k : ℕ) → LineSound f ns k → AllHold (line_steps f (group_at f ns k) (numbers_at f ns k))
   sound_line k r = (r.complete, (r.in_limits, say_rules (group_at f ns k).rules (numbers_at f ns k) r.rules_hold))
 
   pub line_passed : (k : ℕ) → Passes (line_at f ns k) (LineSound f ns k)
   unfolding line_at
-  line_passed k = put_as (line_exact f (group_at f ns k) (numbers_at f ns k) (Line (suc k))).passes (line_sound k) (sound_line k)
+  line_passed k = put_as (line_exact f (group_at f ns k) (numbers_at f ns k) (Line (suc k))).passes (line_sound k)
+      (sound_line k)
 
   pub lines_sound : AllPass (line_phases f ns) → LinesSound f ns
   lines_sound a = record { lines = λ k h. line_sound k (a.0 k h); none_left = (a.1.0 0 (omega arith)).0 }
@@ -98,7 +111,8 @@ module _ (f : Layout) (ns : List ℤ) where
 
   pub lines_exact : Exact (lines_check f ns) (LinesSound f ns) (LineRefusal f ns)
   unfolding lines_check
-  lines_exact = exact_as (phases_exact (line_phases f ns) lines_decided) lines_sound sound_lines (λ c p r. record { by = r }) (λ c p r. r.by)
+  lines_exact = exact_as (phases_exact (line_phases f ns) lines_decided) lines_sound sound_lines
+      (λ c p r. record { by = r }) (λ c p r. r.by)
 
   pub lines_passed : Passes (lines_check f ns) (LinesSound f ns)
   lines_passed = lines_exact.passes
@@ -132,7 +146,8 @@ module _ (m : List ℤ) where
   )
 
   pub mesh_decided : Decided (mesh_phases m)
-  mesh_decided = decided_join (line_phases mesh_layout m) (shape_phases m) (lines_decided mesh_layout m) (λ lines. shape_decided)
+  mesh_decided = decided_join (line_phases mesh_layout m) (shape_phases m) (lines_decided mesh_layout m)
+      (λ lines. shape_decided)
 
   pub mesh_sound : AllPass (mesh_phases m) → MeshSound m
   mesh_sound a =
@@ -163,14 +178,18 @@ module _ (m : List ℤ) where
           λ e h. (s.own_sides e h, tt),
           (
             λ v h. (s.in_element v h, tt),
-            (λ e h. (s.none_shared e h, tt), (λ g h. (s.outer_edges g h, tt), (λ j h. (s.joints j h, tt), (λ v h. (s.pairs_fit v h, tt), tt)))),
+            (
+              λ e h. (s.none_shared e h, tt),
+              (λ g h. (s.outer_edges g h, tt), (λ j h. (s.joints j h, tt), (λ v h. (s.pairs_fit v h, tt), tt))),
+            ),
           ),
         ),
       )
 
   pub mesh_exact : Exact (mesh_check m) (MeshSound m) (MeshRefusal m)
   unfolding mesh_check
-  mesh_exact = exact_as (phases_exact (mesh_phases m) mesh_decided) mesh_sound sound_mesh (λ c p r. record { by = r }) (λ c p r. r.by)
+  mesh_exact = exact_as (phases_exact (mesh_phases m) mesh_decided) mesh_sound sound_mesh (λ c p r. record { by = r })
+      (λ c p r. r.by)
 
   -- its lines, and then its shape
   pub mesh_checked : mesh_check m ≡ lines_check mesh_layout m then check_phases (shape_phases m)
@@ -230,7 +249,8 @@ module _ (es rs : List R.Row) (columns : ℕ) (w : ℕ → ℤ) where
   -- multipliers pass 31 to 33 exactly when they meet all columns
   pub multipliers_passed : Passes (multipliers_check es rs columns w) (MeetsColumns es rs columns w)
   unfolding multipliers_check
-  multipliers_passed = put_as (phases_exact (multiplier_phases es rs columns w) multipliers_decided).passes multipliers_sound sound_multipliers
+  multipliers_passed = put_as (phases_exact (multiplier_phases es rs columns w) multipliers_decided).passes
+      multipliers_sound sound_multipliers
 
 -- ---- the claim
 
@@ -246,37 +266,47 @@ module _ (m c : List ℤ) where
   -- a field that is there, and one that is met
   pub field_part_sound : AllPass (field_part m c) → HasField c → RowsMet m c
   unfolding rows_of
-  field_part_sound a h = field_sound (equality_rows m) (strength_rows m) (stress m c) (l c) (n c) (part_passes (field_phases (equality_rows m) (strength_rows m) (stress m c) (l c) (n c)) field-there a h)
+  field_part_sound a h = field_sound (equality_rows m) (strength_rows m) (stress m c) (l c) (n c)
+      (part_passes (field_phases (equality_rows m) (strength_rows m) (stress m c) (l c) (n c)) field-there a h)
 
   pub sound_field_part : (HasField c → RowsMet m c) → AllPass (field_part m c)
   unfolding rows_of
   sound_field_part met =
-      passes_part (field_phases (equality_rows m) (strength_rows m) (stress m c) (l c) (n c)) field-there (λ h. sound_field (equality_rows m) (strength_rows m) (stress m c) (l c) (n c) (met h))
+      passes_part (field_phases (equality_rows m) (strength_rows m) (stress m c) (l c) (n c)) field-there
+      (λ h. sound_field (equality_rows m) (strength_rows m) (stress m c) (l c) (n c) (met h))
 
   multiplier_part_sound : AllPass (multiplier_part m c) → HasMultipliers c → ColumnsMet m c
-  multiplier_part_sound a h = multipliers_sound (equality_rows m) (rows_of m) (3 * nodes m) (multiplier m c) (part_passes (multiplier_phases (equality_rows m) (rows_of m) (3 * nodes m) (multiplier m c)) multipliers_there a h)
+  multiplier_part_sound a h = multipliers_sound (equality_rows m) (rows_of m) (3 * nodes m) (multiplier m c)
+      (part_passes (multiplier_phases (equality_rows m) (rows_of m) (3 * nodes m) (multiplier m c)) multipliers_there a
+      h)
 
   sound_multiplier_part : (HasMultipliers c → ColumnsMet m c) → AllPass (multiplier_part m c)
   sound_multiplier_part met =
-      passes_part (multiplier_phases (equality_rows m) (rows_of m) (3 * nodes m) (multiplier m c)) multipliers_there (λ h. sound_multipliers (equality_rows m) (rows_of m) (3 * nodes m) (multiplier m c) (met h))
+      passes_part (multiplier_phases (equality_rows m) (rows_of m) (3 * nodes m) (multiplier m c)) multipliers_there
+      (λ h. sound_multipliers (equality_rows m) (rows_of m) (3 * nodes m) (multiplier m c) (met h))
 
   pub claim_decided : Decided (claim_phases m c)
   claim_decided =
       decided_join (line_phases (claim_layout m) c) (part_phases m c) (lines_decided (claim_layout m) c) (λ lines.
       decided_join (field_part m c) (multiplier_part m c)
-      (decided_part (has_field c) (field_phases (equality_rows m) (strength_rows m) (stress m c) (l c) (n c)) (field_decided (equality_rows m) (strength_rows m) (stress m c) (l c) (n c)))
-      (λ field. decided_part (has_multipliers c) (multiplier_phases (equality_rows m) (rows_of m) (3 * nodes m) (multiplier m c)) (multipliers_decided (equality_rows m) (rows_of m) (3 * nodes m) (multiplier m c))))
+      (decided_part (has_field c) (field_phases (equality_rows m) (strength_rows m) (stress m c) (l c) (n c))
+      (field_decided (equality_rows m) (strength_rows m) (stress m c) (l c) (n c)))
+      (λ field. decided_part (has_multipliers c)
+      (multiplier_phases (equality_rows m) (rows_of m) (3 * nodes m) (multiplier m c))
+      (multipliers_decided (equality_rows m) (rows_of m) (3 * nodes m) (multiplier m c))))
 
   -- its lines, and then its parts; a field, and then multipliers
   pub claim_checked : claim_check m c ≡ lines_check (claim_layout m) c then check_phases (part_phases m c)
   unfolding claim_check lines_check
   claim_checked = check_join (line_phases (claim_layout m) c) (part_phases m c)
 
-  pub parts_checked : check_phases (part_phases m c) ≡ check_phases (field_part m c) then check_phases (multiplier_part m c)
+  pub parts_checked : check_phases (part_phases m c) ≡ check_phases (field_part m c)
+      then check_phases (multiplier_part m c)
   parts_checked = check_join (field_part m c) (multiplier_part m c)
 
   -- the checks of a claim on a mesh that has passed
-  pub claim_passed : Passes (claim_check m c) (LinesSound (claim_layout m) c × ((HasField c → RowsMet m c) × (HasMultipliers c → ColumnsMet m c)))
+  pub claim_passed : Passes (claim_check m c)
+      (LinesSound (claim_layout m) c × ((HasField c → RowsMet m c) × (HasMultipliers c → ColumnsMet m c)))
   unfolding claim_check
   claim_passed =
       put_as (phases_exact (claim_phases m c) claim_decided).passes
@@ -292,5 +322,8 @@ module _ (m c : List ℤ) where
   pub all_exact : Exact (mesh_check m then claim_check m c) (AllPass (mesh_phases m ++ claim_phases m c)) (Refusal m c)
   unfolding mesh_check claim_check
   all_exact =
-      subst (λ o. Exact o (AllPass (mesh_phases m ++ claim_phases m c)) (Refusal m c)) (check_join (mesh_phases m) (claim_phases m c))
-      (exact_as (phases_exact (mesh_phases m ++ claim_phases m c) (decided_join (mesh_phases m) (claim_phases m c) (mesh_decided m) (λ mesh. claim_decided))) (λ a. a) (λ a. a) (λ k p r. record { by = r }) (λ k p r. r.by))
+      subst (λ o. Exact o (AllPass (mesh_phases m ++ claim_phases m c)) (Refusal m c))
+      (check_join (mesh_phases m) (claim_phases m c))
+      (exact_as (phases_exact (mesh_phases m ++ claim_phases m c)
+      (decided_join (mesh_phases m) (claim_phases m c) (mesh_decided m) (λ mesh. claim_decided))) (λ a. a) (λ a. a)
+      (λ k p r. record { by = r }) (λ k p r. r.by))

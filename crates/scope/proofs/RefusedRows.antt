@@ -11,7 +11,8 @@ use Rattle.scope.specs.declared.Place.{Place}
 use Rattle.scope.specs.declared.Place.TheVariants.{Row, Node}
 use Rattle.scope.specs.Answer.{place_number}
 use Rattle.scope.specs.Columns.{Rule, right_angle, naming, parts, at_most_where, n, l}
-use Rattle.scope.specs.Mesh.{mesh_layout, elements, edges, sides, from_node, to_node, jump_from, jump_to, facing_from, facing_to}
+use Rattle.scope.specs.Mesh.{mesh_layout, elements, edges, sides, from_node, to_node, jump_from, jump_to, facing_from}
+use Rattle.scope.specs.Mesh.{facing_to}
 use Rattle.scope.specs.Polygon.{polygon_of}
 use Rattle.scope.specs.Claim.{claim_layout, stress}
 use Rattle.scope.specs.Rows as R
@@ -19,14 +20,17 @@ use Rattle.scope.specs.Rows.{pair_at, equality_rows, strength_rows}
 use Rattle.scope.specs.Meets.{RowMet}
 use Rattle.scope.specs.Refusals.{rule_number, mesh_phases, claim_phases, Refusal}
 use Rattle.scope.specs.RowNumbers.{row_numbered, side_numbered, RowNumbers, corner_numbered}
-use Rattle.scope.specs.RefusalTable.{MeshRow, of_lines, five, six, seven, forty_seven, eight, forty_four, forty_two, TableRow, of_mesh, of_claim_lines, twenty_one, twenty_two, thirty_one, thirty_two, thirty_three}
+use Rattle.scope.specs.RefusalTable.{MeshRow, of_lines, five, six, seven, forty_seven, eight, forty_four, forty_two}
+use Rattle.scope.specs.RefusalTable.{TableRow, of_mesh, of_claim_lines, twenty_one, twenty_two, thirty_one}
+use Rattle.scope.specs.RefusalTable.{thirty_two, thirty_three}
 use Rattle.scope.specs.RefusedRows.{EqualityFails, StrengthFails, PairsFail}
 use Rattle.scope.proofs.Phases.{EachIn, each_refusal, own_number}
 use Rattle.scope.proofs.Exactly.{OfParts, not_of_parts, each_number, refused_on_mesh}
 use Rattle.scope.proofs.LineRefusals.{other_number}
 use Rattle.scope.proofs.NumberRanges.{mesh_facts}
 use Rattle.scope.proofs.Pairs.{pairs}
-use Rattle.scope.proofs.Printed.{balance_x_lem, balance_y_lem, normal, shear, jump_normal_lem, jump_shear_lem, strength, plus_row, minus_row}
+use Rattle.scope.proofs.Printed.{balance_x_lem, balance_y_lem, normal, shear, jump_normal_lem, jump_shear_lem}
+use Rattle.scope.proofs.Printed.{strength, plus_row, minus_row}
 use Rattle.scope.proofs.RefusalTable.{table_row}
 use Rattle.scope.proofs.RowNumbers.{row_numbers}
 use Rattle.scope.specs.Tests.{row_at}
@@ -37,9 +41,11 @@ module _ (m c : List ℤ) where
 
   -- a refused row isn't met
   Q : ℕ → Place → Type 0
-  Q k p = (k ≡ 21 → ¬ met (row_numbered (equality_rows m) (place_number p))) × (k ≡ 22 → ¬ met (row_numbered (strength_rows m) (place_number p)))
+  Q k p = (k ≡ 21 → ¬ met (row_numbered (equality_rows m) (place_number p)))
+      × (k ≡ 22 → ¬ met (row_numbered (strength_rows m) (place_number p)))
 
-  here : (rs : List R.Row) (k : ℕ) {number i : ℕ} → ((¬ met (row_at rs k)) × (number ≡ i)) ⊎ (met (row_at rs k) × ⊥) → ¬ met (row_numbered rs (suc k))
+  here : (rs : List R.Row) (k : ℕ) {number i : ℕ} → ((¬ met (row_at rs k)) × (number ≡ i)) ⊎ (met (row_at rs k) × ⊥)
+      → ¬ met (row_numbered rs (suc k))
   here rs k (inl h) f = h.0 (subst (λ i. met (row_at rs i)) (omega arith) f)
   here rs k (inr h) f = h.1
 
@@ -48,13 +54,28 @@ module _ (m c : List ℤ) where
   all =
       each_number Q m c (λ k p e. (λ z. not_of_parts e (omega arith), λ z. not_of_parts e (omega arith))) (
         λ k i h b r. (λ z. here (equality_rows m) k r, λ z. absurd (omega (arith, own_number {k = 21} refl r))),
-        λ e. (λ k i h b r. (λ z. absurd (omega (arith, own_number {k = 22} refl r)), λ z. here (strength_rows m) k r), λ i. tt),
+        λ e. (
+          λ k i h b r. (λ z. absurd (omega (arith, own_number {k = 22} refl r)), λ z. here (strength_rows m) k r),
+          λ i. tt,
+        ),
       )
       (λ a b d. (
-        λ k i h b r. (λ z. absurd (omega (arith, own_number {k = 31} refl r)), λ z. absurd (omega (arith, own_number {k = 31} refl r))),
+        λ k i h b r. (
+          λ z. absurd (omega (arith, own_number {k = 31} refl r)),
+          λ z. absurd (omega (arith, own_number {k = 31} refl r)),
+        ),
         λ e. (
-          λ k i h b r. (λ z. absurd (omega (arith, own_number {k = 32} refl r)), λ z. absurd (omega (arith, own_number {k = 32} refl r))),
-          λ e. (λ k i h b r. (λ z. absurd (omega (arith, own_number {k = 33} refl r)), λ z. absurd (omega (arith, own_number {k = 33} refl r))), λ i. tt),
+          λ k i h b r. (
+            λ z. absurd (omega (arith, own_number {k = 32} refl r)),
+            λ z. absurd (omega (arith, own_number {k = 32} refl r)),
+          ),
+          λ e. (
+            λ k i h b r. (
+              λ z. absurd (omega (arith, own_number {k = 33} refl r)),
+              λ z. absurd (omega (arith, own_number {k = 33} refl r)),
+            ),
+            λ i. tt,
+          ),
         ),
       ))
 
@@ -62,7 +83,8 @@ module _ (m c : List ℤ) where
   refused r = each_refusal Q (mesh_phases m ++ claim_phases m c) all r.by
 
   -- the row of a number is not met, so no row that it equals is
-  row_fails : (rs : List R.Row) (place i : ℕ) {r : R.Row} → ¬ met (row_numbered rs place) → row_numbered rs i ≡ r → place ≡ i → ¬ met r
+  row_fails : (rs : List R.Row) (place i : ℕ) {r : R.Row} → ¬ met (row_numbered rs place) → row_numbered rs i ≡ r
+      → place ≡ i → ¬ met r
   row_fails rs place i f e d h = f (subst (λ j. met (row_numbered rs j)) (sym d) (subst met (sym e) h))
 
   module _ (place : ℕ) where
@@ -76,16 +98,30 @@ module _ (m c : List ℤ) where
         let f = (refused r).0 refl in
         let by = numbers r (omega arith) in
         record {
-          balance_x_lem = λ e h d g. row_fails (equality_rows m) place (2 * suc e - 1) f (by.balance_x_lem e h) d ((balance_x_lem m (stress m c) (l c) (n c) e).1 g);
-          balance_y_lem = λ e h d g. row_fails (equality_rows m) place (2 * suc e) f (by.balance_y_lem e h) d ((balance_y_lem m (stress m c) (l c) (n c) e).1 g);
-          normal_from = λ i h d g. row_fails (equality_rows m) place (2 * elements m + 4 * i + 1) f (by.normal_from i h) d ((normal m (stress m c) (l c) (n c) i (from_node m i)).1 g);
-          shear_from = λ i h d g. row_fails (equality_rows m) place (2 * elements m + 4 * i + 2) f (by.shear_from i h) d ((shear m (stress m c) (l c) (n c) i (from_node m i)).1 g);
-          normal_to = λ i h d g. row_fails (equality_rows m) place (2 * elements m + 4 * i + 3) f (by.normal_to i h) d ((normal m (stress m c) (l c) (n c) i (to_node m i)).1 g);
-          shear_to = λ i h d g. row_fails (equality_rows m) place (2 * elements m + 4 * i + 4) f (by.shear_to i h) d ((shear m (stress m c) (l c) (n c) i (to_node m i)).1 g);
-          jump_normal_from = λ i h d g. row_fails (equality_rows m) place (2 * elements m + 4 * edges m + 4 * i + 1) f (by.jump_normal_from i h) d ((jump_normal_lem m (stress m c) (l c) (n c) i (jump_from m i) (facing_from m i)).1 g);
-          jump_shear_from = λ i h d g. row_fails (equality_rows m) place (2 * elements m + 4 * edges m + 4 * i + 2) f (by.jump_shear_from i h) d ((jump_shear_lem m (stress m c) (l c) (n c) i (jump_from m i) (facing_from m i)).1 g);
-          jump_normal_to = λ i h d g. row_fails (equality_rows m) place (2 * elements m + 4 * edges m + 4 * i + 3) f (by.jump_normal_to i h) d ((jump_normal_lem m (stress m c) (l c) (n c) i (jump_to m i) (facing_to m i)).1 g);
-          jump_shear_to = λ i h d g. row_fails (equality_rows m) place (2 * elements m + 4 * edges m + 4 * i + 4) f (by.jump_shear_to i h) d ((jump_shear_lem m (stress m c) (l c) (n c) i (jump_to m i) (facing_to m i)).1 g);
+          balance_x_lem = λ e h d g. row_fails (equality_rows m) place (2 * suc e - 1) f (by.balance_x_lem e h) d
+              ((balance_x_lem m (stress m c) (l c) (n c) e).1 g);
+          balance_y_lem = λ e h d g. row_fails (equality_rows m) place (2 * suc e) f (by.balance_y_lem e h) d
+              ((balance_y_lem m (stress m c) (l c) (n c) e).1 g);
+          normal_from = λ i h d g. row_fails (equality_rows m) place (2 * elements m + 4 * i + 1) f
+              (by.normal_from i h) d ((normal m (stress m c) (l c) (n c) i (from_node m i)).1 g);
+          shear_from = λ i h d g. row_fails (equality_rows m) place (2 * elements m + 4 * i + 2) f
+              (by.shear_from i h) d ((shear m (stress m c) (l c) (n c) i (from_node m i)).1 g);
+          normal_to = λ i h d g. row_fails (equality_rows m) place (2 * elements m + 4 * i + 3) f (by.normal_to i h) d
+              ((normal m (stress m c) (l c) (n c) i (to_node m i)).1 g);
+          shear_to = λ i h d g. row_fails (equality_rows m) place (2 * elements m + 4 * i + 4) f (by.shear_to i h) d
+              ((shear m (stress m c) (l c) (n c) i (to_node m i)).1 g);
+          jump_normal_from = λ i h d g. row_fails (equality_rows m) place (2 * elements m + 4 * edges m + 4 * i + 1) f
+              (by.jump_normal_from i h) d
+              ((jump_normal_lem m (stress m c) (l c) (n c) i (jump_from m i) (facing_from m i)).1 g);
+          jump_shear_from = λ i h d g. row_fails (equality_rows m) place (2 * elements m + 4 * edges m + 4 * i + 2) f
+              (by.jump_shear_from i h) d
+              ((jump_shear_lem m (stress m c) (l c) (n c) i (jump_from m i) (facing_from m i)).1 g);
+          jump_normal_to = λ i h d g. row_fails (equality_rows m) place (2 * elements m + 4 * edges m + 4 * i + 3) f
+              (by.jump_normal_to i h) d
+              ((jump_normal_lem m (stress m c) (l c) (n c) i (jump_to m i) (facing_to m i)).1 g);
+          jump_shear_to = λ i h d g. row_fails (equality_rows m) place (2 * elements m + 4 * edges m + 4 * i + 4) f
+              (by.jump_shear_to i h) d
+              ((jump_shear_lem m (stress m c) (l c) (n c) i (jump_to m i) (facing_to m i)).1 g);
         }
 
     pub strength_fails : Refusal m c 22 (Row place) → StrengthFails m c place
@@ -94,9 +130,18 @@ module _ (m c : List ℤ) where
         let f = (refused r).1 refl in
         let by = numbers r (omega arith) in
         record {
-          strength = λ a k h j e d g. row_fails (strength_rows m) place (a * sides m + suc k) f (by.strength a k h j e) d ((strength m (stress m c) (l c) (n c) (polygon_of (sides m)).radius (pair_at m a) (side_numbered (polygon_of (sides m)) (suc k))).1 g);
-          plane_plus = λ a i h j e d g. row_fails (strength_rows m) place (a * sides m + (2 * suc i - 1)) f (by.plane_plus a i h j e) d ((plus_row m (stress m c) (l c) (n c) (polygon_of (sides m)).radius (pair_at m a) (corner_numbered (polygon_of (sides m)) (suc i))).1 g);
-          plane_minus = λ a i h j e d g. row_fails (strength_rows m) place (a * sides m + 2 * suc i) f (by.plane_minus a i h j e) d ((minus_row m (stress m c) (l c) (n c) (polygon_of (sides m)).radius (pair_at m a) (corner_numbered (polygon_of (sides m)) (suc i))).1 g);
+          strength = λ a k h j e d g. row_fails (strength_rows m) place (a * sides m + suc k) f
+              (by.strength a k h j e) d
+              ((strength m (stress m c) (l c) (n c) (polygon_of (sides m)).radius (pair_at m a)
+              (side_numbered (polygon_of (sides m)) (suc k))).1 g);
+          plane_plus = λ a i h j e d g. row_fails (strength_rows m) place (a * sides m + (2 * suc i - 1)) f
+              (by.plane_plus a i h j e) d
+              ((plus_row m (stress m c) (l c) (n c) (polygon_of (sides m)).radius (pair_at m a)
+              (corner_numbered (polygon_of (sides m)) (suc i))).1 g);
+          plane_minus = λ a i h j e d g. row_fails (strength_rows m) place (a * sides m + 2 * suc i) f
+              (by.plane_minus a i h j e) d
+              ((minus_row m (stress m c) (l c) (n c) (polygon_of (sides m)).radius (pair_at m a)
+              (corner_numbered (polygon_of (sides m)) (suc i))).1 g);
         }
 
 -- ---- 42
@@ -119,7 +164,8 @@ module _ (m c : List ℤ) where
   of_mesh_row (forty_seven k l a b d h) e = absurd (omega arith)
   of_mesh_row (eight g l a b d k h) e = absurd (omega arith)
   of_mesh_row (forty_four j l a b d k g h) e = absurd (omega arith)
-  of_mesh_row (forty_two v l a b d k g i h) e = let (many, at) = ((pairs m).brings_one_more v).0 h in record { many = many; node = ap suc (sym at) }
+  of_mesh_row (forty_two v l a b d k g i h) e = let (many, at) =
+      ((pairs m).brings_one_more v).0 h in record { many = many; node = ap suc (sym at) }
 
   of_table_row : {k : ℕ} {p : Place} → TableRow m c k p → k ≡ 42 → PairsFail m (place_number p)
   unfolding claim_layout

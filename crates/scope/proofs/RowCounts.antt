@@ -13,12 +13,16 @@ use Rattle.integer.specs.Tests.{eq_z}
 use Rattle.integer.specs.Members.{◌∈◌}
 use Rattle.scope.specs.Mesh.{elements, edges, sides, jumps, edge_entry, equality_count}
 use Rattle.scope.specs.Polygon.{Point, sides_to, polygon_sides, polygon_of, SidesListed, Polygon, half_turn}
-use Rattle.scope.specs.Rows.{Kind, asked, unfixed, strength, Row, count_from, joined, balance_x, balance_y, balance_rows, fixed_if, normal_row, shear_row, side_rows, agree_row, jump_normal, jump_shear, jump_rows, strength_pairs, pair_count, strength_row, pair_rows, strength_rows, equality_rows, Pair, plane_row, rows_by_sides, rows_by_planes}
+use Rattle.scope.specs.Rows.{Kind, asked, unfixed, strength, Row, count_from, joined, balance_x, balance_y}
+use Rattle.scope.specs.Rows.{balance_rows, fixed_if, normal_row, shear_row, side_rows, agree_row, jump_normal}
+use Rattle.scope.specs.Rows.{jump_shear, jump_rows, strength_pairs, pair_count, strength_row, pair_rows}
+use Rattle.scope.specs.Rows.{strength_rows, equality_rows, Pair, plane_row, rows_by_sides, rows_by_planes}
 use Rattle.scope.proofs.Lists.{count-length, each_nil, each_cons, each_++, each_map, each_joined}
 use Rattle.scope.proofs.PolygonRule.{listed_polygon}
 use Rattle.scope.proofs.Directions.{by_kind}
 
-pub length-joined : {A B : Type 0} (f : A → List B) (w : ℕ) (l : List A) → ((a : A) → a ∈ l → length (f a) ≡ w) → length (joined f l) ≡ length l * w
+pub length-joined : {A B : Type 0} (f : A → List B) (w : ℕ) (l : List A) → ((a : A) → a ∈ l → length (f a) ≡ w)
+    → length (joined f l) ≡ length l * w
 unfolding joined
 length-joined f w [] h = sym (zero-mul w)
 length-joined f w (a ∷ l) h =
@@ -35,11 +39,13 @@ balance_count m =
 
 pub side_count : (m : List ℤ) → length (side_rows m) ≡ edges m * 4
 unfolding side_rows
-side_count m = length-joined _ 4 (count_from 0 (edges m)) (λ a i. refl) ∙ ap (λ (k : ℕ). k * 4) (count-length 0 (edges m))
+side_count m = length-joined _ 4 (count_from 0 (edges m)) (λ a i. refl)
+    ∙ ap (λ (k : ℕ). k * 4) (count-length 0 (edges m))
 
 pub jump_count : (m : List ℤ) → length (jump_rows m) ≡ jumps m * 4
 unfolding jump_rows
-jump_count m = length-joined _ 4 (count_from 0 (jumps m)) (λ a i. refl) ∙ ap (λ (k : ℕ). k * 4) (count-length 0 (jumps m))
+jump_count m = length-joined _ 4 (count_from 0 (jumps m)) (λ a i. refl)
+    ∙ ap (λ (k : ℕ). k * 4) (count-length 0 (jumps m))
 
 pub equality_count_lem : (m : List ℤ) → length (equality_rows m) ≡ equality_count m
 unfolding equality_rows
@@ -66,10 +72,12 @@ fixed_or_not what fixed = by (eq_z fixed what || eq_z fixed (pos 3))
     by false e = let z : ◌≡◌ {A = ℕ} 0 1 = cc in omega arith
 
 pub equality_kind : (m : List ℤ) (r : Row) → r ∈ equality_rows m → ¬ (r.kind ≡ strength)
-unfolding equality_rows balance_rows side_rows jump_rows balance_x balance_y normal_row shear_row jump_normal jump_shear agree_row
+unfolding equality_rows balance_rows side_rows jump_rows balance_x balance_y normal_row shear_row jump_normal
+    jump_shear agree_row
 equality_kind m =
     each_++ P
-    (each_joined P _ (count_from 0 (elements m)) (λ e i. each_cons P (λ h. other refl h) (each_cons P (λ h. other refl h) (each_nil P))))
+    (each_joined P _ (count_from 0 (elements m))
+    (λ e i. each_cons P (λ h. other refl h) (each_cons P (λ h. other refl h) (each_nil P))))
     (each_++ P
     (each_joined P _ (count_from 0 (edges m))
     (λ g i.
@@ -78,7 +86,9 @@ equality_kind m =
     (each_cons P (fixed_or_not (pos 1) (edge_entry m g 2))
     (each_cons P (fixed_or_not (pos 2) (edge_entry m g 2)) (each_nil P))))))
     (each_joined P _ (count_from 0 (jumps m))
-    (λ j i. each_cons P (λ h. other refl h) (each_cons P (λ h. other refl h) (each_cons P (λ h. other refl h) (each_cons P (λ h. other refl h) (each_nil P)))))))
+    (λ j i. each_cons P (λ h. other refl h)
+    (each_cons P (λ h. other refl h)
+    (each_cons P (λ h. other refl h) (each_cons P (λ h. other refl h) (each_nil P)))))))
   where
     P : Row → Type 0
     P r = ¬ (r.kind ≡ strength)
@@ -128,7 +138,8 @@ module _ (k : ℕ) (listed : SidesListed k) (m : List ℤ) (a : Pair) where
 pub strength_count : (m : List ℤ) → SidesListed (sides m) → length (strength_rows m) ≡ pair_count m * sides m
 unfolding strength_rows pair_count
 strength_count m h =
-    length-joined (pair_rows (polygon_of (sides m)) m) (sides m) (strength_pairs m) (λ a i. pair_rows_count (sides m) h m a)
+    length-joined (pair_rows (polygon_of (sides m)) m) (sides m) (strength_pairs m)
+    (λ a i. pair_rows_count (sides m) h m a)
 
 pub strength_kind : (m : List ℤ) (r : Row) → r ∈ strength_rows m → r.kind ≡ strength
 unfolding strength_rows rows_by_sides rows_by_planes strength_row plane_row

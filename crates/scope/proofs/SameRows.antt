@@ -54,18 +54,29 @@ at-judged (r ∷ rs) (suc k) = at-judged rs k
 -- a field meets rows as they are judged
 judged_met : (s : ℕ → ℤ) (l n : ℤ) (rs : List Row) → FieldMeets s l n rs ↔ FieldMeets s l n (map judged rs)
 judged_met s l n rs = (
-  λ met. by_place (RowMet s l n) (map judged rs) (λ k h. rw (at-judged rs k) ((row_judged s l n (row_at rs k)).0 (met (row_at rs k) (row_in rs k (omega (arith, length-map rs judged)))))),
-  λ met. by_place (RowMet s l n) rs (λ k h. (row_judged s l n (row_at rs k)).1 (rw (at-judged rs k) at (met (row_at (map judged rs) k) (row_in (map judged rs) k (omega (arith, length-map rs judged)))))),
+  λ met. by_place (RowMet s l n) (map judged rs)
+      (λ k h. rw (at-judged rs k)
+      ((row_judged s l n (row_at rs k)).0 (met (row_at rs k) (row_in rs k (omega (arith, length-map rs judged)))))),
+  λ met. by_place (RowMet s l n) rs
+      (λ k h. (row_judged s l n (row_at rs k)).1
+      (rw (at-judged rs k) at
+      (met (row_at (map judged rs) k) (row_in (map judged rs) k (omega (arith, length-map rs judged)))))),
 )
 
-same_lists : (rs ts : List Row) → (map judged rs ≡ map judged ts) ↔ ((length rs ≡ length ts) × ((k : ℕ) → k < length rs → SameRow (row_at rs k) (row_at ts k)))
+same_lists : (rs ts : List Row) → (map judged rs ≡ map judged ts) ↔
+    ((length rs ≡ length ts) × ((k : ℕ) → k < length rs → SameRow (row_at rs k) (row_at ts k)))
 unfolding row_at
 same_lists rs ts = (
-  λ e. (sym (length-map rs judged) ∙ ap length e ∙ length-map ts judged, λ k h. (judged_row (row_at rs k) (row_at ts k)).0 (sym (at-judged rs k) ∙ ap (λ (l : List Row). row_at l k) e ∙ at-judged ts k)),
+  λ e. (
+    sym (length-map rs judged) ∙ ap length e ∙ length-map ts judged,
+    λ k h. (judged_row (row_at rs k) (row_at ts k)).0
+        (sym (at-judged rs k) ∙ ap (λ (l : List Row). row_at l k) e ∙ at-judged ts k),
+  ),
   λ h. from rs ts h.0 (λ k b. (judged_row (row_at rs k) (row_at ts k)).1 (h.1 k b)),
 )
   where
-    from : (rs ts : List Row) → length rs ≡ length ts → ((k : ℕ) → k < length rs → judged (row_at rs k) ≡ judged (row_at ts k)) → map judged rs ≡ map judged ts
+    from : (rs ts : List Row) → length rs ≡ length ts
+        → ((k : ℕ) → k < length rs → judged (row_at rs k) ≡ judged (row_at ts k)) → map judged rs ≡ map judged ts
     from [] [] e h = refl
     from [] (t ∷ ts) e h = absurd (omega arith)
     from (r ∷ rs) [] e h = absurd (omega arith)
@@ -78,5 +89,7 @@ pub same_rows_means : (m d : List ℤ) → SameRowsMeans m d
 same_rows_means m d = same_lists (rows_of m) (rows_of d)
 
 -- what meets the rows of one mesh meets the same rows of another
-pub same_met : (m d : List ℤ) → SameRows m d → (s : ℕ → ℤ) (l n : ℤ) → FieldMeets s l n (rows_of m) → FieldMeets s l n (rows_of d)
-same_met m d same s l n met = (judged_met s l n (rows_of d)).1 (subst (FieldMeets s l n) same ((judged_met s l n (rows_of m)).0 met))
+pub same_met : (m d : List ℤ) → SameRows m d → (s : ℕ → ℤ) (l n : ℤ) → FieldMeets s l n (rows_of m)
+    → FieldMeets s l n (rows_of d)
+same_met m d same s l n met = (judged_met s l n (rows_of d)).1
+    (subst (FieldMeets s l n) same ((judged_met s l n (rows_of m)).0 met))

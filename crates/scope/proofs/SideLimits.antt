@@ -16,7 +16,9 @@ use Rattle.integer.proofs.Order.{≤ℤ-<ℤ_trans}
 use Rattle.scope.specs.declared.Place.TheVariants.{Line}
 use Rattle.scope.specs.Columns.{between, Rule, at_most_where, at}
 use Rattle.scope.specs.Layout.{groups, line_of, line_numbers, line_count, numbers_at}
-use Rattle.scope.specs.Mesh.{most_pairs, most_sides, most_strength, nodes_for_108, pairs_for_108, strength_for_108, nodes_with, pairs_with, strength_multiplier, mesh_header_columns, mesh_header, mesh_layout, nodes, sides, kind_with, soil_lines, soil_kind}
+use Rattle.scope.specs.Mesh.{most_pairs, most_sides, most_strength, nodes_for_108, pairs_for_108, strength_for_108}
+use Rattle.scope.specs.Mesh.{nodes_with, pairs_with, strength_multiplier, mesh_header_columns, mesh_header}
+use Rattle.scope.specs.Mesh.{mesh_layout, nodes, sides, kind_with, soil_lines, soil_kind}
 use Rattle.scope.specs.Claim.{strength_multipliers}
 use Rattle.scope.specs.Rows.{pair_count, pair_at}
 use Rattle.scope.specs.Statements.{Says, InLimits, RulesHold, PairsFit}
@@ -50,7 +52,8 @@ kind_most k = at_most_if {a = 0} {b = 1} (omega arith) (eqb k most_sides)
 -- ---- refusals and limits, by whether there are 108 sides
 
 -- a header that is there and can't meet both its limits and its rule
-header_refused : (m : List ℤ) → mesh_header_columns ≤ length m → (InLimits mesh_layout m 0 → RulesHold mesh_layout m 0 → ⊥) → MeshRefusal m 2 (Line 1)
+header_refused : (m : List ℤ) → mesh_header_columns ≤ length m
+    → (InLimits mesh_layout m 0 → RulesHold mesh_layout m 0 → ⊥) → MeshRefusal m 2 (Line 1)
 unfolding mesh_layout groups mesh_header line_of line_numbers line_count rule_number
 header_refused m there over = record {
   by = join_refused (line_phases mesh_layout m) (shape_phases m) 2 (Line 1)
@@ -58,7 +61,10 @@ header_refused m there over = record {
         here = 0;
         there = omega arith;
         lower = λ j l. absurd (omega arith);
-        fails = inr (length-take-le mesh_header_columns m there, by (all_within_lem mesh_header.limits (numbers_at mesh_layout m 0)));
+        fails = inr (
+          length-take-le mesh_header_columns m there,
+          by (all_within_lem mesh_header.limits (numbers_at mesh_layout m 0)),
+        );
         called = refl;
       })));
 }
@@ -67,14 +73,18 @@ header_refused m there over = record {
     few = at_most_where 0 nodes_for_108 4 most_sides
 
     by : {b : Bool} → Decides b (InLimits mesh_layout m 0)
-        → ((¬ InLimits mesh_layout m 0) × (◌≡◌ {A = ℕ} 2 2)) ⊎ (InLimits mesh_layout m 0 × (((¬ Says few (numbers_at mesh_layout m 0)) × (◌≡◌ {A = ℕ} 2 2)) ⊎ (Says few (numbers_at mesh_layout m 0) × ⊥)))
+        → ((¬ InLimits mesh_layout m 0) × (◌≡◌ {A = ℕ} 2 2))
+        ⊎ (InLimits mesh_layout m 0
+        × (((¬ Says few (numbers_at mesh_layout m 0)) × (◌≡◌ {A = ℕ} 2 2))
+        ⊎ (Says few (numbers_at mesh_layout m 0) × ⊥)))
     by {b = true} d = inr (d.holds tt, inl (λ s. over (d.holds tt) (s, tt), refl))
     by {b = false} d = inl (λ w. d.passes w, refl)
 
 over_limit : {B : ℕ} {z : ℤ} → pos B <ℤ z → z ≤ℤ pos B → ⊥
 over_limit h k = <ℤ_irrefl (≤ℤ-<ℤ_trans k h)
 
-nodes_over : (m : List ℤ) → at m 4 ≡ pos 108 → mesh_header_columns ≤ length m → pos 40 <ℤ at m 0 → MeshRefusal m 2 (Line 1)
+nodes_over : (m : List ℤ) → at m 4 ≡ pos 108 → mesh_header_columns ≤ length m → pos 40 <ℤ at m 0
+    → MeshRefusal m 2 (Line 1)
 unfolding mesh_layout groups mesh_header line_of line_numbers at
 nodes_over [] e l h = absurd (omega arith)
 nodes_over (a ∷ []) e l h = absurd (omega arith)
@@ -88,13 +98,18 @@ unfolding mesh_layout groups mesh_header line_of line_numbers at
 nodes_over_100 [] l h = absurd (omega arith)
 nodes_over_100 (a ∷ m) l h = header_refused (a ∷ m) l (λ w s. over_limit h w.0.1)
 
-module _ (m : List ℤ) {node_most pair_most strength_most kind_most : ℕ} (a : nodes_with (sides m) ≡ node_most) (b : pairs_with (sides m) ≡ pair_most) (c : strength_multiplier (sides m) ≡ strength_most) (d : kind_with (sides m) ≡ kind_most) where
-  limits_are : (mesh_header_columns ≤ length m → pos node_most <ℤ at m 0 → MeshRefusal m 2 (Line 1)) → SideLimits m node_most pair_most strength_most kind_most
+module _ (m : List ℤ) {node_most pair_most strength_most kind_most : ℕ} (a : nodes_with (sides m) ≡ node_most)
+    (b : pairs_with (sides m) ≡ pair_most) (c : strength_multiplier (sides m) ≡ strength_most)
+    (d : kind_with (sides m) ≡ kind_most) where
+  limits_are : (mesh_header_columns ≤ length m → pos node_most <ℤ at m 0 → MeshRefusal m 2 (Line 1))
+      → SideLimits m node_most pair_most strength_most kind_most
   unfolding strength_multipliers soil_lines
   limits_are refused = record {
     nodes_refused = refused;
     nodes_few = λ s. subst (λ (k : ℕ). nodes m ≤ k) a (mesh_facts m s.lines).counts.nodes_fit;
-    brings_one_more = λ v. subst (λ (k : ℕ). LowestFails (nodes m) (PairsFit m) v ↔ ((k < pair_count m) × ((pair_at m k).at ≡ v))) b ((pairs m).brings_one_more v);
+    brings_one_more = λ v. subst
+        (λ (k : ℕ). LowestFails (nodes m) (PairsFit m) v ↔ ((k < pair_count m) × ((pair_at m k).at ≡ v))) b
+        ((pairs m).brings_one_more v);
     pairs_few = λ s. subst (λ (k : ℕ). pair_count m ≤ k) b (few_pairs_lem m s);
     strength_limits = λ k. ap (λ (z : ℕ). replicate (sides m) (between (pos 0) (pos z))) c;
     kind_limit = λ k. ap (λ (z : ℕ). between (pos 0) (pos z)) d;
@@ -105,5 +120,6 @@ pub limits_by_sides : (m : List ℤ) → LimitsBySides m
 unfolding nodes_with pairs_with strength_multiplier kind_with sides
 limits_by_sides m = record {
   with_108 = λ e. limits_are m (rw e) (rw e) (rw e) (rw e) (nodes_over m (count_is (at m 4) e));
-  with_fewer = λ f. limits_are m (rw (ne_eqb (sides m) 108 f)) (rw (ne_eqb (sides m) 108 f)) (rw (ne_eqb (sides m) 108 f)) (rw (ne_eqb (sides m) 108 f)) (nodes_over_100 m);
+  with_fewer = λ f. limits_are m (rw (ne_eqb (sides m) 108 f)) (rw (ne_eqb (sides m) 108 f))
+      (rw (ne_eqb (sides m) 108 f)) (rw (ne_eqb (sides m) 108 f)) (nodes_over_100 m);
 }

@@ -8,17 +8,25 @@ use native.Mathlib.Omega.{arith}
 use lib.IntN.{ℤ, pos, ◌+ℤ◌, ◌*ℤ◌}
 use Rattle.integer.specs.Tests.{eq_z}
 use Rattle.scope.specs.Checks.{some_below}
-use Rattle.scope.specs.Columns.{Limit, between, one_of, free, is_one_of, within, all_within, Rule, right_angle, naming, parts, at_most_where, names, all_named, at, has_field, has_multipliers, n, l, rule_test}
-use Rattle.scope.specs.Mesh.{elements, edges, x, y, corner, corner_count, around, element_soil, from_node, to_node, jump_from, jump_to, facing_from, facing_to}
+use Rattle.scope.specs.Columns.{Limit, between, one_of, free, is_one_of, within, all_within, Rule, right_angle}
+use Rattle.scope.specs.Columns.{naming, parts, at_most_where, names, all_named, at, has_field, has_multipliers, n, l}
+use Rattle.scope.specs.Columns.{rule_test}
+use Rattle.scope.specs.Mesh.{elements, edges, x, y, corner, corner_count, around, element_soil, from_node, to_node}
+use Rattle.scope.specs.Mesh.{jump_from, jump_to, facing_from, facing_to}
 use Rattle.scope.specs.Rows as R
 use Rattle.scope.specs.Rows.{has_corner, has_soil}
 use Rattle.scope.specs.Sums.{row_holds, zero_if_unfixed}
-use Rattle.scope.specs.Statements.{OneOf, Within, AllWithin, AllNamed, PartsFit, Says, LeftTurns, SideAt, OwnSides, InElement, IsSide, OuterSide, OuterEdge, FreeSide, SamePoint, Joint, PairsFit, NoneOnUnfixed}
+use Rattle.scope.specs.Statements.{OneOf, Within, AllWithin, AllNamed, PartsFit, Says, LeftTurns, SideAt, OwnSides}
+use Rattle.scope.specs.Statements.{InElement, IsSide, OuterSide, OuterEdge, FreeSide, SamePoint, Joint, PairsFit}
+use Rattle.scope.specs.Statements.{NoneOnUnfixed}
 use Rattle.scope.specs.Pairs.{SoilAround}
 use Rattle.scope.specs.Meets.{RowMet}
 use Rattle.scope.proofs.Meets.{row_holds_lem}
-use Rattle.scope.proofs.Decides.{Decides, both, either, opposite, said_as, equal, at_most, equalℤ, at_mostℤ, belowℤ, some_below_lem, all_below_lem}
-use Rattle.scope.specs.Tests.{turn, left_turn_at, left_turns, has_side, own_side_at, own_sides, in_element, outer_side, has_ends, outer_edge, used_by_jump, free_side, same_point, is_joint, pairs_fit}
+use Rattle.scope.proofs.Decides.{Decides, both, either, opposite, said_as, equal, at_most, equalℤ, at_mostℤ, belowℤ}
+use Rattle.scope.proofs.Decides.{some_below_lem, all_below_lem}
+use Rattle.scope.specs.Tests.{turn, left_turn_at, left_turns, has_side, own_side_at, own_sides, in_element}
+use Rattle.scope.specs.Tests.{outer_side, has_ends, outer_edge, used_by_jump, free_side, same_point, is_joint}
+use Rattle.scope.specs.Tests.{pairs_fit}
 
 -- ---- lines
 
@@ -48,9 +56,12 @@ all_named_lem [] line = always
 all_named_lem (c ∷ cs) line =
     both (both (at_mostℤ (pos c.1) (at line c.0)) (at_mostℤ (at line c.0) (pos c.2))) (all_named_lem cs line)
 
-choice : {a b c : Bool} {A B C : Type 0} → Decides a A → Decides b B → Decides c C → Decides (cond a b c) ((A → B) × (¬ A → C))
-choice {a = true} d e f = record { holds = λ t. (λ h. e.holds t, λ g. absurd (g (d.holds tt))); passes = λ h. e.passes (h.0 (d.holds tt)) }
-choice {a = false} d e f = record { holds = λ t. (λ h. absurd (d.passes h), λ g. f.holds t); passes = λ h. f.passes (h.1 (λ a. d.passes a)) }
+choice : {a b c : Bool} {A B C : Type 0} → Decides a A → Decides b B → Decides c C
+    → Decides (cond a b c) ((A → B) × (¬ A → C))
+choice {a = true} d e f =
+    record { holds = λ t. (λ h. e.holds t, λ g. absurd (g (d.holds tt))); passes = λ h. e.passes (h.0 (d.holds tt)) }
+choice {a = false} d e f =
+    record { holds = λ t. (λ h. absurd (d.passes h), λ g. f.holds t); passes = λ h. f.passes (h.1 (λ a. d.passes a)) }
 
 parts_fit_lem : (line : List ℤ) → Decides (rule_test parts line) (PartsFit line)
 unfolding rule_test has_field has_multipliers
@@ -58,7 +69,8 @@ parts_fit_lem line =
     said_as
     (both
     (either (equalℤ (at line 0) (pos 1)) (equalℤ (at line 1) (pos 1)))
-    (choice (equalℤ (at line 0) (pos 1)) (opposite (equalℤ (n line) (pos 0))) (both (equalℤ (n line) (pos 0)) (equalℤ (l line) (pos 0)))))
+    (choice (equalℤ (at line 0) (pos 1)) (opposite (equalℤ (n line) (pos 0)))
+    (both (equalℤ (n line) (pos 0)) (equalℤ (l line) (pos 0)))))
     (λ h. record { some_part = h.0; with_field = h.1.0; without_field = h.1.1 })
     (λ h. (h.some_part, (h.with_field, h.without_field)))
 
@@ -74,7 +86,9 @@ rule_says (at_most_where c k d z) line =
 
 pub left_turns_lem : (m : List ℤ) (e : ℕ) → Decides (left_turns m e) (LeftTurns m e)
 unfolding left_turns left_turn_at
-left_turns_lem m e = all_below_lem (λ i. belowℤ (pos 0) (turn m (around m e (i + (corner_count m e - 1))) (around m e i) (around m e (i + 1)))) (corner_count m e)
+left_turns_lem m e = all_below_lem
+    (λ i. belowℤ (pos 0) (turn m (around m e (i + (corner_count m e - 1))) (around m e i) (around m e (i + 1))))
+    (corner_count m e)
 
 side_of : (m : List ℤ) (a b e : ℕ) → Decides (has_side m a b e) ((i : ℕ) × (i < corner_count m e) × SideAt m a b e i)
 unfolding has_side
@@ -83,22 +97,26 @@ side_of m a b e = some_below_lem (λ i. both (equal (around m e i) a) (equal (ar
 pub own_sides_lem : (m : List ℤ) (e : ℕ) → Decides (own_sides m e) (OwnSides m e)
 unfolding own_sides own_side_at
 own_sides_lem m e =
-    said_as (all_below_lem (λ i. opposite (some_below_lem (side_of m (around m e i) (around m e (i + 1))) e)) (corner_count m e))
+    said_as (all_below_lem (λ i. opposite (some_below_lem (side_of m (around m e i) (around m e (i + 1))) e))
+    (corner_count m e))
     (λ h i l d k j r s. h i l (d, k, (j, r, s)))
     (λ h i l s. h i l s.0 s.1 s.2.0 s.2.1 s.2.2)
 
 pub corner_of : (m : List ℤ) (v e : ℕ) → Decides (has_corner m v e) ((i : ℕ) × (i < 4) × (corner m e i ≡ v))
 unfolding has_corner
 corner_of m v e =
-    said_as (either (either (either (equal (corner m e 0) v) (equal (corner m e 1) v)) (equal (corner m e 2) v)) (equal (corner m e 3) v)) to (λ h. from h.0 h.1 h.2)
+    said_as (either (either (either (equal (corner m e 0) v) (equal (corner m e 1) v)) (equal (corner m e 2) v))
+    (equal (corner m e 3) v)) to (λ h. from h.0 h.1 h.2)
   where
-    to : (((corner m e 0 ≡ v) ⊎ (corner m e 1 ≡ v)) ⊎ (corner m e 2 ≡ v)) ⊎ (corner m e 3 ≡ v) → (i : ℕ) × (i < 4) × (corner m e i ≡ v)
+    to : (((corner m e 0 ≡ v) ⊎ (corner m e 1 ≡ v)) ⊎ (corner m e 2 ≡ v)) ⊎ (corner m e 3 ≡ v)
+        → (i : ℕ) × (i < 4) × (corner m e i ≡ v)
     to (inl (inl (inl h))) = (0, omega arith, h)
     to (inl (inl (inr h))) = (1, omega arith, h)
     to (inl (inr h)) = (2, omega arith, h)
     to (inr h) = (3, omega arith, h)
 
-    from : (i : ℕ) → i < 4 → corner m e i ≡ v → (((corner m e 0 ≡ v) ⊎ (corner m e 1 ≡ v)) ⊎ (corner m e 2 ≡ v)) ⊎ (corner m e 3 ≡ v)
+    from : (i : ℕ) → i < 4 → corner m e i ≡ v → (((corner m e 0 ≡ v) ⊎ (corner m e 1 ≡ v)) ⊎ (corner m e 2 ≡ v))
+        ⊎ (corner m e 3 ≡ v)
     from zero l h = inl (inl (inl h))
     from (suc zero) l h = inl (inl (inr h))
     from (suc (suc zero)) l h = inl (inr h)
@@ -126,7 +144,8 @@ outer_side_lem m a b =
     (λ h. (h.is_side, h.reverse_is_none))
 
 -- some edge below n has the side from a to b
-some_edge : (m : List ℤ) (a b n : ℕ) → Decides (some_below (has_ends m a b) n) ((k : ℕ) × (k < n) × ((from_node m k ≡ a) × (to_node m k ≡ b)))
+some_edge : (m : List ℤ) (a b n : ℕ) → Decides (some_below (has_ends m a b) n)
+    ((k : ℕ) × (k < n) × ((from_node m k ≡ a) × (to_node m k ≡ b)))
 unfolding has_ends
 some_edge m a b n = some_below_lem (λ k. both (equal (from_node m k) a) (equal (to_node m k) b)) n
 
@@ -184,7 +203,8 @@ pub none_on_unfixed : (w : ℤ) (r : R.Row) → Decides (zero_if_unfixed w r) (N
 unfolding zero_if_unfixed
 none_on_unfixed w r = by r.kind
   where
-    by : (k : R.Kind) → Decides (elim k [ R.asked ↦ true | R.unfixed ↦ eq_z w (pos 0) | R.strength ↦ true ]) (elim k [ R.asked ↦ Unit {0} | R.unfixed ↦ w ≡ pos 0 | R.strength ↦ Unit {0} ])
+    by : (k : R.Kind) → Decides (elim k [ R.asked ↦ true | R.unfixed ↦ eq_z w (pos 0) | R.strength ↦ true ])
+        (elim k [ R.asked ↦ Unit {0} | R.unfixed ↦ w ≡ pos 0 | R.strength ↦ Unit {0} ])
     by R.asked = always
     by R.unfixed = equalℤ w (pos 0)
     by R.strength = always

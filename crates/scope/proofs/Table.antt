@@ -18,10 +18,12 @@ use Rattle.scope.specs.Statements.{LineSound, LinesSound}
 use Rattle.scope.specs.NumberRanges.{Between, Counts, MeshFacts}
 use Rattle.scope.specs.Refusals.{line_phases, shape_phases}
 use Rattle.scope.specs.Verdict.{mesh_check}
-use Rattle.scope.specs.Layers.{most_layers, layer_columns, most_level, layers, bottom, top, soil, soil_at, lowest, highest, layer_phases}
+use Rattle.scope.specs.Layers.{most_layers, layer_columns, most_level, layers, bottom, top, soil, soil_at, lowest}
+use Rattle.scope.specs.Layers.{highest, layer_phases}
 use Rattle.scope.specs.Filled.{height_of, soil_place, given, filled, with_soils}
 use Rattle.scope.specs.LayerRows.{TableSound}
-use Rattle.scope.specs.Table.{layer_lines, table_lines, table_layout, table_line_phases, LayerFacts, TableFacts, has_table, mesh_read, tabled_phases, tabled_check}
+use Rattle.scope.specs.Table.{layer_lines, table_lines, table_layout, table_line_phases, LayerFacts, TableFacts}
+use Rattle.scope.specs.Table.{has_table, mesh_read, tabled_phases, tabled_check}
 use Rattle.scope.proofs.Phases.{Exact, Decided, phases_exact, decided_join, decided_part}
 use Rattle.scope.proofs.Lines.{LineFacts, line_in, at_line_in, line_facts}
 use Rattle.scope.proofs.NumberRanges.{header_counts, mesh_facts}
@@ -65,11 +67,14 @@ module _ (m t : List ℤ) (s : LinesSound (table_layout m) t) where
       let b = f.within 0 (omega arith) in
       let u = f.within 1 (omega arith) in
       let r = f.rules.0.0 in
-      let first : entry (groups (table_layout m) t) t 1 i 0 ≡ at t (i * layer_columns) = column i 0 ∙ ap (at t) (omega arith) in
-      let third : at (line_in (groups (table_layout m) t) t 1 i) 2 ≡ at t (i * layer_columns + 2) = at_line_in (groups (table_layout m) t) t 1 i 2 (omega arith) ∙ column i 2 in
+      let first : entry (groups (table_layout m) t) t 1 i 0 ≡ at t (i * layer_columns) = column i 0
+      ∙ ap (at t) (omega arith) in
+      let third : at (line_in (groups (table_layout m) t) t 1 i) 2 ≡ at t (i * layer_columns + 2) =
+      at_line_in (groups (table_layout m) t) t 1 i 2 (omega arith) ∙ column i 2 in
       record {
         bottom_range = subst (Between (neg_ℤ (pos 1000)) (pos most_level)) first (record { least = b.0; most = b.1 });
-        top_range = subst (Between (neg_ℤ (pos 1000)) (pos most_level)) (column i 1) (record { least = u.0; most = u.1 });
+        top_range = subst (Between (neg_ℤ (pos 1000)) (pos most_level)) (column i 1)
+            (record { least = u.0; most = u.1 });
         soil_there = subst (Between (pos 1) (pos (soils m))) third (record { least = r.0; most = r.1 });
       }
 
@@ -88,10 +93,13 @@ module _ (t m : List ℤ) where
 
   pub tabled_decided : Decided (tabled_phases t m)
   tabled_decided =
-      decided_join (line_phases (layout_with (has_table t)) m) (if_part (has_table t) (table_line_phases t m ++ layer_phases t m) ++ shape_phases (mesh_read t m))
+      decided_join (line_phases (layout_with (has_table t)) m)
+      (if_part (has_table t) (table_line_phases t m ++ layer_phases t m) ++ shape_phases (mesh_read t m))
       (lines_decided (layout_with (has_table t)) m)
-      (λ lines. decided_join (if_part (has_table t) (table_line_phases t m ++ layer_phases t m)) (shape_phases (mesh_read t m))
-      (decided_part (has_table t) (table_line_phases t m ++ layer_phases t m) (decided_join (table_line_phases t m) (layer_phases t m) table_lines_decided (λ table. layers_decided t m)))
+      (λ lines. decided_join (if_part (has_table t) (table_line_phases t m ++ layer_phases t m))
+      (shape_phases (mesh_read t m))
+      (decided_part (has_table t) (table_line_phases t m ++ layer_phases t m)
+      (decided_join (table_line_phases t m) (layer_phases t m) table_lines_decided (λ table. layers_decided t m)))
       (λ table. shape_decided (mesh_read t m)))
 
   -- a mesh with a table is refused with a number and a place exactly when all before holds and this place is the lowest
@@ -103,15 +111,18 @@ module _ (t m : List ℤ) where
   -- ---- where there is a table
 
   module _ (e : has_table t ≡ true) where
-    pub with_table : tabled_phases t m ≡ line_phases (layout_with true) m ++ ((table_line_phases t m ++ layer_phases t m) ++ shape_phases (filled t m))
+    pub with_table : tabled_phases t m ≡ line_phases (layout_with true) m
+        ++ ((table_line_phases t m ++ layer_phases t m) ++ shape_phases (filled t m))
     unfolding mesh_read
-    with_table = ap (λ (b : Bool). line_phases (layout_with b) m ++ (if_part b (table_line_phases t m ++ layer_phases t m) ++ shape_phases (cond b (filled t m) m))) e
+    with_table = ap (λ (b : Bool). line_phases (layout_with b) m
+        ++ (if_part b (table_line_phases t m ++ layer_phases t m) ++ shape_phases (cond b (filled t m) m))) e
 
 -- ---- a mesh whose lines have passed with soil 0 allowed
 
 pub tabled_header : (m : List ℤ) → LineSound (layout_with true) m 0 → Counts m
 unfolding layout_with mesh_layout groups line_of mesh_header
-tabled_header m h = header_counts m (record { complete = h.complete; in_limits = h.in_limits; rules_hold = h.rules_hold })
+tabled_header m h = header_counts m
+    (record { complete = h.complete; in_limits = h.in_limits; rules_hold = h.rules_hold })
 
 module _ (m : List ℤ) (s : LinesSound (layout_with true) m) where
   pub tabled_counts : Counts m
@@ -121,15 +132,20 @@ module _ (m : List ℤ) (s : LinesSound (layout_with true) m) where
   -- with soil 1 for each soil 0 its lines are sound
   pub named_facts : MeshFacts (with_soils m)
   unfolding with_soils
-  named_facts = mesh_facts (given (λ e. pos 1) m) (given_lines m (λ e. pos 1) (λ e l z. record { least = pos_≤ℤ (omega arith); most = pos_≤ℤ tabled_counts.soils_least }) s)
+  named_facts = mesh_facts (given (λ e. pos 1) m)
+      (given_lines m (λ e. pos 1)
+      (λ e l z. record { least = pos_≤ℤ (omega arith); most = pos_≤ℤ tabled_counts.soils_least }) s)
 
   -- and so they are where the mesh is filled from a table that passes
-  pub filled_lines : (t : List ℤ) → TableFacts m t → TableSound t (lowest m) (highest m) → LinesSound mesh_layout (filled t m)
+  pub filled_lines : (t : List ℤ) → TableFacts m t → TableSound t (lowest m) (highest m)
+      → LinesSound mesh_layout (filled t m)
   unfolding filled with_soils
   filled_lines t f sound = given_lines m (λ e. soil_at t (height_of m e)) named s
     where
-      named : (e : ℕ) → e < elements m → at m (soil_place m e) ≡ pos 0 → Between (pos 1) (pos (soils m)) (soil_at t (height_of m e))
-      named e l z = let o = element_layer (λ e. pos 1) m named_facts t sound e l in subst (Between (pos 1) (pos (soils m))) (sym (soil-at t (height_of m e) o)) (f.layer o.layer o.there).soil_there
+      named : (e : ℕ) → e < elements m → at m (soil_place m e) ≡ pos 0
+          → Between (pos 1) (pos (soils m)) (soil_at t (height_of m e))
+      named e l z = let o = element_layer (λ e. pos 1) m named_facts t sound e l in subst
+          (Between (pos 1) (pos (soils m))) (sym (soil-at t (height_of m e) o)) (f.layer o.layer o.there).soil_there
 
 -- ---- where there is none
 

@@ -19,10 +19,14 @@ use Rattle.scope.specs.Phases.{Below, FirstFails, HoldsAt, Everywhere, RefusedBy
 use Rattle.scope.specs.Columns.{Rule, right_angle, naming, parts, at_most_where, has_field, has_multipliers, n, l}
 use Rattle.scope.specs.Layout.{Group, Layout, Placed, groups, line_count, number_count, line_of, group_at, numbers_at}
 use Rattle.scope.specs.Mesh.{mesh_layout, nodes}
-use Rattle.scope.specs.Claim.{claim_header, stress_lines, element_multipliers, edge_multipliers, jump_multipliers, strength_multipliers, claim_layout, stress, multiplier}
+use Rattle.scope.specs.Claim.{claim_header, stress_lines, element_multipliers, edge_multipliers, jump_multipliers}
+use Rattle.scope.specs.Claim.{strength_multipliers, claim_layout, stress, multiplier}
 use Rattle.scope.specs.Rows.{equality_rows, strength_rows, rows_of}
 use Rattle.scope.specs.Statements.{Says, AllSay, Complete}
-use Rattle.scope.specs.Refusals.{rule_number, rule_steps, line_steps, lines_phase, leftover_phase, line_phases, shape_phases, mesh_phases, field_phases, multiplier_phases, field_part, multiplier_part, part_phases, claim_phases, LineRefusal, SoundTo, CountFails, LimitFails, RuleFails, MeshLineNumbers, ClaimLineNumbers, table_numbers, InTable}
+use Rattle.scope.specs.Refusals.{rule_number, rule_steps, line_steps, lines_phase, leftover_phase, line_phases}
+use Rattle.scope.specs.Refusals.{shape_phases, mesh_phases, field_phases, multiplier_phases, field_part}
+use Rattle.scope.specs.Refusals.{multiplier_part, part_phases, claim_phases, LineRefusal, SoundTo, CountFails}
+use Rattle.scope.specs.Refusals.{LimitFails, RuleFails, MeshLineNumbers, ClaimLineNumbers, table_numbers, InTable}
 use Rattle.scope.proofs.Decides.{either, equal}
 use Rattle.scope.proofs.Lines.{line_after}
 use Rattle.scope.proofs.Phases.{EachIn, each_refusal, each_join, each_part, own_number}
@@ -42,7 +46,8 @@ record Failing (rs : List Rule) (line : List ℤ) (c : ℕ) : Type 0 where
 
 failing : (rs : List Rule) (line : List ℤ) (c : ℕ) → FirstFails (rule_steps rs line) c → Failing rs line c
 failing [] line c h = absurd h
-failing (r ∷ rs) line c (inl h) = record { rule = r; earlier = []; later = rs; listed = refl; hold = tt; fails = h.0; number = h.1 }
+failing (r ∷ rs) line c (inl h) =
+    record { rule = r; earlier = []; later = rs; listed = refl; hold = tt; fails = h.0; number = h.1 }
 failing (r ∷ rs) line c (inr h) =
     let f = failing rs line c h.1 in
     record {
@@ -55,7 +60,8 @@ failing (r ∷ rs) line c (inr h) =
       number = f.number;
     }
 
-first_failing_lem : (earlier : List Rule) (r : Rule) (later : List Rule) (line : List ℤ) → AllSay earlier line → ¬ Says r line → FirstFails (rule_steps (earlier ++ r ∷ later) line) (rule_number r)
+first_failing_lem : (earlier : List Rule) (r : Rule) (later : List Rule) (line : List ℤ) → AllSay earlier line
+    → ¬ Says r line → FirstFails (rule_steps (earlier ++ r ∷ later) line) (rule_number r)
 first_failing_lem [] r later line h f = inl (f, refl)
 first_failing_lem (e ∷ earlier) r later line h f = inr (h.0, first_failing_lem earlier r later line h.1 f)
 
@@ -63,17 +69,37 @@ first_failing_lem (e ∷ earlier) r later line h f = inr (h.0, first_failing_lem
 
 -- what a refusal of line k comes from
 abbrev Cause : Layout → List ℤ → ℕ → ℕ → Type 0
-Cause f ns k c = (CountFails f ns k × (f.form_number ≡ c)) ⊎ ((LimitFails f ns k × (f.limit_number ≡ c)) ⊎ ((r : Rule) × (RuleFails f ns r k × (rule_number r ≡ c))))
+Cause f ns k c = (CountFails f ns k × (f.form_number ≡ c))
+    ⊎ ((LimitFails f ns k × (f.limit_number ≡ c)) ⊎ ((r : Rule) × (RuleFails f ns r k × (rule_number r ≡ c))))
 
 module _ (f : Layout) (ns : List ℤ) where
-  line_cause : (k c : ℕ) → k < line_count (groups f ns) → SoundTo f ns k → FirstFails (line_steps f (group_at f ns k) (numbers_at f ns k)) c → Cause f ns k c
+  line_cause : (k c : ℕ) → k < line_count (groups f ns) → SoundTo f ns k
+      → FirstFails (line_steps f (group_at f ns k) (numbers_at f ns k)) c → Cause f ns k c
   line_cause k c l b (inl h) = inl (record { before = b; fails = inl (l, h.0) }, h.1)
   line_cause k c l b (inr (x, inl h)) = inr (inl (record { there = l; before = b; complete = x; fails = h.0 }, h.1))
   line_cause k c l b (inr (x, inr (y, h))) =
       let g = failing (group_at f ns k).rules (numbers_at f ns k) c h in
-      inr (inr (g.rule, (record { there = l; before = b; complete = x; in_limits = y; earlier = g.earlier; later = g.later; listed = g.listed; hold = g.hold; fails = g.fails }, g.number)))
+      inr (inr (
+        g.rule,
+        (
+          record {
+            there = l;
+            before = b;
+            complete = x;
+            in_limits = y;
+            earlier = g.earlier;
+            later = g.later;
+            listed =
+                g.listed;
+            hold = g.hold;
+            fails = g.fails;
+          },
+          g.number,
+        ),
+      ))
 
-  left : {k c : ℕ} → Everywhere (lines_phase f ns) → k ≡ line_count (groups f ns) → FirstFails ((leftover_phase f ns).steps 0) c → Cause f ns k c
+  left : {k c : ℕ} → Everywhere (lines_phase f ns) → k ≡ line_count (groups f ns)
+      → FirstFails ((leftover_phase f ns).steps 0) c → Cause f ns k c
   left e s (inl h) = inl (record { before = λ j i. line_sound f ns j (e j (omega arith)); fails = inr (s, h.0) }, h.1)
   left e s (inr h) = absurd h.1
 
@@ -83,7 +109,8 @@ module _ (f : Layout) (ns : List ℤ) where
       of : RefusedBy (line_phases f ns) c (Line (suc k)) → Cause f ns k c
       of (inl x) =
           let same : x.here ≡ k = omega (arith, ap place_number x.called) in
-          subst (λ i. Cause f ns i c) same (line_cause x.here c x.there (λ j h. line_sound f ns j (x.lower j h)) x.fails)
+          subst (λ i. Cause f ns i c) same
+          (line_cause x.here c x.there (λ j h. line_sound f ns j (x.lower j h)) x.fails)
       of (inr (e, inl x)) = left e (omega (arith, ap place_number x.called)) x.fails
       of (inr (e, inr x)) = absurd x.1
 
@@ -93,13 +120,35 @@ module _ (f : Layout) (ns : List ℤ) where
   count_refused : (k : ℕ) → CountFails f ns k → LineRefusal f ns f.form_number (Line (suc k))
   count_refused k h = record { by = of h.fails }
     where
-      of : ((k < line_count (groups f ns)) × (¬ Complete f ns k)) ⊎ ((k ≡ line_count (groups f ns)) × (¬ (length ns ≤ number_count (groups f ns)))) → RefusedBy (line_phases f ns) f.form_number (Line (suc k))
-      of (inl (l, x)) = inl (record { here = k; there = l; lower = before_holds h.before; fails = inl (x, refl); called = refl })
+      of : ((k < line_count (groups f ns)) × (¬ Complete f ns k))
+          ⊎ ((k ≡ line_count (groups f ns)) × (¬ (length ns ≤ number_count (groups f ns))))
+          → RefusedBy (line_phases f ns) f.form_number (Line (suc k))
+      of (inl (l, x)) = inl
+          (record { here = k; there = l; lower = before_holds h.before; fails = inl (x, refl); called = refl })
       of (inr (e, x)) =
-          inr (λ j i. before_holds h.before j (omega arith), inl (record { here = 0; there = omega arith; lower = λ j i. absurd (omega arith); fails = inl (x, refl); called = ap (λ i. Line (suc i)) (sym e) }))
+          inr (
+            λ j i. before_holds h.before j (omega arith),
+            inl
+                (record {
+                  here = 0;
+                  there = omega arith;
+                  lower = λ j i. absurd (omega arith);
+                  fails = inl (x, refl);
+                  called = ap (λ i. Line (suc i)) (sym e);
+                }),
+          )
 
   limit_refused : (k : ℕ) → LimitFails f ns k → LineRefusal f ns f.limit_number (Line (suc k))
-  limit_refused k h = record { by = inl (record { here = k; there = h.there; lower = before_holds h.before; fails = inr (h.complete, inl (h.fails, refl)); called = refl }) }
+  limit_refused k h = record {
+    by = inl (record {
+      here = k;
+      there = h.there;
+      lower = before_holds h.before;
+      fails =
+          inr (h.complete, inl (h.fails, refl));
+      called = refl;
+    });
+  }
 
   rule_refused : (r : Rule) (k : ℕ) → RuleFails f ns r k → LineRefusal f ns (rule_number r) (Line (suc k))
   rule_refused r k h = record {
@@ -107,22 +156,33 @@ module _ (f : Layout) (ns : List ℤ) where
       here = k;
       there = h.there;
       lower = before_holds h.before;
-      fails = inr (h.complete, inr (h.in_limits, subst (λ (rs : List Rule). FirstFails (rule_steps rs (numbers_at f ns k)) (rule_number r)) (sym h.listed) (first_failing_lem h.earlier r h.later (numbers_at f ns k) h.hold h.fails)));
+      fails = inr (
+        h.complete,
+        inr (
+          h.in_limits,
+          subst (λ (rs : List Rule). FirstFails (rule_steps rs (numbers_at f ns k)) (rule_number r))
+              (sym h.listed) (first_failing_lem h.earlier r h.later (numbers_at f ns k) h.hold h.fails),
+        ),
+      );
       called = refl;
     });
   }
 
   -- no other step has the number of form, nor that of limits
-  form_is_lem : {a : ℕ} → f.form_number ≡ a → ¬ (f.limit_number ≡ a) → ((r : Rule) → ¬ (rule_number r ≡ a)) → (k : ℕ) → LineRefusal f ns a (Line (suc k)) ↔ CountFails f ns k
-  form_is_lem {a} e other none k = (λ r. of (cause k a r), λ h. subst (λ c. LineRefusal f ns c (Line (suc k))) e (count_refused k h))
+  form_is_lem : {a : ℕ} → f.form_number ≡ a → ¬ (f.limit_number ≡ a) → ((r : Rule) → ¬ (rule_number r ≡ a)) → (k : ℕ)
+      → LineRefusal f ns a (Line (suc k)) ↔ CountFails f ns k
+  form_is_lem {a} e other none k =
+      (λ r. of (cause k a r), λ h. subst (λ c. LineRefusal f ns c (Line (suc k))) e (count_refused k h))
     where
       of : Cause f ns k a → CountFails f ns k
       of (inl h) = h.0
       of (inr (inl h)) = absurd (other h.1)
       of (inr (inr (r, h))) = absurd (none r h.1)
 
-  limit_is : {b : ℕ} → f.limit_number ≡ b → ¬ (f.form_number ≡ b) → ((r : Rule) → ¬ (rule_number r ≡ b)) → (k : ℕ) → LineRefusal f ns b (Line (suc k)) ↔ LimitFails f ns k
-  limit_is {b} e other none k = (λ r. of (cause k b r), λ h. subst (λ c. LineRefusal f ns c (Line (suc k))) e (limit_refused k h))
+  limit_is : {b : ℕ} → f.limit_number ≡ b → ¬ (f.form_number ≡ b) → ((r : Rule) → ¬ (rule_number r ≡ b)) → (k : ℕ)
+      → LineRefusal f ns b (Line (suc k)) ↔ LimitFails f ns k
+  limit_is {b} e other none k =
+      (λ r. of (cause k b r), λ h. subst (λ c. LineRefusal f ns c (Line (suc k))) e (limit_refused k h))
     where
       of : Cause f ns k b → LimitFails f ns k
       of (inl h) = absurd (other h.1)
@@ -130,7 +190,8 @@ module _ (f : Layout) (ns : List ℤ) where
       of (inr (inr (r, h))) = absurd (none r h.1)
 
   -- another number is that of a rule
-  rule_is : {c : ℕ} → ¬ (f.form_number ≡ c) → ¬ (f.limit_number ≡ c) → (k : ℕ) → LineRefusal f ns c (Line (suc k)) → (r : Rule) × (RuleFails f ns r k × (rule_number r ≡ c))
+  rule_is : {c : ℕ} → ¬ (f.form_number ≡ c) → ¬ (f.limit_number ≡ c) → (k : ℕ) → LineRefusal f ns c (Line (suc k))
+      → (r : Rule) × (RuleFails f ns r k × (rule_number r ≡ c))
   rule_is {c} form limit k r = of (cause k c r)
     where
       of : Cause f ns k c → (r : Rule) × (RuleFails f ns r k × (rule_number r ≡ c))
@@ -150,13 +211,25 @@ no_rule a w x y z (at_most_where c k d e) = w
 pub mesh_line_numbers : (m : List ℤ) → MeshLineNumbers m
 unfolding mesh_layout rule_number
 mesh_line_numbers m = record {
-  one = form_is_lem mesh_layout m refl (λ e. omega arith) (no_rule 1 (λ e. omega arith) (λ e. omega arith) (λ e. omega arith) (λ e. omega arith));
-  two = λ k. (λ r. limits k (cause mesh_layout m k 2 r), ⊎_elim (limit_refused mesh_layout m k) (λ h. rule_refused mesh_layout m (at_most_where h.0 h.1 h.2 h.3) k h.4));
-  three = λ k. (λ r. angle k (rule_is mesh_layout m (λ e. omega arith) (λ e. omega arith) k r), λ h. rule_refused mesh_layout m right_angle k h);
-  four = λ k. (λ r. names k (rule_is mesh_layout m (λ e. omega arith) (λ e. omega arith) k r), λ h. rule_refused mesh_layout m (naming h.0) k h.1);
+  one = form_is_lem mesh_layout m refl (λ e. omega arith)
+      (no_rule 1 (λ e. omega arith) (λ e. omega arith) (λ e. omega arith) (λ e. omega arith));
+  two = λ k. (
+    λ r. limits k (cause mesh_layout m k 2 r),
+    ⊎_elim (limit_refused mesh_layout m k)
+        (λ h. rule_refused mesh_layout m (at_most_where h.0 h.1 h.2 h.3) k h.4),
+  );
+  three = λ k. (
+    λ r. angle k (rule_is mesh_layout m (λ e. omega arith) (λ e. omega arith) k r),
+    λ h. rule_refused mesh_layout m right_angle k h,
+  );
+  four = λ k. (
+    λ r. names k (rule_is mesh_layout m (λ e. omega arith) (λ e. omega arith) k r),
+    λ h. rule_refused mesh_layout m (naming h.0) k h.1,
+  );
 }
   where
-    limits : (k : ℕ) → Cause mesh_layout m k 2 → LimitFails mesh_layout m k ⊎ ((c n d z : ℕ) × RuleFails mesh_layout m (at_most_where c n d z) k)
+    limits : (k : ℕ) → Cause mesh_layout m k 2 → LimitFails mesh_layout m k
+        ⊎ ((c n d z : ℕ) × RuleFails mesh_layout m (at_most_where c n d z) k)
     limits k (inl h) = absurd (omega (arith, h.1))
     limits k (inr (inl h)) = inl h.0
     limits k (inr (inr (right_angle, h))) = absurd (omega (arith, h.1))
@@ -164,13 +237,15 @@ mesh_line_numbers m = record {
     limits k (inr (inr (parts, h))) = absurd (omega (arith, h.1))
     limits k (inr (inr (at_most_where c n d z, h))) = inr (c, n, d, z, h.0)
 
-    angle : (k : ℕ) → ((r : Rule) × (RuleFails mesh_layout m r k × (rule_number r ≡ 3))) → RuleFails mesh_layout m right_angle k
+    angle : (k : ℕ) → ((r : Rule) × (RuleFails mesh_layout m r k × (rule_number r ≡ 3)))
+        → RuleFails mesh_layout m right_angle k
     angle k (right_angle, h) = h.0
     angle k (naming cs, h) = absurd (omega (arith, h.1))
     angle k (parts, h) = absurd (omega (arith, h.1))
     angle k (at_most_where c n d z, h) = absurd (omega (arith, h.1))
 
-    names : (k : ℕ) → ((r : Rule) × (RuleFails mesh_layout m r k × (rule_number r ≡ 4))) → (cs : List (ℕ × ℕ × ℕ)) × RuleFails mesh_layout m (naming cs) k
+    names : (k : ℕ) → ((r : Rule) × (RuleFails mesh_layout m r k × (rule_number r ≡ 4)))
+        → (cs : List (ℕ × ℕ × ℕ)) × RuleFails mesh_layout m (naming cs) k
     names k (right_angle, h) = absurd (omega (arith, h.1))
     names k (naming cs, h) = (cs, h.0)
     names k (parts, h) = absurd (omega (arith, h.1))
@@ -188,7 +263,8 @@ no_rules (g ∷ gs) h from k =
     cases (ltb k g.lines) (λ t. rw (t, line_of) h.0) (λ t. rw (t, line_of) (no_rules gs h.1 _ _))
 
 after_header : (m c : List ℤ) (k : ℕ) → (group_at (claim_layout m) c (suc k)).rules ≡ []
-unfolding claim_layout groups claim_header stress_lines element_multipliers edge_multipliers jump_multipliers strength_multipliers
+unfolding claim_layout groups claim_header stress_lines element_multipliers edge_multipliers jump_multipliers
+    strength_multipliers
 after_header m c k =
     ap (λ (l : Placed). l.group.rules) (line_after claim_header ((claim_layout m).body c) 0 (suc k) (omega arith))
     ∙ no_rules ((claim_layout m).body c) (refl, (refl, (refl, (refl, (refl, tt))))) _ _
@@ -202,13 +278,19 @@ parts_first m c (suc k) h =
 pub claim_line_numbers : (m c : List ℤ) → ClaimLineNumbers m c
 unfolding claim_layout rule_number
 claim_line_numbers m c = record {
-  eleven = form_is_lem (claim_layout m) c refl (λ e. omega arith) (no_rule 11 (λ e. omega arith) (λ e. omega arith) (λ e. omega arith) (λ e. omega arith));
-  twelve = limit_is (claim_layout m) c refl (λ e. omega arith) (no_rule 12 (λ e. omega arith) (λ e. omega arith) (λ e. omega arith) (λ e. omega arith));
-  thirteen = λ k. (λ r. fit k (rule_is (claim_layout m) c (λ e. omega arith) (λ e. omega arith) k r), λ h. rule_refused (claim_layout m) c parts k h);
+  eleven = form_is_lem (claim_layout m) c refl (λ e. omega arith)
+      (no_rule 11 (λ e. omega arith) (λ e. omega arith) (λ e. omega arith) (λ e. omega arith));
+  twelve = limit_is (claim_layout m) c refl (λ e. omega arith)
+      (no_rule 12 (λ e. omega arith) (λ e. omega arith) (λ e. omega arith) (λ e. omega arith));
+  thirteen = λ k. (
+    λ r. fit k (rule_is (claim_layout m) c (λ e. omega arith) (λ e. omega arith) k r),
+    λ h. rule_refused (claim_layout m) c parts k h,
+  );
   line_1_only = λ k r. parts_first m c k (fit k (rule_is (claim_layout m) c (λ e. omega arith) (λ e. omega arith) k r));
 }
   where
-    fit : (k : ℕ) → ((r : Rule) × (RuleFails (claim_layout m) c r k × (rule_number r ≡ 13))) → RuleFails (claim_layout m) c parts k
+    fit : (k : ℕ) → ((r : Rule) × (RuleFails (claim_layout m) c r k × (rule_number r ≡ 13)))
+        → RuleFails (claim_layout m) c parts k
     fit k (right_angle, h) = absurd (omega (arith, h.1))
     fit k (naming cs, h) = absurd (omega (arith, h.1))
     fit k (parts, h) = h.0
@@ -223,7 +305,8 @@ is_in k (a ∷ rest) = eqb k a || is_in k rest
 is_in_lem : (k : ℕ) (ks : List ℕ) → T (is_in k ks) → k ∈ ks
 unfolding is_in
 is_in_lem k [] h = absurd h
-is_in_lem k (a ∷ rest) h = of (is_in_lem k rest) ((either (equal k a) (record { holds = λ t. t; passes = λ t. t })).holds h)
+is_in_lem k (a ∷ rest) h =
+    of (is_in_lem k rest) ((either (equal k a) (record { holds = λ t. t; passes = λ t. t })).holds h)
   where
     of : (T (is_in k rest) → k ∈ rest) → (k ≡ a) ⊎ T (is_in k rest) → k ∈ (a ∷ rest)
     of later (inl e) = Memᴰ.head e
@@ -242,15 +325,19 @@ rule_listed (naming cs) = listed 4 tt
 rule_listed parts = listed 13 tt
 rule_listed (at_most_where c k d z) = listed 2 tt
 
-step_listed : (f : Layout) (ns : List ℤ) (k c : ℕ) → f.form_number ∈ table_numbers → f.limit_number ∈ table_numbers → FirstFails (line_steps f (group_at f ns k) (numbers_at f ns k)) c → c ∈ table_numbers
+step_listed : (f : Layout) (ns : List ℤ) (k c : ℕ) → f.form_number ∈ table_numbers → f.limit_number ∈ table_numbers
+    → FirstFails (line_steps f (group_at f ns k) (numbers_at f ns k)) c → c ∈ table_numbers
 step_listed f ns k c a b (inl h) = subst (λ i. i ∈ table_numbers) h.1 a
 step_listed f ns k c a b (inr (x, inl h)) = subst (λ i. i ∈ table_numbers) h.1 b
-step_listed f ns k c a b (inr (x, inr (y, h))) = let (r, e) = rule_number_lem (group_at f ns k).rules (numbers_at f ns k) c h in subst (λ i. i ∈ table_numbers) (sym e) (rule_listed r)
+step_listed f ns k c a b (inr (x, inr (y, h))) = let (r, e) =
+    rule_number_lem (group_at f ns k).rules (numbers_at f ns k) c h in subst (λ i. i ∈ table_numbers) (sym e)
+    (rule_listed r)
 
 own_listed : {number c : ℕ} {H : Type 0} → number ∈ table_numbers → ((¬ H) × (number ≡ c)) ⊎ (H × ⊥) → c ∈ table_numbers
 own_listed a r = subst (λ i. i ∈ table_numbers) (own_number refl r) a
 
-lines_listed : (f : Layout) (ns : List ℤ) → f.form_number ∈ table_numbers → f.limit_number ∈ table_numbers → EachIn InTableNumbers (line_phases f ns)
+lines_listed : (f : Layout) (ns : List ℤ) → f.form_number ∈ table_numbers → f.limit_number ∈ table_numbers
+    → EachIn InTableNumbers (line_phases f ns)
 lines_listed f ns a b = (λ k c h l r. step_listed f ns k c a b r, λ e. (λ k c h l r. own_listed a r, λ i. tt))
 
 pub in_table : (m c : List ℤ) → InTable m c
@@ -260,18 +347,35 @@ in_table m c k p r = each_refusal InTableNumbers (mesh_phases m ++ claim_phases 
     all : EachIn InTableNumbers (mesh_phases m ++ claim_phases m c)
     all =
         each_join InTableNumbers (mesh_phases m) (claim_phases m c)
-        (each_join InTableNumbers (line_phases mesh_layout m) (shape_phases m) (lines_listed mesh_layout m (listed 1 tt) (listed 2 tt)) (λ a. (
+        (each_join InTableNumbers (line_phases mesh_layout m) (shape_phases m)
+        (lines_listed mesh_layout m (listed 1 tt) (listed 2 tt)) (λ a. (
           λ k c h l r. own_listed (listed 5 tt) r,
-          λ e. (λ k c h l r. own_listed (listed 6 tt) r, λ e. (λ k c h l r. own_listed (listed 7 tt) r, λ e. (λ k c h l r. own_listed (listed 47 tt) r, λ e. (λ k c h l r. own_listed (listed 8 tt) r, λ e. (λ k c h l r. own_listed (listed 44 tt) r, λ e. (λ k c h l r. own_listed (listed 42 tt) r, λ i. tt)))))),
+          λ e. (
+            λ k c h l r. own_listed (listed 6 tt) r,
+            λ e. (
+              λ k c h l r. own_listed (listed 7 tt) r,
+              λ e. (
+                λ k c h l r. own_listed (listed 47 tt) r,
+                λ e. (
+                  λ k c h l r. own_listed (listed 8 tt) r,
+                  λ e.
+                      (λ k c h l r. own_listed (listed 44 tt) r, λ e. (λ k c h l r. own_listed (listed 42 tt) r, λ i. tt)),
+                ),
+              ),
+            ),
+          ),
         )))
         (λ mesh.
-        each_join InTableNumbers (line_phases (claim_layout m) c) (part_phases m c) (lines_listed (claim_layout m) c (listed 11 tt) (listed 12 tt)) (λ lines.
+        each_join InTableNumbers (line_phases (claim_layout m) c) (part_phases m c)
+        (lines_listed (claim_layout m) c (listed 11 tt) (listed 12 tt)) (λ lines.
         each_join InTableNumbers (field_part m c) (multiplier_part m c)
-        (each_part InTableNumbers (has_field c) (field_phases (equality_rows m) (strength_rows m) (stress m c) (l c) (n c)) (
+        (each_part InTableNumbers (has_field c)
+        (field_phases (equality_rows m) (strength_rows m) (stress m c) (l c) (n c)) (
           λ k c h l r. own_listed (listed 21 tt) r,
           λ e. (λ k c h l r. own_listed (listed 22 tt) r, λ i. tt),
         ))
-        (λ field. each_part InTableNumbers (has_multipliers c) (multiplier_phases (equality_rows m) (rows_of m) (3 * nodes m) (multiplier m c)) (
+        (λ field. each_part InTableNumbers (has_multipliers c)
+        (multiplier_phases (equality_rows m) (rows_of m) (3 * nodes m) (multiplier m c)) (
           λ k c h l r. own_listed (listed 31 tt) r,
           λ e. (λ k c h l r. own_listed (listed 32 tt) r, λ e. (λ k c h l r. own_listed (listed 33 tt) r, λ i. tt)),
         ))))

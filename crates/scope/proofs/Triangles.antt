@@ -87,9 +87,12 @@ turns_different m a b c h = record {
 -- ---- the statements
 
 -- the left turn at corner i of an element with k corners
-pub turn_at : (m : List ℤ) (e k : ℕ) → corner_count m e ≡ k → LeftTurns m e → (i : ℕ) → i < k → pos 0 <ℤ turn m (corner m e ((i + (k - 1)) % k)) (corner m e (i % k)) (corner m e ((i + 1) % k))
+pub turn_at : (m : List ℤ) (e k : ℕ) → corner_count m e ≡ k → LeftTurns m e → (i : ℕ) → i < k
+    → pos 0 <ℤ turn m (corner m e ((i + (k - 1)) % k)) (corner m e (i % k)) (corner m e ((i + 1) % k))
 unfolding around
-turn_at m e k c left i h = subst (λ (n : ℕ). pos 0 <ℤ turn m (corner m e ((i + (n - 1)) % n)) (corner m e (i % n)) (corner m e ((i + 1) % n))) c (left i (omega arith))
+turn_at m e k c left i h =
+    subst (λ (n : ℕ). pos 0 <ℤ turn m (corner m e ((i + (n - 1)) % n)) (corner m e (i % n)) (corner m e ((i + 1) % n)))
+    c (left i (omega arith))
 
 -- what holds of each pair of places below 4
 six_pairs : (P : ℕ → ℕ → Type 0) → P 0 1 → P 0 2 → P 0 3 → P 1 2 → P 1 3 → P 2 3 → (i j : ℕ) → i < j → j < 4 → P i j

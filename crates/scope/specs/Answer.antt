@@ -4,7 +4,9 @@ use Rattle.std.specs.Prelude.{cond, ◌||◌, ℕ, eqb, Result, Ok, Err, Option,
 use Rattle.scope.specs.declared.Place.{Place}
 use Rattle.scope.specs.declared.Place.TheVariants.{Line, Row, Column, Node, Element, Height}
 use Rattle.scope.specs.declared.Reason.{Reason}
-use Rattle.scope.specs.declared.Reason.TheVariants.{MeshForm, MeshLimit, RightAngle, Name, LeftTurn, OwnSide, NoElement, Edge, ClaimForm, ClaimLimit, Parts, Equality, Strength, Unfixed, Live, Pairs, Joint, Gap, Layer, Overlap}
+use Rattle.scope.specs.declared.Reason.TheVariants.{MeshForm, MeshLimit, RightAngle, Name, LeftTurn, OwnSide}
+use Rattle.scope.specs.declared.Reason.TheVariants.{NoElement, Edge, ClaimForm, ClaimLimit, Parts, Equality, Strength}
+use Rattle.scope.specs.declared.Reason.TheVariants.{Unfixed, Live, Pairs, Joint, Gap, Layer, Overlap}
 use Rattle.scope.specs.declared.Reason.TheVariants as R
 use Rattle.scope.specs.declared.Refusal.{Refusal}
 use Rattle.scope.specs.declared.Load.{Load}

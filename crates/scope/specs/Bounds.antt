@@ -3,7 +3,9 @@
 -- The largest radius, step and cross product are those of 108 sides (document 02, N9); soils of kind 1 are not listed
 -- with so many (N14), so that their rows are bounded by the largest radius of the others.
 use Rattle.std.specs.Prelude.{ℕ, ◌+◌, ◌*◌, ◌^◌, cond, eqb}
-use Rattle.scope.specs.Mesh.{most_pairs, most_elements, most_edges, most_sides, most_jumps, most_strength, pairs_for_108, strength_for_108, element_rows, edge_rows, rows_per_jump, most_equality_rows}
+use Rattle.scope.specs.Mesh.{most_pairs, most_elements, most_edges, most_sides, most_jumps, most_strength}
+use Rattle.scope.specs.Mesh.{pairs_for_108, strength_for_108, element_rows, edge_rows, rows_per_jump}
+use Rattle.scope.specs.Mesh.{most_equality_rows}
 
 -- ---- limits (document 01, 'The two files')
 

@@ -3,7 +3,8 @@
 -- A field is its stresses s by column, with l and n. Multipliers w are numbered as the rows are.
 use Rattle.std.specs.Prelude.{◌≡◌, ◌↔◌, List, ℕ, ◌*◌, ◌<◌, ℤ, pos, ◌-ℤ◌, ◌*ℤ◌, ◌≤ℤ◌, ◌<ℤ◌, length}
 use Rattle.integer.specs.Members.{◌∈◌}
-use Rattle.scope.specs.Mesh.{nodes, elements, edges, jumps, corner, from_node, to_node, jump_from, jump_to, facing_from, facing_to}
+use Rattle.scope.specs.Mesh.{nodes, elements, edges, jumps, corner, from_node, to_node, jump_from, jump_to}
+use Rattle.scope.specs.Mesh.{facing_from, facing_to}
 use Rattle.scope.specs.Rows.{Kind, asked, unfixed, strength, Row, rows_of}
 use Rattle.scope.specs.Sums.{weighted_sum, left_side, right_side, weighed, column_sum, live_sum, limit_sum, open_rows}
 use Rattle.scope.specs.Tests.{row_at}

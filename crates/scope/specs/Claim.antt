@@ -2,7 +2,8 @@
 use Rattle.std.specs.Prelude.{Bool, cond, List, [], ◌∷◌, ℕ, ◌+◌, ℤ, pos, replicate}
 use Rattle.scope.specs.Columns.{between, up_to, parts, at, has_field, has_multipliers}
 use Rattle.scope.specs.Layout.{Group, Layout, groups, numbers_before}
-use Rattle.scope.specs.Mesh.{strength_multiplier, nodes, elements, edges, sides, jumps, element_rows, edge_rows, rows_per_jump}
+use Rattle.scope.specs.Mesh.{strength_multiplier, nodes, elements, edges, sides, jumps, element_rows, edge_rows}
+use Rattle.scope.specs.Mesh.{rows_per_jump}
 use Rattle.scope.specs.Rows.{pair_count}
 
 -- "Header: field there (0 or 1), multipliers there (0 or 1), n 0 to 100,000, l within ±100,000,000"

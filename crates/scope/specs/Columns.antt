@@ -1,6 +1,7 @@
 -- What the numbers of a line must be (document 01, 'The two files'): a limit for each column, and the rules that a
 -- line has besides.
-use Rattle.std.specs.Prelude.{Bool, true, false, cond, not, ◌&&◌, ◌||◌, List, [], ◌∷◌, ℕ, ℤ, pos, ◌+ℤ◌, ◌*ℤ◌, neg_ℤ, get_or}
+use Rattle.std.specs.Prelude.{Bool, true, false, cond, not, ◌&&◌, ◌||◌, List, [], ◌∷◌, ℕ, ℤ, pos, ◌+ℤ◌, ◌*ℤ◌, neg_ℤ}
+use Rattle.std.specs.Prelude.{get_or}
 use Rattle.std.specs.Int.Signed.{le_z}
 use Rattle.integer.specs.Tests.{eq_z}
 

@@ -4,7 +4,8 @@
 use Rattle.std.specs.Prelude.{◌≡◌, ◌↔◌, List, [], ◌∷◌, ◌++◌, ℕ, ◌<◌, ℤ, pos, ◌+ℤ◌, ◌-ℤ◌, ◌*ℤ◌, neg_ℤ, ◌<ℤ◌}
 use Rattle.integer.specs.Members.{◌∈◌}
 use Rattle.scope.specs.Mesh.{edges, jumps, x, y, from_node, to_node, jump_from, jump_to, facing_from, facing_to}
-use Rattle.scope.specs.Rows.{sx, sy, t, balance_rows, side_rows, jump_step_x, jump_step_y, jump_normal, jump_shear, equality_rows}
+use Rattle.scope.specs.Rows.{sx, sy, t, balance_rows, side_rows, jump_step_x, jump_step_y, jump_normal, jump_shear}
+use Rattle.scope.specs.Rows.{equality_rows}
 use Rattle.scope.specs.Sums.{left_side}
 use Rattle.scope.specs.Statements.{OuterSide}
 use Rattle.scope.specs.Printed.{NormalAgrees, ShearAgrees}

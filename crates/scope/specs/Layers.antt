@@ -1,7 +1,8 @@
 -- The layers of a borehole table (document 02, N8, "Soils from a borehole table"): what the table's numbers are, which
 -- layer has a height and the soil there, and the refusals 46 and 45 as phases.
 -- Layers are counted from 0 here; heights are counted in quarters, from 0.
-use Rattle.std.specs.Prelude.{Bool, not, ◌&&◌, List, [], ◌∷◌, ℕ, suc, ◌+◌, ◌-◌, ◌*◌, ◌/◌, ◌≤◌, ◌<◌, ℤ, pos, ◌*ℤ◌, ◌≤ℤ◌, ◌<ℤ◌, eqb, leb, length}
+use Rattle.std.specs.Prelude.{Bool, not, ◌&&◌, List, [], ◌∷◌, ℕ, suc, ◌+◌, ◌-◌, ◌*◌, ◌/◌, ◌≤◌, ◌<◌, ℤ, pos, ◌*ℤ◌}
+use Rattle.std.specs.Prelude.{◌≤ℤ◌, ◌<ℤ◌, eqb, leb, length}
 use Rattle.std.specs.Int.Signed.{le_z, lt_z}
 use Rattle.scope.specs.declared.Place.{Place}
 use Rattle.scope.specs.declared.Place.TheVariants.{Line, Height}

@@ -1,6 +1,7 @@
 -- The lines of a file (document 01, 'The two files'): groups of lines, each line with its columns and their limits.
 -- A file is the list of its numbers in order. Lines and numbers are counted from 0 here; a place counts from 1.
-use Rattle.std.specs.Prelude.{true, false, List, [], ◌∷◌, ℕ, zero, suc, ◌+◌, ◌*◌, ◌-◌, ℤ, pos, negsuc, ltb, length, take, drop, get_or}
+use Rattle.std.specs.Prelude.{true, false, List, [], ◌∷◌, ℕ, zero, suc, ◌+◌, ◌*◌, ◌-◌, ℤ, pos, negsuc, ltb, length}
+use Rattle.std.specs.Prelude.{take, drop, get_or}
 use Rattle.scope.specs.Columns.{Limit, Rule, at}
 
 -- ---- groups of lines

@@ -6,7 +6,8 @@ use Rattle.scope.specs.Polygon.{Point, Side}
 use Rattle.scope.specs.Rows.{sx, sy, t, twice_area, step_x, step_y, cross}
 use Rattle.scope.specs.Tests.{turn}
 use Rattle.scope.specs.Statements.{LeftTurns}
-use Rattle.scope.specs.Printed.{next, corner_sum, force_x, force_y, BalanceX, BalanceY, normal_force, shear_force, NormalAt, deviator, resistance}
+use Rattle.scope.specs.Printed.{next, corner_sum, force_x, force_y, BalanceX, BalanceY, normal_force, shear_force}
+use Rattle.scope.specs.Printed.{NormalAt, deviator, resistance}
 use Rattle.scope.specs.Criterion.{circle_radius}
 
 -- ---- balance

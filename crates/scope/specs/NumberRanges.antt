@@ -7,7 +7,12 @@ use Rattle.scope.specs.Claim.{claim_header_columns, stress_columns, if_there, st
 use Rattle.scope.specs.Polygon.{SidesListed}
 use Rattle.scope.specs.Rows.{pair_count}
 use Rattle.scope.specs.Statements.{PartsFit}
-use Rattle.scope.specs.Mesh.{most_nodes, most_elements, most_soils, most_edges, most_jumps, nodes_with, strength_multiplier, mesh_header_columns, soil_columns, node_columns, element_columns, edge_columns, jump_columns, element_rows, edge_rows, rows_per_jump, mesh_groups, nodes, elements, soils, edges, sides, jumps, p, q, h, cohesion, soil_entry, x, y, corner, element_soil, edge_entry, from_node, to_node, jump_entry, jump_from, jump_to, facing_from, facing_to, equality_count, kind_with, soil_kind, cohesion_across}
+use Rattle.scope.specs.Mesh.{most_nodes, most_elements, most_soils, most_edges, most_jumps, nodes_with}
+use Rattle.scope.specs.Mesh.{strength_multiplier, mesh_header_columns, soil_columns, node_columns, element_columns}
+use Rattle.scope.specs.Mesh.{edge_columns, jump_columns, element_rows, edge_rows, rows_per_jump, mesh_groups, nodes}
+use Rattle.scope.specs.Mesh.{elements, soils, edges, sides, jumps, p, q, h, cohesion, soil_entry, x, y, corner}
+use Rattle.scope.specs.Mesh.{element_soil, edge_entry, from_node, to_node, jump_entry, jump_from, jump_to}
+use Rattle.scope.specs.Mesh.{facing_from, facing_to, equality_count, kind_with, soil_kind, cohesion_across}
 
 -- z is from lo to hi
 pub record Between (lo hi z : ℤ) : Type 0 where

@@ -4,7 +4,8 @@ use Rattle.std.specs.Prelude.{◌≡◌, ◌↔◌, ◌⊎◌, List, map, ℕ, �
 use Rattle.integer.specs.Members.{◌∈◌}
 use Rattle.scope.specs.Mesh.{pairs_with, nodes, elements, soils, sides, corner, element_soil}
 use Rattle.scope.specs.Polygon.{polygon_of}
-use Rattle.scope.specs.Rows.{Row, Pair, joined, count_from, first_where, has_corner, pair_rows, strength_pairs, pair_count, pair_at, strength_rows}
+use Rattle.scope.specs.Rows.{Row, Pair, joined, count_from, first_where, has_corner, pair_rows, strength_pairs}
+use Rattle.scope.specs.Rows.{pair_count, pair_at, strength_rows}
 use Rattle.scope.specs.Statements.{PairsFit}
 use Rattle.scope.specs.RefusalTable.{LowestFails}
 

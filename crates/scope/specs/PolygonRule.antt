@@ -1,12 +1,14 @@
 -- The rule for a polygon (document 01, 'Rows', Strength): "Polygon corners are all whole-number points on the circle
 -- of radius r .., counterclockwise from (r, 0)".
-use Rattle.std.specs.Prelude.{◌≡◌, List, ◌∷◌, ◌++◌, ℕ, ◌+◌, ◌*◌, ◌≤◌, ◌<◌, max, ℤ, pos, ◌+ℤ◌, ◌-ℤ◌, ◌*ℤ◌, neg_ℤ, nat_abs, ◌<ℤ◌, length, ◌↔◌, ◌⊎◌, ◌/◌}
+use Rattle.std.specs.Prelude.{◌≡◌, List, ◌∷◌, ◌++◌, ℕ, ◌+◌, ◌*◌, ◌≤◌, ◌<◌, max, ℤ, pos, ◌+ℤ◌, ◌-ℤ◌, ◌*ℤ◌, neg_ℤ}
+use Rattle.std.specs.Prelude.{nat_abs, ◌<ℤ◌, length, ◌↔◌, ◌⊎◌, ◌/◌}
 use Rattle.integer.specs.Members.{◌∈◌}
 use Rattle.scope.specs.Polygon.{Point, point, Polygon, Side, polygon_sides, polygon_of, half_turn}
 use Rattle.scope.specs.Rows.{cross}
 use Rattle.scope.specs.Mesh.{most_sides, nodes_for_108, nodes_with, pairs_with, strength_multiplier, kind_with}
 use Rattle.scope.specs.Claim.{stress_columns}
-use Rattle.scope.specs.Bounds.{most_radius, most_step, most_cross, weighted_step, weighted_cross, most_plane_radius, twice_strength, strength_right_with, strength_sum, most_strength_rows}
+use Rattle.scope.specs.Bounds.{most_radius, most_step, most_cross, weighted_step, weighted_cross, most_plane_radius}
+use Rattle.scope.specs.Bounds.{twice_strength, strength_right_with, strength_sum, most_strength_rows}
 
 abbrev pub OnCircle : ℤ → Point → Type 0
 OnCircle r v = v.px *ℤ v.px +ℤ v.py *ℤ v.py ≡ r *ℤ r

@@ -3,9 +3,12 @@
 -- of a mesh meets.
 use Rattle.std.specs.Prelude.{◌≡◌, ◌↔◌, ◌⊎◌, List, ℕ, ◌+◌, ◌%◌, ◌<◌, ℤ, pos, ◌+ℤ◌, ◌-ℤ◌, ◌*ℤ◌, neg_ℤ, ◌≤ℤ◌}
 use Rattle.integer.specs.Members.{◌∈◌}
-use Rattle.scope.specs.Mesh.{elements, edges, sides, jumps, p, q, h, cohesion, dead_x, dead_y, live_x, live_y, x, y, corner, element_soil, edge_entry, from_node, to_node, jump_from, jump_to, facing_from, facing_to, cohesion_across, ByDirection}
+use Rattle.scope.specs.Mesh.{elements, edges, sides, jumps, p, q, h, cohesion, dead_x, dead_y, live_x, live_y, x, y}
+use Rattle.scope.specs.Mesh.{corner, element_soil, edge_entry, from_node, to_node, jump_from, jump_to, facing_from}
+use Rattle.scope.specs.Mesh.{facing_to, cohesion_across, ByDirection}
 use Rattle.scope.specs.Polygon.{Side, polygon_sides, polygon_of, Point, half_turn}
-use Rattle.scope.specs.Rows.{sx, sy, t, twice_area, step_x, step_y, jump_step_x, jump_step_y, Pair, strength_pairs, rows_of}
+use Rattle.scope.specs.Rows.{sx, sy, t, twice_area, step_x, step_y, jump_step_x, jump_step_y, Pair, strength_pairs}
+use Rattle.scope.specs.Rows.{rows_of}
 use Rattle.scope.specs.Meets.{FieldMeets}
 
 -- ---- balance: an element's corners are numbered 0 to 3; x, y, sx, sy and t go by corner; D is twice its area

@@ -1,14 +1,20 @@
 -- The columns (document 01, 'Rows', Columns) from the rows as it prints them, with l and n on the side where it has
 -- them; and what accepted multipliers are in these terms.
 -- Multipliers w are numbered as the rows are; a field is its stresses s by column, with l and n.
-use Rattle.std.specs.Prelude.{◌≡◌, ◌↔◌, List, ℕ, zero, suc, ◌+◌, ◌*◌, ◌<◌, ℤ, pos, ◌+ℤ◌, ◌-ℤ◌, ◌*ℤ◌, neg_ℤ, ◌<ℤ◌, cond, ◌/◌}
-use Rattle.scope.specs.Mesh.{nodes, elements, edges, sides, jumps, p, q, h, cohesion, dead_x, dead_y, live_x, live_y, x, y, corner, element_soil, edge_entry, from_node, to_node, jump_from, jump_to, facing_from, facing_to, cohesion_across, by_direction}
+use Rattle.std.specs.Prelude.{◌≡◌, ◌↔◌, List, ℕ, zero, suc, ◌+◌, ◌*◌, ◌<◌, ℤ, pos, ◌+ℤ◌, ◌-ℤ◌, ◌*ℤ◌, neg_ℤ, ◌<ℤ◌}
+use Rattle.std.specs.Prelude.{cond, ◌/◌}
+use Rattle.scope.specs.Mesh.{nodes, elements, edges, sides, jumps, p, q, h, cohesion, dead_x, dead_y, live_x, live_y}
+use Rattle.scope.specs.Mesh.{x, y, corner, element_soil, edge_entry, from_node, to_node, jump_from, jump_to}
+use Rattle.scope.specs.Mesh.{facing_from, facing_to, cohesion_across, by_direction}
 use Rattle.scope.specs.Polygon.{Side, polygon_of, Point}
-use Rattle.scope.specs.Rows.{sx, sy, t, twice_area, step_x, step_y, jump_step_x, jump_step_y, Pair, pair_count, pair_at, balance_x, balance_y, normal_row, shear_row, jump_normal, jump_shear, equality_rows, rows_of}
+use Rattle.scope.specs.Rows.{sx, sy, t, twice_area, step_x, step_y, jump_step_x, jump_step_y, Pair, pair_count}
+use Rattle.scope.specs.Rows.{pair_at, balance_x, balance_y, normal_row, shear_row, jump_normal, jump_shear}
+use Rattle.scope.specs.Rows.{equality_rows, rows_of}
 use Rattle.scope.specs.Statements.{MeetsColumns}
 use Rattle.scope.specs.Sums.{left_side, right_side, unit, column_sum, live_sum, limit_sum}
 use Rattle.scope.specs.RowNumbers.{side_at, corner_at, side_row, direction_row}
-use Rattle.scope.specs.Printed.{force_x, force_y, body_force, normal_force, shear_force, edge_force, FixesNormal, FixesShear, deviator, resistance, plane_plus, plane_minus, plane_resistance}
+use Rattle.scope.specs.Printed.{force_x, force_y, body_force, normal_force, shear_force, edge_force, FixesNormal}
+use Rattle.scope.specs.Printed.{FixesShear, deviator, resistance, plane_plus, plane_minus, plane_resistance}
 
 -- ---- a printed row in a field: its left side minus its right side
 

@@ -11,7 +11,8 @@ use Rattle.scope.specs.Rows.{equality_rows, strength_rows, rows_of}
 use Rattle.scope.specs.Sums.{column_sum, live_sum}
 use Rattle.scope.specs.Tests.{row_at}
 use Rattle.scope.specs.Meets.{RowMet}
-use Rattle.scope.specs.Statements.{LinesSound, LeftTurns, OwnSides, InElement, NoneShared, OuterEdge, Joint, PairsFit, MeshSound, NoneOnUnfixed, HasField, HasMultipliers, RowsMet}
+use Rattle.scope.specs.Statements.{LinesSound, LeftTurns, OwnSides, InElement, NoneShared, OuterEdge, Joint, PairsFit}
+use Rattle.scope.specs.Statements.{MeshSound, NoneOnUnfixed, HasField, HasMultipliers, RowsMet}
 use Rattle.scope.specs.Refusals.{LineRefusal}
 
 -- "lowest place first": P fails at place k of count, and at no lower one

@@ -9,7 +9,8 @@ use Rattle.scope.specs.declared.Place.{Place}
 use Rattle.scope.specs.declared.Place.TheVariants.{Line, Row, Column, Node, Element}
 use Rattle.integer.specs.Members.{◌∈◌}
 use Rattle.scope.specs.Phases.{Step, Phase, step, phase, if_part, RefusedBy}
-use Rattle.scope.specs.Columns.{all_within, Rule, right_angle, naming, parts, at_most_where, rule_test, has_field, has_multipliers, n, l}
+use Rattle.scope.specs.Columns.{all_within, Rule, right_angle, naming, parts, at_most_where, rule_test, has_field}
+use Rattle.scope.specs.Columns.{has_multipliers, n, l}
 use Rattle.scope.specs.Layout.{Group, Layout, width, groups, line_count, number_count, group_at, numbers_at}
 use Rattle.scope.specs.Mesh.{mesh_layout, nodes, elements, edges, jumps, edge_line, jump_line}
 use Rattle.scope.specs.Claim.{claim_layout, stress, multiplier}
@@ -18,7 +19,8 @@ use Rattle.scope.specs.Rows.{equality_rows, strength_rows, rows_of}
 use Rattle.scope.specs.Sums.{row_holds, zero_if_unfixed, column_sum, live_sum}
 use Rattle.scope.specs.Tests.{left_turns, own_sides, in_element, lies_apart, outer_edge, is_joint, pairs_fit, row_at}
 use Rattle.scope.specs.Meets.{RowMet}
-use Rattle.scope.specs.Statements.{AllWithin, Says, AllSay, Complete, InLimits, LineSound, LeftTurns, OwnSides, InElement, NoneShared, OuterEdge, Joint, PairsFit, NoneOnUnfixed}
+use Rattle.scope.specs.Statements.{AllWithin, Says, AllSay, Complete, InLimits, LineSound, LeftTurns, OwnSides}
+use Rattle.scope.specs.Statements.{InElement, NoneShared, OuterEdge, Joint, PairsFit, NoneOnUnfixed}
 
 -- ---- lines: 1 to 4 of a mesh, 11 to 13 of a claim (which is which is said at the end, number by number)
 

@@ -2,12 +2,14 @@
 -- the field does not meet; and what that of 42 says (document 02, N2).
 use Rattle.std.specs.Prelude.{◌≡◌, List, ℕ, suc, ◌+◌, ◌*◌, ◌-◌, ◌<◌, ℤ, ◌≤◌}
 use Rattle.scope.specs.Columns.{n, l}
-use Rattle.scope.specs.Mesh.{pairs_with, elements, edges, sides, jumps, from_node, to_node, jump_from, jump_to, facing_from, facing_to, ByDirection}
+use Rattle.scope.specs.Mesh.{pairs_with, elements, edges, sides, jumps, from_node, to_node, jump_from, jump_to}
+use Rattle.scope.specs.Mesh.{facing_from, facing_to, ByDirection}
 use Rattle.scope.specs.Polygon.{polygon_of}
 use Rattle.scope.specs.Claim.{stress}
 use Rattle.scope.specs.Rows.{pair_count, pair_at}
 use Rattle.scope.specs.RowNumbers.{side_numbered, corner_numbered}
-use Rattle.scope.specs.Printed.{BalanceXAt, BalanceYAt, NormalAt, ShearAt, NormalAgreesAt, ShearAgreesAt, StrengthAt, PlanePlusAt, PlaneMinusAt}
+use Rattle.scope.specs.Printed.{BalanceXAt, BalanceYAt, NormalAt, ShearAt, NormalAgreesAt, ShearAgreesAt, StrengthAt}
+use Rattle.scope.specs.Printed.{PlanePlusAt, PlaneMinusAt}
 
 -- elements, edges, jumps and pairs are counted from 0 here
 module _ (m c : List ℤ) (place : ℕ) where

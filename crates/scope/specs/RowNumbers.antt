@@ -1,10 +1,13 @@
 -- The numbers of the rows (document 01, 'Rows'; document 02, N6 and N14), over the lists of rows. Elements, edges,
 -- jumps and pairs are counted from 0 here, so that document 01's element is `suc e`; rows and sides are counted from
 -- 1, as there.
-use Rattle.std.specs.Prelude.{◌≡◌, List, ℕ, suc, ◌+◌, ◌*◌, ◌-◌, ◌<◌, ℤ, pos, length, get_or, cond, ◌/◌, ◌%◌, ◌≤◌, neg_ℤ, eqb}
-use Rattle.scope.specs.Mesh.{elements, edges, sides, jumps, p, q, h, cohesion, from_node, to_node, jump_from, jump_to, facing_from, facing_to, cohesion_across, ByDirection}
+use Rattle.std.specs.Prelude.{◌≡◌, List, ℕ, suc, ◌+◌, ◌*◌, ◌-◌, ◌<◌, ℤ, pos, length, get_or, cond, ◌/◌, ◌%◌, ◌≤◌}
+use Rattle.std.specs.Prelude.{neg_ℤ, eqb}
+use Rattle.scope.specs.Mesh.{elements, edges, sides, jumps, p, q, h, cohesion, from_node, to_node, jump_from, jump_to}
+use Rattle.scope.specs.Mesh.{facing_from, facing_to, cohesion_across, ByDirection}
 use Rattle.scope.specs.Polygon.{point, Side, Polygon, polygon_sides, polygon_of, Point}
-use Rattle.scope.specs.Rows.{Row, Pair, pair_count, pair_at, balance_x, balance_y, normal_row, shear_row, jump_normal, jump_shear, strength_row, equality_rows, strength_rows, rows_of, plane_row}
+use Rattle.scope.specs.Rows.{Row, Pair, pair_count, pair_at, balance_x, balance_y, normal_row, shear_row, jump_normal}
+use Rattle.scope.specs.Rows.{jump_shear, strength_row, equality_rows, strength_rows, rows_of, plane_row}
 use Rattle.scope.specs.Tests.{row_at}
 
 -- row k of a list, counted from 1

@@ -1,10 +1,13 @@
 -- The rows (document 01, 'Rows'), as data: "Move every stress and l to the left of each row, strength rows included;
 -- set n = 1 to read its right side".
 -- A stress has a column: "columns are numbered node by node: sx, sy, t", from 0 here.
-use Rattle.std.specs.Prelude.{Bool, true, false, cond, ◌&&◌, ◌||◌, List, [], ◌∷◌, ◌++◌, map, ℕ, zero, suc, ◌+◌, ◌*◌, ◌%◌, ℤ, pos, ◌+ℤ◌, ◌-ℤ◌, ◌*ℤ◌, neg_ℤ, eqb, length, get_or}
+use Rattle.std.specs.Prelude.{Bool, true, false, cond, ◌&&◌, ◌||◌, List, [], ◌∷◌, ◌++◌, map, ℕ, zero, suc, ◌+◌, ◌*◌}
+use Rattle.std.specs.Prelude.{◌%◌, ℤ, pos, ◌+ℤ◌, ◌-ℤ◌, ◌*ℤ◌, neg_ℤ, eqb, length, get_or}
 use Rattle.integer.specs.Tests.{eq_z}
 use Rattle.scope.specs.Checks.{some_below}
-use Rattle.scope.specs.Mesh.{nodes, elements, soils, edges, sides, jumps, p, q, h, cohesion, cohesion_across, by_direction, dead_x, dead_y, live_x, live_y, x, y, corner, element_soil, edge_entry, from_node, to_node, jump_from, jump_to, facing_from, facing_to}
+use Rattle.scope.specs.Mesh.{nodes, elements, soils, edges, sides, jumps, p, q, h, cohesion, cohesion_across}
+use Rattle.scope.specs.Mesh.{by_direction, dead_x, dead_y, live_x, live_y, x, y, corner, element_soil, edge_entry}
+use Rattle.scope.specs.Mesh.{from_node, to_node, jump_from, jump_to, facing_from, facing_to}
 use Rattle.scope.specs.Polygon.{Point, Side, Polygon, polygon_sides, half_turn, polygon_of}
 
 -- ---- what a row is

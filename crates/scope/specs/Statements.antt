@@ -1,10 +1,12 @@
 -- What document 01 asks of a mesh and of a claim, in plain statements about whole numbers: no test, no order of
 -- checks.
-use Rattle.std.specs.Prelude.{◌≡◌, ◌⊎◌, List, [], ◌∷◌, ℕ, suc, ◌+◌, ◌-◌, ◌*◌, ◌≤◌, ◌<◌, ℤ, pos, ◌+ℤ◌, ◌*ℤ◌, ◌≤ℤ◌, ◌<ℤ◌, length}
+use Rattle.std.specs.Prelude.{◌≡◌, ◌⊎◌, List, [], ◌∷◌, ℕ, suc, ◌+◌, ◌-◌, ◌*◌, ◌≤◌, ◌<◌, ℤ, pos, ◌+ℤ◌, ◌*ℤ◌, ◌≤ℤ◌}
+use Rattle.std.specs.Prelude.{◌<ℤ◌, length}
 use Rattle.plane.specs.Polygon.{Shared}
 use Rattle.scope.specs.Columns.{Limit, between, one_of, free, Rule, right_angle, naming, parts, at_most_where, at, n, l}
 use Rattle.scope.specs.Layout.{Layout, width, groups, line_count, number_count, group_at, numbers_at}
-use Rattle.scope.specs.Mesh.{pairs_with, mesh_layout, nodes, elements, edges, sides, jumps, x, y, corner, corner_count, around, from_node, to_node, jump_from, jump_to, facing_from, facing_to}
+use Rattle.scope.specs.Mesh.{pairs_with, mesh_layout, nodes, elements, edges, sides, jumps, x, y, corner}
+use Rattle.scope.specs.Mesh.{corner_count, around, from_node, to_node, jump_from, jump_to, facing_from, facing_to}
 use Rattle.scope.specs.Rows as R
 use Rattle.scope.specs.Rows.{pairs_below, equality_rows, rows_of}
 use Rattle.scope.specs.Outline.{outline}

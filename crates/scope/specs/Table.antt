@@ -1,7 +1,8 @@
 -- A borehole table as a file (document 02, N8): its lines, and a mesh with a table judged in order. "an empty one is no
 -- table".
 -- A table is the list of its numbers. Its lines are counted from 0 here; a place counts them from 1,001.
-use Rattle.std.specs.Prelude.{◌≡◌, Bool, true, false, cond, List, [], ◌∷◌, ◌++◌, map, ℕ, ◌+◌, ◌*◌, ◌/◌, ◌≤◌, ◌<◌, min, ℤ, pos, neg_ℤ, length}
+use Rattle.std.specs.Prelude.{◌≡◌, Bool, true, false, cond, List, [], ◌∷◌, ◌++◌, map, ℕ, ◌+◌, ◌*◌, ◌/◌, ◌≤◌, ◌<◌, min}
+use Rattle.std.specs.Prelude.{ℤ, pos, neg_ℤ, length}
 use Rattle.scope.specs.declared.Place.TheVariants.{Line}
 use Rattle.scope.specs.Cases.Outcome.{Outcome}
 use Rattle.scope.specs.Answer.{place_number}

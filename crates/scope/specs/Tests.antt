@@ -1,10 +1,12 @@
 -- What is tested of a mesh after its lines (document 01, 'Verdict and report', refusals 5 to 8; document 02, 47, 44 and
 -- 42), and the row that 21, 22 and 31 test.
-use Rattle.std.specs.Prelude.{Bool, not, ◌&&◌, ◌||◌, List, [], ℕ, suc, ◌+◌, ◌-◌, ℤ, pos, ◌-ℤ◌, ◌*ℤ◌, eqb, leb, length, get_or}
+use Rattle.std.specs.Prelude.{Bool, not, ◌&&◌, ◌||◌, List, [], ℕ, suc, ◌+◌, ◌-◌, ℤ, pos, ◌-ℤ◌, ◌*ℤ◌, eqb, leb, length}
+use Rattle.std.specs.Prelude.{get_or}
 use Rattle.std.specs.Int.Signed.{le_z, lt_z}
 use Rattle.integer.specs.Tests.{eq_z}
 use Rattle.scope.specs.Checks.{some_below, all_below}
-use Rattle.scope.specs.Mesh.{pairs_with, elements, edges, sides, x, y, corner_count, around, from_node, to_node, jump_from, jump_to, facing_from, facing_to}
+use Rattle.scope.specs.Mesh.{pairs_with, elements, edges, sides, x, y, corner_count, around, from_node, to_node}
+use Rattle.scope.specs.Mesh.{jump_from, jump_to, facing_from, facing_to}
 use Rattle.scope.specs.Rows as R
 use Rattle.scope.specs.Rows.{has_corner, pairs_below}
 

@@ -19,7 +19,8 @@ use Rattle.scope.specs.Rows as R
 use Rattle.scope.specs.Rows.{rows_of}
 use Rattle.scope.specs.Sums.{live_sum, limit_sum, open_rows}
 use Rattle.scope.specs.Claim.{stress, multiplier}
-use Rattle.scope.specs.Refusals.{rule_steps, line_steps, line_phases, mesh_phases, claim_phases, field_phases, multiplier_phases}
+use Rattle.scope.specs.Refusals.{rule_steps, line_steps, line_phases, mesh_phases, claim_phases, field_phases}
+use Rattle.scope.specs.Refusals.{multiplier_phases}
 
 -- ---- lines
 

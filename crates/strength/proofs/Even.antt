@@ -2,7 +2,8 @@
 use mathlib.Core.Path.{◌≡◌, sym, ap, ◌∙◌, subst}
 use mathlib.Core.Bool.{Bool, true, false, cond}
 use Prim.Native.Nat.{ℕ, suc, ◌+◌, ◌-◌, ◌*◌, ◌/◌, ◌%◌, ◌^◌, ◌≤◌, ◌<◌, compare}
-use native.Mathlib.Nat.{le_trans, le_of_eq, le_antisymm, mul_assoc, mul_right_comm, mul-le-mul_right, mul-div_cancel, div-div-eq-div-mul}
+use native.Mathlib.Nat.{le_trans, le_of_eq, le_antisymm, mul_assoc, mul_right_comm, mul-le-mul_right, mul-div_cancel}
+use native.Mathlib.Nat.{div-div-eq-div-mul}
 use native.Mathlib.Decide.{dec_lt}
 use native.Mathlib.Omega.{arith}
 use lib.Pow.{pow-add, pow-lt, shl-shr}

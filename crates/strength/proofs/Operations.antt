@@ -5,12 +5,15 @@ use mathlib.Core.Logic.{◌≢◌}
 use mathlib.Core.Bool.{Bool, true, false, not, ◌&&◌, cond}
 use mathlib.Core.List.{[], ◌∷◌}
 use Prim.Native.Nat.{ℕ, zero, suc, ◌+◌, ◌-◌, ◌*◌, ◌/◌, ◌^◌, ◌≤◌, ◌<◌}
-use native.Mathlib.Nat.{le_trans, le_of_eq, lt_of_le_of_lt, lt_of_lt_of_le, mul_assoc, mul_comm, mul_right_comm, mul-pos, zero-mul, one-mul, mul-le-mul_right, le_of_mul-le-mul_right, eq_of_mul-eq-mul_right, div-le_of_le-mul}
+use native.Mathlib.Nat.{le_trans, le_of_eq, lt_of_le_of_lt, lt_of_lt_of_le, mul_assoc, mul_comm, mul_right_comm}
+use native.Mathlib.Nat.{mul-pos, zero-mul, one-mul, mul-le-mul_right, le_of_mul-le-mul_right, eq_of_mul-eq-mul_right}
+use native.Mathlib.Nat.{div-le_of_le-mul}
 use native.Mathlib.Omega.{arith}
 use lib.Dec.{T, ltb, eqb, ltb→lt, nltb→le, eqb→eq, not_T}
 use lib.IntN.{ℤ, pos, negsuc, neg_ℤ, nat_abs, ◌+ℤ◌, ◌-ℤ◌, ◌*ℤ◌, neg_ℤ-neg_ℤ}
 use lib.Pow.{pow-add, pow_mono, pow-lt, shl_lt}
-use lib.Ieee.{Float, nan, inf, fin, binary64, low, emax, up, down, size, round, units, odd, neg, sum, add, sub, mul, div, unlike}
+use lib.Ieee.{Float, nan, inf, fin, binary64, low, emax, up, down, size, round, units, odd, neg, sum, add, sub, mul}
+use lib.Ieee.{div, unlike}
 use lib.Ieee.Bits.{cond_no}
 use lib.Ieee.Digits.{back, size-le}
 use lib.Ieee.Fits.{down_pos, up_pos, round_is}
@@ -25,7 +28,8 @@ use Rattle.strength.specs.Next.{◌⊖◌, ◌⊗◌, ◌⊘◌}
 use Rattle.strength.specs.Rounded.{◌-ᶠ◌, ◌*ᶠ◌, ◌/ᶠ◌, sign, signed, value_of, Exactly, Rounded}
 use Rattle.strength.proofs.Even.{kept_le}
 use Rattle.strength.proofs.Rounding.{nat_abs_signed, signed_*ℤ, rounded}
-use Rattle.strength.proofs.Fractions.{over_pos, by_parts, value_positive, -ᶠ_positive, *ᶠ_positive, /ᶠ_positive, -ᶠ_cong, *ᶠ_cong, /ᶠ_cong}
+use Rattle.strength.proofs.Fractions.{over_pos, by_parts, value_positive, -ᶠ_positive, *ᶠ_positive}
+use Rattle.strength.proofs.Fractions.{/ᶠ_positive, -ᶠ_cong, *ᶠ_cong, /ᶠ_cong}
 
 -- x is the fraction q, handed to `round`
 pub record RoundOf (x : Float) (q : Frac) : Type 0 where

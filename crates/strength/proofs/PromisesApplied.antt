@@ -136,7 +136,8 @@ rounded_each :
 unfolding next_answer next_strength accepted usable hyperbola term eq sub mul div to_bits of_bits
 rounded_each = refl
 
--- K 0.1 at L 0.2 and K 0.1 at L 0.3: with K before L the last digit would be f, with L·K first a, with two quotients and
+-- K 0.1 at L 0.2 and K 0.1 at L 0.3: with K before L the last digit would be f, with L·K first a, with two quotients
+-- and
 -- then their difference c
 order_told :
     to_bits binary64

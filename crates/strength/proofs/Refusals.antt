@@ -25,7 +25,8 @@ use Rattle.strength.specs.Exact.{exact_strength, in64ths, Whole64ths, RefusesByE
 use Rattle.strength.specs.Promises.{FiniteAboveZero}
 use Rattle.strength.proofs.Tests.{refuses_level, refuses_result, gives}
 use Rattle.strength.proofs.Fractions.{over_pos, value_positive, nat_abs_pos, /ᶠ_positive}
-use Rattle.strength.proofs.OnlyRounding.{dividend, divisor, divisor_within, divisor_nonzero, division_is_the_only_rounding}
+use Rattle.strength.proofs.OnlyRounding.{dividend, divisor, divisor_within, divisor_nonzero}
+use Rattle.strength.proofs.OnlyRounding.{division_is_the_only_rounding}
 use Rattle.strength.proofs.Signs.{rounded_not_above, rounded_above}
 use Rattle.strength.proofs.Values.{says_positive, says_usable, eq_says}
 

@@ -33,7 +33,8 @@ module _ (m c : List ℤ) where
   abbrev load_where : Bool → Bool → Load
   load_where b d = cond (b && not d) (Exact (l c) (n c)) Absent
 
-  pub load_there : {a b : ℤ} → has_field c ≡ true → some_by_direction m ≡ false → a ≡ l c → b ≡ n c → Exact a b ≡ lower_load m c
+  pub load_there : {a b : ℤ} → has_field c ≡ true → some_by_direction m ≡ false → a ≡ l c → b ≡ n c
+      → Exact a b ≡ lower_load m c
   unfolding lower_load
   load_there e h f g = ap₂ Exact f g ∙ sym (ap₂ load_where e h)
 

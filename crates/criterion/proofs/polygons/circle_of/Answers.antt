@@ -33,9 +33,11 @@ returns-in-36-clause-corners c = ap (λ k. pairs_of (polygon_of k).corners) (sym
 pub returns-in_default-clause-radius : goal.returns-in_default-clause-radius
 unfolding shown
 returns-in_default-clause-radius c =
-    ap (λ k. (polygon_of k).radius) (sym (last_listed c.requires (λ e. omega arith) (λ e. omega arith) (λ e. omega arith)))
+    ap (λ k. (polygon_of k).radius)
+    (sym (last_listed c.requires (λ e. omega arith) (λ e. omega arith) (λ e. omega arith)))
 
 pub returns-in_default-clause-corners : goal.returns-in_default-clause-corners
 unfolding shown
 returns-in_default-clause-corners c =
-    ap (λ k. pairs_of (polygon_of k).corners) (sym (last_listed c.requires (λ e. omega arith) (λ e. omega arith) (λ e. omega arith)))
+    ap (λ k. pairs_of (polygon_of k).corners)
+    (sym (last_listed c.requires (λ e. omega arith) (λ e. omega arith) (λ e. omega arith)))

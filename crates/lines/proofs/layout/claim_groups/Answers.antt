@@ -73,7 +73,8 @@ all_good s pairs few f m = record {
 }
 
 -- a part that is there or not
-few_part : {g : Code.Group} {lo hi : ℤ} {r k w : ℕ} (there : Bool) → g ≡ even lo hi r w → r ≡ if_there there k → k ≤ most_lines
+few_part : {g : Code.Group} {lo hi : ℤ} {r k w : ℕ} (there : Bool) → g ≡ even lo hi r w → r ≡ if_there there k
+    → k ≤ most_lines
     → 0 < w → w ≤ most_columns → Few g
 few_part there e f n some few = few_of e (few_there there f n) some few
 

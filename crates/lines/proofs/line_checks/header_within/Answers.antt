@@ -17,4 +17,5 @@ pub returns-else-limits_hold : goal.returns-else-limits_hold
 unfolding mesh_header ranges
 returns-else-limits_hold c =
     c.if-limits_hold.false
-    ∙ sym (first_fails _ (mesh_header_limits c.args.m.now c.requires) (not_so c.limits_hold.ensures c.if-limits_hold.false))
+    ∙ sym (first_fails _ (mesh_header_limits c.args.m.now c.requires)
+    (not_so c.limits_hold.ensures c.if-limits_hold.false))

@@ -4,7 +4,9 @@ use Rattle.mesh.proofs.Places.{element_there, corner_read}
 use Rattle.mesh.proofs.Mesh.corner.Goals as goal
 
 pub thing-requires-clause-counted : goal.thing-requires-clause-counted
-thing-requires-clause-counted c = (element_there c.args.self.now.sized c.requires.there (omega arith) c.elements_from.ensures).1
+thing-requires-clause-counted c =
+    (element_there c.args.self.now.sized c.requires.there (omega arith) c.elements_from.ensures).1
 
 pub returns : goal.returns
-returns c = corner_read c.args.self.now.sized c.requires.there c.requires.at_corner c.elements_from.ensures c.thing.ensures
+returns c = corner_read c.args.self.now.sized c.requires.there c.requires.at_corner c.elements_from.ensures
+    c.thing.ensures

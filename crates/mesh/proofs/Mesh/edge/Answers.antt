@@ -5,20 +5,26 @@ use Rattle.mesh.proofs.Places.{edge_there, from_read, to_read, edge_read}
 use Rattle.mesh.proofs.Mesh.edge.Goals as goal
 
 pub thing-requires-clause-counted : goal.thing-requires-clause-counted
-thing-requires-clause-counted c = (edge_there c.args.self.now.sized c.requires (omega arith) c.edges_from-first.ensures).1
+thing-requires-clause-counted c =
+    (edge_there c.args.self.now.sized c.requires (omega arith) c.edges_from-first.ensures).1
 
 pub thing-requires-2-clause-counted : goal.thing-requires-2-clause-counted
-thing-requires-2-clause-counted c = (edge_there c.args.self.now.sized c.requires (omega arith) c.edges_from-first.ensures).1
+thing-requires-2-clause-counted c =
+    (edge_there c.args.self.now.sized c.requires (omega arith) c.edges_from-first.ensures).1
 
 pub invariant_of-result : goal.invariant_of-result
 invariant_of-result c =
     let k = c.args.self.now.sized in
     let first = c.edges_from-first.ensures in record {
       fixed_fits = Is-Within (edge_read k c.requires (omega arith) (omega arith) first c.entry.ensures) (omega arith);
-      dead_normal_fits = Is-Within (edge_read k c.requires (omega arith) (omega arith) first c.entry-2.ensures) (omega arith);
-      dead_shear_fits = Is-Within (edge_read k c.requires (omega arith) (omega arith) first c.entry-3.ensures) (omega arith);
-      live_normal_fits = Is-Within (edge_read k c.requires (omega arith) (omega arith) first c.entry-4.ensures) (omega arith);
-      live_shear_fits = Is-Within (edge_read k c.requires (omega arith) (omega arith) first c.entry-5.ensures) (omega arith);
+      dead_normal_fits = Is-Within (edge_read k c.requires (omega arith) (omega arith) first c.entry-2.ensures)
+          (omega arith);
+      dead_shear_fits = Is-Within (edge_read k c.requires (omega arith) (omega arith) first c.entry-3.ensures)
+          (omega arith);
+      live_normal_fits = Is-Within (edge_read k c.requires (omega arith) (omega arith) first c.entry-4.ensures)
+          (omega arith);
+      live_shear_fits = Is-Within (edge_read k c.requires (omega arith) (omega arith) first c.entry-5.ensures)
+          (omega arith);
     }
 
 pub returns : goal.returns

@@ -4,16 +4,20 @@ use Rattle.mesh.proofs.Places.{jump_there, jump_read}
 use Rattle.mesh.proofs.Mesh.jump.Goals as goal
 
 pub thing-requires-clause-counted : goal.thing-requires-clause-counted
-thing-requires-clause-counted c = (jump_there c.args.self.now.sized c.requires (omega arith) c.jumps_from-first.ensures).1
+thing-requires-clause-counted c =
+    (jump_there c.args.self.now.sized c.requires (omega arith) c.jumps_from-first.ensures).1
 
 pub thing-requires-2-clause-counted : goal.thing-requires-2-clause-counted
-thing-requires-2-clause-counted c = (jump_there c.args.self.now.sized c.requires (omega arith) c.jumps_from-first.ensures).1
+thing-requires-2-clause-counted c =
+    (jump_there c.args.self.now.sized c.requires (omega arith) c.jumps_from-first.ensures).1
 
 pub thing-requires-3-clause-counted : goal.thing-requires-3-clause-counted
-thing-requires-3-clause-counted c = (jump_there c.args.self.now.sized c.requires (omega arith) c.jumps_from-first.ensures).1
+thing-requires-3-clause-counted c =
+    (jump_there c.args.self.now.sized c.requires (omega arith) c.jumps_from-first.ensures).1
 
 pub thing-requires-4-clause-counted : goal.thing-requires-4-clause-counted
-thing-requires-4-clause-counted c = (jump_there c.args.self.now.sized c.requires (omega arith) c.jumps_from-first.ensures).1
+thing-requires-4-clause-counted c =
+    (jump_there c.args.self.now.sized c.requires (omega arith) c.jumps_from-first.ensures).1
 
 pub returns : goal.returns
 returns c =

@@ -12,10 +12,14 @@ use Rattle.mesh.proofs.reading.count_at.Goals as goal
 
 pub overflow_cast-result : goal.overflow_cast-result
 unfolding at
-overflow_cast-result c = (meets (search (machine, unbounded) depth 30) (omega arith) c.requires.counted, meets (search (machine, unbounded) depth 30) (omega arith) (omega arith))
+overflow_cast-result c = (
+  meets (search (machine, unbounded) depth 30) (omega arith) c.requires.counted,
+  meets (search (machine, unbounded) depth 30) (omega arith) (omega arith),
+)
 
 pub returns : goal.returns
 unfolding at
 returns c =
     let z = at c.args.ns.now c.args.k in
-    by_value (λ (v : ℤ). nat_abs v ≡ count z) {v = to_z w64 (of_z w64 z)} (search (machine, unbounded) depth 30) (omega arith) (count_nat_abs c.requires.counted)
+    by_value (λ (v : ℤ). nat_abs v ≡ count z) {v = to_z w64 (of_z w64 z)} (search (machine, unbounded) depth 30)
+    (omega arith) (count_nat_abs c.requires.counted)

@@ -20,7 +20,8 @@ overflow_add-count c =
     let counts = rows.mesh.mesh.sized.facts.counts in
     let there : c.loop-a.a < pair_count rows.mesh.mesh.numbers.now =
     omega (arith, pairs_counted _ _ rows.mesh.paired) in
-    let small = count_small _ _ _ _ _ counts rows.mesh.few_with_sides c.loop-a.a (omega (arith, there)) c.loop-a.invariant in
+    let small = count_small _ _ _ _ _ counts rows.mesh.few_with_sides c.loop-a.a
+    (omega (arith, there)) c.loop-a.invariant in
     record { fits = omega (arith, small, few_open _ _ _ _ _ counts c.loop-a.a c.open_in_pair-count.ensures) }
 
 pub loop-a-preserved : goal.loop-a-preserved

@@ -22,7 +22,8 @@ returns-in_err-add_pairs-clause-outcome c =
     let h = c.loop-v.invariant in
     let few = c.most_pairs-most.ensures.with_sides ∙ ap pairs_with c.args.marked.now.mesh.sized.sides_are in
     asked_stops (pairs_fit _) (all_fit _ h) (fits_here _ h) c.from_residual.result c.in_err-add_pairs.field-0.0
-    c.from_residual.ensures.1 refl (rw few at c.in_err-add_pairs.ensures.outcome) (λ v. Node (suc v)) (ap Node (add-one _))
+    c.from_residual.ensures.1 refl (rw few at c.in_err-add_pairs.ensures.outcome) (λ v. Node (suc v))
+    (ap Node (add-one _))
     (nodes _) (omega (arith, c.args.marked.now.mesh.sized.nodes_are))
 
 pub loop-v-preserved : goal.loop-v-preserved

@@ -12,7 +12,8 @@ returns c =
     let found = c.in_ok-field.ensures.found in
     let load = Is-read (Is-within field.l_fits) (omega arith) in
     let scale = Is-read (Is-within field.n_fits) (omega arith) in
-    load_there _ _ found.there (sym c.lists_direction.ensures ∙ c.if-lists_direction.false) (load.same ∙ found.its_load) (scale.same ∙ found.its_scale)
+    load_there _ _ found.there (sym c.lists_direction.ensures ∙ c.if-lists_direction.false)
+    (load.same ∙ found.its_load) (scale.same ∙ found.its_scale)
 
 pub returns-in_err-field : goal.returns-in_err-field
 returns-in_err-field c = ap load_of c.from_residual.ensures ∙ no_load _ _ c.in_err-field.ensures.none

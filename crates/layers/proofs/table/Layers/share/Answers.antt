@@ -47,7 +47,8 @@ returns-then-from-a c =
     let most = c.args.heights.high in
     let end = a.top in
     let other = b.top in
-    let two : c.if-from-heights.value ≡ first_two c.args.self.now.numbers.now c.args.heights.lo c.args.heights.hi c.args.i c.args.j =
+    let two : c.if-from-heights.value ≡ first_two c.args.self.now.numbers.now c.args.heights.lo c.args.heights.hi
+    c.args.i c.args.j =
     elim c.if-from-heights.branch [
       | then-from-heights w ↦
           w.value-is
@@ -55,7 +56,8 @@ returns-then-from-a c =
           (decides (search (machine, casts) depth 30) (omega arith))
           (decides (search (machine, casts) depth 30) (omega arith))
       | else-from-heights w ↦
-          w.value-is ∙ and_not_first _ w.if-from-heights.false (decides (search (machine, casts) depth 30) (omega arith))
+          w.value-is ∙ and_not_first _ w.if-from-heights.false
+          (decides (search (machine, casts) depth 30) (omega arith))
     ] in
     and_second c.if-from-a.true two (decides (search (machine, casts) depth 30) (omega arith))
 
@@ -68,7 +70,8 @@ returns-else-from-a c =
     from_is _ c.args.i c.args.j c.args.heights.low a.bottom b.bottom c.max.ensures.value c.max-from.ensures.value in
     let most = c.args.heights.high in
     let end = a.top in
-    let two : c.if-from-heights.value ≡ first_two c.args.self.now.numbers.now c.args.heights.lo c.args.heights.hi c.args.i c.args.j =
+    let two : c.if-from-heights.value ≡ first_two c.args.self.now.numbers.now c.args.heights.lo c.args.heights.hi
+    c.args.i c.args.j =
     elim c.if-from-heights.branch [
       | then-from-heights w ↦
           w.value-is
@@ -76,6 +79,7 @@ returns-else-from-a c =
           (decides (search (machine, casts) depth 30) (omega arith))
           (decides (search (machine, casts) depth 30) (omega arith))
       | else-from-heights w ↦
-          w.value-is ∙ and_not_first _ w.if-from-heights.false (decides (search (machine, casts) depth 30) (omega arith))
+          w.value-is ∙ and_not_first _ w.if-from-heights.false
+          (decides (search (machine, casts) depth 30) (omega arith))
     ] in
     and_not_first _ c.if-from-a.false two

@@ -10,7 +10,8 @@ pub returns-then-all_before : goal.returns-then-all_before
 returns-then-all_before c =
     let self = c.args.self.now in
     down_rest _ _ c.loop-d.invariant
-    (λ k l. rest_before _ self.turned self.boxed _ c.args.e (omega arith) c.requires (sym c.if-all_before.ensures) k (omega arith))
+    (λ k l. rest_before _ self.turned self.boxed _ c.args.e (omega arith) c.requires (sym c.if-all_before.ensures) k
+    (omega arith))
 
 pub returns-then-not-apart_from : goal.returns-then-not-apart_from
 unfolding lies_apart
