@@ -21,7 +21,7 @@ use Rattle.scope.specs.Polygon.{Point}
 use Rattle.scope.specs.Rows.{sx, sy, t, plane_row}
 use Rattle.scope.specs.RowNumbers.{plus_minus}
 use Rattle.scope.specs.Sums.{weighted_sum, left_side, right_side}
-use Rattle.scope.specs.Bounds.{most_friction, most_cohesion}
+use Rattle.scope.specs.Mesh.{most_friction, most_cohesion}
 use Rattle.scope.specs.NumberRanges.{SoilFacts}
 use Rattle.scope.proofs.SumBounds.{from_0, apart}
 

@@ -1,14 +1,9 @@
 // What the rows of a soil by direction read of it and of a node, and their slacks.
 ghost use Rattle.std.specs.Prelude.{◌+◌, ◌*◌};
 ghost use Rattle.integer.specs.Bounds.{Within};
-ghost use Rattle.scope.specs.Bounds.{
-  most_friction,
-  most_cohesion,
-  most_scale,
-  most_stress,
-  most_plane_radius,
-  plane_square,
-};
+ghost use Rattle.scope.specs.Bounds.{most_plane_radius, plane_square};
+ghost use Rattle.scope.specs.Mesh.{most_friction, most_cohesion};
+ghost use Rattle.scope.specs.Claim.{most_scale, most_stress};
 
 // A soil by r, p, q, ch and cv - ch: "each ≤ q·n·(r²·ch + (cv-ch)·a²)".
 #[derive(Clone, Copy)]

@@ -7,7 +7,6 @@ mod bounds;
 
 ghost use Rattle.std.specs.Prelude.{◌≡◌, true, not, eqb};
 ghost use Rattle.scope.specs.Answer.{verdict_of};
-ghost use Rattle.scope.specs.TableVerdict.{tabled_verdict};
 ghost use Rattle.reader.specs.File.{file_width};
 ghost use Rattle.judge.specs.Judge.{files_verdict};
 ghost use Rattle.book.specs.Book.{empty_book, takes_ask, followed, unjudged, judged, asked, committed};
@@ -16,7 +15,6 @@ ghost use Rattle.book.specs.Answer.{kept_of, told_of, error_number};
 use bounds::{Bound, is_proper};
 use judge::judge_files;
 use scope::{Load, Verdict};
-use verdict::check_numbers;
 
 // What is kept: the highest carried load and the lowest limit, each where there is one, and how many claims were
 // committed.
@@ -143,31 +141,6 @@ impl Book {
             return self.unjudged();
         }
         let Reply { said, book } = self.ask(mesh, table, claim);
-        self = book;
-        Reply { said, book: self }
-    }
-
-    // An ask, of a mesh, a table and a claim handed over as numbers.
-    #[tactic(auto, unfolding(crate::specs::Book::asked))]
-    pub fn ask_numbers(self, m: &[i64], t: &[i64], c: &[i64]) -> Reply
-        ensures { told_of result ≡ asked (kept_of self) (tabled_verdict t.now m.now c.now) }
-    {
-        if self.takes_ask() {
-            self.judged(check_numbers(m, t, c))
-        } else {
-            self.unjudged()
-        }
-    }
-
-    // A commit, of a mesh, a table and a claim handed over as numbers.
-    #[tactic(auto, unfolding(crate::specs::Book::asked, crate::specs::Book::committed, crate::specs::Book::takes_commit))]
-    pub fn commit_numbers(mut self, count: u64, m: &[i64], t: &[i64], c: &[i64]) -> Reply
-        ensures { told_of result ≡ committed (kept_of self) count (tabled_verdict t.now m.now c.now) }
-    {
-        if self.is_stale(count) {
-            return self.unjudged();
-        }
-        let Reply { said, book } = self.ask_numbers(m, t, c);
         self = book;
         Reply { said, book: self }
     }

@@ -16,7 +16,7 @@ use Rattle.std.proofs.lemmas.List.{get_or_past}
 use Rattle.integer.specs.Bounds.{Within, AllWithin}
 use Rattle.integer.proofs.BoundLaws.{Within-le, all_within_lem}
 use Rattle.integer.specs.Tests.{eq_z}
-use Rattle.scope.specs.Bounds.{most_scale, most_load, most_stress, most_multiplier}
+use Rattle.scope.specs.Claim.{most_scale, most_load, most_stress, most_multiplier}
 use Rattle.scope.specs.Columns.{at, has_field, has_multipliers, n, l}
 use Rattle.scope.specs.Layout.{groups, numbers_before}
 use Rattle.scope.specs.Mesh.{strength_multiplier, nodes, elements, edges, sides, jumps, equality_count}

@@ -29,7 +29,7 @@ use Rattle.criterion.proofs.SideLaws.{side_count, side_step}
 use Rattle.integer.specs.Bounds.{Within, Is}
 use Rattle.scope.specs.Mesh.{nodes, soils, sides, p, q, h, cohesion, by_direction}
 use Rattle.mesh.specs.declared.sizes.Sizes.{Sizes}
-use Rattle.scope.specs.Bounds.{most_friction, most_cohesion}
+use Rattle.scope.specs.Mesh.{most_friction, most_cohesion}
 use Rattle.scope.specs.Columns.{at, n, l}
 use Rattle.scope.specs.declared.Place.TheVariants as P
 use Rattle.scope.specs.Cases.Outcome.{Passed, Refused}

@@ -12,7 +12,7 @@ ghost use Rattle.std.specs.Prelude.{
   IfNone,
 };
 ghost use Rattle.integer.specs.Bounds.{Within, AllWithin};
-ghost use Rattle.scope.specs.Bounds.{most_multiplier};
+ghost use Rattle.scope.specs.Claim.{most_multiplier};
 ghost use Rattle.scope.specs.Columns.{at, has_field, has_multipliers};
 ghost use Rattle.scope.specs.Claim.{if_there, multiplier};
 ghost use Rattle.scope.specs.Mesh.{strength_multiplier, most_nodes, sides, equality_count};

@@ -1,7 +1,7 @@
 // A claim's field: the stresses of the nodes and the load, and the strength rows of a pair there.
 ghost use Rattle.std.specs.Prelude.{◌≡◌, true, ◌*◌, ◌<◌, ◌≤◌, length, IfSome, IfNone};
 ghost use Rattle.integer.specs.Bounds.{Within, AllWithin};
-ghost use Rattle.scope.specs.Bounds.{most_scale, most_load, most_stress};
+ghost use Rattle.scope.specs.Claim.{most_scale, most_load, most_stress};
 ghost use Rattle.scope.specs.Columns.{at};
 ghost use Rattle.scope.specs.Mesh.{nodes, sides, by_direction};
 ghost use Rattle.scope.specs.Rows.{pair_count, pair_at};

@@ -2,7 +2,7 @@
 ghost use Rattle.std.specs.Prelude.{◌≡◌, true, ◌+◌, ◌*◌, ◌<◌, length, pos, IfSome, IfNone};
 ghost use Rattle.std.specs.Int.Signed.{le_z};
 ghost use Rattle.integer.specs.Bounds.{Within, AllWithin};
-ghost use Rattle.scope.specs.Bounds.{most_scale, most_stress};
+ghost use Rattle.scope.specs.Claim.{most_scale, most_stress};
 ghost use Rattle.scope.specs.Checks.{all_below};
 ghost use Rattle.scope.specs.Columns.{at};
 ghost use Rattle.scope.specs.Mesh.{by_direction};

@@ -1,12 +1,7 @@
 // What the strength rows of a pair of a node and a soil read: of the soil, and of the node's stresses with it.
 ghost use Rattle.integer.specs.Bounds.{Within};
-ghost use Rattle.scope.specs.Bounds.{
-  most_friction,
-  most_lever,
-  twice_strength,
-  most_spread,
-  most_reserve,
-};
+ghost use Rattle.scope.specs.Bounds.{most_lever, twice_strength, most_spread, most_reserve};
+ghost use Rattle.scope.specs.Mesh.{most_friction};
 
 // Of a soil: r·h, p and 2qC.
 #[derive(Clone, Copy)]

@@ -5,7 +5,8 @@ ghost use Rattle.std.specs.List.{list_all};
 ghost use Rattle.std.specs.Int.Signed.{le_z};
 ghost use Rattle.integer.specs.Bounds.{Is, Within, AllWithin};
 ghost use Rattle.scope.specs.Mesh.{soils};
-ghost use Rattle.scope.specs.Bounds.{most_radius, most_scale, most_stress, most_slack};
+ghost use Rattle.scope.specs.Bounds.{most_radius, most_slack};
+ghost use Rattle.scope.specs.Claim.{most_scale, most_stress};
 ghost use Rattle.lines.specs.SearchContracts.{first_failing};
 ghost use Rattle.criterion.specs.StrengthContracts.{SoilIs, PairIs, step_at, side_slack};
 

@@ -15,7 +15,8 @@ use Rattle.integer.proofs.Ring.{ring, terms}
 use Rattle.integer.specs.Bounds.{Within, AllWithin, Is}
 use Rattle.integer.proofs.BoundLaws.{Within-le, Within-+ℤ, Within-*ℤ}
 use Rattle.integer.proofs.Machine.{Is-as, Is-Within}
-use Rattle.scope.specs.Bounds.{most_multiplier, most_entries, most_coefficient, equality_column, most_column}
+use Rattle.scope.specs.Bounds.{most_entries, most_coefficient, equality_column, most_column}
+use Rattle.scope.specs.Claim.{most_multiplier}
 use Rattle.scope.specs.Columns.{at}
 use Rattle.scope.specs.Sums.{weighted_sum, unit}
 use Rattle.equality.specs.declared.row.Term.{Term}

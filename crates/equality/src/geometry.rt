@@ -1,7 +1,8 @@
 // What the equality rows read of a mesh's shape: an element's corners and its span, and the step of an edge or a jump.
 ghost use Rattle.std.specs.Prelude.{◌≡◌, ◌<◌, ◌+ℤ◌, ◌-ℤ◌, ◌*ℤ◌};
 ghost use Rattle.integer.specs.Bounds.{Within, Is};
-ghost use Rattle.scope.specs.Bounds.{most_coordinate, most_area, most_square};
+ghost use Rattle.scope.specs.Bounds.{most_area, most_square};
+ghost use Rattle.scope.specs.Mesh.{most_coordinate};
 ghost use Rattle.scope.specs.Mesh.{nodes, elements, x, y};
 
 use crate::axes::Axis;

@@ -2,18 +2,8 @@
 ghost use Rattle.std.specs.Prelude.{◌≡◌, ◌<◌, ◌+◌, ◌+ℤ◌, ◌*ℤ◌, neg_ℤ, length, set};
 ghost use Rattle.integer.specs.Bounds.{Within, AllWithin};
 ghost use Rattle.scope.specs.Columns.{at};
-ghost use Rattle.scope.specs.Bounds.{
-  most_stress,
-  most_load,
-  most_scale,
-  most_multiplier,
-  most_coefficient,
-  equality_right,
-  equality_left,
-  equality_column,
-  most_column,
-  most_addend,
-};
+ghost use Rattle.scope.specs.Bounds.{most_coefficient, equality_right, equality_left, equality_column, most_column, most_addend};
+ghost use Rattle.scope.specs.Claim.{most_stress, most_load, most_scale, most_multiplier};
 ghost use Rattle.scope.specs.Sums.{weighted_sum, unit, row_holds};
 
 use crate::row_sums::{add_terms, left_side};

@@ -2,16 +2,8 @@
 ghost use Rattle.std.specs.Prelude.{◌≤◌, ◌+◌, ◌+ℤ◌, ◌*ℤ◌, map, length};
 ghost use Rattle.integer.specs.Bounds.{Within, AllWithin, Is};
 ghost use Rattle.scope.specs.Columns.{at};
-ghost use Rattle.scope.specs.Bounds.{
-  most_stress,
-  most_load,
-  most_multiplier,
-  most_entries,
-  equality_right,
-  equality_left,
-  equality_column,
-  most_column,
-};
+ghost use Rattle.scope.specs.Bounds.{most_entries, equality_right, equality_left, equality_column, most_column};
+ghost use Rattle.scope.specs.Claim.{most_stress, most_load, most_multiplier};
 ghost use Rattle.scope.specs.Sums.{weighted_sum, unit};
 ghost use Rattle.equality.specs.EqualityContracts.{entry_of, ColumnsBelow, SumsAre};
 

@@ -1,6 +1,6 @@
 // What an edge says of a part of its traction.
 ghost use Rattle.integer.specs.Bounds.{Within};
-ghost use Rattle.scope.specs.Bounds.{most_traction};
+ghost use Rattle.scope.specs.Mesh.{most_traction};
 
 use crate::parts::Part;
 use mesh::entries::Edge;

@@ -47,7 +47,7 @@ use Rattle.judge.proofs.FilesJudged.{some_file}
 -- ---- 1 without a table
 
 plain_one : (m c : List ℤ) (p : Place) → verdict m c ≡ Refused 1 p → lines_check mesh_layout m ≡ Fails 1 p
-unfolding mesh_layout claim_layout
+unfolding layout_with claim_layout
 plain_one m c p e = (lines_refusal mesh_layout m).refused 1 p (only (by_lines ((refused_exactly m c 1 p).0 e)))
   where
     only : ByLines m c 1 p → LineRefusal mesh_layout m 1 p
@@ -173,7 +173,7 @@ module _ (w : ℕ) (m : List ℤ) (claim : List ℕ) (j : ℕ) where
 
   read_claim_form : (verdict m (claim_numbers w m claim) ≡ Refused 11 (Line (suc j))) ↔
       (MeshSound m × FormFails w (claim_layout m) claim j)
-  unfolding claim_numbers mesh_layout claim_layout c
+  unfolding claim_numbers layout_with claim_layout c
   read_claim_form = (
     λ e. let (s, r) = only (by_lines ((refused_exactly m c 11 (Line (suc j))).0 e)) in
         (s, (form s).0 (lines.refused 11 (Line (suc j)) r)),

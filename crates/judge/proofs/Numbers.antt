@@ -78,7 +78,7 @@ alone_verdict w m c x y = by (lines_check mesh_layout m) refl
 
 -- a table adds a soil that an element may name, and no column
 same_file : (b : Bool) (w : ℕ) (m : List ℤ) → file_of w (layout_with b) m ≡ file_of w mesh_layout m
-unfolding file_of layout_with mesh_layout element_lines widths
+unfolding file_of layout_with element_lines widths
 same_file b w m = refl
 
 -- an outcome that passes where its places are moved passes where they are not

@@ -10,7 +10,7 @@ use lib.IntN.{ℤ, pos}
 use lib.Signed.{◌≤ℤ◌}
 use Rattle.std.specs.List.{fold, reduce, sum, range_with_len}
 use Rattle.std.specs.Option.{unwrap_or}
-use Rattle.scope.specs.Bounds.{most_coordinate}
+use Rattle.scope.specs.Mesh.{most_coordinate}
 use Rattle.scope.specs.Layout.{count}
 use Rattle.scope.specs.Mesh.{nodes, elements, y, corner}
 use Rattle.scope.specs.NumberRanges.{MeshFacts}

@@ -1,6 +1,6 @@
 // The heights of nodes and elements: from the lowest node to the highest, and the sum of an element's corners.
 ghost use Rattle.std.specs.Prelude.{◌≡◌, ◌<◌, ◌≤◌, ◌*◌};
-ghost use Rattle.scope.specs.Bounds.{most_coordinate};
+ghost use Rattle.scope.specs.Mesh.{most_coordinate};
 ghost use Rattle.scope.specs.Filled.{height_of};
 ghost use Rattle.scope.specs.Layers.{lowest, highest};
 ghost use Rattle.scope.specs.Layout.{count};

@@ -1,7 +1,7 @@
 // A borehole table whose lines have passed: its layers, which of them has a height, and whether two share one.
 ghost use Rattle.std.specs.Prelude.{◌≡◌, ◌<◌, ◌≤◌, ◌*◌, IfSome, IfNone};
 ghost use Rattle.std.proofs.Props.{props};
-ghost use Rattle.scope.specs.Bounds.{most_coordinate};
+ghost use Rattle.scope.specs.Mesh.{most_coordinate};
 ghost use Rattle.scope.specs.Layers.{layers, has, top_above, apart};
 ghost use Rattle.scope.specs.Rows.{first_where};
 ghost use Rattle.layers.specs.LayerContracts.{TableRead, IsLayer, meet};

@@ -220,7 +220,7 @@ unfolding groups groups_check group_check line_check layout_with file_numbers
 mesh_starts tabled m = record { same = lines_by_groups (layout_with tabled) m }
 
 pub mesh_header_group : (m : List ℤ) → line_at mesh_layout m 0 ≡ group_check (file_numbers MESH_FILE) mesh_header m 1
-unfolding group_check lowest line_at line_of line_check groups line_numbers mesh_layout mesh_header file_numbers
+unfolding group_check lowest line_at line_of line_check groups line_numbers layout_with mesh_header file_numbers
 mesh_header_group m = refl
 
 pub claim_starts : (m c : List ℤ)

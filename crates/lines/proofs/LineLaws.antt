@@ -38,7 +38,7 @@ use Rattle.scope.specs.Columns.{has_field, has_multipliers, names, all_named, ru
 use Rattle.scope.specs.Layout.{Group, Layout, width, groups, line_of, line_numbers}
 use Rattle.scope.specs.Verdict.{line_check, line_at, rules_hold}
 use Rattle.scope.specs.Mesh.{most_nodes, most_sides, listed_sides, nodes_for_108, most_jumps, mesh_header_columns}
-use Rattle.scope.specs.Mesh.{soil_columns, mesh_layout}
+use Rattle.scope.specs.Mesh.{soil_columns, mesh_layout, layout_with}
 use Rattle.scope.specs.Mesh.{mesh_header, soil_lines, element_lines, edge_lines, jump_lines}
 use Rattle.scope.specs.Table.{layer_lines}
 use Rattle.mesh.specs.declared.sizes.Sizes.{Sizes}
@@ -251,7 +251,7 @@ layer_limits ss (a ∷ b ∷ d ∷ s) = refl
 
 pub mesh_header_line : (m : List ℤ) → line_check mesh_layout mesh_header (take mesh_header_columns m) (Line 1)
     ≡ line_at mesh_layout m 0
-unfolding line_at line_of groups line_numbers mesh_layout mesh_header
+unfolding line_at line_of groups line_numbers layout_with mesh_header
 mesh_header_line m = refl
 
 -- the number of sides z is listed, and the number of jumps j is within its limits

@@ -19,7 +19,7 @@ use Rattle.scope.specs.Layout.{groups, numbers_before, count, entry}
 use Rattle.scope.specs.Mesh.{most_nodes, most_elements, most_soils, most_edges, most_sides, most_jumps}
 use Rattle.scope.specs.Mesh.{mesh_header_columns, soil_columns, node_columns, element_columns, edge_columns}
 use Rattle.scope.specs.Mesh.{jump_columns, mesh_header, soil_lines, node_lines, element_lines, edge_lines, jump_lines}
-use Rattle.scope.specs.Mesh.{mesh_layout, mesh_groups, nodes, elements, soils, edges, sides, jumps, p, q, h, cohesion}
+use Rattle.scope.specs.Mesh.{layout_with, mesh_groups, nodes, elements, soils, edges, sides, jumps, p, q, h, cohesion}
 use Rattle.scope.specs.Mesh.{soil_kind, cohesion_across, soil_entry, x, y, corner, element_soil, edge_entry}
 use Rattle.scope.specs.Mesh.{from_node, to_node, jump_entry, jump_from, jump_to, facing_from, facing_to}
 use Rattle.scope.specs.Filled.{soil_place}
@@ -170,31 +170,31 @@ jump_node_lem f (suc (suc (suc (suc c)))) l = absurd (omega arith)
 
 module _ {m : List ℤ} {s : Sizes} (k : Sized m s) where
   soil-at : (i c : ℕ) → entry (mesh_groups m) m 1 i c ≡ at m (mesh_header_columns + i * soil_columns + c)
-  unfolding entry numbers_before mesh_groups groups mesh_layout mesh_header soil_lines node_lines element_lines
+  unfolding entry numbers_before mesh_groups groups layout_with mesh_header soil_lines node_lines element_lines
       edge_lines
   soil-at i c = ap (at m) (omega arith)
 
   node_at : {from : ℕ} → from ≡ nodes_from s → (i c : ℕ) → entry (mesh_groups m) m 2 i c
       ≡ at m (from + i * node_columns + c)
-  unfolding entry numbers_before mesh_groups groups mesh_layout mesh_header soil_lines node_lines element_lines
+  unfolding entry numbers_before mesh_groups groups layout_with mesh_header soil_lines node_lines element_lines
       edge_lines
   node_at b i c = ap (at m) (omega (arith, k.soils_are))
 
   element_at : {from : ℕ} → from ≡ elements_from s → (i c : ℕ)
       → entry (mesh_groups m) m 3 i c ≡ at m (from + i * element_columns + c)
-  unfolding entry numbers_before mesh_groups groups mesh_layout mesh_header soil_lines node_lines element_lines
+  unfolding entry numbers_before mesh_groups groups layout_with mesh_header soil_lines node_lines element_lines
       edge_lines
   element_at b i c = ap (at m) (omega (arith, k.soils_are, k.nodes_are))
 
   edge_at : {from : ℕ} → from ≡ edges_from s → (i c : ℕ) → entry (mesh_groups m) m 4 i c
       ≡ at m (from + i * edge_columns + c)
-  unfolding entry numbers_before mesh_groups groups mesh_layout mesh_header soil_lines node_lines element_lines
+  unfolding entry numbers_before mesh_groups groups layout_with mesh_header soil_lines node_lines element_lines
       edge_lines
   edge_at b i c = ap (at m) (omega (arith, k.soils_are, k.nodes_are, k.elements_are))
 
   jump_at : {from : ℕ} → from ≡ jumps_from s → (i c : ℕ) → entry (mesh_groups m) m 5 i c
       ≡ at m (from + i * jump_columns + c)
-  unfolding entry numbers_before mesh_groups groups mesh_layout mesh_header soil_lines node_lines element_lines
+  unfolding entry numbers_before mesh_groups groups layout_with mesh_header soil_lines node_lines element_lines
       edge_lines jump_lines
   jump_at b i c = ap (at m) (omega (arith, k.soils_are, k.nodes_are, k.elements_are, k.edges_are))
 
@@ -294,7 +294,7 @@ module _ {m : List ℤ} {s : Sizes} (k : Sized m s) where
 -- where an element's soil stands
 pub soil_place_is : {s : Sizes} {r from : ℕ} (e : ℕ) → from ≡ elements_from s → r ≡ from + e * element_columns + 4
     → (m : List ℤ) → SizesAre m s → r ≡ soil_place m e
-unfolding soil_place numbers_before mesh_groups groups mesh_layout mesh_header soil_lines node_lines element_lines
+unfolding soil_place numbers_before mesh_groups groups layout_with mesh_header soil_lines node_lines element_lines
     edge_lines jump_lines
 soil_place_is e b d m k = omega (arith, b, d, k.soils_are, k.nodes_are)
 

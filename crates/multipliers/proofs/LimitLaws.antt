@@ -22,7 +22,8 @@ use Rattle.integer.specs.Tests.{eq_z}
 use Rattle.integer.proofs.Machine.{machine, told, apart}
 use Rattle.integer.proofs.TestLaws.{yes_eq_z, no_eq_z}
 use Rattle.scope.specs.Answer.{load_of}
-use Rattle.scope.specs.Bounds.{most_multiplier, most_column}
+use Rattle.scope.specs.Bounds.{most_column}
+use Rattle.scope.specs.Claim.{most_multiplier}
 use Rattle.scope.specs.Cases.Outcome.{Outcome, Passed, Refused}
 use Rattle.scope.specs.Checks.{demand, ◌then◌, lowest}
 use Rattle.scope.specs.Columns.{at, has_multipliers}

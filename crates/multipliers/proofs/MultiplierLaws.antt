@@ -15,7 +15,8 @@ use Rattle.std.proofs.Common.{map}
 use Rattle.equality.specs.declared.row.Term.{Term}
 use Rattle.equality.specs.declared.row.EqualityRow.{EqualityRow}
 use Rattle.multipliers.specs.declared.sums.Sums.{Sums}
-use Rattle.scope.specs.Bounds.{most_multiplier, most_entries, most_coefficient, equality_right}
+use Rattle.scope.specs.Bounds.{most_entries, most_coefficient, equality_right}
+use Rattle.scope.specs.Claim.{most_multiplier}
 use Rattle.scope.specs.Claim.{if_there}
 use Rattle.scope.specs.Mesh.{strength_multiplier, most_equality_rows, sides, equality_count}
 use Rattle.scope.specs.Columns.{at, has_multipliers}

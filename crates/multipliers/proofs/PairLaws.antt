@@ -26,7 +26,8 @@ use mir.Syntax.{w64}
 use mir.Val.{to_z, of_z}
 use Rattle.integer.proofs.Machine.{machine, exact, Is-as, Is-Within}
 use Rattle.scope.specs.Mesh.{strength_multiplier, most_sides, sides, p, q, h, cohesion, by_direction, equality_count}
-use Rattle.scope.specs.Bounds.{most_multiplier, strength_sum}
+use Rattle.scope.specs.Bounds.{strength_sum}
+use Rattle.scope.specs.Claim.{most_multiplier}
 use Rattle.scope.specs.PolygonRule.{ListedPolygon}
 use Rattle.scope.proofs.PolygonRule.{listed_polygon}
 use Rattle.scope.proofs.SideLimits.{strength_most}

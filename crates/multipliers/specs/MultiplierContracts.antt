@@ -4,7 +4,8 @@ use Rattle.std.specs.Prelude.{◌≡◌, Bool, cond, List, ℕ, zero, suc, ◌+�
 use Rattle.std.specs.Prelude.{length}
 use Rattle.integer.specs.Bounds.{Within, AllWithin, Is}
 use Rattle.scope.specs.Mesh.{strength_multiplier, most_nodes, most_sides, sides, equality_count}
-use Rattle.scope.specs.Bounds.{most_multiplier, weighted_step, weighted_cross, equality_column}
+use Rattle.scope.specs.Bounds.{weighted_step, weighted_cross, equality_column}
+use Rattle.scope.specs.Claim.{most_multiplier}
 use Rattle.scope.specs.Bounds.{equality_sum, equality_columns, equality_sums, strength_sum, pair_column, most_column}
 use Rattle.scope.specs.Bounds.{most_sum}
 use Rattle.scope.specs.Columns.{at}

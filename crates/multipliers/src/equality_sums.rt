@@ -2,7 +2,8 @@
 // are made from what they all read of the mesh, and none of them where all their multipliers are 0.
 ghost use Rattle.std.specs.Prelude.{◌≡◌, true, ℕ, pos, ◌+◌, ◌*◌, ◌<◌, ◌≤◌, ◌+ℤ◌, ◌*ℤ◌, length};
 ghost use Rattle.integer.specs.Bounds.{Within};
-ghost use Rattle.scope.specs.Bounds.{most_multiplier, equality_sums};
+ghost use Rattle.scope.specs.Bounds.{equality_sums};
+ghost use Rattle.scope.specs.Claim.{most_multiplier};
 ghost use Rattle.scope.specs.Columns.{at};
 ghost use Rattle.scope.specs.Mesh.{nodes, elements, edges, equality_count};
 ghost use Rattle.scope.specs.Rows.{equality_rows};

@@ -2,7 +2,8 @@
 ghost use Rattle.std.specs.Prelude.{◌≡◌, [], ◌∷◌, ◌*◌, ◌<◌, ◌≤◌, length, IfOk};
 ghost use Rattle.integer.specs.Bounds.{AllWithin};
 ghost use Rattle.scope.specs.Answer.{outcome_of, load_of};
-ghost use Rattle.scope.specs.Bounds.{most_multiplier, most_column};
+ghost use Rattle.scope.specs.Bounds.{most_column};
+ghost use Rattle.scope.specs.Claim.{most_multiplier};
 ghost use Rattle.scope.specs.Columns.{at};
 ghost use Rattle.scope.specs.Mesh.{most_nodes, nodes, equality_count};
 ghost use Rattle.scope.specs.Phases.{check_phase, check_phases};

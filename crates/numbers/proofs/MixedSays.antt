@@ -10,7 +10,7 @@ use lib.IntN.{ℤ, pos}
 use lib.Signed.{lt_z_yes}
 use Rattle.std.specs.Prelude.{Result}
 use Rattle.scope.specs.declared.Refusal as Answered
-use Rattle.scope.specs.Mesh.{layout_with, soils, elements, sides, corner, corner_count, around, element_soil, jumps}
+use Rattle.scope.specs.Mesh.{soils, elements, sides, corner, corner_count, around, element_soil, jumps}
 use Rattle.scope.specs.Mesh.{from_node, to_node, ByDirection, ListsDirection}
 use Rattle.integer.specs.Fraction.{◌over◌, ◌≈ᶠ◌}
 use Rattle.integer.specs.Members.{◌∈◌}
@@ -49,7 +49,7 @@ use Rattle.numbers.proofs.TablePromises.{table_returned, table_exactly, as_fille
 
 -- for proofs by computation: the definitions of a table and of the sheet too
 unfoldable pub opened : Unit {0}
-unfolding computed layout_with layers bottom top soil node_at none_above lowest highest has soil_at top_above apart
+unfolding computed layers bottom top soil node_at none_above lowest highest has soil_at top_above apart
     in_layer height_of soil_place soil_of given_number given filled with_soils layer_lines table_lines table_layout
     has_table mesh_read tabled_check tabled_verdict zeros mixed two_layers layers_turned lower_layer mixed_field
     mixed_multipliers mixed_claim claim_108 bedded_claim

@@ -16,7 +16,7 @@ use Rattle.integer.specs.Members.{◌∈◌}
 use Rattle.scope.specs.Answer.{place_number}
 use Rattle.scope.specs.Columns.{Rule, right_angle, naming, at_most_where, has_field, has_multipliers}
 use Rattle.scope.specs.Layout.{Group, Layout, Placed, width, groups, line_count, line_of, numbers_at, group_at}
-use Rattle.scope.specs.Mesh.{most_sides, nodes_for_108, edge_line, jump_line, mesh_header, mesh_layout, soil_lines}
+use Rattle.scope.specs.Mesh.{most_sides, nodes_for_108, edge_line, jump_line, mesh_header, mesh_layout, layout_with, soil_lines}
 use Rattle.scope.specs.Mesh.{node_lines, element_lines, edge_lines, jump_lines}
 use Rattle.scope.specs.Claim.{claim_header, claim_layout, stress_lines, element_multipliers, edge_multipliers}
 use Rattle.scope.specs.Claim.{jump_multipliers, strength_multipliers}
@@ -94,7 +94,7 @@ each_line P (g ∷ gs) none all from k =
     by false rest = rest
 
 mesh_rules : (m : List ℤ) (k : ℕ) → RulesInPlace (group_at mesh_layout m k).rules (Line (suc k))
-unfolding groups mesh_layout mesh_header soil_lines node_lines element_lines edge_lines jump_lines rule_number
+unfolding groups layout_with mesh_header soil_lines node_lines element_lines edge_lines jump_lines rule_number
 mesh_rules m k =
     let two : RulesInPlace (at_most_where 0 nodes_for_108 4 most_sides ∷ []) (Line (suc k)) =
     (plain 2 (Line (suc k)) (λ e. omega arith) (λ e. omega arith), tt) in
@@ -122,7 +122,7 @@ claim_rules m c (suc k) = by (ltb (suc k) 1) refl
 -- ---- all phases
 
 mesh_placed : (m : List ℤ) → EachIn InItsPlace (mesh_phases m)
-unfolding mesh_layout
+unfolding layout_with
 mesh_placed m =
     each_join InItsPlace (line_phases mesh_layout m) (shape_phases m)
     (line_placed mesh_layout m (λ p. plain 1 p (λ e. omega arith) (λ e. omega arith))

@@ -55,12 +55,12 @@ use Rattle.pechuvo.proofs.TableFile.{layout_widths, table_cut, table_back}
 -- the bytes of the lines after a mesh's header
 mesh_bytes : (h : List ℤ) → bytes_of 12 (widths (mesh_layout.body h))
     ≡ soils h * 121 + (nodes h * 25 + (elements h * 61 + (edges h * 85 + jumps h * 49)))
-unfolding mesh_layout soil_lines node_lines element_lines edge_lines jump_lines line_bytes
+unfolding layout_with soil_lines node_lines element_lines edge_lines jump_lines line_bytes
 mesh_bytes h = simp (group_bytes_lem, no_bytes) (omega arith)
 
 mesh_short : (h : List ℤ) → soils h ≤ 16 → nodes h ≤ 100 → elements h ≤ 100 → edges h ≤ 60 → jumps h ≤ 60
     → line_bytes 12 (width mesh_layout.header) + bytes_of 12 (widths (mesh_layout.body h)) < most_file_bytes
-unfolding mesh_layout mesh_header line_bytes
+unfolding layout_with mesh_header line_bytes
 mesh_short h s n e g j = rw (mesh_bytes h) (omega arith)
 
 count_most : (z : ℤ) {k : ℕ} → z ≤ℤ pos k → count z ≤ k
@@ -71,7 +71,7 @@ count_most (negsuc n) h = omega arith
 -- a mesh whose header passes
 mesh_header_short : (h : List ℤ) → line_check mesh_layout mesh_layout.header h (Line 1) ≡ Passed
     → line_bytes 12 (width mesh_layout.header) + bytes_of 12 (widths (mesh_layout.body h)) < most_file_bytes
-unfolding mesh_layout mesh_header soils nodes elements edges jumps
+unfolding layout_with mesh_header soils nodes elements edges jumps
 mesh_header_short h e =
     let p = (line_check_passed mesh_layout mesh_header h (Line 1)).says e in
     let w : (c : ℕ) → c < 6 → Within (get_or mesh_header.limits c free) (at h c) =
@@ -84,7 +84,7 @@ mesh_header_short h e =
     (count_most (at h 5) (w 5 (omega arith)).1)
 
 mesh_header_line : line_bytes 12 (width mesh_layout.header) ≤ most_file_bytes
-unfolding mesh_layout mesh_header line_bytes
+unfolding layout_with mesh_header line_bytes
 mesh_header_line = omega arith
 
 claim_short : (m c : List ℤ) → MeshSound m
@@ -152,7 +152,7 @@ check_cut mesh table claim = sym (files_cut mesh table claim)
 -- the lines of a mesh pass, with soil 0 allowed where there is a table
 pub mesh_lines_lem : (t m : List ℤ) → TableFits t m → MeshSound (mesh_read t m)
     → LinesSound (layout_with (has_table t)) m
-unfolding mesh_read layout_with mesh_layout
+unfolding mesh_read layout_with 
 mesh_lines_lem t m f s =
     cases (has_table t)
     (λ e. subst (λ (b : Bool). LinesSound (layout_with b) m) (sym e) (f e).mesh_lines)
@@ -160,7 +160,7 @@ mesh_lines_lem t m f s =
     (subst (λ (b : Bool). LinesSound mesh_layout (cond b (filled t m) m)) e s.lines))
 
 lines_counts : (b : Bool) (m : List ℤ) → LinesSound (layout_with b) m → Counts m
-unfolding layout_with mesh_layout
+unfolding layout_with 
 lines_counts true m s = tabled_counts m s
 lines_counts false m s = counts m s
 
@@ -173,7 +173,7 @@ module _ (mesh table : List ℕ) where
   m = numbers_of 12 mesh_layout mesh
 
   mesh_fits : TableFits t m → MeshSound (mesh_read t m) → length mesh < most_file_bytes
-  unfolding layout_with mesh_header mesh_layout
+  unfolding layout_with mesh_header 
   mesh_fits f s =
       let b = has_table t in
       let sound = mesh_lines_lem t m f s in

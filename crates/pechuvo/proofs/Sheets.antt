@@ -5,7 +5,6 @@ use mathlib.Core.List.{map}
 use Rattle.integer.specs.Decimal.{digits_within, digits, last_digits, right_justified, is_digit, all_digits}
 use Rattle.integer.specs.Decimal.{value_after, proper_digits}
 use Rattle.scope.specs.Cases.Outcome.{has_passed}
-use Rattle.scope.specs.Mesh.{layout_with}
 use Rattle.scope.specs.Layers.{layers, bottom, top, soil, node_at, none_above, lowest, highest, has, soil_at}
 use Rattle.scope.specs.Layers.{top_above, apart, in_layer}
 use Rattle.scope.specs.Filled.{height_of, soil_place, soil_of, given_number, given, filled, with_soils}
@@ -30,7 +29,7 @@ use Rattle.pechuvo.specs.Shipped.{as_files, shipped}
 
 -- for proofs by computation: the definitions of a table and of a filled mesh are open
 unfoldable computed_table : Unit {0}
-unfolding layout_with layers bottom top soil node_at none_above lowest highest has soil_at top_above apart in_layer
+unfolding layers bottom top soil node_at none_above lowest highest has soil_at top_above apart in_layer
     height_of soil_place soil_of given_number given filled with_soils layer_lines table_lines table_layout has_table
     mesh_read tabled_check tabled_verdict left_over read_rows table_numbers_of table_of mesh_from mesh_outcome
 computed_table = tt

@@ -21,11 +21,11 @@ use Rattle.reader.proofs.WrittenBack.{write_line}
 
 module _ (w : ℕ) (b : Bool) where
   pub layout_widths : (m : List ℤ) → widths ((layout_with b).body m) ≡ widths (mesh_layout.body m)
-  unfolding layout_with mesh_layout widths element_lines
+  unfolding layout_with widths element_lines
   layout_widths m = refl
 
   pub layout_file : (zs : List ℤ) → file_of w (layout_with b) zs ≡ file_of w mesh_layout zs
-  unfolding file_of layout_with mesh_layout widths element_lines
+  unfolding file_of layout_with widths element_lines
   layout_file zs = refl
 
 -- ---- the first bytes of a table

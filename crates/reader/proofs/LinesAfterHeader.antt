@@ -44,7 +44,7 @@ widths-meant {s} {gs} t = widths-good s gs t.table.good ∙ ap widths t.same
 
 pub mesh_lines_lem : {m : List ℤ} {s : Sizes} {gs : List Code.Group} → Tabled s gs (mesh_body s false) → SizesAre m s
     → line_widths gs ≡ widths (mesh_layout.body m)
-unfolding mesh_layout layout_with
+unfolding layout_with
 mesh_lines_lem t k = widths-meant t ∙ ap widths (mesh_body_lem false k)
 
 -- and so have those of a claim, by its flags
@@ -69,11 +69,11 @@ tested (Err x) e t = rw (← e, t) refl
 
 pub mesh_tested : (m : List ℤ) (r : Result (Unit {0}) Refusal) {b : Bool} → outcome_of r ≡ line_at mesh_layout m 0
     → b ≡ is_err r → has_passed (header_says mesh_layout m) ≡ not b
-unfolding mesh_layout mesh_header
+unfolding layout_with mesh_header
 mesh_tested m r e t = tested r (e ∙ sym (mesh_header_line m)) t
 
 pub mesh_header_there : (m : List ℤ) → has_passed (header_says mesh_layout m) ≡ true → HeaderThere m
-unfolding mesh_layout mesh_header
+unfolding layout_with mesh_header
 mesh_header_there m e = header_counts m (sym (mesh_header_line m) ∙ outcome_passed _ e)
 
 pub claim_tested : (m c : List ℤ) (r : Result (Unit {0}) Refusal) {b : Bool}

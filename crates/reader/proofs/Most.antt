@@ -16,7 +16,7 @@ use Rattle.scope.specs.Cases.Outcome.{Passed}
 use Rattle.scope.specs.Columns.{has_field, has_multipliers}
 use Rattle.scope.specs.Layout.{Group, Layout, width, number_count}
 use Rattle.scope.specs.Verdict.{line_check}
-use Rattle.scope.specs.Mesh.{pairs_with, mesh_header_columns, mesh_layout, mesh_header, soil_lines}
+use Rattle.scope.specs.Mesh.{pairs_with, mesh_header_columns, mesh_layout, layout_with, mesh_header, soil_lines}
 use Rattle.scope.specs.Mesh.{node_lines, element_lines, edge_lines, jump_lines, nodes, elements, soils, edges, sides}
 use Rattle.scope.specs.Mesh.{jumps, element_rows, edge_rows, rows_per_jump}
 use Rattle.scope.specs.Claim.{claim_header_columns, stress_columns, claim_layout, claim_header, if_there, stress_lines}
@@ -157,12 +157,12 @@ mesh_count : (m : List ℤ)
     → number_count (mesh_layout.body m)
     ≡ soils m * width (soil_lines 0 0) + nodes m * width (node_lines 0)
     + elements m * width (element_lines 0 0 1 0) + edges m * width (edge_lines 0 0) + jumps m * width (jump_lines 0 0)
-unfolding number_count mesh_layout soil_lines node_lines element_lines edge_lines jump_lines
+unfolding number_count layout_with soil_lines node_lines element_lines edge_lines jump_lines
 mesh_count m = omega arith
 
 -- a mesh file
 pub mesh_most : (bs : List ℕ) → length (numbers_of file_width mesh_layout bs) ≤ mesh_room
-unfolding mesh_layout mesh_header number_count soil_lines node_lines element_lines edge_lines jump_lines
+unfolding layout_with mesh_header number_count soil_lines node_lines element_lines edge_lines jump_lines
 mesh_most = numbers_most file_width mesh_layout mesh_room (omega arith) told
   where
     told : (h : List ℤ) → length h ≡ mesh_header_columns → line_check mesh_layout mesh_header h (Line 1) ≡ Passed

@@ -58,13 +58,13 @@ layout_regular tabled = record {
 }
 
 pub mesh_regular : Regular mesh_layout
-unfolding mesh_layout layout_with
+unfolding layout_with
 mesh_regular = layout_regular false
 
 -- a table adds a soil that an element may name, and no column: the numbers of a mesh file are the same
 pub same_numbers : (tabled : Bool) (w : ℕ) (bs : List ℕ) → numbers_of w (layout_with tabled) bs
     ≡ numbers_of w mesh_layout bs
-unfolding numbers_of header_passes line_check widths layout_with mesh_layout element_lines
+unfolding numbers_of header_passes line_check widths layout_with element_lines
 same_numbers tabled w bs = refl
 
 pub claim_regular : (m : List ℤ) → 0 < sides m → Regular (claim_layout m)

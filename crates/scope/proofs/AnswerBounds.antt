@@ -14,7 +14,7 @@ use Rattle.scope.specs.Answer.{place_number}
 use Rattle.scope.specs.Columns.{has_field, has_multipliers, n, l}
 use Rattle.scope.specs.Layout.{Layout, group_at, numbers_at, groups, line_count, lines_before}
 use Rattle.scope.specs.Bounds.{most_strength_rows}
-use Rattle.scope.specs.Mesh.{mesh_header, soil_lines, node_lines, element_lines, edge_lines, jump_lines, mesh_layout}
+use Rattle.scope.specs.Mesh.{mesh_header, soil_lines, node_lines, element_lines, edge_lines, jump_lines, mesh_layout, layout_with}
 use Rattle.scope.specs.Mesh.{mesh_groups, nodes, elements, soils, edges, sides, jumps, edge_line, jump_line}
 use Rattle.scope.specs.Claim.{claim_header, stress_lines, element_multipliers, edge_multipliers, jump_multipliers}
 use Rattle.scope.specs.Claim.{strength_multipliers, claim_layout, stress, multiplier}
@@ -35,7 +35,7 @@ use Rattle.scope.proofs.RowCounts.{equality_count_lem, strength_count}
 
 -- the lines of a mesh whose header has passed
 pub mesh_lines_lem : (m : List ℤ) → Counts m → line_count (groups mesh_layout m) ≤ 337
-unfolding mesh_layout groups mesh_header soil_lines node_lines element_lines edge_lines jump_lines line_count
+unfolding layout_with groups mesh_header soil_lines node_lines element_lines edge_lines jump_lines line_count
 mesh_lines_lem m c = omega (arith, c)
 
 claim_lines_lem : (m c : List ℤ) → MeshSound m → line_count (groups (claim_layout m) c) ≤ 421
@@ -72,12 +72,12 @@ line_places {f} {ns} {B} {most} z top few = (
     end e (no l) = omega arith
 
 edge_line_lem : (m : List ℤ) (g : ℕ) → edge_line m g ≡ 1 + soils m + nodes m + elements m + g
-unfolding edge_line mesh_groups mesh_layout groups mesh_header soil_lines node_lines element_lines edge_lines
+unfolding edge_line mesh_groups layout_with groups mesh_header soil_lines node_lines element_lines edge_lines
     lines_before
 edge_line_lem m g = omega arith
 
 jump_line_lem : (m : List ℤ) (j : ℕ) → jump_line m j ≡ 1 + soils m + nodes m + elements m + edges m + j
-unfolding jump_line mesh_groups mesh_layout groups mesh_header soil_lines node_lines element_lines edge_lines
+unfolding jump_line mesh_groups layout_with groups mesh_header soil_lines node_lines element_lines edge_lines
     jump_lines lines_before
 jump_line_lem m j = omega arith
 

@@ -6,7 +6,7 @@ use Rattle.scope.specs.Layout.{line_count, number_count, lines_before, numbers_b
 use Rattle.scope.specs.Layout.{count, entry}
 use Rattle.scope.specs.Mesh.{nodes_with, pairs_with, strength_multiplier, kind_with, mesh_header, nodes, elements}
 use Rattle.scope.specs.Mesh.{soils, edges, sides, jumps, soil_lines, node_lines, element_lines, edge_lines}
-use Rattle.scope.specs.Mesh.{jump_lines, mesh_layout, mesh_groups, soil_entry, p, q, h, cohesion, soil_kind}
+use Rattle.scope.specs.Mesh.{jump_lines, layout_with, mesh_groups, soil_entry, p, q, h, cohesion, soil_kind}
 use Rattle.scope.specs.Mesh.{cohesion_across, by_direction, some_by_direction, dead_x, dead_y, live_x, live_y, x, y}
 use Rattle.scope.specs.Mesh.{corner, corner_count, around, element_soil, edge_entry, from_node, to_node, edge_line}
 use Rattle.scope.specs.Mesh.{jump_entry, jump_from, jump_to, facing_from, facing_to, jump_line}
@@ -34,7 +34,7 @@ unfoldable pub computed : Unit {0}
 unfolding lowest is_one_of within all_within line_count number_count lines_before numbers_before line_of groups
     rules_hold line_check line_numbers line_at lines_check count at entry up_to nodes_with pairs_with
     strength_multiplier kind_with mesh_header nodes elements soils edges sides jumps soil_lines node_lines
-    element_lines edge_lines jump_lines mesh_layout mesh_groups soil_entry p q h cohesion soil_kind cohesion_across
+    element_lines edge_lines jump_lines layout_with mesh_groups soil_entry p q h cohesion soil_kind cohesion_across
     by_direction some_by_direction dead_x dead_y live_x live_y x y corner corner_count around element_soil edge_entry
     from_node to_node edge_line jump_entry jump_from jump_to facing_from facing_to jump_line sides_to polygon_sides
     half_turn quarter_turn four_quadrants twelve twenty thirty_six one_hundred_eight polygon_of sx sy t count_from

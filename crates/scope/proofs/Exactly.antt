@@ -19,7 +19,7 @@ use Rattle.scope.specs.Answer.{number_of}
 use Rattle.scope.specs.Checks.{◌then◌}
 use Rattle.scope.specs.Columns.{Rule, right_angle, naming, parts, at_most_where, has_field, has_multipliers, n, l}
 use Rattle.scope.specs.Layout.{Layout, numbers_at, group_at}
-use Rattle.scope.specs.Mesh.{mesh_layout, nodes}
+use Rattle.scope.specs.Mesh.{mesh_layout, layout_with, nodes}
 use Rattle.scope.specs.Claim.{claim_layout, if_there, stress, multiplier}
 use Rattle.scope.specs.Rows.{equality_rows, strength_rows, rows_of}
 use Rattle.scope.specs.Verdict.{claim_check, lower_load, upper_load, open_count, answer, claim_verdict, verdict}
@@ -137,7 +137,7 @@ line_numbers_lem Q f ns a b q = (
 
 pub mesh_numbers_lem : (Q : ℕ → Place → Type 0) (m : List ℤ) → ((c : ℕ) (p : Place) → OfMesh c → Q c p)
     → EachIn Q (mesh_phases m)
-unfolding mesh_layout
+unfolding layout_with
 mesh_numbers_lem Q m q =
     each_join Q (line_phases mesh_layout m) (shape_phases m)
     (line_numbers_lem Q mesh_layout m (omega arith) (omega arith) q) (λ a. (

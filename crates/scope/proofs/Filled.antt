@@ -18,14 +18,14 @@ use Rattle.scope.specs.Columns.{at}
 use Rattle.scope.specs.Layout.{Group, width, groups, numbers_before, count, entry}
 use Rattle.scope.specs.Polygon.{SidesListed}
 use Rattle.scope.specs.Mesh.{nodes_with, kind_with, mesh_header_columns, soil_columns, element_columns, mesh_header}
-use Rattle.scope.specs.Mesh.{soil_lines, node_lines, element_lines, edge_lines, jump_lines, mesh_layout, mesh_groups}
+use Rattle.scope.specs.Mesh.{soil_lines, node_lines, element_lines, edge_lines, jump_lines, layout_with, mesh_groups}
 use Rattle.scope.specs.Mesh.{nodes, elements, soils, edges, sides, jumps, p, q, h, cohesion, soil_kind}
 use Rattle.scope.specs.Mesh.{cohesion_across, soil_entry, x, y, corner, element_soil, edge_entry, from_node, to_node}
 use Rattle.scope.specs.Mesh.{jump_entry, jump_from, jump_to, facing_from, facing_to}
 use Rattle.scope.specs.Rows.{count_from}
 use Rattle.scope.specs.NumberRanges.{Between, Counts, SoilFacts, NodeFacts, ElementFacts, EdgeFacts, JumpFacts}
 use Rattle.scope.specs.NumberRanges.{MeshFacts}
-use Rattle.scope.specs.Bounds.{most_coordinate}
+use Rattle.scope.specs.Mesh.{most_coordinate}
 use Rattle.scope.specs.Layers.{layers, soil, soil_at, lowest, highest}
 use Rattle.scope.specs.Filled.{height_of, soil_place, soil_of, given_number, given, filled, with_soils}
 use Rattle.scope.specs.LayerRows.{NodeHeights, OneLayer, TableSound, Reordered, soil_number, FilledFrom, RepeatTwice}
@@ -231,7 +231,7 @@ module _ (f g : ℕ → ℤ) (m : List ℤ) where
 
 module _ (f : ℕ → ℤ) (m : List ℤ) where
   header_kept : (k : ℕ) → k < mesh_header_columns → at (given f m) k ≡ at m k
-  unfolding soil_place numbers_before mesh_groups groups mesh_layout mesh_header
+  unfolding soil_place numbers_before mesh_groups groups layout_with mesh_header
   header_kept k l = given_other f m k (λ e d s. absurd (omega arith))
 
   pub nodes_kept : nodes (given f m) ≡ nodes m
@@ -259,7 +259,7 @@ module _ (f : ℕ → ℤ) (m : List ℤ) where
   jumps_kept = ap count (header_kept 5 (omega arith))
 
   pub groups_kept : mesh_groups (given f m) ≡ mesh_groups m
-  unfolding mesh_groups groups mesh_layout
+  unfolding mesh_groups groups layout_with
   groups_kept = rw (nodes_kept, elements_kept, soils_kept, edges_kept, sides_kept, jumps_kept)
 
   pub place_kept : (e : ℕ) → soil_place (given f m) e ≡ soil_place m e
@@ -278,23 +278,23 @@ module _ (f : ℕ → ℤ) (m : List ℤ) where
       ∙ given_other f m (place j i c) none
 
   soil_kept : (s c : ℕ) → s < soils m → c < soil_columns → soil_entry (given f m) s c ≡ soil_entry m s c
-  unfolding soil_entry soil_place numbers_before mesh_groups groups mesh_layout mesh_header soil_lines node_lines
+  unfolding soil_entry soil_place numbers_before mesh_groups groups layout_with mesh_header soil_lines node_lines
       element_lines edge_lines jump_lines
   soil_kept s c l k = entry_kept 1 s c (λ e d z. absurd (omega arith))
 
   x_kept : (v : ℕ) → v < nodes m → x (given f m) v ≡ x m v
-  unfolding x soil_place numbers_before mesh_groups groups mesh_layout mesh_header soil_lines node_lines element_lines
+  unfolding x soil_place numbers_before mesh_groups groups layout_with mesh_header soil_lines node_lines element_lines
       edge_lines jump_lines
   x_kept v l = entry_kept 2 v 0 (λ e d z. absurd (omega arith))
 
   pub y_kept : (v : ℕ) → v < nodes m → y (given f m) v ≡ y m v
-  unfolding y soil_place numbers_before mesh_groups groups mesh_layout mesh_header soil_lines node_lines element_lines
+  unfolding y soil_place numbers_before mesh_groups groups layout_with mesh_header soil_lines node_lines element_lines
       edge_lines jump_lines
   y_kept v l = entry_kept 2 v 1 (λ e d z. absurd (omega arith))
 
   pub element_kept : (e c : ℕ) → c < 4 → entry (mesh_groups (given f m)) (given f m) 3 e c
       ≡ entry (mesh_groups m) m 3 e c
-  unfolding soil_place numbers_before mesh_groups groups mesh_layout mesh_header soil_lines node_lines element_lines
+  unfolding soil_place numbers_before mesh_groups groups layout_with mesh_header soil_lines node_lines element_lines
       edge_lines jump_lines
   element_kept e c l = entry_kept 3 e c (λ d k z. absurd (omega arith))
 
@@ -303,23 +303,23 @@ module _ (f : ℕ → ℤ) (m : List ℤ) where
   corner_kept e i l = ap (λ (z : ℤ). count z - 1) (element_kept e i l)
 
   edge_kept : (g c : ℕ) → edge_entry (given f m) g c ≡ edge_entry m g c
-  unfolding edge_entry soil_place numbers_before mesh_groups groups mesh_layout mesh_header soil_lines node_lines
+  unfolding edge_entry soil_place numbers_before mesh_groups groups layout_with mesh_header soil_lines node_lines
       element_lines edge_lines jump_lines
   edge_kept g c = entry_kept 4 g c (λ e d z. absurd (omega arith))
 
   jump_kept : (j c : ℕ) → jump_entry (given f m) j c ≡ jump_entry m j c
-  unfolding jump_entry soil_place numbers_before mesh_groups groups mesh_layout mesh_header soil_lines node_lines
+  unfolding jump_entry soil_place numbers_before mesh_groups groups layout_with mesh_header soil_lines node_lines
       element_lines edge_lines jump_lines
   jump_kept j c = entry_kept 5 j c (λ e d z. absurd (omega arith))
 
   pub soil_number_lem : (e : ℕ) → soil_number (given f m) e ≡ at (given f m) (soil_place m e)
-  unfolding entry soil_place numbers_before mesh_groups groups mesh_layout mesh_header soil_lines node_lines
+  unfolding entry soil_place numbers_before mesh_groups groups layout_with mesh_header soil_lines node_lines
       element_lines edge_lines jump_lines
   soil_number_lem e = ap (λ (gs : List Group). at (given f m) (numbers_before gs 3 + e * width (group gs 3) + 4))
       groups_kept
 
 pub soil_stands : (m : List ℤ) (e : ℕ) → soil_number m e ≡ at m (soil_place m e)
-unfolding entry soil_place numbers_before mesh_groups groups mesh_layout mesh_header soil_lines node_lines
+unfolding entry soil_place numbers_before mesh_groups groups layout_with mesh_header soil_lines node_lines
     element_lines edge_lines jump_lines
 soil_stands m e = refl
 
@@ -327,7 +327,7 @@ soil_stands m e = refl
 
 module _ (f : ℕ → ℤ) (m : List ℤ) (k : MeshFacts (given f m)) where
   pub soil-there : (e : ℕ) → e < elements m → soil_place m e < length m
-  unfolding soil_place numbers_before mesh_groups groups mesh_layout mesh_header soil_lines node_lines element_lines
+  unfolding soil_place numbers_before mesh_groups groups layout_with mesh_header soil_lines node_lines element_lines
       edge_lines jump_lines
   soil-there e l = omega (arith, k.size, given-length f m, soils_kept f m, nodes_kept f m, elements_kept f m)
 

@@ -53,15 +53,15 @@ free_within (suc k) (z ∷ zs) = (tt, free_within k zs)
 
 module _ (m : List ℤ) where
   as_many : number_count (groups (layout_with true) m) ≡ number_count (groups mesh_layout m)
-  unfolding layout_with mesh_layout groups number_count element_lines
+  unfolding layout_with groups number_count element_lines
   as_many = refl
 
   pub lines_as_many : line_count (groups (layout_with true) m) ≡ line_count (groups mesh_layout m)
-  unfolding layout_with mesh_layout groups line_count element_lines
+  unfolding layout_with groups line_count element_lines
   lines_as_many = refl
 
   lines_before_lem : (j : ℕ) → lines_before (groups (layout_with true) m) j ≡ lines_before (groups mesh_layout m) j
-  unfolding layout_with mesh_layout groups lines_before element_lines
+  unfolding layout_with groups lines_before element_lines
   lines_before_lem zero = refl
   lines_before_lem (suc zero) = refl
   lines_before_lem (suc (suc zero)) = refl
@@ -71,7 +71,7 @@ module _ (m : List ℤ) where
   lines_before_lem (suc (suc (suc (suc (suc (suc j)))))) = refl
 
   same_lines : (j : ℕ) → (group (groups (layout_with true) m) j).lines ≡ (group (groups mesh_layout m) j).lines
-  unfolding layout_with mesh_layout groups element_lines
+  unfolding layout_with groups element_lines
   same_lines zero = refl
   same_lines (suc zero) = refl
   same_lines (suc (suc zero)) = refl
@@ -180,7 +180,7 @@ module _ (m : List ℤ) (f : ℕ → ℤ) where
 
     moved : (j i : ℕ) → i < (group (groups (layout_with true) m) j).lines → PlacedSound m (place_with j i)
         → PlacedSound (given f m) (place j i)
-    unfolding layout_with mesh_groups mesh_layout groups soil_place numbers_before mesh_header soil_lines node_lines
+    unfolding layout_with mesh_groups groups soil_place numbers_before mesh_header soil_lines node_lines
         element_lines edge_lines jump_lines
     moved zero i l p = kept (place 0 i).group (place 0 i).first (λ c b e d z. absurd (omega arith)) p
     moved (suc zero) i l p = kept (place 1 i).group (place 1 i).first (λ c b e d z. absurd (omega arith)) p

@@ -17,7 +17,7 @@ use Rattle.scope.specs.Phases.{AllPass, RefusedBy, check_phases}
 use Rattle.scope.specs.Layout.{count}
 use Rattle.scope.specs.Mesh.{nodes, y}
 use Rattle.scope.specs.Rows.{first_where}
-use Rattle.scope.specs.Bounds.{most_coordinate}
+use Rattle.scope.specs.Mesh.{most_coordinate}
 use Rattle.scope.specs.NumberRanges.{MeshFacts}
 use Rattle.scope.specs.Layers.{layers, bottom, top, soil, node_at, none_above, lowest, highest, quarters, Has, has}
 use Rattle.scope.specs.Layers.{soil_at, TopAbove, top_above, Apart, apart, InLayer, in_layer, layer_phases}

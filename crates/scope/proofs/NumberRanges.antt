@@ -15,7 +15,7 @@ use Rattle.scope.specs.Columns.{one_of, free, up_to, at}
 use Rattle.scope.specs.Layout.{width, groups, line_count, number_count, lines_before, numbers_before, count, entry}
 use Rattle.scope.specs.Polygon.{SidesListed}
 use Rattle.scope.specs.Mesh.{most_nodes, most_sides, listed_sides, nodes_for_108, nodes_with, mesh_header, soil_lines}
-use Rattle.scope.specs.Mesh.{node_lines, element_lines, edge_lines, jump_lines, mesh_layout, mesh_groups, nodes}
+use Rattle.scope.specs.Mesh.{node_lines, element_lines, edge_lines, jump_lines, mesh_layout, layout_with, mesh_groups, nodes}
 use Rattle.scope.specs.Mesh.{elements, soils, edges, sides, jumps, p, q, h, cohesion, soil_entry, x, y, corner}
 use Rattle.scope.specs.Mesh.{element_soil, edge_entry, from_node, to_node, jump_entry, jump_from, jump_to}
 use Rattle.scope.specs.Mesh.{facing_from, facing_to, soil_kind, cohesion_across}
@@ -54,7 +54,7 @@ nodes_fit v z least most few = by (eqb (count z) most_sides) (eqb→eq (count z)
 
 -- a sound header is enough for the counts
 pub header_counts : (m : List ℤ) → LineSound mesh_layout m 0 → Counts m
-unfolding mesh_layout groups mesh_header entry lines_before numbers_before nodes elements soils edges sides jumps count
+unfolding layout_with groups mesh_header entry lines_before numbers_before nodes elements soils edges sides jumps count
 header_counts m s =
     let facts = line_facts_of mesh_layout m 0 0 s (omega arith) (omega arith) in
     let w = facts.within in
@@ -95,11 +95,11 @@ some_sides_lem {m} c = (listed_polygon (sides m) c.sides_listed).fits.some_sides
 
 module _ (m : List ℤ) (s : LinesSound mesh_layout m) where
   pub counts : Counts m
-  unfolding mesh_layout groups mesh_header line_count
+  unfolding layout_with groups mesh_header line_count
   counts = header_counts m (s.lines 0 (omega arith))
 
   soil_facts : (k : ℕ) → k < soils m → SoilFacts m k
-  unfolding mesh_layout groups mesh_groups mesh_header soil_lines up_to soil_entry p q h cohesion soil_kind
+  unfolding layout_with groups mesh_groups mesh_header soil_lines up_to soil_entry p q h cohesion soil_kind
       cohesion_across
   soil_facts k l =
       let f : LineFacts (groups mesh_layout m) m 1 k = line_facts mesh_layout m s 1 k l (omega arith) in
@@ -129,7 +129,7 @@ module _ (m : List ℤ) (s : LinesSound mesh_layout m) where
       force (suc (suc (suc (suc c)))) h w = absurd (omega arith)
 
   node_facts : (v : ℕ) → v < nodes m → NodeFacts m v
-  unfolding mesh_layout groups mesh_groups mesh_header soil_lines node_lines x y
+  unfolding layout_with groups mesh_groups mesh_header soil_lines node_lines x y
   node_facts v l =
       let w = (line_facts mesh_layout m s 2 v l (omega arith)).within in
       record {
@@ -157,7 +157,7 @@ module _ (m : List ℤ) (s : LinesSound mesh_layout m) where
   from_one_lem j i c l h = subst (λ (z : ℤ). pos 1 ≤ℤ z) (at_line_in (groups mesh_layout m) m j i c l) h
 
   element_facts : (e : ℕ) → e < elements m → ElementFacts m e
-  unfolding mesh_layout groups mesh_groups mesh_header soil_lines node_lines element_lines corner element_soil
+  unfolding layout_with groups mesh_groups mesh_header soil_lines node_lines element_lines corner element_soil
   element_facts e l =
       let r = (line_facts mesh_layout m s 3 e l (omega arith)).rules.0 in
       record {
@@ -188,7 +188,7 @@ module _ (m : List ℤ) (s : LinesSound mesh_layout m) where
       four (suc (suc (suc (suc i)))) h a b c d = absurd (omega arith)
 
   edge_facts : (g : ℕ) → g < edges m → EdgeFacts m g
-  unfolding mesh_layout groups mesh_groups mesh_header soil_lines node_lines element_lines edge_lines up_to edge_entry
+  unfolding layout_with groups mesh_groups mesh_header soil_lines node_lines element_lines edge_lines up_to edge_entry
       from_node to_node
   edge_facts g l =
       let f : LineFacts (groups mesh_layout m) m 4 g = line_facts mesh_layout m s 4 g l (omega arith) in
@@ -216,7 +216,7 @@ module _ (m : List ℤ) (s : LinesSound mesh_layout m) where
       load (suc (suc (suc (suc c)))) h w = absurd (omega arith)
 
   jump_facts : (j : ℕ) → j < jumps m → JumpFacts m j
-  unfolding mesh_layout groups mesh_groups mesh_header soil_lines node_lines element_lines edge_lines jump_lines
+  unfolding layout_with groups mesh_groups mesh_header soil_lines node_lines element_lines edge_lines jump_lines
       jump_entry jump_from jump_to facing_from facing_to
   jump_facts j l =
       let r = (line_facts mesh_layout m s 5 j l (omega arith)).rules.0 in
@@ -238,7 +238,7 @@ module _ (m : List ℤ) (s : LinesSound mesh_layout m) where
 
   -- the last line is there, whether it is an element's, an edge's or a jump's
   last_element : 6 + soils m * 10 + nodes m * 2 + elements m * 5 ≤ length m
-  unfolding mesh_layout groups mesh_header soil_lines node_lines element_lines numbers_before
+  unfolding layout_with groups mesh_header soil_lines node_lines element_lines numbers_before
   last_element =
       let c : Counts m = counts in
       omega (
@@ -248,15 +248,15 @@ module _ (m : List ℤ) (s : LinesSound mesh_layout m) where
       )
 
   last_edge : 0 < edges m → 6 + soils m * 10 + nodes m * 2 + elements m * 5 + edges m * 7 ≤ length m
-  unfolding mesh_layout groups mesh_header soil_lines node_lines element_lines edge_lines numbers_before
+  unfolding layout_with groups mesh_header soil_lines node_lines element_lines edge_lines numbers_before
   last_edge h = omega (arith, (line_facts mesh_layout m s 4 (edges m - 1) (omega arith) (omega arith)).there)
 
   last_jump : 0 < jumps m → 6 + soils m * 10 + nodes m * 2 + elements m * 5 + edges m * 7 + jumps m * 4 ≤ length m
-  unfolding mesh_layout groups mesh_header soil_lines node_lines element_lines edge_lines jump_lines numbers_before
+  unfolding layout_with groups mesh_header soil_lines node_lines element_lines edge_lines jump_lines numbers_before
   last_jump h = omega (arith, (line_facts mesh_layout m s 5 (jumps m - 1) (omega arith) (omega arith)).there)
 
   size : length m ≡ 6 + soils m * 10 + nodes m * 2 + elements m * 5 + edges m * 7 + jumps m * 4
-  unfolding mesh_layout groups mesh_header soil_lines node_lines element_lines edge_lines jump_lines number_count
+  unfolding layout_with groups mesh_header soil_lines node_lines element_lines edge_lines jump_lines number_count
   size = by (dec_lt 0 (edges m)) (dec_lt 0 (jumps m))
     where
       by : Dec (0 < edges m) → Dec (0 < jumps m)

@@ -9,7 +9,7 @@ use lib.IntN.{ℤ}
 use Rattle.scope.specs.declared.Place.{Place}
 use Rattle.scope.specs.Answer.{place_number}
 use Rattle.scope.specs.Columns.{Rule, right_angle, naming, parts, at_most_where}
-use Rattle.scope.specs.Mesh.{mesh_layout}
+use Rattle.scope.specs.Mesh.{layout_with}
 use Rattle.scope.specs.Claim.{claim_layout}
 use Rattle.scope.specs.Refusals.{rule_number}
 use Rattle.scope.specs.RefusalTable.{MeshRow, of_lines, five, six, seven, forty_seven, eight, forty_four, forty_two}
@@ -30,7 +30,7 @@ no_rule (at_most_where c k d z) e = omega arith
 
 module _ (m c : List ℤ) where
   of_mesh_row : {k : ℕ} {p : Place} → MeshRow m k p → k ≡ 47 → OnEachOther m (place_number p)
-  unfolding mesh_layout
+  unfolding layout_with
   of_mesh_row (of_lines r) e = absurd (other_number 47 (λ z. omega arith) (λ z. omega arith) no_rule r e)
   of_mesh_row (five k l h) e = absurd (omega arith)
   of_mesh_row (six k l a h) e = absurd (omega arith)

@@ -15,7 +15,7 @@ use Rattle.scope.specs.Cases.Outcome.{Passed, Refused}
 use Rattle.scope.specs.Answer.{place_number, place_for, mesh_number_of, mesh_place_of}
 use Rattle.scope.specs.Columns.{Rule, right_angle, naming, parts, at_most_where, has_field, has_multipliers, n, l}
 use Rattle.scope.specs.Layout.{Layout, numbers_at, group_at}
-use Rattle.scope.specs.Mesh.{mesh_layout, nodes}
+use Rattle.scope.specs.Mesh.{mesh_layout, layout_with, nodes}
 use Rattle.scope.specs.Claim.{claim_layout, stress, multiplier}
 use Rattle.scope.specs.Rows.{equality_rows, strength_rows, rows_of}
 use Rattle.scope.specs.Verdict.{mesh_check}
@@ -64,7 +64,7 @@ pub one_kind : {number c : ℕ} {p : Place} {H : Type 0} → Kind number p → (
 one_kind {p} k r = subst (λ i. Kind i p) (own_number refl r) k
 
 pub mesh_kinds : (m : List ℤ) → EachIn Kind (mesh_phases m)
-unfolding place_for mesh_layout
+unfolding place_for layout_with
 mesh_kinds m =
     each_join Kind (line_phases mesh_layout m) (shape_phases m) (line_kinds mesh_layout m (λ j. refl) (λ j. refl))
     (λ a. (

@@ -11,7 +11,7 @@ use Rattle.scope.specs.declared.Place.{Place}
 use Rattle.scope.specs.declared.Place.TheVariants.{Row, Node}
 use Rattle.scope.specs.Answer.{place_number}
 use Rattle.scope.specs.Columns.{Rule, right_angle, naming, parts, at_most_where, n, l}
-use Rattle.scope.specs.Mesh.{mesh_layout, elements, edges, sides, from_node, to_node, jump_from, jump_to, facing_from}
+use Rattle.scope.specs.Mesh.{layout_with, elements, edges, sides, from_node, to_node, jump_from, jump_to, facing_from}
 use Rattle.scope.specs.Mesh.{facing_to}
 use Rattle.scope.specs.Polygon.{polygon_of}
 use Rattle.scope.specs.Claim.{claim_layout, stress}
@@ -156,7 +156,7 @@ no_rule (at_most_where c k d z) e = omega arith
 
 module _ (m c : List ℤ) where
   of_mesh_row : {k : ℕ} {p : Place} → MeshRow m k p → k ≡ 42 → PairsFail m (place_number p)
-  unfolding mesh_layout
+  unfolding layout_with
   of_mesh_row (of_lines r) e = absurd (other_number 42 (λ z. omega arith) (λ z. omega arith) no_rule r e)
   of_mesh_row (five k l h) e = absurd (omega arith)
   of_mesh_row (six k l a h) e = absurd (omega arith)

@@ -18,7 +18,7 @@ use Rattle.scope.specs.Columns.{between, Rule, at_most_where, at}
 use Rattle.scope.specs.Layout.{groups, line_of, line_numbers, line_count, numbers_at}
 use Rattle.scope.specs.Mesh.{most_pairs, most_sides, most_strength, nodes_for_108, pairs_for_108, strength_for_108}
 use Rattle.scope.specs.Mesh.{nodes_with, pairs_with, strength_multiplier, mesh_header_columns, mesh_header}
-use Rattle.scope.specs.Mesh.{mesh_layout, nodes, sides, kind_with, soil_lines, soil_kind}
+use Rattle.scope.specs.Mesh.{mesh_layout, layout_with, nodes, sides, kind_with, soil_lines, soil_kind}
 use Rattle.scope.specs.Claim.{strength_multipliers}
 use Rattle.scope.specs.Rows.{pair_count, pair_at}
 use Rattle.scope.specs.Statements.{Says, InLimits, RulesHold, PairsFit}
@@ -54,7 +54,7 @@ kind_most k = at_most_if {a = 0} {b = 1} (omega arith) (eqb k most_sides)
 -- a header that is there and can't meet both its limits and its rule
 header_refused : (m : List ℤ) → mesh_header_columns ≤ length m
     → (InLimits mesh_layout m 0 → RulesHold mesh_layout m 0 → ⊥) → MeshRefusal m 2 (Line 1)
-unfolding mesh_layout groups mesh_header line_of line_numbers line_count rule_number
+unfolding layout_with groups mesh_header line_of line_numbers line_count rule_number
 header_refused m there over = record {
   by = join_refused (line_phases mesh_layout m) (shape_phases m) 2 (Line 1)
       (inl (inl (record {
@@ -85,7 +85,7 @@ over_limit h k = <ℤ_irrefl (≤ℤ-<ℤ_trans k h)
 
 nodes_over : (m : List ℤ) → at m 4 ≡ pos 108 → mesh_header_columns ≤ length m → pos 40 <ℤ at m 0
     → MeshRefusal m 2 (Line 1)
-unfolding mesh_layout groups mesh_header line_of line_numbers at
+unfolding layout_with groups mesh_header line_of line_numbers at
 nodes_over [] e l h = absurd (omega arith)
 nodes_over (a ∷ []) e l h = absurd (omega arith)
 nodes_over (a ∷ b ∷ []) e l h = absurd (omega arith)
@@ -94,7 +94,7 @@ nodes_over (a ∷ b ∷ c ∷ d ∷ []) e l h = absurd (omega arith)
 nodes_over (a ∷ b ∷ c ∷ d ∷ z ∷ m) e l h = header_refused (a ∷ b ∷ c ∷ d ∷ z ∷ m) l (λ w s. over_limit h (s.0 e))
 
 nodes_over_100 : (m : List ℤ) → mesh_header_columns ≤ length m → pos 100 <ℤ at m 0 → MeshRefusal m 2 (Line 1)
-unfolding mesh_layout groups mesh_header line_of line_numbers at
+unfolding layout_with groups mesh_header line_of line_numbers at
 nodes_over_100 [] l h = absurd (omega arith)
 nodes_over_100 (a ∷ m) l h = header_refused (a ∷ m) l (λ w s. over_limit h w.0.1)
 

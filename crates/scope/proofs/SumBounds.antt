@@ -24,7 +24,9 @@ use Rattle.scope.specs.Rows.{Row, count_from, node, cross_at, rise_across, run_a
 use Rattle.scope.specs.Rows.{balance_y, balance_rows, step_x, step_y, step_square, normal_row, shear_row, side_rows}
 use Rattle.scope.specs.Rows.{agree_row, jump_normal, jump_shear, jump_rows, strength_pairs, cross, strength_row}
 use Rattle.scope.specs.Rows.{strength_rows, equality_rows, rows_of, Pair, plane_row, rows_by_sides, rows_by_planes}
-use Rattle.scope.specs.Bounds.{most_coordinate, most_force, most_traction, most_multiplier, most_area, balance_right}
+use Rattle.scope.specs.Bounds.{most_area, balance_right}
+use Rattle.scope.specs.Mesh.{most_coordinate, most_force, most_traction}
+use Rattle.scope.specs.Claim.{most_multiplier}
 use Rattle.scope.specs.Bounds.{most_balance_rows, most_square, side_right, most_side_rows, jump_right, most_jump_rows}
 use Rattle.scope.specs.Bounds.{strength_sum, most_strength_rows, most_slack, most_limit, most_plane_radius}
 use Rattle.scope.specs.Bounds.{strength_right_with}

@@ -120,7 +120,7 @@ module _ (t m : List ℤ) where
 -- ---- a mesh whose lines have passed with soil 0 allowed
 
 pub tabled_header : (m : List ℤ) → LineSound (layout_with true) m 0 → Counts m
-unfolding layout_with mesh_layout groups line_of mesh_header
+unfolding layout_with groups line_of mesh_header
 tabled_header m h = header_counts m
     (record { complete = h.complete; in_limits = h.in_limits; rules_hold = h.rules_hold })
 
@@ -150,5 +150,5 @@ module _ (m : List ℤ) (s : LinesSound (layout_with true) m) where
 -- ---- where there is none
 
 pub no_table : (m : List ℤ) → tabled_check [] m ≡ mesh_check m
-unfolding tabled_check mesh_check has_table mesh_read layout_with mesh_layout
+unfolding tabled_check mesh_check has_table mesh_read layout_with 
 no_table m = refl

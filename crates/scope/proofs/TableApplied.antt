@@ -1,6 +1,5 @@
 -- Document 01's sheet with tables: antt computes each from the definitions.
 use mathlib.Core.Path.{refl}
-use Rattle.scope.specs.Mesh.{layout_with}
 use Rattle.scope.specs.Worked.{zeros, worked_mesh}
 use Rattle.scope.specs.Layers.{layers, bottom, top, soil, node_at, none_above, lowest, highest, has, soil_at}
 use Rattle.scope.specs.Layers.{top_above, apart, in_layer}
@@ -11,7 +10,7 @@ use Rattle.scope.proofs.Computed.{computed}
 
 pub table_sheets : TableSheets
 unfolding computed layers bottom top soil node_at none_above lowest highest has soil_at top_above apart in_layer
-    height_of soil_place soil_of given_number given filled with_soils layer_lines table_lines table_layout layout_with
+    height_of soil_place soil_of given_number given filled with_soils layer_lines table_lines table_layout
     has_table mesh_read tabled_check zeros worked_mesh soil_zero
 table_sheets = record {
   gap = refl;

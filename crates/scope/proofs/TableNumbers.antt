@@ -18,7 +18,7 @@ use Rattle.integer.specs.Members.{◌∈◌}
 use Rattle.scope.specs.Phases.{Below, FirstFails, HoldsAt, Everywhere, RefusedBy}
 use Rattle.scope.specs.Columns.{Rule, right_angle, naming, parts, at_most_where, has_field, has_multipliers, n, l}
 use Rattle.scope.specs.Layout.{Group, Layout, Placed, groups, line_count, number_count, line_of, group_at, numbers_at}
-use Rattle.scope.specs.Mesh.{mesh_layout, nodes}
+use Rattle.scope.specs.Mesh.{mesh_layout, layout_with, nodes}
 use Rattle.scope.specs.Claim.{claim_header, stress_lines, element_multipliers, edge_multipliers, jump_multipliers}
 use Rattle.scope.specs.Claim.{strength_multipliers, claim_layout, stress, multiplier}
 use Rattle.scope.specs.Rows.{equality_rows, strength_rows, rows_of}
@@ -209,7 +209,7 @@ no_rule a w x y z (at_most_where c k d e) = w
 -- ---- the two files
 
 pub mesh_line_numbers : (m : List ℤ) → MeshLineNumbers m
-unfolding mesh_layout rule_number
+unfolding layout_with rule_number
 mesh_line_numbers m = record {
   one = form_is_lem mesh_layout m refl (λ e. omega arith)
       (no_rule 1 (λ e. omega arith) (λ e. omega arith) (λ e. omega arith) (λ e. omega arith));
@@ -341,7 +341,7 @@ lines_listed : (f : Layout) (ns : List ℤ) → f.form_number ∈ table_numbers 
 lines_listed f ns a b = (λ k c h l r. step_listed f ns k c a b r, λ e. (λ k c h l r. own_listed a r, λ i. tt))
 
 pub in_table : (m c : List ℤ) → InTable m c
-unfolding mesh_layout claim_layout is_in
+unfolding layout_with claim_layout is_in
 in_table m c k p r = each_refusal InTableNumbers (mesh_phases m ++ claim_phases m c) all r.by
   where
     all : EachIn InTableNumbers (mesh_phases m ++ claim_phases m c)

@@ -20,7 +20,7 @@ use Rattle.scope.specs.Columns.{Rule, at}
 use Rattle.scope.specs.Layout.{Group, Layout, Placed, width, groups, line_count, line_of, numbers_at, group_at}
 use Rattle.scope.specs.Mesh.{mesh_header, soil_lines, node_lines, element_lines, edge_lines, jump_lines, mesh_layout}
 use Rattle.scope.specs.Mesh.{layout_with, elements}
-use Rattle.scope.specs.Bounds.{most_coordinate}
+use Rattle.scope.specs.Mesh.{most_coordinate}
 use Rattle.scope.specs.Phases.{Phase, FirstFails, AllPass, RefusedBy, if_part, check_phases}
 use Rattle.scope.specs.Statements.{LinesSound}
 use Rattle.scope.specs.Refusals.{rule_number, rule_steps, line_steps, line_phases, shape_phases, claim_phases}
@@ -113,7 +113,7 @@ module _ (t m : List ℤ) where
   once_more (Fails k p) b c h = refl
 
   pub in_two : tabled_check t m ≡ check_phases (table_phases t m) then mesh_check (mesh_read t m)
-  unfolding tabled_check mesh_read mesh_check layout_with mesh_layout check_phases
+  unfolding tabled_check mesh_read mesh_check layout_with check_phases
   in_two = cases (has_table t) with_one without
     where
       lines : List Phase

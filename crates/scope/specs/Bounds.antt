@@ -1,45 +1,13 @@
--- How large the numbers of rows and of sums can be: one name for each limit of the two files, and each bound as an
--- expression over them, by kind of row.
+-- How large the numbers of rows and of sums can be: each bound as an expression over the limits of the two files, by
+-- kind of row.
 -- The largest radius, step and cross product are those of 108 sides (document 02, N9); soils of kind 1 are not listed
 -- with so many (N14), so that their rows are bounded by the largest radius of the others.
 use Rattle.std.specs.Prelude.{ℕ, ◌+◌, ◌*◌, ◌^◌, cond, eqb}
 use Rattle.scope.specs.Mesh.{most_pairs, most_elements, most_edges, most_sides, most_jumps, most_strength}
 use Rattle.scope.specs.Mesh.{pairs_for_108, strength_for_108, element_rows, edge_rows, rows_per_jump}
-use Rattle.scope.specs.Mesh.{most_equality_rows}
-
--- ---- limits (document 01, 'The two files')
-
--- "x, y, 0 to 1,000", and so the difference of two
-abbrev pub most_coordinate : ℕ
-most_coordinate = 1000
-
--- p, q and h
-abbrev pub most_friction : ℕ
-most_friction = 1000
-
-abbrev pub most_cohesion : ℕ
-most_cohesion = 10000
-
--- a body force of a soil, a normal or a shear of an edge
-abbrev pub most_force : ℕ
-most_force = 1000
-
-abbrev pub most_traction : ℕ
-most_traction = 10000
-
--- a claim's n, l and stresses
-abbrev pub most_scale : ℕ
-most_scale = 100000
-
-abbrev pub most_load : ℕ
-most_load = 100000000
-
-abbrev pub most_stress : ℕ
-most_stress = 1000000000
-
--- of an equality row
-abbrev pub most_multiplier : ℕ
-most_multiplier = 100000
+use Rattle.scope.specs.Mesh.{most_equality_rows, most_coordinate, most_friction, most_cohesion, most_force}
+use Rattle.scope.specs.Mesh.{most_traction}
+use Rattle.scope.specs.Claim.{most_scale, most_load, most_stress, most_multiplier}
 
 -- ---- polygons: the largest radius, step (c - a or d - b) and cross product (ad - bc)
 

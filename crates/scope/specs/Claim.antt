@@ -6,6 +6,19 @@ use Rattle.scope.specs.Mesh.{strength_multiplier, nodes, elements, edges, sides,
 use Rattle.scope.specs.Mesh.{rows_per_jump}
 use Rattle.scope.specs.Rows.{pair_count}
 
+-- the largest n, and the largest load, stress and multiplier of an equality row in size
+abbrev pub most_scale : ℕ
+most_scale = 100000
+
+abbrev pub most_load : ℕ
+most_load = 100000000
+
+abbrev pub most_stress : ℕ
+most_stress = 1000000000
+
+abbrev pub most_multiplier : ℕ
+most_multiplier = 100000
+
 -- "Header: field there (0 or 1), multipliers there (0 or 1), n 0 to 100,000, l within ±100,000,000"
 unfoldable pub claim_header : Group
 claim_header = record {
@@ -13,8 +26,8 @@ claim_header = record {
   limits =
       between (pos 0) (pos 1)
       ∷ between (pos 0) (pos 1)
-      ∷ between (pos 0) (pos 100000)
-      ∷ up_to 100000000
+      ∷ between (pos 0) (pos most_scale)
+      ∷ up_to most_load
       ∷ [];
   rules = parts ∷ [];
 }
@@ -32,20 +45,20 @@ if_there b k = cond b k 0
 
 -- "With a field: for each node sx, sy, t (x stress, y stress, shear), within ±1,000,000,000"
 unfoldable pub stress_lines : ℕ → Group
-stress_lines k = record { lines = k; limits = replicate stress_columns (up_to 1000000000); rules = [] }
+stress_lines k = record { lines = k; limits = replicate stress_columns (up_to most_stress); rules = [] }
 
 -- "With multipliers: for each element 2, for each edge 4, within ±100,000; then for each node a line of as many as
 -- there are sides, 0 to 10,000"; with 108 sides "at most 300" (document 02, N9)
 -- "multiplier lines are numbered by node-and-soil pairs" (document 02, N2): a line for each pair
 -- "for each jump a line of four multipliers, within ±100,000, after the edge lines" (document 02, N6)
 unfoldable pub element_multipliers : ℕ → Group
-element_multipliers k = record { lines = k; limits = replicate element_rows (up_to 100000); rules = [] }
+element_multipliers k = record { lines = k; limits = replicate element_rows (up_to most_multiplier); rules = [] }
 
 unfoldable pub edge_multipliers : ℕ → Group
-edge_multipliers k = record { lines = k; limits = replicate edge_rows (up_to 100000); rules = [] }
+edge_multipliers k = record { lines = k; limits = replicate edge_rows (up_to most_multiplier); rules = [] }
 
 unfoldable pub jump_multipliers : ℕ → Group
-jump_multipliers k = record { lines = k; limits = replicate rows_per_jump (up_to 100000); rules = [] }
+jump_multipliers k = record { lines = k; limits = replicate rows_per_jump (up_to most_multiplier); rules = [] }
 
 unfoldable pub strength_multipliers : ℕ → ℕ → Group
 strength_multipliers k s =

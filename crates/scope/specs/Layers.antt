@@ -12,7 +12,7 @@ use Rattle.scope.specs.Columns.{at}
 use Rattle.scope.specs.Layout.{count}
 use Rattle.scope.specs.Mesh.{nodes, y}
 use Rattle.scope.specs.Rows.{first_where}
-use Rattle.scope.specs.Bounds.{most_coordinate}
+use Rattle.scope.specs.Mesh.{most_coordinate}
 
 -- ---- what the numbers are
 

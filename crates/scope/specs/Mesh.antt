@@ -1,6 +1,6 @@
 -- A mesh (document 01, 'The two files', "Mesh, in this order"): its lines, and what its numbers are.
 -- Soils, nodes, elements, edges and jumps are counted from 0 here; the file counts from 1.
-use Rattle.std.specs.Prelude.{Bool, cond, List, [], ◌∷◌, ℕ, ◌+◌, ◌-◌, ◌*◌, ◌%◌, ℤ, pos, eqb, replicate, ◌≡◌, ◌<◌}
+use Rattle.std.specs.Prelude.{Bool, false, cond, List, [], ◌∷◌, ℕ, ◌+◌, ◌-◌, ◌*◌, ◌%◌, ℤ, pos, eqb, replicate, ◌≡◌, ◌<◌}
 use Rattle.integer.specs.Tests.{eq_z}
 use Rattle.scope.specs.Checks.{some_below}
 use Rattle.scope.specs.Columns.{between, one_of, free, up_to, right_angle, naming, at_most_where, at}
@@ -36,6 +36,24 @@ listed_sides = pos 12 ∷ pos 20 ∷ pos 36 ∷ pos most_sides ∷ []
 -- the largest multiplier of a strength row, "0 to 10,000"
 abbrev pub most_strength : ℕ
 most_strength = 10000
+
+-- "x, y, 0 to 1,000"
+abbrev pub most_coordinate : ℕ
+most_coordinate = 1000
+
+-- p, q and h of a soil, its cohesion and a force of it
+abbrev pub most_friction : ℕ
+most_friction = 1000
+
+abbrev pub most_cohesion : ℕ
+most_cohesion = 10000
+
+abbrev pub most_force : ℕ
+most_force = 1000
+
+-- a normal or a shear of an edge
+abbrev pub most_traction : ℕ
+most_traction = 10000
 
 -- "Such a mesh has at most 40 nodes and 40 node-and-soil pairs, and its strength multipliers are at most 300"
 -- (document 02, N9): with 108 sides
@@ -124,23 +142,24 @@ unfoldable pub soil_lines : ℕ → ℕ → Group
 soil_lines n side_count = record {
   lines = n;
   limits =
-      between (pos 0) (pos 1000)
-      ∷ between (pos 1) (pos 1000)
-      ∷ between (pos 1) (pos 1000)
-      ∷ between (pos 0) (pos 10000)
-      ∷ up_to 1000
-      ∷ up_to 1000
-      ∷ up_to 1000
-      ∷ up_to 1000
+      between (pos 0) (pos most_friction)
+      ∷ between (pos 1) (pos most_friction)
+      ∷ between (pos 1) (pos most_friction)
+      ∷ between (pos 0) (pos most_cohesion)
+      ∷ up_to most_force
+      ∷ up_to most_force
+      ∷ up_to most_force
+      ∷ up_to most_force
       ∷ between (pos 0) (pos (kind_with side_count))
-      ∷ between (pos 0) (pos 10000)
+      ∷ between (pos 0) (pos most_cohesion)
       ∷ [];
   rules = right_angle ∷ [];
 }
 
 -- "Each node: x, y, 0 to 1,000"
 unfoldable pub node_lines : ℕ → Group
-node_lines n = record { lines = n; limits = replicate node_columns (between (pos 0) (pos 1000)); rules = [] }
+node_lines n =
+    record { lines = n; limits = replicate node_columns (between (pos 0) (pos most_coordinate)); rules = [] }
 
 -- "Each element: four nodes, counterclockwise; a soil", whose least number is given
 unfoldable pub element_lines : ℕ → ℕ → ℕ → ℕ → Group
@@ -155,7 +174,7 @@ element_lines n ns least ss = record {
 unfoldable pub edge_lines : ℕ → ℕ → Group
 edge_lines n ns = record {
   lines = n;
-  limits = free ∷ free ∷ between (pos 1) (pos 3) ∷ replicate 4 (up_to 10000);
+  limits = free ∷ free ∷ between (pos 1) (pos 3) ∷ replicate 4 (up_to most_traction);
   rules = naming ((0, 1, ns) ∷ (1, 1, ns) ∷ []) ∷ [];
 }
 
@@ -182,16 +201,8 @@ mesh_lines least node_count element_count soil_count edge_count side_count jump_
 abbrev pub mesh_limit : ℕ
 mesh_limit = 2
 
--- the lines of a mesh: refusals 1 to 4
-unfoldable pub mesh_layout : Layout
-mesh_layout = record {
-  form_number = 1;
-  limit_number = mesh_limit;
-  header = mesh_header;
-  body = λ m. mesh_lines 1 (nodes m) (elements m) (soils m) (edges m) (sides m) (jumps m);
-}
-
--- "Without a table, soil 0 still gets 4" (document 02, N8): the lines of a mesh that has a table, or has none
+-- the lines of a mesh that has a table, or has none: refusals 1 to 4; "Without a table, soil 0 still gets 4" (document
+-- 02, N8)
 unfoldable pub layout_with : Bool → Layout
 layout_with tabled = record {
   form_number = 1;
@@ -199,6 +210,9 @@ layout_with tabled = record {
   header = mesh_header;
   body = λ m. mesh_lines (cond tabled 0 1) (nodes m) (elements m) (soils m) (edges m) (sides m) (jumps m);
 }
+
+abbrev pub mesh_layout : Layout
+mesh_layout = layout_with false
 
 unfoldable pub mesh_groups : List ℤ → List Group
 mesh_groups m = groups mesh_layout m

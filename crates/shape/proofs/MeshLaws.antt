@@ -7,7 +7,7 @@ use lib.IntN.{ℤ}
 use Rattle.mesh.specs.declared.sizes.Sizes.{Sizes}
 use Rattle.scope.specs.Layout.{groups, lines_before}
 use Rattle.scope.specs.Mesh.{mesh_header, soil_lines}
-use Rattle.scope.specs.Mesh.{node_lines, element_lines, edge_lines, jump_lines, mesh_layout, mesh_groups}
+use Rattle.scope.specs.Mesh.{node_lines, element_lines, edge_lines, jump_lines, layout_with, mesh_groups}
 use Rattle.scope.specs.Mesh.{edge_line, jump_line}
 use Rattle.mesh.specs.MeshContracts.{Sized}
 use Rattle.scope.specs.Cases.Outcome.{Outcome}
@@ -22,7 +22,7 @@ use Rattle.scope.proofs.Phases.{check_join}
 module _ (m : List ℤ) where
   pub edge_line_lem : {s : Sizes} → Sized m s → (g : ℕ) {r : ℕ} → r ≡ s.soils + s.nodes + s.elements + g + 2
       → r ≡ suc (edge_line m g)
-  unfolding edge_line lines_before mesh_groups groups mesh_layout mesh_header soil_lines node_lines element_lines
+  unfolding edge_line lines_before mesh_groups groups layout_with mesh_header soil_lines node_lines element_lines
       edge_lines
   edge_line_lem k g e = omega (arith, k.soils_are, k.nodes_are, k.elements_are)
 
@@ -31,7 +31,7 @@ module _ (m : List ℤ) where
 module _ (m : List ℤ) where
   pub jump_line_lem : {s : Sizes} → Sized m s → (j : ℕ) {r : ℕ} → r ≡ s.soils + s.nodes + s.elements + (s.edges + j) + 2
       → r ≡ suc (jump_line m j)
-  unfolding jump_line lines_before mesh_groups groups mesh_layout mesh_header soil_lines node_lines element_lines
+  unfolding jump_line lines_before mesh_groups groups layout_with mesh_header soil_lines node_lines element_lines
       edge_lines jump_lines
   jump_line_lem k j e = omega (arith, k.soils_are, k.nodes_are, k.elements_are, k.edges_are)
 

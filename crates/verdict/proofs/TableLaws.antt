@@ -43,7 +43,7 @@ use Rattle.verdict.proofs.Handed.{answer_then}
 
 -- without a table
 pub plain_lines : (m : List ℤ) → lines_check (layout_with false) m ≡ lines_check mesh_layout m
-unfolding layout_with mesh_layout
+unfolding layout_with 
 plain_lines m = refl
 
 -- the numbers of a mesh whose lines have passed have room in a copy
@@ -96,7 +96,7 @@ module _ {t m : List ℤ} (p : LinesPassed t m) where
   lines_are = (lines_passed (layout_with true) m).says p.lines
 
   same_header : line_at (layout_with true) m 0 ≡ line_at mesh_layout m 0
-  unfolding line_at line_of groups line_numbers line_check layout_with mesh_layout mesh_header
+  unfolding line_at line_of groups line_numbers line_check layout_with mesh_header
   same_header = refl
 
   pub header_there : HeaderThere m

@@ -2,7 +2,7 @@
 use native.Mathlib.Omega.{arith}
 use Rattle.integer.specs.Bounds.{Within}
 use Rattle.integer.proofs.Machine.{machine, fits, exact, bounded, by_value}
-use Rattle.scope.specs.Bounds.{most_cohesion}
+use Rattle.scope.specs.Mesh.{most_cohesion}
 use Rattle.scope.specs.Mesh.{p, q, cohesion, cohesion_across}
 use Rattle.bedded.proofs.PlaneLaws.{being, p_within, q_within, cohesion_within, across_within, excess_within}
 use Rattle.bedded.proofs.beds.bed_of.Goals as goal

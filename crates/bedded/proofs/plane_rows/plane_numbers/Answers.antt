@@ -6,7 +6,9 @@ use mir.Syntax.{w64}
 use mir.Val.{to_z, of_z}
 use Rattle.integer.specs.Bounds.{Within}
 use Rattle.integer.proofs.Machine.{machine, fits, exact, bounded}
-use Rattle.scope.specs.Bounds.{most_friction, most_cohesion, most_scale, most_stress, most_plane_radius}
+use Rattle.scope.specs.Bounds.{most_plane_radius}
+use Rattle.scope.specs.Mesh.{most_friction, most_cohesion}
+use Rattle.scope.specs.Claim.{most_scale, most_stress}
 use Rattle.bedded.proofs.plane_rows.plane_numbers.Goals as goal
 
 abbrev read : ℤ → ℤ

@@ -6,7 +6,9 @@ use mir.Syntax.{w64}
 use mir.Val.{to_z, of_z}
 use Rattle.integer.specs.Bounds.{Within}
 use Rattle.integer.proofs.Machine.{machine, fits, exact, bounded, Is-read, Is-within}
-use Rattle.scope.specs.Bounds.{most_friction, most_scale, most_stress, twice_strength}
+use Rattle.scope.specs.Bounds.{twice_strength}
+use Rattle.scope.specs.Mesh.{most_friction}
+use Rattle.scope.specs.Claim.{most_scale, most_stress}
 use Rattle.scope.specs.Columns.{at}
 use Rattle.criterion.proofs.strength_rows.pair_numbers.Goals as goal
 

@@ -9,7 +9,7 @@ use lib.Seq.{length-take-le}
 use Rattle.scope.specs.declared.Place.TheVariants.{Line}
 use Rattle.scope.specs.Checks.{demand, ◌then◌}
 use Rattle.scope.specs.Columns.{Rule, at_most_where, all_within}
-use Rattle.scope.specs.Mesh.{most_sides, nodes_for_108, mesh_header_columns, mesh_layout, mesh_header}
+use Rattle.scope.specs.Mesh.{most_sides, nodes_for_108, mesh_header_columns, mesh_layout, layout_with, mesh_header}
 use Rattle.scope.specs.Verdict.{line_check, line_at, rules_hold}
 use Rattle.scope.specs.Refusals.{rule_number}
 use Rattle.scope.proofs.Answered.{first_refuses, second_decides, test_held}
@@ -21,7 +21,7 @@ use Rattle.lines.proofs.line_checks.mesh_header.Goals as goal
 -- the line is there
 header_there : (m : List ℤ) → demand (leb mesh_header_columns (length m)) 1 (Line 1)
     then line_check mesh_layout mesh_header (take mesh_header_columns m) (Line 1) ≡ line_at mesh_layout m 0
-unfolding mesh_header mesh_layout
+unfolding mesh_header layout_with
 header_there m = line_there mesh_layout mesh_header m (Line 1) (leb mesh_header_columns (length m)) (past_end _ _)
     ∙ mesh_header_line m
 
@@ -40,7 +40,7 @@ header_limits : (m : List ℤ) {b : Bool} → leb mesh_header_columns (length m)
     → all_within mesh_header.limits (take mesh_header_columns m) ≡ b
     → demand b 2 (Line 1) then rules_hold (few ∷ []) (take mesh_header_columns m) (Line 1)
     ≡ line_check mesh_layout mesh_header (take mesh_header_columns m) (Line 1)
-unfolding mesh_header mesh_layout
+unfolding mesh_header layout_with
 header_limits m e w =
     line_limits mesh_layout mesh_header (take mesh_header_columns m) (Line 1)
     (length-take-le mesh_header_columns m (not_past_end _ _ e)) w

@@ -11,7 +11,7 @@ use mir.Val.{to_z, of_z}
 use Rattle.std.specs.Int.{int_max}
 use Rattle.integer.specs.Bounds.{Is}
 use Rattle.integer.proofs.Machine.{Is-read, machine, casts, is, decides}
-use Rattle.scope.specs.Bounds.{most_coordinate}
+use Rattle.scope.specs.Mesh.{most_coordinate}
 use Rattle.scope.specs.Layers.{most_level, bottom, top}
 use Rattle.layers.specs.LayerContracts.{meeting, meet}
 use Rattle.layers.proofs.LayerLaws.{higher_is, and_second, and_not_first}
