@@ -27,6 +27,7 @@ use Rattle.scope.specs.Verdict.{open_count, lower_load, upper_load, verdict}
 use Rattle.scope.proofs.Exactly.{accepted_exactly, claim_by_parts, verdict_cases}
 use Rattle.scope.proofs.Lists.{each_cons, each_map}
 use Rattle.scope.proofs.Parts.{parts_bracket}
+use Rattle.scope.proofs.SameRows.{same_rows_joined, same_rows_turned}
 use Rattle.judge.specs.Handed.{Handed, mesh_of, claim_of, handed_verdict}
 use Rattle.book.specs.Book.{most_commits}
 use Rattle.book.specs.History.{Call, asks, commits, Loads, committed_after, FirstOf, Best, judged_call, book_after}
@@ -50,7 +51,7 @@ module _ (d : List ℤ) where
   in_order Absent y f g = tt
   in_order (Exact a b) Absent f g = tt
   in_order (Exact a b) (Exact v w) (m, c, s, f, p) (e, k, t, g, q) =
-      subst₂ ◌≤ᶠ◌ (sym p) (sym q) (parts_bracket m c e k (s ∙ sym t) f g).at_most
+      subst₂ ◌≤ᶠ◌ (sym p) (sym q) (parts_bracket m c e k (same_rows_joined m d e s (same_rows_turned e d t)) f g).at_most
 
   FromClaim : Loads → Type 0
   FromClaim p = FromField p.carried × FromMultipliers p.allowed

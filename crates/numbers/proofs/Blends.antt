@@ -7,6 +7,7 @@ use mathlib.Core.List.{List}
 use Prim.Native.Nat.{◌*◌}
 use native.Mathlib.Omega.{arith}
 use lib.IntN.{ℤ, pos}
+use Rattle.scope.proofs.SameRows.{same_mesh}
 use Rattle.integer.specs.Fraction.{◌over◌, ◌≈ᶠ◌, ◌≤ᶠ◌}
 use Rattle.scope.specs.Mesh.{nodes}
 use Rattle.scope.specs.Fractions.{FractionField, field_over}
@@ -42,14 +43,14 @@ nineteen_tells = (refl, inl refl)
 
 -- the sheet and l 19, as often the one as the other: 39/2 is carried, and is at most the sheet's limit
 half_way : BlendedClaims 1 1 worked_mesh sheet worked_mesh sheet19
-half_way = blended_answers sheet-answered nineteen_answered refl sheet_tells nineteen_tells 1 1 (omega arith)
+half_way = blended_answers sheet-answered nineteen_answered (same_mesh refl) sheet_tells nineteen_tells 1 1 (omega arith)
 
 pub half_way_carried : (f : FractionField) × Carries worked_mesh f × (f.load.value ≈ᶠ pos 39 over pos 2)
 unfolding computed zeros worked_stresses worked_multipliers worked_claim sheet sheet19 carried
 half_way_carried = let (f, blend) = half_way.can_be_blended in let e = half_way.each f blend in (f, e.0, e.1)
 
 pub half_way_at_most : half_way_carried.0.load.value ≤ᶠ allowed worked_mesh sheet
-half_way_at_most = half_way_carried.1.at_most worked_mesh sheet refl sheet_multipliers
+half_way_at_most = half_way_carried.1.at_most worked_mesh sheet (same_mesh refl) sheet_multipliers
 
 -- that twice with l 19 once, a blend of a blend: (2·39/2 + 19)/3 is carried
 pub again_carried : (f : FractionField) × Carries worked_mesh f
@@ -65,7 +66,7 @@ again_carried =
 
 -- weights 1 and 0 give the sheet's own field back
 pub alone : BlendedClaims 1 0 worked_mesh sheet worked_mesh sheet19
-alone = blended_answers sheet-answered nineteen_answered refl sheet_tells nineteen_tells 1 0 (omega arith)
+alone = blended_answers sheet-answered nineteen_answered (same_mesh refl) sheet_tells nineteen_tells 1 0 (omega arith)
 
 pub sheet_alone : (f : FractionField) × SameField (3 * nodes worked_mesh) f
     (field_over (n sheet) alone.n_above_0 (stress worked_mesh sheet) (l sheet))
@@ -73,4 +74,4 @@ sheet_alone = let (f, blend) = alone.can_be_blended in (f, alone.again.laws.firs
 
 -- a claim that is refused for its multipliers, blended with the sheet
 pub refused_blended : BlendedClaims 2 3 worked_mesh sheet29 worked_mesh sheet
-refused_blended = blended_answers refused_answered sheet-answered refl tells_field sheet_tells 2 3 (omega arith)
+refused_blended = blended_answers refused_answered sheet-answered (same_mesh refl) tells_field sheet_tells 2 3 (omega arith)

@@ -8,6 +8,7 @@ use Prim.Native.Nat.{ℕ, zero, suc, ◌<◌}
 use native.Mathlib.Omega.{arith}
 use lib.IntN.{ℤ, pos}
 use lib.Signed.{lt_z_yes}
+use Rattle.scope.proofs.SameRows.{same_mesh}
 use Rattle.std.specs.Prelude.{Result}
 use Rattle.scope.specs.declared.Refusal as Answered
 use Rattle.scope.specs.Mesh.{soils, elements, sides, corner, corner_count, around, element_soil, jumps}
@@ -172,13 +173,13 @@ module _ (m c : List ℤ) (r : NumbersAnswer) (h : Answers m c r) (accepted : r.
       fill = criterion.pairs (record { at = 2; soil = 0 }) says.fill_pair facts.fill_kind;
       joint = tractions_on_joints m c r.number r.place answered tells 0 facts.one_jump;
       bracket = call_bracket h field_there multipliers_there;
-      parts = accepted_parts h refl tells multipliers;
+      parts = accepted_parts h (same_mesh refl) tells multipliers;
       none_open = (call_bracket h field_there multipliers_there).equal.0 equal;
       open_rows = (open_rows_reported m c r h).count field_there multipliers_there;
       closed = equal;
-      fractions = fractions_bracket h multipliers_there m sound refl;
+      fractions = fractions_bracket h multipliers_there m sound (same_mesh refl);
       in_fractions = field_in_fractions m c r h field_there;
-      blended = blended_answers h h refl tells tells 1 2 (omega arith);
+      blended = blended_answers h h (same_mesh refl) tells tells 1 2 (omega arith);
     }
       where
         field : FieldAccepted m c

@@ -21,6 +21,7 @@ use Rattle.scope.specs.Sums.{live_sum, limit_sum}
 use Rattle.scope.specs.Claim.{stress, multiplier}
 use Rattle.scope.specs.Answer.{outcome_of, place_for, number_of, mesh_number_of, mesh_place_of}
 use Rattle.scope.proofs.Computed.{computed}
+use Rattle.scope.proofs.SameRows.{judged_as, judged, same_judged}
 use Rattle.scope.specs.Refusals.{MeshRefusal, Refusal}
 use Rattle.scope.specs.Verdict.{verdict}
 use Rattle.scope.specs.Accepted.{FieldAccepted, MultipliersAccepted, ClaimAccepted}
@@ -130,8 +131,8 @@ unfolding computed zeros worked_stresses worked_multipliers multipliers_alone se
 alone_answered = refl
 
 pub same_rows : SameRows worked_mesh second_soil
-unfolding computed zeros worked_mesh second_soil
-same_rows = refl
+unfolding computed zeros worked_mesh second_soil judged_as judged
+same_rows = same_judged worked_mesh second_soil refl
 
 -- ---- demand 2
 

@@ -10,6 +10,7 @@ use lib.Dec.{T}
 use lib.IntN.{ℤ, pos}
 use lib.Signed.{◌<ℤ◌, <ℤ_irrefl}
 use borrow.Table.Steps.{cases}
+use Rattle.scope.proofs.SameRows.{same_mesh}
 use Rattle.integer.specs.Fraction.{◌over◌, Positive}
 use Rattle.integer.proofs.FractionLaws.{≈ᶠ_sym, ≈ᶠ_trans}
 use Rattle.integer.specs.Tests.{eq_z}
@@ -272,7 +273,7 @@ calls_bracket {m} {c} {d} {k} {r} {s} h g same e f =
 
 pub call_bracket : {m c : List ℤ} {r : NumbersAnswer} → Answers m c r → r.field ≡ 1 → r.multipliers ≡ 1
     → CallsBracket m c m c r r
-call_bracket h e f = calls_bracket h h refl e f
+call_bracket h e f = calls_bracket h h (same_mesh refl) e f
 
 -- parts of claims that may be refused for their other part
 pub accepted_parts : {m c d k : List ℤ} {r : NumbersAnswer} → AnswerAndMultipliers m c d k r

@@ -20,7 +20,8 @@ use Rattle.judge.specs.Handed.{Handed, files, numbers, mesh_of, claim_of, Handed
 use Rattle.pechuvo.specs.Promises.{Call, on_files, BlendedCalls}
 use Rattle.pechuvo.proofs.TablePromises.{call_field}
 use Rattle.pechuvo.proofs.PromisesApplied.{opened, at, room, nineteen_file}
-use Rattle.pechuvo.proofs.LoadsApplied.{sheet_call, refused_call, numbers_call, same_mesh, sheet_mesh}
+use Rattle.scope.proofs.SameRows.{same_mesh}
+use Rattle.pechuvo.proofs.LoadsApplied.{sheet_call, refused_call, numbers_call, sheet_mesh}
 use Rattle.pechuvo.proofs.LoadsApplied.{refused_mesh_lem, beyond_mesh, sheet-field, refused_tells, beyond_strength}
 use Rattle.pechuvo.proofs.TableApplied.{with_table, soil_call, same_meshes, parts}
 

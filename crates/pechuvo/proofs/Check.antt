@@ -152,7 +152,7 @@ check_cut mesh table claim = sym (files_cut mesh table claim)
 -- the lines of a mesh pass, with soil 0 allowed where there is a table
 pub mesh_lines_lem : (t m : List ℤ) → TableFits t m → MeshSound (mesh_read t m)
     → LinesSound (layout_with (has_table t)) m
-unfolding mesh_read layout_with 
+unfolding mesh_read layout_with
 mesh_lines_lem t m f s =
     cases (has_table t)
     (λ e. subst (λ (b : Bool). LinesSound (layout_with b) m) (sym e) (f e).mesh_lines)
@@ -160,7 +160,7 @@ mesh_lines_lem t m f s =
     (subst (λ (b : Bool). LinesSound mesh_layout (cond b (filled t m) m)) e s.lines))
 
 lines_counts : (b : Bool) (m : List ℤ) → LinesSound (layout_with b) m → Counts m
-unfolding layout_with 
+unfolding layout_with
 lines_counts true m s = tabled_counts m s
 lines_counts false m s = counts m s
 
@@ -173,7 +173,7 @@ module _ (mesh table : List ℕ) where
   m = numbers_of 12 mesh_layout mesh
 
   mesh_fits : TableFits t m → MeshSound (mesh_read t m) → length mesh < most_file_bytes
-  unfolding layout_with mesh_header 
+  unfolding layout_with mesh_header
   mesh_fits f s =
       let b = has_table t in
       let sound = mesh_lines_lem t m f s in

@@ -1,9 +1,9 @@
 -- The promises about loads compared (document 01, demand 3) applied to document 01's sheet and its neighbours, as
 -- files and as numbers, one claim or two, and to a field in fractions: antt computes what is handed over, and the
 -- promise says the rest.
-use mathlib.Core.Path.{◌≡◌, refl, sym, ◌∙◌, ap}
+use mathlib.Core.Path.{◌≡◌, refl, sym, ◌∙◌, ap, subst}
 use mathlib.Core.Logic.{inl, inr}
-use mathlib.Core.List.{List, [], map}
+use mathlib.Core.List.{List, []}
 use mathlib.Core.Option.{some}
 use Prim.Native.Nat.{◌*◌}
 use native.Mathlib.Omega.{arith}
@@ -13,7 +13,8 @@ use Rattle.integer.specs.Fraction.{◌over◌, ◌≈ᶠ◌, ◌≤ᶠ◌}
 use Rattle.scope.proofs.Computed.{computed}
 use Rattle.scope.specs.Columns.{has_field}
 use Rattle.scope.specs.Mesh.{nodes}
-use Rattle.scope.specs.Rows.{equality_rows, rows_of, judged}
+use Rattle.scope.specs.Rows.{equality_rows, rows_of}
+use Rattle.scope.proofs.SameRows.{same_mesh}
 use Rattle.scope.specs.Claim.{claim_layout, multiplier}
 use Rattle.scope.specs.Statements.{HasField, HasMultipliers}
 use Rattle.scope.specs.Parts.{carried, allowed, SameRows}
@@ -84,10 +85,6 @@ alone_call : Call (numbers second_soil [] Numbers.multipliers_alone) 0
 alone_call = on_numbers second_soil [] Numbers.multipliers_alone alone_answer
     (untabled second_soil Numbers.multipliers_alone alone_answered)
 
--- equal numbers have the same rows
-pub same_mesh : {m d : List ℤ} → m ≡ d → SameRows m d
-same_mesh e = ap (λ (m : List ℤ). map judged (rows_of m)) e
-
 -- the meshes of the files are the numbers of document 01's sheet
 pub sheet_mesh : mesh_of (files (at 0).mesh [] (at 0).claim) ≡ Numbers.worked_mesh
 unfolding opened Numbers.zeros Numbers.worked_mesh
@@ -111,7 +108,7 @@ refused_tells = (refl, inr (omega arith, omega arith))
 
 -- one claim
 pub one_file : HandedBracket (files (at 0).mesh [] (at 0).claim) (files (at 0).mesh [] (at 0).claim)
-one_file = calls_bracket sheet_call sheet_call refl (sheet-field, inl refl) sheet-has refl
+one_file = calls_bracket sheet_call sheet_call (same_mesh refl) (sheet-field, inl refl) sheet-has refl
 
 -- two files: the field of the claim that is refused for its multipliers, and the sheet's multipliers
 pub two_files : HandedBracket (files (at 4).mesh [] (at 4).claim) (files (at 0).mesh [] (at 0).claim)
@@ -123,7 +120,8 @@ pub file_and_numbers : HandedBracket (files (at 4).mesh [] (at 4).claim)
     (numbers second_soil [] Numbers.multipliers_alone)
 unfolding computed mesh_of claim_of mesh_read has_table Numbers.zeros Numbers.worked_multipliers
     Numbers.multipliers_alone
-file_and_numbers = calls_bracket refused_call alone_call (same_mesh refused_mesh_lem ∙ same_rows) refused_tells refl
+file_and_numbers = calls_bracket refused_call alone_call
+    (subst (λ (m : List ℤ). SameRows m second_soil) (sym refused_mesh_lem) same_rows) refused_tells refl
     refl
 
 -- the other way round: a field handed over as numbers, and the multipliers of a file

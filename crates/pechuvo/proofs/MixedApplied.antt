@@ -8,6 +8,7 @@ use Prim.Native.Nat.{ℕ, suc, ◌+◌, ◌*◌, ◌<◌}
 use native.Mathlib.Omega.{arith}
 use lib.IntN.{ℤ, pos}
 use lib.ListN.{take, replicate, length-replicate}
+use Rattle.scope.proofs.SameRows.{same_mesh}
 use Rattle.scope.specs.Cases.Load.{Absent, Exact}
 use Rattle.scope.specs.Cases.OpenRows.{Count}
 use Rattle.scope.specs.Cases.Verdict.{Verdict}
@@ -157,11 +158,11 @@ module _ (s : Sheet) (m c : List ℤ) (h : Answers s.mesh s.table s.claim (pos 6
     mesh_file = own.mesh_file refl;
     table_file = own.table_file refl;
     claim_file = own.claim_file refl;
-    bracket = calls_bracket call_made call_made refl tells_handed has_handed refl;
-    parts_bracket = accepted_parts call_made (files s.mesh s.table s.claim) refl tells_handed multipliers;
+    bracket = calls_bracket call_made call_made (same_mesh refl) tells_handed has_handed refl;
+    parts_bracket = accepted_parts call_made (files s.mesh s.table s.claim) (same_mesh refl) tells_handed multipliers;
     fractions = fractions_bracket call_made has_handed refl (mesh_of (files s.mesh s.table s.claim))
-        (subst MeshSound (sym mesh_lem) sound) refl;
-    blended = blended_calls call_made call_made refl tells_handed tells_handed 1 2 (omega arith);
+        (subst MeshSound (sym mesh_lem) sound) (same_mesh refl);
+    blended = blended_calls call_made call_made (same_mesh refl) tells_handed tells_handed 1 2 (omega arith);
   }
     where
       own : AcceptedFiles s.mesh s.table s.claim 0

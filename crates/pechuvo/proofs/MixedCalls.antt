@@ -10,7 +10,7 @@ use native.Mathlib.Omega.{arith}
 use lib.IntN.{ℤ, pos}
 use lib.ListN.{length, replicate}
 use Rattle.scope.specs.Cases.Verdict.{Verdict}
-use Rattle.scope.specs.Rows.{rows_of, judged as judged_row}
+use Rattle.scope.proofs.SameRows.{same_mesh}
 use Rattle.scope.specs.Parts.{SameRows}
 use Rattle.scope.specs.Mesh.{ListsDirection}
 use Rattle.scope.specs.Claim.{claim_layout}
@@ -177,7 +177,7 @@ both_on s k there =
   where
     same : {q : Call Handed} → k ≡ q → mesh_of (handed_of q) ≡ mesh_of (files s.mesh s.table s.claim)
         → SameRows (mesh_of (handed_of k)) (mesh_of (files s.mesh s.table s.claim))
-    same e f = ap (λ (x : List ℤ). map judged_row (rows_of x)) (ap (λ (x : Call Handed). mesh_of (handed_of x)) e ∙ f)
+    same e f = same_mesh (ap (λ (x : Call Handed). mesh_of (handed_of x)) e ∙ f)
 
 book_says : (s : Sheet) (b : BookForC) → AskAnswers empty_for_c s.mesh s.table s.claim (told b)
     → CommitAnswers empty_for_c 0 s.mesh s.table s.claim (told b) → BookSays s empty_for_c b

@@ -5,7 +5,7 @@ use mathlib.Core.Path.{◌≡◌, refl, ap}
 use mathlib.Core.Logic.{inl, inr, ◌≢◌}
 use mathlib.Core.Bool.{true}
 use mathlib.Core.List.Memᴰ
-use mathlib.Core.List.{List, [], ◌∷◌, map}
+use mathlib.Core.List.{List, [], ◌∷◌}
 use Prim.Native.Nat.{ℕ, zero, suc, ◌<◌}
 use native.Mathlib.Omega.{arith}
 use lib.IntN.{ℤ, pos}
@@ -16,7 +16,7 @@ use Rattle.scope.specs.Accepted.{ClaimAccepted}
 use Rattle.integer.specs.Members.{◌∈◌}
 use Rattle.scope.specs.Columns.{at as number_at}
 use Rattle.scope.specs.Mesh.{elements, ListsDirection}
-use Rattle.scope.specs.Rows.{rows_of, judged}
+use Rattle.scope.proofs.SameRows.{same_mesh}
 use Rattle.scope.specs.Filled.{height_of, soil_place}
 use Rattle.scope.specs.LayerRows.{OneLayer}
 use Rattle.scope.specs.Statements.{HasField, HasMultipliers}
@@ -194,7 +194,7 @@ parts = (refl, refl)
 
 pub with_and_without : HandedBracket (files (with_table 0).mesh (with_table 0).table (with_table 0).claim)
     (files (at 0).mesh [] (at 0).claim)
-with_and_without = calls_bracket soil_call sheet_call (ap (λ (m : List ℤ). map judged (rows_of m)) same_meshes)
+with_and_without = calls_bracket soil_call sheet_call (same_mesh same_meshes)
     (parts.0, inl refl) parts.1 refl
 
 -- numbers with a table get the answer of files of them

@@ -2,7 +2,10 @@
 -- passes, and the theorems say the rest.
 use mathlib.Core.Path.{◌≡◌, refl, sym, ◌∙◌, ap}
 use mathlib.Core.List.{List, [], ◌∷◌}
-use Prim.Native.Nat.{ℕ, suc, ◌*◌}
+use Prim.Native.Nat.{ℕ, zero, suc, ◌*◌, ◌<◌}
+use mathlib.Core.Logic.{inl}
+use lib.ListN.{length}
+use Rattle.integer.proofs.Ring.{ring, terms}
 use native.Mathlib.Omega.{arith}
 use mathlib.Core.Bool.{Bool}
 use lib.Dec.{lt→ltb}
@@ -15,7 +18,7 @@ use Rattle.scope.specs.Cases.Verdict.{Refused}
 use Rattle.scope.specs.Columns.{n, l}
 use Rattle.scope.specs.Mesh.{nodes}
 use Rattle.scope.specs.Rows.{Row, t, strength_pairs, equality_rows, strength_rows, rows_of}
-use Rattle.scope.specs.Sums.{weighted_sum, weighed, live_sum, limit_sum, open_rows}
+use Rattle.scope.specs.Sums.{weighted_sum, weighed, unit, live_sum, limit_sum, open_rows}
 use Rattle.scope.specs.Claim.{claim_layout, stress, multiplier}
 use Rattle.scope.specs.Verdict.{mesh_check, field_check, multipliers_check, verdict, lines_check}
 use Rattle.scope.proofs.Computed.{computed}
@@ -25,8 +28,9 @@ use Rattle.scope.specs.Pairs.{soil_before, rows_before}
 use Rattle.scope.specs.AcceptedField.{TractionsAgree}
 use Rattle.scope.proofs.AcceptedField.{tractions_agree}
 use Rattle.scope.specs.Bracket.{to_spare}
-use Rattle.scope.specs.Parts.{carried, allowed, SameRows, PartsBracket}
-use Rattle.scope.specs.Worked.{zeros, worked_mesh, worked_stresses, worked_multipliers, worked_claim}
+use Rattle.scope.specs.Parts.{carried, allowed, SameRows, SameRow, PartsBracket}
+use Rattle.scope.proofs.SameRows.{judged_as, judged, same_judged, same_mesh, equal_numbers}
+use Rattle.scope.specs.Worked.{turned_mesh, zeros, worked_mesh, worked_stresses, worked_multipliers, worked_claim}
 use Rattle.scope.specs.Worked.{multipliers_alone, sheet, sheet19, sheet29, nineteen_fractions, nineteen_sixths}
 use Rattle.scope.specs.Worked.{one_edge, free_shear, fill_over_clay, over_clay, blocks, block_edges, joint}
 use Rattle.scope.specs.Worked.{two_blocks, on_joint, shared_blocks, on_shared, cut_with_tip, on_cut, against_its_side}
@@ -97,7 +101,7 @@ sheet-column-9 = (((multipliers_as_printed worked_mesh sheet).exactly.0 sheet_mu
 
 -- 20 carried, 600/30 allowed, and no row open
 pub sheet_bracket : PartsBracket worked_mesh sheet worked_mesh sheet
-sheet_bracket = parts_bracket worked_mesh sheet worked_mesh sheet refl sheet-field sheet_multipliers
+sheet_bracket = parts_bracket worked_mesh sheet worked_mesh sheet (same_mesh refl) sheet-field sheet_multipliers
 
 pub sheet_open : open_rows (stress worked_mesh sheet) (l sheet) (n sheet) (multiplier worked_mesh sheet)
     (rows_of worked_mesh) ≡ 0
@@ -138,7 +142,8 @@ unfolding computed zeros worked_mesh worked_stresses worked_multipliers worked_c
 alone_multipliers = multipliers_accepted worked_mesh multipliers_alone refl refl refl refl
 
 pub nineteen_alone : PartsBracket worked_mesh sheet19 worked_mesh multipliers_alone
-nineteen_alone = parts_bracket worked_mesh sheet19 worked_mesh multipliers_alone refl nineteen_field alone_multipliers
+nineteen_alone =
+    parts_bracket worked_mesh sheet19 worked_mesh multipliers_alone (same_mesh refl) nineteen_field alone_multipliers
 
 -- ---- an accepted field within a refused claim
 
@@ -153,7 +158,8 @@ unfolding computed zeros worked_mesh worked_stresses worked_multipliers worked_c
 field_of_refused = field_accepted worked_mesh sheet29 refl refl refl refl
 
 pub refused_bracket : PartsBracket worked_mesh sheet29 worked_mesh sheet
-refused_bracket = parts_bracket worked_mesh sheet29 worked_mesh sheet refl field_of_refused sheet_multipliers
+refused_bracket =
+    parts_bracket worked_mesh sheet29 worked_mesh sheet (same_mesh refl) field_of_refused sheet_multipliers
 
 -- ---- a field in fractions with different denominators
 
@@ -210,8 +216,8 @@ fractions_at_most = (mesh_fractions worked_mesh sheet-field.mesh).at_most sheet 
 -- ---- meshes that differ in a number of an unfixed part: the same rows, though not the same numbers
 
 pub one_edge_rows : SameRows (one_edge (pos 0)) (one_edge (pos 5))
-unfolding computed zeros one_edge
-one_edge_rows = refl
+unfolding computed zeros one_edge judged_as judged
+one_edge_rows = same_judged (one_edge (pos 0)) (one_edge (pos 5)) refl
 
 -- row 4 of each, the unfixed shear at the edge's from-node, has another right side
 pub one_edge_numbers : ¬ (rows_of (one_edge (pos 0)) ≡ rows_of (one_edge (pos 5)))
@@ -229,12 +235,39 @@ unfolding computed zeros free_shear worked_stresses worked_multipliers worked_cl
 free_multipliers = multipliers_accepted (free_shear (pos 5)) sheet refl refl refl refl
 
 pub free_rows : SameRows (free_shear (pos 0)) (free_shear (pos 5))
-unfolding computed zeros free_shear
-free_rows = refl
+unfolding computed zeros free_shear judged_as judged
+free_rows = same_judged (free_shear (pos 0)) (free_shear (pos 5)) refl
 
 pub free_bracket : PartsBracket (free_shear (pos 0)) sheet19 (free_shear (pos 5)) sheet
 free_bracket = parts_bracket (free_shear (pos 0)) sheet19 (free_shear (pos 5)) sheet free_rows free_field
     free_multipliers
+
+-- ---- an element written from another corner: the same rows, though their coefficients stand in another order
+
+turned_row : (k : ℕ) → k < length (rows_of worked_mesh)
+    → SameRow (row_at (rows_of worked_mesh) k) (row_at (rows_of turned_mesh) k)
+unfolding computed zeros worked_mesh turned_mesh
+turned_row zero h = inl (record {
+  kind = refl;
+  coefficients = λ j.
+      ring (unit j 0 ∷ unit j 2 ∷ unit j 3 ∷ unit j 5 ∷ unit j 6 ∷ unit j 8 ∷ unit j 9 ∷ unit j 11 ∷ [])
+      (search terms depth 100) refl;
+  live = refl;
+  right = refl;
+})
+turned_row (suc zero) h = inl (record {
+  kind = refl;
+  coefficients = λ j.
+      ring (unit j 1 ∷ unit j 2 ∷ unit j 4 ∷ unit j 5 ∷ unit j 7 ∷ unit j 8 ∷ unit j 10 ∷ unit j 11 ∷ [])
+      (search terms depth 100) refl;
+  live = refl;
+  right = refl;
+})
+turned_row (suc (suc k)) h = inl (equal_numbers refl)
+
+pub turned_rows : SameRows worked_mesh turned_mesh
+unfolding computed zeros worked_mesh turned_mesh
+turned_rows = record { as_many = refl; each = turned_row }
 
 -- ---- fill over clay: nodes 3 and 4 have two pairs each
 

@@ -28,7 +28,7 @@ use Rattle.scope.proofs.Printed.{field-printed}
 use Rattle.scope.proofs.Criterion.{field_criterion}
 use Rattle.scope.proofs.Columns.{mesh_columns}
 use Rattle.scope.proofs.Fractions.{fraction_laws}
-use Rattle.scope.proofs.SameRows.{same_met}
+use Rattle.scope.proofs.SameRows.{same_met, same_rows_turned}
 use Rattle.scope.proofs.Parts.{nodes-named, field-n}
 use Rattle.scope.proofs.AcceptedFractions.{mesh_fractions, fraction_at_most}
 
@@ -216,7 +216,7 @@ blended_claims a b m c d k h same v w =
     let in_fractions : FractionLaws (3 * nodes m) (rows_of m) = (mesh_fractions m v.mesh).laws in
     let first : MeetsMesh m f = in_fractions.whole_numbers (n c) N (stress m c) (l c) v.meets in
     let second : MeetsMesh m g = in_fractions.whole_numbers (n k) K (stress d k) (l k)
-    (same_met d m (sym same) (stress d k) (l k) (n k) w.meets) in
+    (same_met d m (same_rows_turned m d same) (stress d k) (l k) (n k) w.meets) in
     let blends : MeshBlends m = mesh_blends m v.mesh in
     record {
       n_above_0 = N;

@@ -58,7 +58,7 @@ module _ (s : ℕ → ℤ) (k : ℕ) where
       (eq-or-lt_of_le h)
 
 -- the stresses' part of a row's left side
-stresses : (N : ℕ) (s : ℕ → ℤ) (es : List (ℤ × ℕ)) → ((e : ℤ × ℕ) → e ∈ es → e.1 < N)
+pub stresses : (N : ℕ) (s : ℕ → ℤ) (es : List (ℤ × ℕ)) → ((e : ℤ × ℕ) → e ∈ es → e.1 < N)
     → weighted_sum s es ≡ sum_of (λ j. s j *ℤ weighted_sum (unit j) es) (count_from 0 N)
 stresses N s es h =
     weighted_same s (λ k. sum_of (λ j. s j *ℤ unit j k) (count_from 0 N)) es

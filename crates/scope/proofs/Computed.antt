@@ -17,7 +17,7 @@ use Rattle.scope.specs.Rows.{balance_x, balance_y, balance_rows, step_x, step_y,
 use Rattle.scope.specs.Rows.{shear_row, side_rows, jump_step_x, jump_step_y, agree_row, jump_normal, jump_shear}
 use Rattle.scope.specs.Rows.{jump_rows, first_where, has_corner, has_soil, passing, node_pairs, pairs_below}
 use Rattle.scope.specs.Rows.{strength_pairs, pair_count, pair_at, cross, strength_row, plane_row, rows_by_sides}
-use Rattle.scope.specs.Rows.{rows_by_planes, pair_rows, strength_rows, equality_rows, rows_of, judged_as, judged}
+use Rattle.scope.specs.Rows.{rows_by_planes, pair_rows, strength_rows, equality_rows, rows_of}
 use Rattle.scope.specs.Sums.{weighted_sum, left_side, right_side, row_holds, weighed, unit, coefficient, column_sum}
 use Rattle.scope.specs.Sums.{live_sum, limit_sum, zero_if_unfixed, is_open, how_many, open_rows}
 use Rattle.scope.specs.Claim.{claim_header, if_there, stress_lines, element_multipliers, edge_multipliers}
@@ -41,7 +41,7 @@ unfolding lowest is_one_of within all_within line_count number_count lines_befor
     joined node rise_across run_across cross_at twice_area balance_x balance_y balance_rows step_x step_y step_square
     fixed_if normal_row shear_row side_rows jump_step_x jump_step_y agree_row jump_normal jump_shear jump_rows
     first_where has_corner has_soil passing node_pairs pairs_below strength_pairs pair_count pair_at cross strength_row
-    plane_row rows_by_sides rows_by_planes pair_rows strength_rows equality_rows rows_of judged_as judged weighted_sum
+    plane_row rows_by_sides rows_by_planes pair_rows strength_rows equality_rows rows_of weighted_sum
     left_side right_side row_holds weighed unit coefficient column_sum live_sum limit_sum zero_if_unfixed is_open
     how_many open_rows has_field has_multipliers n l rule_number names all_named rule_test claim_header if_there
     stress_lines element_multipliers edge_multipliers jump_multipliers strength_multipliers claim_layout stress

@@ -34,7 +34,7 @@ use Rattle.scope.proofs.OpenPlaces.{number_of_lem}
 use Rattle.scope.proofs.RowCounts.{equality_count_lem, equality_kind, strength_count, strength_kind}
 use Rattle.scope.proofs.Columns.{mesh_columns}
 use Rattle.scope.proofs.Bracket.{is_open_lem, bracket}
-use Rattle.scope.proofs.SameRows.{same_met}
+use Rattle.scope.proofs.SameRows.{same_met, same_mesh}
 use Rattle.scope.specs.Tests.{row_at}
 
 -- ---- rows by their place in both lists
@@ -175,7 +175,7 @@ parts_bracket m c d k same f w =
 pub open_rows_count : (m c : List ℤ) → FieldAccepted m c → MultipliersAccepted m c → OpenRowsCount m c
 unfolding open_count open_rows carried allowed
 open_rows_count m c f w =
-    let b : PartsBracket m c m c = parts_bracket m c m c refl f w in
+    let b : PartsBracket m c m c = parts_bracket m c m c (same_mesh refl) f w in
     let places = number_of_lem (is_open (stress m c) (l c) (n c)) (multiplier m c) (rows_of m) in
     record {
       both = rw (has-field c f.there, has_multipliers_lem c w.there);

@@ -1,95 +1,159 @@
--- Rows that are judged alike: a field meets the one exactly when it meets the other, since an unfixed row asks nothing.
-use mathlib.Core.Path.{◌≡◌, refl, sym, ◌∙◌, ap, subst}
-use mathlib.Core.Logic.{◌↔◌, inl, inr}
+-- Rows that are judged alike: a row's left side is the sum over columns of stress times coefficient, so rows with equal
+-- coefficients have equal left sides in every field; and an unfixed row asks nothing.
+use mathlib.Core.Path.{◌≡◌, refl, sym, ◌∙◌, ap, ap₂, subst}
+use mathlib.Core.Logic.{inl, inr}
+use mathlib.Core.List.Memᴰ
 use mathlib.Core.List.{List, [], ◌∷◌, map}
-use Prim.Native.Nat.{ℕ, zero, suc, ◌<◌}
+use Prim.Native.Nat.{ℕ, zero, suc, ◌+◌, ◌<◌}
 use native.Mathlib.Omega.{arith}
-use lib.IntN.{ℤ}
+use lib.IntN.{ℤ, pos, ◌+ℤ◌, ◌*ℤ◌}
 use lib.ListN.{length, length-map}
-use Rattle.scope.specs.Rows.{Kind, asked, unfixed, strength, Row, rows_of, judged_as, judged}
-use Rattle.scope.specs.Sums.{left_side, right_side}
+use Rattle.integer.specs.Members.{◌∈◌}
+use Rattle.integer.proofs.SumLaws.{sum_of_same}
+use Rattle.scope.specs.Rows.{Kind, asked, unfixed, strength, Row, rows_of, count_from}
+use Rattle.scope.specs.Sums.{weighted_sum, left_side, right_side, unit, coefficient}
 use Rattle.scope.specs.Meets.{Asks, RowMet, FieldMeets}
-use Rattle.scope.specs.Parts.{SameRows, SameRow, SameRowsMeans}
+use Rattle.scope.specs.Parts.{SameRows, SameRow, SameNumbers}
 use Rattle.scope.proofs.Lists.{row_in, by_place}
+use Rattle.scope.proofs.Bracket.{stresses}
 use Rattle.scope.specs.Tests.{row_at}
 
 -- ---- one row
 
-row_judged : (s : ℕ → ℤ) (l n : ℤ) (r : Row) → RowMet s l n r ↔ RowMet s l n (judged r)
-unfolding judged judged_as
-row_judged s l n r = by r.kind refl
-  where
-    by : (k : Kind) → r.kind ≡ k → RowMet s l n r ↔ RowMet s l n (judged_as k r)
-    by asked e = (λ h. h, λ h. h)
-    by unfixed e = (λ h. tt, λ h. subst (λ (k : Kind). Asks k (left_side s l r) (right_side n r)) (sym e) tt)
-    by strength e = (λ h. h, λ h. h)
+-- a number above every column of a list
+record Above (es : List (ℤ × ℕ)) : Type 0 where
+  number : ℕ
+  above : (e : ℤ × ℕ) → e ∈ es → e.1 < number
 
-judged_row : (r t : Row) → (judged r ≡ judged t) ↔ SameRow r t
+above_one_more : (c : ℤ × ℕ) (es : List (ℤ × ℕ)) → Above es → Above (c ∷ es)
+above_one_more c es rest = record { number = suc c.1 + rest.number; above = by }
+  where
+    by : (e : ℤ × ℕ) → e ∈ (c ∷ es) → e.1 < suc c.1 + rest.number
+    by e (Memᴰ.head h) = omega (arith, ap (λ (e : ℤ × ℕ). e.1) h)
+    by e (Memᴰ.tail m) = omega (arith, rest.above e m)
+
+above_all : (es : List (ℤ × ℕ)) → Above es
+above_all [] = record { number = 0; above = λ e m. elim m [ ] }
+above_all (c ∷ es) = above_one_more c es (above_all es)
+
+-- lists with the same coefficient in every column have the same sum in every field
+same_sum : (es fs : List (ℤ × ℕ)) → ((j : ℕ) → weighted_sum (unit j) es ≡ weighted_sum (unit j) fs) → (s : ℕ → ℤ)
+    → weighted_sum s es ≡ weighted_sum s fs
+same_sum es fs same s =
+    stresses N s es (λ e m. omega (arith, (above_all es).above e m))
+    ∙ sum_of_same (λ j. s j *ℤ weighted_sum (unit j) es) (λ j. s j *ℤ weighted_sum (unit j) fs) (count_from 0 N)
+    (λ j m. ap (λ z. s j *ℤ z) (same j))
+    ∙ sym (stresses N s fs (λ e m. omega (arith, (above_all fs).above e m)))
+  where
+    N : ℕ
+    N = (above_all es).number + (above_all fs).number
+
+same_row_met : (s : ℕ → ℤ) (l n : ℤ) (r t : Row) → SameRow r t → RowMet s l n r → RowMet s l n t
+unfolding left_side right_side coefficient
+same_row_met s l n r t (inl h) met =
+    subst (λ (k : Kind). Asks k (left_side s l t) (right_side n t)) h.kind
+    (subst (λ (z : ℤ). Asks r.kind z (right_side n t)) left
+    (subst (λ (z : ℤ). Asks r.kind (left_side s l r) z) (ap (λ z. z *ℤ n) h.right) met))
+  where
+    left : left_side s l r ≡ left_side s l t
+    left = ap₂ (λ x y. x +ℤ y *ℤ l) (same_sum r.entries t.entries h.coefficients s) h.live
+same_row_met s l n r t (inr h) met = subst (λ (k : Kind). Asks k (left_side s l t) (right_side n t)) (sym (h.1)) tt
+
+-- ---- the rows of two meshes
+
+-- what meets the rows of one mesh meets the same rows of another
+pub same_met : (m d : List ℤ) → SameRows m d → (s : ℕ → ℤ) (l n : ℤ) → FieldMeets s l n (rows_of m)
+    → FieldMeets s l n (rows_of d)
+same_met m d same s l n met =
+    by_place (RowMet s l n) (rows_of d)
+    (λ k h. let b : k < length (rows_of m) = omega (arith, same.as_many) in
+    same_row_met s l n (row_at (rows_of m) k) (row_at (rows_of d) k) (same.each k b)
+    (met (row_at (rows_of m) k) (row_in (rows_of m) k b)))
+
+same_row_turned : (r t : Row) → SameRow r t → SameRow t r
+same_row_turned r t (inl h) = inl (record {
+  kind = sym h.kind;
+  coefficients = λ j. sym (h.coefficients j);
+  live = sym h.live;
+  right = sym h.right;
+})
+same_row_turned r t (inr h) = inr (h.1, h.0)
+
+pub same_rows_turned : (m d : List ℤ) → SameRows m d → SameRows d m
+same_rows_turned m d same = record {
+  as_many = sym same.as_many;
+  each = λ k h. same_row_turned (row_at (rows_of m) k) (row_at (rows_of d) k)
+      (same.each k (omega (arith, same.as_many)));
+}
+
+same_row_joined : (r t u : Row) → SameRow r t → SameRow t u → SameRow r u
+same_row_joined r t u (inl h) (inl g) = inl (record {
+  kind = h.kind ∙ g.kind;
+  coefficients = λ j. h.coefficients j ∙ g.coefficients j;
+  live = h.live ∙ g.live;
+  right = h.right ∙ g.right;
+})
+same_row_joined r t u (inl h) (inr g) = inr (h.kind ∙ g.0, g.1)
+same_row_joined r t u (inr h) (inl g) = inr (h.0, sym g.kind ∙ h.1)
+same_row_joined r t u (inr h) (inr g) = inr (h.0, g.1)
+
+pub same_rows_joined : (m d e : List ℤ) → SameRows m d → SameRows d e → SameRows m e
+same_rows_joined m d e p q = record {
+  as_many = p.as_many ∙ q.as_many;
+  each = λ k h. same_row_joined (row_at (rows_of m) k) (row_at (rows_of d) k) (row_at (rows_of e) k) (p.each k h)
+      (q.each k (omega (arith, p.as_many)));
+}
+
+-- ---- where the numbers are the same but for those of unfixed rows
+
+-- a row whose numbers count for nothing where it is unfixed
+unfoldable pub judged_as : Kind → Row → Row
+judged_as asked r = r
+judged_as unfixed r = record { kind = unfixed; entries = []; live = pos 0; right = pos 0 }
+judged_as strength r = r
+
+unfoldable pub judged : Row → Row
+judged r = judged_as r.kind r
+
+pub equal_numbers : {r t : Row} → r ≡ t → SameNumbers r t
+equal_numbers {r} {t} e = subst (SameNumbers r) e (record {
+  kind = refl;
+  coefficients = λ j. refl;
+  live = refl;
+  right = refl;
+})
+
+judged_alike : (r t : Row) → judged r ≡ judged t → SameRow r t
 unfolding judged judged_as
-judged_row r t = (λ e. to r.kind t.kind refl refl e, from)
+judged_alike r t = to r.kind t.kind refl refl
   where
     to : (j k : Kind) → r.kind ≡ j → t.kind ≡ k → judged_as j r ≡ judged_as k t → SameRow r t
-    to asked asked a b e = inl e
-    to asked strength a b e = inl e
-    to strength asked a b e = inl e
-    to strength strength a b e = inl e
+    to asked asked a b e = inl (equal_numbers e)
+    to asked strength a b e = inl (equal_numbers e)
+    to strength asked a b e = inl (equal_numbers e)
+    to strength strength a b e = inl (equal_numbers e)
     to unfixed unfixed a b e = inr (a, b)
     to asked unfixed a b e = inr (ap (λ (r : Row). r.kind) e, b)
     to strength unfixed a b e = inr (ap (λ (r : Row). r.kind) e, b)
     to unfixed asked a b e = inr (a, sym (ap (λ (r : Row). r.kind) e))
     to unfixed strength a b e = inr (a, sym (ap (λ (r : Row). r.kind) e))
 
-    from : SameRow r t → judged_as r.kind r ≡ judged_as t.kind t
-    from (inl e) = ap judged e
-    from (inr h) = rw (h.0, h.1)
-
--- ---- lists of rows
-
-at-judged : (rs : List Row) (k : ℕ) → row_at (map judged rs) k ≡ judged (row_at rs k)
-unfolding row_at judged judged_as
-at-judged [] k = refl
-at-judged (r ∷ rs) zero = refl
-at-judged (r ∷ rs) (suc k) = at-judged rs k
-
--- a field meets rows as they are judged
-judged_met : (s : ℕ → ℤ) (l n : ℤ) (rs : List Row) → FieldMeets s l n rs ↔ FieldMeets s l n (map judged rs)
-judged_met s l n rs = (
-  λ met. by_place (RowMet s l n) (map judged rs)
-      (λ k h. rw (at-judged rs k)
-      ((row_judged s l n (row_at rs k)).0 (met (row_at rs k) (row_in rs k (omega (arith, length-map rs judged)))))),
-  λ met. by_place (RowMet s l n) rs
-      (λ k h. (row_judged s l n (row_at rs k)).1
-      (rw (at-judged rs k) at
-      (met (row_at (map judged rs) k) (row_in (map judged rs) k (omega (arith, length-map rs judged)))))),
-)
-
-same_lists : (rs ts : List Row) → (map judged rs ≡ map judged ts) ↔
-    ((length rs ≡ length ts) × ((k : ℕ) → k < length rs → SameRow (row_at rs k) (row_at ts k)))
+judged_at : (rs : List Row) (k : ℕ) → k < length rs → row_at (map judged rs) k ≡ judged (row_at rs k)
 unfolding row_at
-same_lists rs ts = (
-  λ e. (
-    sym (length-map rs judged) ∙ ap length e ∙ length-map ts judged,
-    λ k h. (judged_row (row_at rs k) (row_at ts k)).0
-        (sym (at-judged rs k) ∙ ap (λ (l : List Row). row_at l k) e ∙ at-judged ts k),
-  ),
-  λ h. from rs ts h.0 (λ k b. (judged_row (row_at rs k) (row_at ts k)).1 (h.1 k b)),
-)
+judged_at [] k h = absurd (omega arith)
+judged_at (r ∷ rs) zero h = refl
+judged_at (r ∷ rs) (suc k) h = judged_at rs k (omega arith)
+
+pub same_judged : (m d : List ℤ) → map judged (rows_of m) ≡ map judged (rows_of d) → SameRows m d
+same_judged m d e = record {
+  as_many = many;
+  each = λ k h. judged_alike (row_at (rows_of m) k) (row_at (rows_of d) k)
+      (sym (judged_at (rows_of m) k h) ∙ ap (λ (l : List Row). row_at l k) e
+      ∙ judged_at (rows_of d) k (omega (arith, many)));
+}
   where
-    from : (rs ts : List Row) → length rs ≡ length ts
-        → ((k : ℕ) → k < length rs → judged (row_at rs k) ≡ judged (row_at ts k)) → map judged rs ≡ map judged ts
-    from [] [] e h = refl
-    from [] (t ∷ ts) e h = absurd (omega arith)
-    from (r ∷ rs) [] e h = absurd (omega arith)
-    from (r ∷ rs) (t ∷ ts) e h =
-        let first : judged r ≡ judged t = h 0 (omega arith) in
-        let rest : map judged rs ≡ map judged ts = from rs ts (omega arith) (λ k b. h (suc k) (omega arith)) in
-        cc
+    many : length (rows_of m) ≡ length (rows_of d)
+    many = sym (length-map (rows_of m) judged) ∙ ap length e ∙ length-map (rows_of d) judged
 
-pub same_rows_means : (m d : List ℤ) → SameRowsMeans m d
-same_rows_means m d = same_lists (rows_of m) (rows_of d)
-
--- what meets the rows of one mesh meets the same rows of another
-pub same_met : (m d : List ℤ) → SameRows m d → (s : ℕ → ℤ) (l n : ℤ) → FieldMeets s l n (rows_of m)
-    → FieldMeets s l n (rows_of d)
-same_met m d same s l n met = (judged_met s l n (rows_of d)).1
-    (subst (FieldMeets s l n) same ((judged_met s l n (rows_of m)).0 met))
+pub same_mesh : {m d : List ℤ} → m ≡ d → SameRows m d
+same_mesh {m} {d} e = same_judged m d (ap (λ (m : List ℤ). map judged (rows_of m)) e)

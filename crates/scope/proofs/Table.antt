@@ -150,5 +150,5 @@ module _ (m : List ℤ) (s : LinesSound (layout_with true) m) where
 -- ---- where there is none
 
 pub no_table : (m : List ℤ) → tabled_check [] m ≡ mesh_check m
-unfolding tabled_check mesh_check has_table mesh_read layout_with 
+unfolding tabled_check mesh_check has_table mesh_read layout_with
 no_table m = refl

@@ -1,13 +1,13 @@
 -- The bracket for accepted parts (document 01, "Loads compared"): "A claim's field carries l/n and its multipliers
 -- allow W/m, both as exact fractions", in one claim or in two.
-use Rattle.std.specs.Prelude.{◌≡◌, ◌↔◌, ◌⊎◌, List, [], ◌∷◌, map, ℕ, ◌<◌, ℤ, pos, ◌<ℤ◌, length}
+use Rattle.std.specs.Prelude.{◌≡◌, ◌↔◌, ◌⊎◌, List, [], ◌∷◌, ℕ, ◌<◌, ℤ, pos, ◌<ℤ◌, length}
 use Rattle.integer.specs.Fraction.{Frac, ◌over◌, ◌≈ᶠ◌, ◌≤ᶠ◌}
 use Rattle.scope.specs.Cases.OpenRows.{Count}
 use Rattle.integer.specs.Members.{◌∈◌}
 use Rattle.scope.specs.Columns.{n, l}
 use Rattle.scope.specs.Rows as R
-use Rattle.scope.specs.Rows.{rows_of, judged}
-use Rattle.scope.specs.Sums.{live_sum, limit_sum, open_rows}
+use Rattle.scope.specs.Rows.{rows_of}
+use Rattle.scope.specs.Sums.{coefficient, live_sum, limit_sum, open_rows}
 use Rattle.scope.specs.Claim.{stress, multiplier}
 use Rattle.scope.specs.Verdict.{open_count}
 use Rattle.scope.specs.Bracket.{Open, NoneOpen, Bracket}
@@ -21,19 +21,22 @@ carried c = l c over n c
 unfoldable pub allowed : List ℤ → List ℤ → Frac
 allowed d k = limit_sum (multiplier d k) (rows_of d) over live_sum (multiplier d k) (rows_of d)
 
--- "Parts are on the same mesh when they are judged against the same rows": the same rows in the same order, where two
--- unfixed rows are the same whatever their numbers
-abbrev pub SameRows : List ℤ → List ℤ → Type 0
-SameRows m d = map judged (rows_of m) ≡ map judged (rows_of d)
+-- rows of one kind with the same coefficient of each stress and of l, and the same right side: however an element lists
+-- its corners, it has these rows
+pub record SameNumbers (r t : R.Row) : Type 0 where
+  pub kind : r.kind ≡ t.kind
+  pub coefficients : (j : ℕ) → coefficient j r ≡ coefficient j t
+  pub live : r.live ≡ t.live
+  pub right : r.right ≡ t.right
 
--- that is: as many rows, and at each place rows that are equal or both unfixed
+-- an unfixed row "asks nothing", whatever its numbers are
 abbrev pub SameRow : R.Row → R.Row → Type 0
-SameRow r t = (r ≡ t) ⊎ ((r.kind ≡ R.unfixed) × (t.kind ≡ R.unfixed))
+SameRow r t = SameNumbers r t ⊎ ((r.kind ≡ R.unfixed) × (t.kind ≡ R.unfixed))
 
-abbrev pub SameRowsMeans : List ℤ → List ℤ → Type 0
-SameRowsMeans m d = SameRows m d
-    ↔ ((length (rows_of m) ≡ length (rows_of d))
-    × ((k : ℕ) → k < length (rows_of m) → SameRow (row_at (rows_of m) k) (row_at (rows_of d) k)))
+-- "Parts are on the same mesh when they are judged against the same rows": as many, and the same at each place
+pub record SameRows (m d : List ℤ) : Type 0 where
+  pub as_many : length (rows_of m) ≡ length (rows_of d)
+  pub each : (k : ℕ) → k < length (rows_of m) → SameRow (row_at (rows_of m) k) (row_at (rows_of d) k)
 
 -- an accepted field of claim c on the mesh m, and accepted multipliers of claim k on the mesh d
 pub record PartsBracket (m c d k : List ℤ) : Type 0 where

@@ -310,14 +310,3 @@ equality_rows m = balance_rows m ++ (side_rows m ++ jump_rows m)
 
 unfoldable pub rows_of : List ℤ → List Row
 rows_of m = equality_rows m ++ strength_rows m
-
--- ---- rows as they are judged
-
--- "An unfixed one keeps its number and asks nothing": its coefficients and its right side count for nothing
-unfoldable pub judged_as : Kind → Row → Row
-judged_as asked r = r
-judged_as unfixed r = record { kind = unfixed; entries = []; live = pos 0; right = pos 0 }
-judged_as strength r = r
-
-unfoldable pub judged : Row → Row
-judged r = judged_as r.kind r

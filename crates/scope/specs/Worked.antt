@@ -90,6 +90,17 @@ free_shear z =
     ++ (pos 2 ∷ pos 3 ∷ pos 3 ∷ zeros 4)
     ++ (pos 4 ∷ pos 1 ∷ pos 1 ∷ pos 0 ∷ z ∷ zeros 2)
 
+-- the sheet's mesh with its element written from the second corner on, "2 3 4 1 1"
+unfoldable pub turned_mesh : List ℤ
+turned_mesh =
+    (pos 4 ∷ pos 1 ∷ pos 1 ∷ pos 3 ∷ pos 12 ∷ pos 0 ∷ [])
+    ++ (pos 0 ∷ pos 1 ∷ pos 1 ∷ pos 10 ∷ zeros 6)
+    ++ (pos 0 ∷ pos 0 ∷ pos 1 ∷ pos 0 ∷ pos 1 ∷ pos 1 ∷ pos 0 ∷ pos 1 ∷ [])
+    ++ (pos 2 ∷ pos 3 ∷ pos 4 ∷ pos 1 ∷ pos 1 ∷ [])
+    ++ (pos 3 ∷ pos 4 ∷ pos 3 ∷ pos 0 ∷ pos 0 ∷ negsuc 0 ∷ pos 0 ∷ [])
+    ++ (pos 2 ∷ pos 3 ∷ pos 3 ∷ zeros 4)
+    ++ (pos 4 ∷ pos 1 ∷ pos 3 ∷ zeros 4)
+
 -- the sheet's square as two triangles that repeat their third corners: 1 2 3 3 and 1 3 4 4
 unfoldable pub two_triangles : List ℤ
 two_triangles =
