@@ -1,4 +1,4 @@
--- How long a claim file is (document 01, 'The two files', "Claim"): its header and its mesh say what lines it has.
+-- How long a claim file is: "Each claim's length follows from its header and the mesh" (document 02, N3).
 use Rattle.std.specs.Prelude.{List, ℕ, ◌+◌, ℤ}
 use Rattle.scope.specs.Layout.{width}
 use Rattle.scope.specs.Claim.{claim_layout}

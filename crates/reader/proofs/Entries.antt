@@ -9,7 +9,8 @@ use lib.Dec.{T, eqb, eqb→eq}
 use lib.ListN.{length, get_or}
 use mir.Facts.{and_yes}
 use Rattle.integer.specs.Decimal.{is_digit}
-use Rattle.reader.specs.OnePass.{Phase, bad, blank, sign, nought, up, down, turn, digit_of, shift, Entry, Table}
+use Rattle.reader.specs.OnePass.{Phase, bad, blank, sign, nought, up, down, turn, digit_of}
+use Rattle.reader.specs.ColumnState.{shift, Entry, Table}
 
 -- ---- a test at each number of a list and its place, counted from i
 

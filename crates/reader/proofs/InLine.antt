@@ -18,7 +18,7 @@ use Rattle.std.specs.Bool.{then_some}
 use Rattle.std.specs.Simd.{first_chunks}
 use Rattle.reader.specs.Spelling.{read_column}
 use Rattle.reader.specs.File.{file_width, line_bytes, read_columns, read_line}
-use Rattle.reader.specs.OnePass.{reading_of}
+use Rattle.reader.specs.ColumnState.{reading_of}
 use Rattle.reader.proofs.Cut.{drop-take}
 
 -- ---- a line of k columns at the front of these bytes, where they are there

@@ -22,7 +22,8 @@ use Rattle.std.specs.Prelude.{Option as Answer}
 use Rattle.reader.specs.Spelling.{unsigned, negated, signed, read_column}
 use Rattle.reader.specs.File.{file_width}
 use Rattle.reader.specs.OnePass.{Phase, bad, blank, sign, nought, up, down, turn, digit_of, phase_after, value_over}
-use Rattle.reader.specs.OnePass.{meant, shift, Table, Stepped, Said, After, Partway, OnlySpaces, StandAt, reading_of}
+use Rattle.reader.specs.OnePass.{meant}
+use Rattle.reader.specs.ColumnState.{shift, Table, Stepped, Said, After, Partway, OnlySpaces, StandAt, reading_of}
 use Rattle.reader.specs.OnePass.{value_bound, InOnePass}
 
 -- ---- from each phase, the bytes that follow

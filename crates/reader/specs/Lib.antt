@@ -7,6 +7,7 @@ pub mod TableFile
 pub mod WrittenBack
 pub mod Listed
 pub mod OnePass
+pub mod ColumnState
 pub mod ReadSoFar
 pub mod Most
 pub mod TableBytes

@@ -4,7 +4,8 @@ ghost use Rattle.std.proofs.Math.Option.{none, some};
 ghost use Rattle.lines.specs.Table.{most_columns};
 ghost use Rattle.reader.specs.Spelling.{read_column};
 ghost use Rattle.reader.specs.File.{file_width, read_line};
-ghost use Rattle.reader.specs.OnePass.{Table, value_bound, Stepped, Said, Partway, OnlySpaces, StandAt, reading_of};
+ghost use Rattle.reader.specs.OnePass.{value_bound};
+ghost use Rattle.reader.specs.ColumnState.{Table, Stepped, Said, Partway, OnlySpaces, StandAt, reading_of};
 
 // The bytes of a column, of each of its three blocks, and the place of the last block.
 pub const COLUMN_BYTES: usize = 12;

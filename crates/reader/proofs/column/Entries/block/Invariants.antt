@@ -4,7 +4,7 @@ use mathlib.Core.Path.{◌≡◌}
 use mathlib.Core.Bool.{true}
 use Prim.Native.Nat.{ℕ, ◌+◌, ◌<◌}
 use lib.ListN.{get_or}
-use Rattle.reader.specs.OnePass.{Partway}
+use Rattle.reader.specs.ColumnState.{Partway}
 use Rattle.reader.proofs.column.Entries.block.Given as goal
 
 abbrev pub invariant-loop-i : goal.invariant-loop-i

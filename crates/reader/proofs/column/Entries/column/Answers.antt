@@ -5,7 +5,7 @@ use Prim.Native.Nat.{ℕ}
 use native.Mathlib.Omega.{arith}
 use lib.ListN.{length}
 use Rattle.reader.specs.File.{file_width}
-use Rattle.reader.specs.OnePass.{OnlySpaces, StandAt}
+use Rattle.reader.specs.ColumnState.{OnlySpaces, StandAt}
 use Rattle.reader.proofs.OnePass.{part_first, part_value, part_last, spaces_block, zero_block}
 use Rattle.reader.proofs.column.Entries.column.Goals as goal
 

@@ -9,7 +9,7 @@ use mir.Syntax.{w64}
 use borrow.Author.Rules.{rules}
 use Rattle.std.specs.Prelude.{Option, Some}
 use Rattle.reader.specs.Spelling.{read_column}
-use Rattle.reader.specs.OnePass.{reading_of}
+use Rattle.reader.specs.ColumnState.{reading_of}
 use Rattle.reader.proofs.InLine.{line_short, line_there, text_at, line_first, line_stops, line_next, line_ends}
 use Rattle.reader.proofs.InLine.{is_then_some}
 use Rattle.reader.proofs.column.Entries.read_line.Goals as goal
