@@ -1,5 +1,5 @@
 -- What is read into a list that is lent, and judged there: the front of the list is the file's numbers.
-use mathlib.Core.Path.{◌≡◌, refl, sym, ap, subst, ◌∙◌}
+use mathlib.Core.Path.{◌≡◌, refl, sym, ap, ap₂, subst, ◌∙◌}
 use mathlib.Core.Bool.{true, false, true≢false}
 use mathlib.Core.List.{List, [], ◌∷◌, ◌++◌}
 use Prim.Native.Nat.{ℕ, ◌≤◌, ◌<◌}
@@ -8,7 +8,7 @@ use lib.Dec.{eqb-suc-zero}
 use lib.IntN.{ℤ}
 use lib.ListN.{length, take, drop, length-append}
 use lib.Seq.{take_at, drop_at}
-use Rattle.std.specs.Prelude.{Result, Ok, Err, IfOk, OnOk}
+use Rattle.std.specs.Prelude.{Result, Ok, Err, IfOk}
 use Rattle.std.proofs.lemmas.Result.{IfOk-at_ok}
 use Rattle.arrayvec.specs.ArrayVec.{ArrayVec}
 use Rattle.scope.specs.declared.Refusal.{Refusal}
@@ -32,9 +32,12 @@ use Rattle.reader.specs.Most.{most_numbers, mesh_room, table_room, claim_room}
 use Rattle.mesh.specs.declared.pairs.Pair.{Pair}
 use Rattle.mesh.specs.PairContracts.{PairsAre}
 use Rattle.verdict.specs.JudgeContracts.{SoundMesh}
+use Rattle.verdict.specs.NumbersLeft.{numbers_left}
+use Rattle.verdict.proofs.LeftLaws.{left_alone, left_read}
 use Rattle.verdict.proofs.VerdictLaws.{sound_mesh}
 use Rattle.judge.specs.declared.JudgedMesh.{JudgedMesh}
 use Rattle.judge.specs.Judge.{mesh_numbers, mesh_from, mesh_outcome, claim_numbers, files_verdict}
+use Rattle.judge.specs.MeshLeft.{mesh_left}
 
 -- ---- room
 
@@ -83,6 +86,9 @@ module _ (table : List ℕ) (m : List ℤ) (e : length table ≡ 0) where
   unfolding mesh_read has_table
   alone_read = rw (empty_file table e, mesh_read)
 
+  pub alone_left : m ≡ numbers_left (table_numbers_of file_width table) m
+  alone_left = rw (empty_file table e) (left_alone m)
+
 -- ---- a list with numbers at its front
 
 module _ {zs before after : List ℤ} {r : ℕ} (l : Listed zs before r after) where
@@ -99,20 +105,12 @@ module _ {zs before after : List ℤ} {r : ℕ} (l : Listed zs before r after) w
   behind = ap (drop r) l.list ∙ drop_at zs (drop r before) r (sym l.count)
 
 -- what the front is changed to, as long as it, leaves what is behind it
-module _ {zs before between : List ℤ} {r : ℕ} (l : Listed zs before r between) (filled : List ℤ)
-    (long : length filled ≡ length (take r between)) where
-  pub filled_front : take r (filled ++ drop r between) ≡ filled
-  filled_front = take_at filled (drop r between) r (long ∙ sym (as_many l))
-
-  pub filled_behind : drop r (filled ++ drop r between) ≡ drop r before
-  filled_behind = drop_at filled (drop r between) r (long ∙ sym (as_many l)) ∙ behind l
+module _ {zs before between : List ℤ} {r : ℕ} (l : Listed zs before r between) where
+  pub changed : {now left : List ℤ} → now ≡ left → length left ≡ length zs
+      → Listed left before r (now ++ drop r between)
+  changed e long = record { count = l.count ∙ sym long; list = ap₂ ◌++◌ e (behind l) }
 
 -- ---- what was answered
-
--- what holds of each value that a result may have
-pub whichever : {A E : Type 0} (r : Result A E) {P : A → Type 0} → ((x : A) → P x) → IfOk r P
-whichever (Ok x) h = h x
-whichever (Err e) h = tt
 
 -- the outcome of an answer whose case is known
 module _ {A : Type 0} {r : Result A Refusal} {o : Outcome} where
@@ -141,13 +139,18 @@ module _ (mesh table : List ℕ) where
   unfolding mesh_outcome mesh_from
   read_sound = sound_mesh (read_passes (table_numbers_of file_width table) (mesh_numbers file_width mesh))
 
-  -- what `passed_mesh` requires: `judge_mesh_file` answers the pairs of the mesh that it leaves in the list
-  module _ (r : JudgedMesh) (after : List ℤ) where
-    pub judged_sound : {p : ArrayVec Pair} → outcome_of r.pairs ≡ mesh_outcome file_width mesh table
-        → IfOk r.pairs (λ p. PairsAre (mesh_from file_width mesh table) p.items)
-        → OnOk r.pairs (take r.count after ≡ mesh_from file_width mesh table) → r.pairs ≡ Ok p
-        → SoundMesh (take r.count after) p.items
-    judged_sound {p} outcome pairs read e =
+  -- the list that `judge_mesh_file` leaves, where the mesh passes
+  module _ (r : JudgedMesh) {before after : List ℤ} (outcome : outcome_of r.pairs ≡ mesh_outcome file_width mesh table)
+      (list : Listed (mesh_left file_width mesh table) before r.count after) where
+    pub judged_read : {p : ArrayVec Pair} → r.pairs ≡ Ok p → take r.count after ≡ mesh_from file_width mesh table
+    unfolding mesh_outcome mesh_from mesh_left
+    judged_read e =
+        front list ∙ left_read (table_numbers_of file_width table) (mesh_numbers file_width mesh) (passed_as outcome e)
+
+    -- what `passed_mesh` requires: it answers the pairs of the mesh that it leaves
+    pub judged_sound : {p : ArrayVec Pair} → IfOk r.pairs (λ p. PairsAre (mesh_from file_width mesh table) p.items)
+        → r.pairs ≡ Ok p → SoundMesh (take r.count after) p.items
+    judged_sound {p} pairs e =
         let m = mesh_from file_width mesh table in
-        subst (λ (m : List ℤ). SoundMesh m p.items) (sym (IfOk-at_ok (λ _. take r.count after ≡ m) e read))
+        subst (λ (m : List ℤ). SoundMesh m p.items) (sym (judged_read e))
         (read_sound (passed_as outcome e) (IfOk-at_ok (λ (p : ArrayVec Pair). PairsAre m p.items) e pairs))

@@ -5,14 +5,16 @@
 
 pub mod room;
 
-ghost use Rattle.std.specs.Prelude.{◌≡◌, List, ◌≤◌, ℤ, length, take, drop, IfOk, OnOk};
+ghost use Rattle.std.specs.Prelude.{◌≡◌, List, ◌≤◌, ℤ, length, IfOk};
 ghost use Rattle.scope.specs.Answer.{outcome_of, verdict_of};
 ghost use Rattle.scope.specs.Table.{mesh_read, tabled_check};
 ghost use Rattle.scope.specs.Verdict.{claim_verdict};
 ghost use Rattle.mesh.specs.ClaimContracts.{Counted};
 ghost use Rattle.mesh.specs.PairContracts.{PairsAre};
 ghost use Rattle.reader.specs.File.{file_width, table_numbers_of};
+ghost use Rattle.reader.specs.Listed.{Listed};
 ghost use Rattle.reader.specs.Most.{mesh_room, claim_room};
+ghost use Rattle.verdict.specs.NumbersLeft.{numbers_left};
 ghost use Rattle.judge.specs.Judge.{
   mesh_numbers,
   mesh_from,
@@ -20,6 +22,7 @@ ghost use Rattle.judge.specs.Judge.{
   claim_numbers,
   files_verdict,
 };
+ghost use Rattle.judge.specs.MeshLeft.{mesh_left};
 ghost use Rattle.judge.specs.ClaimBytes.{claim_bytes};
 
 use lines::layout::{claim_groups, has_part};
@@ -46,15 +49,14 @@ pub const MIDDLE_MESH: usize = 512;
 
 const MIDDLE_CLAIM: usize = 1024;
 
-// A mesh with the numbers m judged with a table file beside it, which is none where it is empty: where both pass, the
-// numbers are filled.
+// A mesh with the numbers m judged with a table file beside it, which is none where it is empty. Where nothing before 5
+// refuses them the numbers are filled, and else they stay.
 fn judge_with(table: &[u8], m: &mut [i64]) -> Result<Pairs, Refusal>
     ensures outcome { outcome_of result
         ≡ tabled_check (table_numbers_of file_width table.now) m.old }
     ensures pairs { IfOk result
         (λ p. PairsAre (mesh_read (table_numbers_of file_width table.now) m.old) p.items) }
-    ensures read { OnOk result
-        (m.new ≡ mesh_read (table_numbers_of file_width table.now) m.old) }
+    ensures left { m.new ≡ numbers_left (table_numbers_of file_width table.now) m.old }
 {
     if table.is_empty() {
         return judge_mesh(m);
@@ -66,17 +68,15 @@ fn judge_with(table: &[u8], m: &mut [i64]) -> Result<Pairs, Refusal>
 
 // A mesh file judged, with a table file beside it, which is none where it is empty. The mesh's numbers stand at the
 // front of the list that is lent, which has room for them, and nothing behind them is touched; how many they are is
-// said of a refused mesh too. Where both pass, they are the mesh as all after its lines reads it.
+// said of a refused mesh too. Where nothing before 5 refuses them they are the mesh as all after its lines reads it, and
+// else as they were read.
 pub fn judge_mesh_file(mesh: &[u8], table: &[u8], numbers: &mut [i64]) -> JudgedMesh
     requires { length (mesh_numbers file_width mesh.now) ≤ length numbers.old }
     ensures count { result.count ≡ length (mesh_numbers file_width mesh.now) }
-    ensures size { length numbers.new ≡ length numbers.old }
-    ensures behind { drop result.count numbers.new ≡ drop result.count numbers.old }
+    ensures list { Listed (mesh_left file_width mesh.now table.now) numbers.old result.count numbers.new }
     ensures outcome { outcome_of result.pairs ≡ mesh_outcome file_width mesh.now table.now }
     ensures pairs { IfOk result.pairs
         (λ p. PairsAre (mesh_from file_width mesh.now table.now) p.items) }
-    ensures read { OnOk result.pairs
-        (take result.count numbers.new ≡ mesh_from file_width mesh.now table.now) }
 {
     let count = read_mesh(mesh, numbers);
     let pairs = judge_with(table, &mut numbers[..count]);

@@ -6,13 +6,14 @@ pub mod claim_parts;
 mod equality_checks;
 pub mod field_checks;
 
-ghost use Rattle.std.specs.Prelude.{◌≡◌, true, IfOk, OnOk, ◌≤◌, length, take};
+ghost use Rattle.std.specs.Prelude.{◌≡◌, ◌++◌, true, IfOk, ◌≤◌, length, drop};
 ghost use Rattle.scope.specs.Answer.{outcome_of, verdict_of};
 ghost use Rattle.scope.specs.Table.{has_table, mesh_read, tabled_check};
 ghost use Rattle.scope.specs.TableVerdict.{tabled_verdict};
 ghost use Rattle.scope.specs.Verdict.{mesh_check, claim_verdict, verdict};
 ghost use Rattle.mesh.specs.PairContracts.{PairsAre};
 ghost use Rattle.verdict.specs.JudgeContracts.{LinesPassed, SoundMesh};
+ghost use Rattle.verdict.specs.NumbersLeft.{numbers_left};
 
 use crate::claim_parts::parts_verdict;
 use layers::filling::{fill, name_soils};
@@ -37,37 +38,40 @@ pub fn judge_mesh(m: &[i64]) -> Result<Pairs, Refusal>
 }
 
 // A mesh whose lines have passed, and a table, judged: 1, 2 and 4 of the table, 46 and 45, then 5 to 8, 47, 44 and 42.
-// `out` is a copy of the mesh's numbers, which is filled.
-pub fn judge_layers(m: &[i64], t: &[i64], out: &mut [i64]) -> Result<Pairs, Refusal>
+// `out` is a copy of the mesh's numbers. Where 46 and 45 pass it is filled, and else it is a copy again.
+fn judge_layers(m: &[i64], t: &[i64], out: &mut [i64]) -> Result<Pairs, Refusal>
     requires lines_passed { LinesPassed t.now m.now }
     requires copied { out.old ≡ m.now }
     ensures outcome { outcome_of result ≡ tabled_check t.now m.now }
     ensures pairs { IfOk result (λ p. PairsAre (mesh_read t.now m.now) p.items) }
-    ensures read { OnOk result (out.new ≡ mesh_read t.now m.now) }
+    ensures left { out.new ≡ numbers_left t.now m.now }
 {
     let s = Sizes::of_header(m);
     table_lines(t, s)?;
     let layers = Layers::new(t);
     name_soils(out, s);
-    layers_check(&Mesh::new(out), &layers)?;
+    if let Err(refusal) = layers_check(&Mesh::new(out), &layers) {
+        out.copy_from_slice(m);
+        return Err(refusal);
+    }
     fill(m, s, &layers, out);
     mesh_shape(&Mesh::new(out))
 }
 
-// The numbers m at the front of a list that has room for them.
-pub fn copy_numbers(m: &[i64], out: &mut [i64])
+// The numbers m at the front of a list that has room for them; nothing behind them is touched.
+fn copy_numbers(m: &[i64], out: &mut [i64])
     requires { length m.now ≤ length out.old }
-    ensures { take (length m.now) out.new ≡ m.now }
+    ensures { out.new ≡ m.now ++ drop (length m.now) out.old }
 {
     out[..m.len()].copy_from_slice(m);
 }
 
-// A mesh and its table, judged; where both pass, the mesh's numbers are filled.
+// A mesh and its table, judged. Where nothing before 5 refuses them the mesh's numbers are filled, and else they stay.
 pub fn judge_tabled(m: &mut [i64], t: &[i64]) -> Result<Pairs, Refusal>
     requires { has_table t.now ≡ true }
     ensures outcome { outcome_of result ≡ tabled_check t.now m.old }
     ensures pairs { IfOk result (λ p. PairsAre (mesh_read t.now m.old) p.items) }
-    ensures read { OnOk result (m.new ≡ mesh_read t.now m.old) }
+    ensures left { m.new ≡ numbers_left t.now m.old }
 {
     mesh_lines(m, true)?;
     let mut copy = [0i64; MESH_NUMBERS];

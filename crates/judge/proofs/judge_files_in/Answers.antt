@@ -3,13 +3,12 @@ use mathlib.Core.Path.{sym, ap, subst, ◌∙◌}
 use mathlib.Core.List.{List}
 use lib.IntN.{ℤ}
 use lib.ListN.{length-replicate}
-use Rattle.std.proofs.lemmas.Result.{IfOk-at_ok}
 use Rattle.scope.specs.Verdict.{claim_verdict}
 use Rattle.verdict.specs.JudgeContracts.{SoundMesh}
 use Rattle.verdict.proofs.Handed.{answer_refuses, answer_goes_on}
 use Rattle.reader.specs.File.{file_width}
 use Rattle.judge.specs.Judge.{claim_numbers}
-use Rattle.judge.proofs.FilesJudged.{passed_as, refused_as, on_the_mesh, files_first, judged_sound}
+use Rattle.judge.proofs.FilesJudged.{passed_as, refused_as, on_the_mesh, files_first, judged_read, judged_sound}
 use Rattle.judge.proofs.judge_files_in.Goals as goal
 
 pub judge_mesh_file-judged-requires : goal.judge_mesh_file-judged-requires
@@ -26,12 +25,12 @@ pub passed_mesh-requires : goal.passed_mesh-requires
 passed_mesh-requires g c =
     let judged = c.judge_mesh_file-judged.ensures in
     subst (SoundMesh _) (sym c.deref.ensures.0)
-    (judged_sound _ _ _ _ judged.outcome judged.pairs judged.read c.in_ok-pairs.was)
+    (judged_sound _ _ _ judged.outcome judged.list judged.pairs c.in_ok-pairs.was)
 
 pub returns : goal.returns
 returns g c =
     let claim = c.args.claim.now in
     let judged = c.judge_mesh_file-judged.ensures in
-    let read = c.passed_mesh.ensures ∙ IfOk-at_ok _ c.in_ok-pairs.was judged.read in
+    let read = c.passed_mesh.ensures ∙ judged_read _ _ _ judged.outcome judged.list c.in_ok-pairs.was in
     answer_goes_on (passed_as judged.outcome c.in_ok-pairs.was) (files_first c.args.mesh.now c.args.table.now claim)
     (c.judge_claim_file.ensures ∙ ap (λ (m : List ℤ). claim_verdict m (claim_numbers file_width m claim)) read)

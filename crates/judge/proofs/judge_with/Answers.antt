@@ -3,7 +3,7 @@
 use mathlib.Core.Path.{◌∙◌}
 use native.Mathlib.Omega.{arith}
 use borrow.Author.Tests.{tests}
-use Rattle.judge.proofs.FilesJudged.{alone_check, alone_read, whichever, some_file, table_fits, front}
+use Rattle.judge.proofs.FilesJudged.{alone_check, alone_read, alone_left, some_file, table_fits, front}
 use Rattle.judge.proofs.judge_with.Goals as goal
 
 pub returns-then-is_empty-clause-outcome : goal.returns-then-is_empty-clause-outcome
@@ -14,9 +14,8 @@ pub returns-then-is_empty-clause-pairs : goal.returns-then-is_empty-clause-pairs
 returns-then-is_empty-clause-pairs c =
     rw (← alone_read c.args.table.now c.args.m.now (omega (arith, tests))) c.judge_mesh.ensures.pairs
 
-pub returns-then-is_empty-clause-read : goal.returns-then-is_empty-clause-read
-returns-then-is_empty-clause-read c =
-    whichever c.judge_mesh.result (λ p. alone_read c.args.table.now c.args.m.now (omega (arith, tests)))
+pub returns-then-is_empty-clause-left : goal.returns-then-is_empty-clause-left
+returns-then-is_empty-clause-left c = alone_left c.args.table.now c.args.m.now (omega (arith, tests))
 
 pub read_table-count-requires : goal.read_table-count-requires
 read_table-count-requires c = table_fits _
@@ -30,5 +29,5 @@ returns-clause-outcome c = rw (front c.read_table-count.ensures) at c.judge_tabl
 pub returns-clause-pairs : goal.returns-clause-pairs
 returns-clause-pairs c = rw (front c.read_table-count.ensures) at c.judge_tabled.ensures.pairs
 
-pub returns-clause-read : goal.returns-clause-read
-returns-clause-read c = rw (front c.read_table-count.ensures) at c.judge_tabled.ensures.read
+pub returns-clause-left : goal.returns-clause-left
+returns-clause-left c = rw (front c.read_table-count.ensures) at c.judge_tabled.ensures.left

@@ -1,9 +1,8 @@
 -- `run_in` meets its contract: claims are judged only on a mesh that has passed, and a refused mesh has its report.
 use mathlib.Core.Path.{refl, sym, subst, ◌∙◌}
 use lib.ListN.{length-replicate}
-use Rattle.std.proofs.lemmas.Result.{IfOk-at_ok}
 use Rattle.verdict.specs.JudgeContracts.{SoundMesh}
-use Rattle.judge.proofs.FilesJudged.{passed_as, refused_as, judged_sound}
+use Rattle.judge.proofs.FilesJudged.{passed_as, refused_as, judged_read, judged_sound}
 use Rattle.run.proofs.RunLaws.{same_mesh}
 use Rattle.run.proofs.run_in.Goals as goal
 
@@ -14,12 +13,12 @@ pub passed_mesh-m-requires : goal.passed_mesh-m-requires
 passed_mesh-m-requires g c =
     let judged = c.judge_mesh_file-count.ensures in
     subst (SoundMesh _) (sym c.deref.ensures.0)
-    (judged_sound _ _ _ _ judged.outcome judged.pairs judged.read c.in-Ok.is)
+    (judged_sound _ _ _ judged.outcome judged.list judged.pairs c.in-Ok.is)
 
 pub returns-in-Ok : goal.returns-in-Ok
 returns-in-Ok g c =
     let judged = c.judge_mesh_file-count.ensures in
-    let read = c.passed_mesh-m.ensures ∙ IfOk-at_ok _ c.in-Ok.is judged.read in
+    let read = c.passed_mesh-m.ensures ∙ judged_read _ _ _ judged.outcome judged.list c.in-Ok.is in
     same_mesh (passed_as judged.outcome c.in-Ok.is) read c.run_claims.ensures
 
 pub returns-in-Err : goal.returns-in-Err

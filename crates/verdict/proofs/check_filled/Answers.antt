@@ -7,6 +7,7 @@ use Rattle.scope.specs.Verdict.{claim_verdict}
 use Rattle.scope.proofs.TableVerdict.{read_passes}
 use Rattle.verdict.proofs.Handed.{answer_refuses, answer_goes_on}
 use Rattle.verdict.specs.JudgeContracts.{SoundMesh}
+use Rattle.verdict.proofs.LeftLaws.{left_read}
 use Rattle.verdict.proofs.TableLaws.{table_first}
 use Rattle.verdict.proofs.VerdictLaws.{sound_mesh}
 use Rattle.verdict.proofs.check_filled.Goals as goal
@@ -21,11 +22,12 @@ returns-in_err-pairs c =
 pub passed_mesh-requires : goal.passed_mesh-requires
 passed_mesh-requires c =
     let judged = c.in_ok-pairs.ensures in
-    subst₂ SoundMesh (sym judged.read) (sym c.deref.ensures.0)
+    subst₂ SoundMesh (sym (judged.left ∙ left_read _ _ judged.outcome)) (sym c.deref.ensures.0)
     (sound_mesh (read_passes _ _) judged.outcome judged.pairs)
 
 pub returns : goal.returns
 returns c =
-    answer_goes_on c.in_ok-pairs.ensures.outcome (table_first _ _ _)
-    (c.judge_claim.ensures
-    ∙ ap (λ (m : List ℤ). claim_verdict m c.args.c.now) (c.passed_mesh.ensures ∙ c.in_ok-pairs.ensures.read))
+    let judged = c.in_ok-pairs.ensures in
+    let read = c.passed_mesh.ensures ∙ judged.left ∙ left_read _ _ judged.outcome in
+    answer_goes_on judged.outcome (table_first _ _ _)
+    (c.judge_claim.ensures ∙ ap (λ (m : List ℤ). claim_verdict m c.args.c.now) read)

@@ -2,8 +2,8 @@
 use mathlib.Core.Path.{◌≡◌, refl, sym, ◌∙◌, ap, subst}
 use mathlib.Core.List.{List}
 use lib.IntN.{ℤ}
-use Rattle.std.specs.Prelude.{Result, Ok, Err, IfOk, OnOk}
-use Rattle.scope.specs.Cases.Outcome.{Passed}
+use Rattle.std.specs.Prelude.{IfOk}
+use Rattle.scope.specs.Cases.Outcome.{Outcome, Passed}
 use Rattle.scope.specs.Filled.{with_soils, filled}
 use Rattle.scope.specs.Layers.{layer_phases}
 use Rattle.scope.specs.NumberRanges.{MeshFacts}
@@ -20,12 +20,8 @@ use Rattle.layers.specs.LayerContracts.{Fillable}
 use Rattle.verdict.specs.JudgeContracts.{LinesPassed}
 use Rattle.verdict.proofs.TableLaws.{header_there, stages_left, TableKnown, table_known, named_facts_lem, layers_same}
 use Rattle.verdict.proofs.TableLaws.{fillable, filled_facts}
+use Rattle.verdict.proofs.LeftLaws.{table_leaves, layers_leave, layers_fill}
 use Rattle.verdict.proofs.judge_layers.Goals as goal
-
--- what is said of any answer is said of one that passes
-always : {A E P : Type 0} (r : Result A E) → P → OnOk r P
-always (Ok x) p = p
-always (Err e) p = tt
 
 -- the table's lines have passed
 known : {t m : List ℤ} {s : Sizes} → LinesPassed t m → SizesAre m s → Passed ≡ check_phases (table_line_phases t m)
@@ -54,16 +50,30 @@ new-requires c =
     subst MeshFacts (sym (c.name_soils.ensures ∙ ap with_soils c.requires.copied))
     (named_facts_lem c.requires.lines_passed)
 
-pub returns-in_err-layers_check-clause-outcome : goal.returns-in_err-layers_check-clause-outcome
-returns-in_err-layers_check-clause-outcome c =
+pub returns-in_err-table_lines-clause-left : goal.returns-in_err-table_lines-clause-left
+returns-in_err-table_lines-clause-left c =
+    c.requires.copied
+    ∙ table_leaves c.requires.lines_passed
+    (c.in_err-table_lines.ensures c.args.m.now (sym c.of_header-s.ensures.soils_are))
+
+pub returns-in-Err-clause-outcome : goal.returns-in-Err-clause-outcome
+returns-in-Err-clause-outcome c =
     let t = c.args.t.now in
     let m = c.args.m.now in
     let passed = c.requires.lines_passed in
     let named = c.new.ensures ∙ c.name_soils.ensures ∙ ap with_soils c.requires.copied in
     second_decides (c.in_ok-table_lines.ensures m (sym c.of_header-s.ensures.soils_are)) (stages_left passed)
-    (first_refuses c.from_residual-in_err-layers_check.result c.in_err-layers_check.field-0.0
-    (check_phases (shape_phases (filled t m))) c.from_residual-in_err-layers_check.ensures.1
-    (c.in_err-layers_check.ensures ∙ layers_same passed c.new-layers.ensures named) refl)
+    (ap (λ (o : Outcome). o then check_phases (shape_phases (filled t m)))
+    (c.in-Err.ensures ∙ layers_same passed c.new-layers.ensures named))
+
+pub returns-in-Err-clause-left : goal.returns-in-Err-clause-left
+returns-in-Err-clause-left c =
+    let m = c.args.m.now in
+    let passed = c.requires.lines_passed in
+    let named = c.new.ensures ∙ c.name_soils.ensures ∙ ap with_soils c.requires.copied in
+    c.copy_from_slice.ensures.after
+    ∙ layers_leave passed (c.in_ok-table_lines.ensures m (sym c.of_header-s.ensures.soils_are))
+    (c.in-Err.ensures ∙ layers_same passed c.new-layers.ensures named)
 
 pub fill-requires-clause-fillable : goal.fill-requires-clause-fillable
 fill-requires-clause-fillable c =
@@ -71,7 +81,7 @@ fill-requires-clause-fillable c =
     let sizes = c.of_header-s.ensures in
     let passed = c.requires.lines_passed in
     let named = c.new.ensures ∙ c.name_soils.ensures ∙ ap with_soils c.requires.copied in
-    let layers = c.in_ok-layers_check.ensures ∙ layers_same passed c.new-layers.ensures named in
+    let layers = c.in_default.ensures ∙ layers_same passed c.new-layers.ensures named in
     subst (λ (t : List ℤ). Fillable t m c.of_header-s.result) (sym c.new-layers.ensures)
     (fillable (known passed sizes (c.in_ok-table_lines.ensures m (sym sizes.soils_are))) (sym layers))
 
@@ -81,7 +91,7 @@ new-requires-2 c =
     let sizes = c.of_header-s.ensures in
     let passed = c.requires.lines_passed in
     let named = c.new.ensures ∙ c.name_soils.ensures ∙ ap with_soils c.requires.copied in
-    let layers = c.in_ok-layers_check.ensures ∙ layers_same passed c.new-layers.ensures named in
+    let layers = c.in_default.ensures ∙ layers_same passed c.new-layers.ensures named in
     subst MeshFacts (sym (c.fill.ensures ∙ ap (λ (t : List ℤ). filled t m) c.new-layers.ensures))
     (filled_facts (known passed sizes (c.in_ok-table_lines.ensures m (sym sizes.soils_are))) (sym layers))
 
@@ -90,7 +100,7 @@ returns-clause-outcome c =
     let m = c.args.m.now in
     let passed = c.requires.lines_passed in
     let named = c.new.ensures ∙ c.name_soils.ensures ∙ ap with_soils c.requires.copied in
-    let layers = c.in_ok-layers_check.ensures ∙ layers_same passed c.new-layers.ensures named in
+    let layers = c.in_default.ensures ∙ layers_same passed c.new-layers.ensures named in
     let read = c.new-2.ensures ∙ c.fill.ensures ∙ ap (λ (t : List ℤ). filled t m) c.new-layers.ensures in
     second_decides (c.in_ok-table_lines.ensures m (sym c.of_header-s.ensures.soils_are)) (stages_left passed)
     (second_decides layers refl (c.mesh_shape.ensures.outcome
@@ -104,10 +114,11 @@ returns-clause-pairs c =
     subst (λ (m : List ℤ). IfOk c.mesh_shape.result (λ p. PairsAre m p.items))
     (read ∙ sym (read_filled t m c.requires.lines_passed.tabled)) c.mesh_shape.ensures.pairs
 
-pub returns-clause-read : goal.returns-clause-read
-returns-clause-read c =
-    let t = c.args.t.now in
+pub returns-clause-left : goal.returns-clause-left
+returns-clause-left c =
     let m = c.args.m.now in
-    always c.mesh_shape.result
-    (c.fill.ensures ∙ ap (λ (t : List ℤ). filled t m) c.new-layers.ensures
-    ∙ sym (read_filled t m c.requires.lines_passed.tabled))
+    let passed = c.requires.lines_passed in
+    let named = c.new.ensures ∙ c.name_soils.ensures ∙ ap with_soils c.requires.copied in
+    let layers = c.in_default.ensures ∙ layers_same passed c.new-layers.ensures named in
+    c.fill.ensures ∙ ap (λ (t : List ℤ). filled t m) c.new-layers.ensures
+    ∙ layers_fill passed (c.in_ok-table_lines.ensures m (sym c.of_header-s.ensures.soils_are)) layers
