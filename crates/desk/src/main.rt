@@ -102,7 +102,7 @@ fn main(rt: HostRuntime) {
     let mesh = read_argument(&rt, &err, 1, Some("MESH"), &mut mesh);
     let mut claim = io::large_buffer();
     let claim = read_argument(&rt, &err, 2, Some("CLAIM"), &mut claim);
-    let mut table = io::buffer();
+    let mut table = io::large_buffer();
     let table = read_argument(&rt, &err, 3, None, &mut table);
     let line = report_line(mesh, table, claim);
     // A line that can't be written changes nothing of the exit status, which is 0.
