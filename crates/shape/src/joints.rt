@@ -6,6 +6,7 @@ ghost use Rattle.scope.specs.Mesh.{most_nodes, nodes, edges, jumps};
 ghost use Rattle.scope.specs.Phases.{check_phase};
 ghost use Rattle.scope.specs.Refusals.{joints_phase};
 ghost use Rattle.scope.specs.Tests.{same_point, is_joint};
+ghost use Rattle.lines.specs.SearchContracts.{first_failing};
 ghost use Rattle.shape.specs.ShapeContracts.{is_none, is_untaken, byte_at, EdgeTable, JumpTable};
 
 use crate::edges::{FIRST_EDGE, line_after_elements, take_side};
@@ -60,10 +61,12 @@ fn use_sides(m: &Mesh, j: usize, sides: &mut [SideRow])
     take_side(sides, jump.facing_to, jump.facing_from, USED);
 }
 
-// 44, by a table in which the edges have taken their sides.
+// 44, by a table in which the edges have taken their sides: the jumps before the first that fails use theirs.
 pub fn joints_check(m: &Mesh, sides: &mut [SideRow]) -> Outcome
     requires { EdgeTable m.now.numbers.now (edges m.now.numbers.now) sides.old }
-    ensures { outcome_of result ≡ check_phase (joints_phase m.now.numbers.now) }
+    ensures outcome { outcome_of result ≡ check_phase (joints_phase m.now.numbers.now) }
+    ensures used { let m = m.now.numbers.now in
+        JumpTable m (first_failing (is_joint m) (jumps m)) sides.new }
 {
     for j in 0..m.sizes.jumps {
         let place = Place::Line(line_after_elements(m.sizes, m.sizes.edges + j));

@@ -13,4 +13,4 @@ returns-in_err-edges_check c =
 
 pub returns : goal.returns
 unfolding check_phases
-returns c = second_decides c.in_ok-edges_check.ensures refl c.joints_check.ensures
+returns c = second_decides c.in_ok-edges_check.ensures refl c.joints_check.ensures.outcome
