@@ -95,12 +95,12 @@ map_last : (xs : List ℤ) (t : Bool) → map (λ zs. xs ++ zs) (cond t (some []
 map_last xs true = ap some (append-nil xs)
 map_last xs false = refl
 
-reading_none : (o : Option ℤ) → None ≡ reading_of o → o ≡ none
+pub reading_none : (o : Option ℤ) → None ≡ reading_of o → o ≡ none
 unfolding reading_of
 reading_none none e = refl
 reading_none (some z) e = cc
 
-reading_some : (o : Option ℤ) (z : ℤ) → Some z ≡ reading_of o → o ≡ some z
+pub reading_some : (o : Option ℤ) (z : ℤ) → Some z ≡ reading_of o → o ≡ some z
 unfolding reading_of
 reading_some none z e = cc
 reading_some (some y) z e = cc

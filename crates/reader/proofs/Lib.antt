@@ -11,6 +11,7 @@ pub mod OnePass
 pub mod Entries
 pub mod LinesRead
 pub mod InLine
+pub mod LinePut
 pub mod Whole
 pub mod LinesAfterHeader
 pub mod Most

@@ -1,10 +1,12 @@
 -- How far a file is read, as the functions that read its lines say it.
-use Rattle.std.specs.Prelude.{◌≡◌, List, ◌++◌, ℕ, ◌+◌, ◌≤◌, ℤ, length, take, drop, replicate, Some, None}
+use Rattle.std.specs.Prelude.{◌≡◌, cond, List, [], ◌∷◌, ◌++◌, ℕ, ◌+◌, ◌≤◌, leb, ℤ, length, take, drop, replicate}
+use Rattle.std.specs.Prelude.{Some, None}
 use Rattle.std.specs.Prelude.{Option as Answer}
 use Rattle.std.proofs.Math.Option.{Option, none, some}
 use Rattle.reader.specs.declared.file_lines.Progress.{Progress}
 use Rattle.lines.specs.declared.layout.Group.{Group}
 use Rattle.scope.specs.Layers.{layer_columns}
+use Rattle.reader.specs.Spelling.{read_column}
 use Rattle.reader.specs.File.{file_width, line_bytes, read_line, read_lines, left_over, read_rows, table_numbers_of}
 use Rattle.reader.specs.Listed.{Listed}
 
@@ -13,6 +15,17 @@ unfoldable pub start : Progress
 start = record { at = 0; numbers = 0 }
 
 -- ---- one line
+
+-- the room for a line's numbers once it is read: each is its column's, up to the first column that is none, from where
+-- on nothing is written
+unfoldable pub columns_put : ℕ → List ℕ → List ℤ → List ℤ
+columns_put w bs [] = []
+columns_put w bs (z ∷ zs) =
+    elim (read_column (take w bs)) [ none ↦ z ∷ zs | some n ↦ n ∷ columns_put w (drop w bs) zs ]
+
+-- and nothing where bytes are missing
+unfoldable pub line_put : ℕ → List ℕ → List ℤ → List ℤ
+line_put w bs zs = cond (leb (line_bytes w (length zs)) (length bs)) (columns_put w bs zs) zs
 
 -- how far a file is read after a line of k columns, which is well formed where it is `some`
 unfoldable pub past : ℕ → Progress → Option (List ℤ) → Answer Progress

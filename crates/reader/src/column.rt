@@ -4,6 +4,7 @@ ghost use Rattle.std.proofs.Math.Option.{none, some};
 ghost use Rattle.lines.specs.Table.{most_columns};
 ghost use Rattle.reader.specs.Spelling.{read_column};
 ghost use Rattle.reader.specs.File.{file_width, read_line};
+ghost use Rattle.reader.specs.ReadSoFar.{line_put};
 ghost use Rattle.reader.specs.OnePass.{value_bound};
 ghost use Rattle.reader.specs.ColumnState.{Table, Stepped, Said, Partway, OnlySpaces, StandAt, reading_of};
 
@@ -178,11 +179,12 @@ impl Entries {
     }
 
     // The line at the front of these bytes, with as many columns as `line` has numbers: whether it is well formed, and
-    // its numbers.
+    // its numbers. Of one that is not, `line` holds those before the first column that is none.
     pub fn read_line(&self, bytes: &[u8], line: &mut [i64]) -> Option<()>
         requires { length line.old ≤ most_columns }
-        ensures { read_line file_width (length line.old) bytes.now
+        ensures read { read_line file_width (length line.old) bytes.now
             ≡ cond (is_some result) (some line.new) none }
+        ensures put { line.new ≡ line_put file_width bytes.now line.old }
     {
         let end = line.len() * COLUMN_BYTES;
         if bytes.len() <= end {

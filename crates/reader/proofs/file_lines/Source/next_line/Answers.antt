@@ -10,10 +10,10 @@ pub returns-in_err-read_line : goal.returns-in_err-read_line
 returns-in_err-read_line c =
     let bs = c.args.self.now.bytes.now in
     let rest = between_to_end bs c.args.p.at (length bs) (omega arith) in
-    rw c.from_residual.ensures (line_malformed _ (rw rest at c.in_err-read_line.ensures))
+    rw c.from_residual.ensures (line_malformed _ (rw rest at c.in_err-read_line.ensures.read))
 
 pub returns : goal.returns
 returns c =
     let bs = c.args.self.now.bytes.now in
     let rest = between_to_end bs c.args.p.at (length bs) (omega arith) in
-    line_formed _ (rw rest at c.in_ok-read_line.ensures) (omega arith) (rw c.copy_from_slice.ensures.after)
+    line_formed _ (rw rest at c.in_ok-read_line.ensures.read) (omega arith) (rw c.copy_from_slice.ensures.after)
