@@ -12,7 +12,7 @@ use borrow.Author.Tests.{le-leb, lt-leb}
 use Rattle.std.specs.Prelude.{Some, None}
 use Rattle.reader.specs.Spelling.{read_column}
 use Rattle.reader.specs.File.{file_width, line_bytes}
-use Rattle.reader.specs.OnePass.{reading_of}
+use Rattle.reader.specs.ColumnState.{reading_of}
 use Rattle.reader.specs.ReadSoFar.{columns_put, line_put}
 use Rattle.reader.proofs.InLine.{reading_none, reading_some}
 
