@@ -25,6 +25,8 @@ static const char help[] =
     "pechuvo --version\n"
     "\n"
     "After -- each word is a file's name. Refusals and mistakes are said on standard error.\n"
+    "An outer side without an edge line may carry anything, so a forgotten line raises the load and is accepted.\n"
+    "A load is a load of its mesh, and no strict bound for the ground.\n"
     "Status: 0 accepted; 1 refused; 2 usage, or a file that can't be read or written.\n";
 
 struct command {

@@ -17,6 +17,13 @@
    - The report buffer overlaps no input, and nothing else writes to the inputs or touches the buffer
      during the call. The inputs may overlap.
 
+   What no answer says:
+   - An outer side without an edge line may carry anything. A forgotten line for a free surface raises
+     the load and is accepted: 55.85 instead of 50.09 on a small footing. tools/explain.py of the
+     repository warns of each such side.
+   - A load is a load of its mesh: rows balance each element as a whole, so it is no strict bound for
+     the ground.
+
    What is returned as number and place:
 
      number  place     when
