@@ -11,6 +11,7 @@ BINDIR = $(PREFIX)/bin
 LIBDIR = $(PREFIX)/lib
 INCLUDEDIR = $(PREFIX)/include
 MANDIR = $(PREFIX)/share/man
+DOCDIR = $(PREFIX)/share/doc/pechuvo
 DESTDIR =
 
 BUILD = target
@@ -27,9 +28,13 @@ LIBRARY = libpechuvo.so
 SONAME = $(LIBRARY).$(MAJOR)
 SHARED = $(BUILD)/shared/$(LIBRARY).$(VERSION)
 
+# The pictures that the page of the files shows.
+PICTURES := $(shell sed -nE 's|^!\[.*\]\(pictures/([a-z0-9_]+\.svg)\)$$|\1|p' docs/FILES.md)
+
 INSTALLED = "$(DESTDIR)$(BINDIR)/pechuvo" "$(DESTDIR)$(INCLUDEDIR)/pechuvo.h" "$(DESTDIR)$(LIBDIR)/libpechuvo.a" \
   "$(DESTDIR)$(LIBDIR)/$(LIBRARY).$(VERSION)" "$(DESTDIR)$(LIBDIR)/$(SONAME)" "$(DESTDIR)$(LIBDIR)/$(LIBRARY)" \
-  "$(DESTDIR)$(LIBDIR)/pkgconfig/pechuvo.pc" "$(DESTDIR)$(MANDIR)/man1/pechuvo.1"
+  "$(DESTDIR)$(LIBDIR)/pkgconfig/pechuvo.pc" "$(DESTDIR)$(MANDIR)/man1/pechuvo.1" "$(DESTDIR)$(DOCDIR)/FILES.md" \
+  $(foreach picture,$(PICTURES),"$(DESTDIR)$(DOCDIR)/pictures/$(picture)")
 
 all: $(COMMAND) $(SHARED)
 
@@ -52,7 +57,8 @@ $(SHARED): command/exported.map $(ARCHIVE)
 
 install: all
 	@case "$(PREFIX)" in /*) ;; *) echo "PREFIX: $(PREFIX): not a path from the root"; exit 1;; esac
-	install -d "$(DESTDIR)$(BINDIR)" "$(DESTDIR)$(INCLUDEDIR)" "$(DESTDIR)$(LIBDIR)/pkgconfig" "$(DESTDIR)$(MANDIR)/man1"
+	install -d "$(DESTDIR)$(BINDIR)" "$(DESTDIR)$(INCLUDEDIR)" "$(DESTDIR)$(LIBDIR)/pkgconfig" \
+	  "$(DESTDIR)$(MANDIR)/man1" "$(DESTDIR)$(DOCDIR)/pictures"
 	install -m 755 $(COMMAND) "$(DESTDIR)$(BINDIR)"
 	install -m 644 include/pechuvo.h "$(DESTDIR)$(INCLUDEDIR)"
 	install -m 644 $(ARCHIVE) "$(DESTDIR)$(LIBDIR)"
@@ -63,9 +69,12 @@ install: all
 	  -e 's|@VERSION@|$(VERSION)|' command/pechuvo.pc.in > "$(DESTDIR)$(LIBDIR)/pkgconfig/pechuvo.pc"
 	chmod 644 "$(DESTDIR)$(LIBDIR)/pkgconfig/pechuvo.pc"
 	install -m 644 command/pechuvo.1 "$(DESTDIR)$(MANDIR)/man1"
+	install -m 644 docs/FILES.md "$(DESTDIR)$(DOCDIR)"
+	install -m 644 $(addprefix docs/pictures/,$(PICTURES)) "$(DESTDIR)$(DOCDIR)/pictures"
 
 uninstall:
 	rm -f $(INSTALLED)
+	rmdir "$(DESTDIR)$(DOCDIR)/pictures" "$(DESTDIR)$(DOCDIR)" 2> /dev/null || true
 
 check: all
 	bash tests/command/run

@@ -5,6 +5,10 @@
    them. Of other libraries it takes memcpy, memmove and memset, and the compiler's division in 128 bits
    (__udivti3), which gcc and clang link by themselves.
 
+   The columns of the files, and which row, column or line is whose: docs/FILES.md of the repository,
+   share/doc/pechuvo/FILES.md where it is installed. tools/explain.py of the repository says why a claim
+   is refused, in words and figures.
+
    The calls take every input, whatever its bytes or numbers, and answer in bounded time. They
    read only what is lent, keep nothing from call to call, allocate nothing and write nothing but
    reports, so calls in several threads do not disturb each other.
@@ -19,8 +23,8 @@
 
    What no answer says:
    - An outer side without an edge line may carry anything. A forgotten line for a free surface raises
-     the load and is accepted: 55.85 instead of 50.09 on a small footing. tools/explain.py of the
-     repository warns of each such side.
+     the load and is accepted: 55.85 instead of 50.09 on a small footing. tools/explain.py warns of each
+     such side.
    - A load is a load of its mesh: rows balance each element as a whole, so it is no strict bound for
      the ground.
 
@@ -328,9 +332,10 @@ struct pechuvo_numbers {
   uint64_t open_rows;   /* 0 unless both are 1 */
 };
 
-/* Checks the numbers of a mesh, of a table and of a claim, each list in the order of the file; an
-   empty list is no table. They get the refusals that files of them would get: 1 and 11 come from a
-   list that is too short or too long, at the line where that shows. */
+/* Checks the numbers of a mesh, of a table and of a claim, each list in the order of the file, line
+   after line as docs/FILES.md has them; an empty list is no table. They get the refusals that
+   files of them would get: 1 and 11 come from a list that is too short or too long, at the line where
+   that shows. */
 struct pechuvo_numbers pechuvo_check_numbers(const int64_t *mesh, size_t mesh_count,
                                              const int64_t *table, size_t table_count,
                                              const int64_t *claim, size_t claim_count);
