@@ -1,5 +1,6 @@
 /* A book in a file, written anew beside the old one and renamed. */
 #define _XOPEN_SOURCE 700
+#define _DEFAULT_SOURCE /* flock */
 
 #include "book_file.h"
 
@@ -8,13 +9,15 @@
 #include <libgen.h>
 #include <stdlib.h>
 #include <string.h>
+#include <sys/file.h>
 #include <sys/stat.h>
 #include <time.h>
 #include <unistd.h>
 
 #include "say.h"
 
-/* How often, and after how many nanoseconds each time, a command looks whether another one has written. */
+/* How often, and after how many nanoseconds each time, a command looks whether another one has written, before it says
+   that it waits. */
 enum { LOOKS = 250, WAIT = 20 * 1000 * 1000 };
 
 static bool fails(const char *name) {
@@ -92,20 +95,52 @@ bool read_book(const char *name, struct kept_book *kept) {
   return good && line == 0;
 }
 
-/* The new file, once no other command has one. */
-static FILE *make_new_file(const char *name) {
+/* Waits until no other command has the lock of this file. The lock ends with its process, however that ends. */
+static bool wait_for_lock(int file, const char *name) {
   const struct timespec wait = {0, WAIT};
-  FILE *stream = make_file(name);
-  for (int k = 1; k < LOOKS && stream == NULL && errno == EEXIST; k++) {
+  for (int k = 0; k < LOOKS; k++) {
+    if (flock(file, LOCK_EX | LOCK_NB) == 0) {
+      return true;
+    }
+    if (errno != EWOULDBLOCK) {
+      return false;
+    }
     nanosleep(&wait, NULL);
-    stream = make_file(name);
   }
-  return stream;
+  complain(name, "another command writes this book; waiting for it");
+  return flock(file, LOCK_EX) == 0;
+}
+
+/* Whether the name is still this file's, and no other was renamed over it. */
+static bool has_name(int file, const char *name) {
+  struct stat own, named;
+  return fstat(file, &own) == 0 && stat(name, &named) == 0 && own.st_dev == named.st_dev &&
+         own.st_ino == named.st_ino;
+}
+
+/* The book's file, locked; -1 where that fails. Who waited for another command has the lock of a file that is the book
+   no more, and waits for the next. */
+static int lock_book(const char *name) {
+  for (;;) {
+    int file = open(name, O_RDWR | O_CLOEXEC); /* over a network the lock asks for a file that may be written */
+    file = file < 0 ? open(name, O_RDONLY | O_CLOEXEC) : file;
+    if (file < 0 || !wait_for_lock(file, name)) {
+      fails(name);
+      if (file >= 0) {
+        close(file);
+      }
+      return -1;
+    }
+    if (has_name(file, name)) {
+      return file;
+    }
+    close(file);
+  }
 }
 
 bool begin_rewriting(const char *name, struct rewriting *next) {
   static const char ending[] = ".new";
-  *next = (struct rewriting){.name = realpath(name, NULL)};
+  *next = (struct rewriting){.name = realpath(name, NULL), .lock = -1};
   if (next->name == NULL) {
     return fails(name);
   }
@@ -116,49 +151,60 @@ bool begin_rewriting(const char *name, struct rewriting *next) {
   }
   memcpy(next->new_name, next->name, length);
   memcpy(next->new_name + length, ending, sizeof ending);
-  next->stream = make_new_file(next->new_name);
-  if (next->stream == NULL && errno == EEXIST) {
-    complain(next->new_name, "another command writes this book, or one was broken off and left this file");
-  } else if (next->stream == NULL) {
-    fails(next->new_name);
-  }
-  return next->stream != NULL;
-}
-
-static void forget(struct rewriting *next) {
-  free(next->name);
-  free(next->new_name);
-  *next = (struct rewriting){0};
+  next->lock = lock_book(next->name);
+  return next->lock >= 0;
 }
 
 void give_up_rewriting(struct rewriting *next) {
-  if (next->stream != NULL) {
-    fclose(next->stream);
-    unlink(next->new_name);
+  if (next->lock >= 0) {
+    close(next->lock);
   }
-  forget(next);
+  free(next->name);
+  free(next->new_name);
+  *next = (struct rewriting){.lock = -1};
+}
+
+/* Takes away the new file that a broken-off command left: while this one has the lock no other writes. A file that no
+   command can have left stays. */
+static bool clear_new_file(const char *name) {
+  struct stat left;
+  if (lstat(name, &left) != 0) {
+    return errno == ENOENT || fails(name);
+  }
+  if (!S_ISREG(left.st_mode) || left.st_size >= BOOK_TEXT) {
+    complain(name, "the new book is written here first, and this is no file that a command left");
+    return false;
+  }
+  return unlink(name) == 0 || fails(name);
 }
 
 /* The new file may be read and written by whom the old one may. */
-static bool keep_mode(const struct rewriting *next) {
+static bool keep_mode(FILE *stream, const char *old_name) {
   struct stat old;
-  return stat(next->name, &old) == 0 && fchmod(fileno(next->stream), old.st_mode & 07777) == 0;
+  return stat(old_name, &old) == 0 && fchmod(fileno(stream), old.st_mode & 07777) == 0;
+}
+
+static bool write_new_file(const struct rewriting *next, const struct kept_book *kept) {
+  FILE *stream = make_file(next->new_name);
+  if (stream == NULL) {
+    return fails(next->new_name);
+  }
+  bool good = (is_kept(stream, kept) && keep_mode(stream, next->name)) || fails(next->new_name);
+  /* What was to be written is on the disk, so closing can lose nothing. */
+  fclose(stream);
+  return good;
 }
 
 bool end_rewriting(struct rewriting *next, const struct kept_book *kept) {
-  if (!is_kept(next->stream, kept) || !keep_mode(next)) {
-    fails(next->new_name);
-    give_up_rewriting(next);
-    return false;
+  bool good = clear_new_file(next->new_name);
+  if (good) {
+    good = write_new_file(next, kept) && (rename(next->new_name, next->name) == 0 || fails(next->name));
+    if (good) {
+      keep_name(next->name);
+    } else {
+      unlink(next->new_name);
+    }
   }
-  if (rename(next->new_name, next->name) != 0) {
-    fails(next->name);
-    give_up_rewriting(next);
-    return false;
-  }
-  /* What was to be written is on the disk, so closing can lose nothing. */
-  fclose(next->stream);
-  keep_name(next->name);
-  forget(next);
-  return true;
+  give_up_rewriting(next);
+  return good;
 }

@@ -4,7 +4,6 @@
 
 #include <stdbool.h>
 #include <stdint.h>
-#include <stdio.h>
 
 #include "book_text.h"
 #include "files.h"
@@ -19,16 +18,17 @@ bool make_book(const char *name);
 
 bool read_book(const char *name, struct kept_book *kept);
 
-/* The file of the next book beside the old one. While it is there, no other command writes this book. */
+/* A book that may be written anew: from its begin to its end no other command writes it. */
 struct rewriting {
   char *name; /* of the book itself, where the given name is a link to it */
   char *new_name;
-  FILE *stream;
+  int lock; /* the book's file, which is locked; -1 for none */
 };
 
+/* Waits while another command writes this book. */
 bool begin_rewriting(const char *name, struct rewriting *next);
 
-/* Writes the book and renames its file over the old one. */
+/* Writes the next book beside the old one and renames it over that one. */
 bool end_rewriting(struct rewriting *next, const struct kept_book *kept);
 
 /* Leaves the old file as it is. */

@@ -1,10 +1,13 @@
 """books.py PROGRAM FOLDER: a book kept in a file, from its making to commits side by side, damage and a full disk."""
+import fcntl
 import json
 import os
+import random
 import resource
 import signal
 import subprocess
 import sys
+import time
 
 from program import ACCEPTED, FAILED, REFUSED, SHEETS, Program, agree
 
@@ -15,6 +18,7 @@ def sheet(name):
 
 MESH, CLAIM, BELOW, ABOVE = (sheet("worked" + end) for end in (".mesh", ".claim", "_below.claim", "_above.claim"))
 TABLE = sheet("table_worked.table")
+SIDE_BY_SIDE = 200
 EMPTY = b"pechuvo book\nmesh none\nlower none\nupper none\ncount 0\n"
 
 
@@ -151,36 +155,98 @@ def takes_none(book):
     book.tell(REFUSED, printed("20/1", "600/30", 1000000), "commit", MESH, CLAIM, CLAIM, errors="refused with 48")
 
 
+def start(book, *words, **options):
+    """A commit that runs on."""
+    return subprocess.Popen([book.program.path, "book", book.path, "commit", *words], stdout=subprocess.DEVNULL,
+                            **options)
+
+
+def count_of(book):
+    return json.loads(book.tell(ACCEPTED, None, "show", "--json"))["count"]
+
+
 def side_by_side(book):
     """Commits at the same time: none is lost."""
     write(book.path, EMPTY)
-    words = [book.program.path, "book", book.path, "commit", MESH, CLAIM]
-    running = [subprocess.Popen(words, stdout=subprocess.DEVNULL) for _ in range(8)]
-    agree("commits side by side", [each.wait() for each in running], [ACCEPTED] * 8)
-    book.keeps(ACCEPTED, printed("20/1", "600/30", 8), "show")
+    running = [start(book, MESH, CLAIM) for _ in range(SIDE_BY_SIDE)]
+    agree("commits side by side", [each.wait() for each in running], [ACCEPTED] * SIDE_BY_SIDE)
+    book.keeps(ACCEPTED, printed("20/1", "600/30", SIDE_BY_SIDE), "show")
 
 
 def left_behind(book):
-    """The new file of a command that was broken off."""
+    """The new file of a command that was broken off, whatever it wrote of it."""
+    write(book.path, EMPTY)
+    whole = text("00000000000000ff", "19/1", "600/30", "7")
+    for count, content in enumerate((b"", whole[:30], whole, b"\0" * len(whole)), start=1):
+        write(book.path + ".new", content)
+        book.program.expect(ACCEPTED, None, "book", book.path, "ask", MESH, CLAIM)
+        agree("an ask leaves the new file", read(book.path + ".new"), content)
+        book.tell(ACCEPTED, printed("20/1", "600/30", count), "commit", MESH, CLAIM)
+    # What no command can have left stays.
     before = read(book.path)
-    write(book.path + ".new", b"")
-    book.program.expect(FAILED, b"", "book", book.path, "commit", MESH, CLAIM,
-                        errors=f"{book.path}.new: another command writes")
-    book.program.expect(ACCEPTED, None, "book", book.path, "ask", MESH, CLAIM)
-    agree("a book beside a new file", (read(book.path), read(book.path + ".new")), (before, b""))
-    os.remove(book.path + ".new")
+    for make, remove in ((lambda name: write(name, b"x" * 192), os.remove), (os.mkdir, os.rmdir),
+                         (lambda name: os.symlink(MESH, name), os.remove)):
+        make(book.path + ".new")
+        book.program.expect(FAILED, b"", "book", book.path, "commit", MESH, CLAIM,
+                            errors=f"{book.path}.new: the new book is written here first")
+        agree("a book beside a file of another kind", read(book.path), before)
+        remove(book.path + ".new")
+
+
+def is_locked(path):
+    with open(path, "rb") as file:
+        try:
+            fcntl.flock(file, fcntl.LOCK_EX | fcntl.LOCK_NB)
+        except BlockingIOError:
+            return True
+    return False
+
+
+def waits(book):
+    """A living command is waited for, and that is said after a while."""
+    write(book.path, EMPTY)
+    with open(book.path, "rb") as other:
+        fcntl.flock(other, fcntl.LOCK_EX)
+        running = start(book, MESH, CLAIM, stderr=subprocess.PIPE)
+        said = running.stderr.readline()
+        agree("a commit that waits", (running.poll(), read(book.path)), (None, EMPTY))
+        book.keeps(ACCEPTED, printed("20/1", "600/30", 1), "ask", MESH, CLAIM)
+    agree("a commit that waited", (running.wait(), said, running.stderr.read()), (
+        ACCEPTED, f"pechuvo: {book.path}: another command writes this book; waiting for it\n".encode(), b""))
+    book.keeps(ACCEPTED, printed("20/1", "600/30", 1), "show")
+
+
+def broken_off(book):
+    """Commands that are killed: one that has the lock, and many at any time."""
+    claim = book.path + ".claim"
+    os.mkfifo(claim)
+    running = start(book, MESH, claim)
+    while not is_locked(book.path):
+        time.sleep(0.01)
+    running.kill()
+    agree("a commit that was killed", running.wait(), -signal.SIGKILL)
+    os.remove(claim)
+    book.tell(ACCEPTED, printed("20/1", "600/30", 2), "commit", MESH, CLAIM)
+    accepted, all_of_them = 2, [start(book, MESH, CLAIM) for _ in range(SIDE_BY_SIDE)]
+    for each in all_of_them[::2]:
+        time.sleep(random.random() / 500)
+        each.send_signal(random.choice((signal.SIGKILL, signal.SIGTERM)))
+    accepted += sum(each.wait() == ACCEPTED for each in all_of_them)
+    book.program.expect(ACCEPTED, None, "book", book.path, "commit", MESH, CLAIM)
+    agree("commits that were not lost", accepted < count_of(book) <= 3 + SIDE_BY_SIDE, True)
 
 
 def places(book):
     """A book behind a link, one that few may read, and names that are no book's."""
+    write(book.path, EMPTY)
     folder = os.path.dirname(book.path)
     os.chmod(book.path, 0o640)
     link = os.path.join(folder, "link.book")
     os.symlink(os.path.basename(book.path), link)
-    book.program.expect(ACCEPTED, printed("20/1", "600/30", 9), "book", link, "commit", MESH, CLAIM)
+    book.program.expect(ACCEPTED, printed("20/1", "600/30", 1), "book", link, "commit", MESH, CLAIM)
     agree("a link stays one", os.path.islink(link), True)
     agree("who may read", os.stat(book.path).st_mode & 0o777, 0o640)
-    book.keeps(ACCEPTED, printed("20/1", "600/30", 9), "show")
+    book.keeps(ACCEPTED, printed("20/1", "600/30", 1), "show")
     book.program.expect(FAILED, b"", "book", folder, "commit", MESH, CLAIM, errors=f"{folder}: Is a directory")
     book.program.expect(FAILED, b"", "book", folder, "new", errors=f"{folder}: ")
     book.program.expect(FAILED, b"", "book", "absent/book", "new", folder=folder, errors="absent/book: No such file")
@@ -203,8 +269,8 @@ def full_disk(book):
 def main():
     program = Program(sys.argv[1])
     book = Book(program, os.path.join(os.path.realpath(sys.argv[2]), "job.book"))
-    for test in (lifecycle, other_meshes, usage, json_output, strict, takes_none, side_by_side, left_behind, places,
-                 full_disk):
+    for test in (lifecycle, other_meshes, usage, json_output, strict, takes_none, side_by_side, left_behind, waits,
+                 broken_off, places, full_disk):
         test(book)
     print(f"{program.runs} runs on books, each as expected")
 
