@@ -7,6 +7,7 @@
 #include "answers.h"
 #include "book_file.h"
 #include "commands.h"
+#include "files.h"
 #include "json.h"
 #include "pechuvo.h"
 #include "say.h"
@@ -65,7 +66,11 @@ static int show(const struct session *session) {
 }
 
 static int make(const struct session *session) {
-  return make_book(session->name) ? show(session) : FAILED;
+  if (!make_book(session->name)) {
+    return FAILED;
+  }
+  note_done("the book is written");
+  return show(session);
 }
 
 /* Whether the claims are for the mesh of the book; an empty one is for any. */
@@ -153,7 +158,11 @@ static bool commit_claims(const struct session *session, const struct ground *gr
   }
   kept->mesh_there = true;
   kept->mesh = sum_of(ground);
-  return end_rewriting(&next, kept);
+  if (!end_rewriting(&next, kept)) {
+    return false;
+  }
+  note_done("the book is written");
+  return true;
 }
 
 static int commit(const struct session *session, const struct ground *ground) {

@@ -42,12 +42,21 @@ bool hold_standard_streams(void) {
   return true;
 }
 
+static const char *done;
+
+void note_done(const char *what) {
+  done = what;
+}
+
 bool end_output(void) {
   bool lost = ferror(stdout) != 0;
   errno = 0;
   lost = fclose(stdout) != 0 || lost;
   if (lost) {
-    complain("standard output", errno != 0 ? strerror(errno) : "not all of it could be written");
+    char what[256];
+    snprintf(what, sizeof what, "%s%s%s", errno != 0 ? strerror(errno) : "not all of it could be written",
+             done != NULL ? "; " : "", done != NULL ? done : "");
+    complain("standard output", what);
   }
   return !lost;
 }

@@ -35,6 +35,9 @@ bool read_ground(const char *mesh, const char *table, struct ground *ground);
 /* Each standard stream that is closed gets a file that can't be written, so that no file of ours takes its place. */
 bool hold_standard_streams(void);
 
+/* Takes note of what is done even if nothing more can be printed; it is said where that is so. */
+void note_done(const char *what);
+
 /* Whether all that was printed is written; said where it is not. */
 bool end_output(void);
 
