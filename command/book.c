@@ -7,6 +7,7 @@
 #include "answers.h"
 #include "book_file.h"
 #include "commands.h"
+#include "decimal.h"
 #include "files.h"
 #include "json.h"
 #include "pechuvo.h"
@@ -36,19 +37,47 @@ static void put_json_claims(const struct session *session) {
   putchar(']');
 }
 
-/* The book that is told, as its file has it but for the mesh. */
+/* A bound as the book's file has it, and with decimals. */
+struct told_bound {
+  char text[BOUND_TEXT];
+  char decimals[DECIMAL_TEXT]; /* none where there is no bound, or where it has no value */
+};
+
+static struct told_bound lower_of(const struct pechuvo_book *book) {
+  struct told_bound told;
+  lower_text(book, told.text);
+  decimal_text(book->lower_numerator, book->lower_there != 0 ? book->lower_denominator : 0, ROUNDED_DOWN,
+               told.decimals);
+  return told;
+}
+
+static struct told_bound upper_of(const struct pechuvo_book *book) {
+  struct told_bound told;
+  upper_text(book, told.text);
+  decimal_text(book->upper_numerator, book->upper_there != 0 ? book->upper_denominator : 0, ROUNDED_UP,
+               told.decimals);
+  return told;
+}
+
+static void put_bound(const char *name, uint32_t there, const struct told_bound *bound) {
+  printf("%s %s%s%s\n", name, bound->text, there != 0 ? " " : "", there != 0 ? bound->decimals : "");
+}
+
+/* The book that is told, as its file has it but for the mesh, with decimals. */
 static void put_book(const struct session *session, const struct pechuvo_book *book) {
-  char lower[BOUND_TEXT], upper[BOUND_TEXT];
-  lower_text(book, lower);
-  upper_text(book, upper);
+  struct told_bound lower = lower_of(book), upper = upper_of(book);
   if (!session->json) {
-    printf("lower %s\nupper %s\ncount %" PRIu64 "\n", lower, upper, book->count);
+    put_bound("lower", book->lower_there, &lower);
+    put_bound("upper", book->upper_there, &upper);
+    printf("count %" PRIu64 "\n", book->count);
     return;
   }
   fputs("{\"book\": ", stdout);
   put_json_name(session->name);
-  put_json_text("lower", lower, "\"");
-  put_json_text("upper", upper, "\"");
+  put_json_text("lower", lower.text, "\"");
+  put_json_text("lower_decimal", lower.decimals, "\"");
+  put_json_text("upper", upper.text, "\"");
+  put_json_text("upper_decimal", upper.decimals, "\"");
   printf(", \"count\": %" PRIu64, book->count);
   if (session->claims > 0) {
     put_json_claims(session);

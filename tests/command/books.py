@@ -9,7 +9,7 @@ import subprocess
 import sys
 import time
 
-from program import ACCEPTED, FAILED, REFUSED, SHEETS, Program, agree
+from program import ACCEPTED, FAILED, REFUSED, SHEETS, Program, agree, decimals
 
 
 def sheet(name):
@@ -22,8 +22,12 @@ SIDE_BY_SIDE = 200
 EMPTY = b"pechuvo book\nmesh none\nlower none\nupper none\ncount 0\n"
 
 
+def with_decimals(bound, up):
+    return bound if bound == "none" else f"{bound} {decimals(bound, up)}"
+
+
 def printed(lower, upper, count):
-    return f"lower {lower}\nupper {upper}\ncount {count}\n".encode()
+    return f"lower {with_decimals(lower, False)}\nupper {with_decimals(upper, True)}\ncount {count}\n".encode()
 
 
 def read(path):
@@ -108,13 +112,14 @@ def usage(book):
 def json_output(book):
     write(book.path, EMPTY)
     told = json.loads(book.tell(REFUSED, None, "commit", MESH, CLAIM, ABOVE, "--json"))
-    agree("a commit as JSON", [told[member] for member in ("book", "lower", "upper", "count")],
-          [book.path, "20/1", "600/30", 1])
+    members = ("book", "lower", "lower_decimal", "upper", "upper_decimal", "count")
+    agree("a commit as JSON", [told[member] for member in members],
+          [book.path, "20/1", "20.000000", "600/30", "20.000000", 1])
     agree("its claims", [[claim["claim"], claim["number"], claim["place"], claim["kind"]] for claim in told["claims"]],
           [[CLAIM, 0, 0, "none"], [ABOVE, 22, 1, "row"]])
     write(book.path, EMPTY)
     agree("an empty book as JSON", json.loads(book.tell(ACCEPTED, None, "show", "--json")),
-          {"book": book.path, "lower": None, "upper": None, "count": 0})
+          {"book": book.path, "lower": None, "lower_decimal": None, "upper": None, "upper_decimal": None, "count": 0})
 
 
 def text(mesh="none", lower="none", upper="none", count="0"):
@@ -126,6 +131,7 @@ def strict(book):
     good = text("00000000000000ff", "-1/3", "9223372036854775807/1", "999999")
     write(book.path, good)
     book.keeps(ACCEPTED, printed("-1/3", "9223372036854775807/1", 999999), "show")
+    agree("decimals", printed("-1/3", "1/3", 2), b"lower -1/3 -0.333334\nupper 1/3 0.333334\ncount 2\n")
     damage = [(1, b""), (1, good[1:]), (1, good.upper()), (1, good.replace(b"\n", b"\r\n")), (1, read(MESH)),
               (1, b"\xef\xbb\xbf" + good), (6, good + b"\n"), (6, good + b"\0"), (6, good + good),
               (6, good + b" " * 100000), (5, good[:-1]), (5, good[:-8]), (4, good[:60]), (3, good[:40]),

@@ -47,11 +47,23 @@ def check(program, files, decimals, line, kind):
     agree(f"{words} --json: claim", told["claim"], files[1])
 
 
-def sheets(program):
+def book_of(program, empty, files, line):
+    """An empty book with an accepted claim has the report's decimals."""
+    number, _, lower, upper = line.split()
+    if number == "0":
+        told = json.loads(program.expect(ACCEPTED, None, "book", empty, "ask", *files, "--json"))
+        agree(f"{files}: decimals of a book", [told["lower_decimal"], told["upper_decimal"]],
+              [or_null(lower), or_null(upper)])
+
+
+def sheets(program, folder):
+    empty = os.path.join(folder, "empty.book")
+    program.expect(ACCEPTED, None, "book", empty, "new")
     with open(os.path.join(SHEETS, "expected"), encoding="utf-8") as file:
         for line in file.read().splitlines():
             name, report = line.split(" ", 1)
             check(program, files_of(SHEETS, name), [], report, None)
+            book_of(program, empty, files_of(SHEETS, name), report)
 
 
 def decimals(program):
@@ -144,7 +156,7 @@ def books(program, folder):
 
 def main():
     program = Program(sys.argv[1])
-    sheets(program)
+    sheets(program, sys.argv[2])
     decimals(program)
     vectors(program)
     runs(program, os.path.join(SHEETS, "runs"))

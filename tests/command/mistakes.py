@@ -176,7 +176,7 @@ def streams(program, folder):
                               check=False)
         agree(f"{words} with a closed output", (done.returncode, b"standard output: " in done.stderr), (FAILED, True))
         agree(f"{words}: what is done", b"; the book is written\n" in done.stderr, words[0] == "book")
-    program.expect(ACCEPTED, b"lower 20/1\nupper 600/30\ncount 1\n", "book", book, "show")
+    program.expect(ACCEPTED, b"lower 20/1 20.000000\nupper 600/30 20.000000\ncount 1\n", "book", book, "show")
     # What was not written is not said to be.
     with open("/dev/full", "wb") as full:
         for words, says in ((["commit", MESH, CLAIM], "; the book is written\n"),
@@ -184,7 +184,7 @@ def streams(program, folder):
                             (["ask", MESH, CLAIM], "No space left on device\n"),
                             (["show"], "No space left on device\n")):
             program.expect(FAILED, None, "book", book, *words, stdout=full, errors=["standard output: ", says])
-    program.expect(ACCEPTED, b"lower 20/1\nupper 600/30\ncount 2\n", "book", book, "show")
+    program.expect(ACCEPTED, b"lower 20/1 20.000000\nupper 600/30 20.000000\ncount 2\n", "book", book, "show")
 
 
 def main():

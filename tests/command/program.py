@@ -1,7 +1,9 @@
 """Runs of the command, and what is expected of each."""
+import math
 import os
 import subprocess
 import sys
+from fractions import Fraction
 
 ROOT = os.path.dirname(os.path.dirname(os.path.dirname(os.path.abspath(__file__))))
 SHEETS = os.path.join(ROOT, "sheets")
@@ -43,6 +45,15 @@ def fail(what):
 def agree(what, got, expected):
     if got != expected:
         fail(f"{what}: {got!r}, not {expected!r}")
+
+
+def decimals(bound, up):
+    """A bound of a book, NUMERATOR/DENOMINATOR, with six decimals, rounded down or up."""
+    above, below = map(int, bound.split("/"))
+    if below <= 0:
+        return "none"
+    millionths = (math.ceil if up else math.floor)(Fraction(above, below) * 10**6)
+    return f"{'-' if millionths < 0 else ''}{abs(millionths) // 10**6}.{abs(millionths) % 10**6:06}"
 
 
 def lines_of(path):
