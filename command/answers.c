@@ -3,6 +3,7 @@
 
 #include <inttypes.h>
 #include <stdbool.h>
+#include <string.h>
 
 #include "say.h"
 
@@ -86,6 +87,62 @@ const char *kind_word(uint32_t number) {
   }
 }
 
+/* The columns of a mesh have 12 characters; how long a line is tells what it is for. */
+enum { COLUMN_BYTES = 12, SOIL_LINE = 10 * COLUMN_BYTES, ELEMENT_LINE = 5 * COLUMN_BYTES };
+
+struct line {
+  const uint8_t *bytes;
+  size_t length;
+};
+
+/* A line of a file, counted from 1, without its byte 10; an empty one where there is none. */
+static struct line line_at(const struct file *file, uint32_t place) {
+  const uint8_t *from = file->bytes, *end = file->bytes + file->length;
+  for (uint32_t k = 1;; k++) {
+    const uint8_t *to = memchr(from, '\n', (size_t)(end - from));
+    if (to == NULL) {
+      return (struct line){from, 0};
+    }
+    if (k == place) {
+      return (struct line){from, (size_t)(to - from)};
+    }
+    from = to + 1;
+  }
+}
+
+/* Whether a line has this word in a column, counted from 0. */
+static bool has(struct line line, size_t column, const char *word) {
+  return line.length >= (column + 1) * COLUMN_BYTES &&
+         memcmp(line.bytes + column * COLUMN_BYTES, word, COLUMN_BYTES) == 0;
+}
+
+static const char *says_of_limit(const struct ground *ground, uint32_t place) {
+  if (place >= PECHUVO_TABLE_LINE) {
+    return "table number outside its limits";
+  }
+  if (place == 1) {
+    return "mesh number outside its limits: the count of nodes, elements, soils, edges, sides or jumps; with 108 "
+           "sides at most 40 nodes";
+  }
+  bool of_108 = has(line_at(&ground->mesh, 1), 4, "         108");
+  return of_108 && line_at(&ground->mesh, place).length == SOIL_LINE
+             ? "mesh number outside its limits; or a soil of kind 1 on a mesh with 108 sides"
+             : "mesh number outside its limits";
+}
+
+const char *says_of(const struct ground *ground, struct pechuvo_answer answer) {
+  if (answer.number == PECHUVO_MESH_LIMIT) {
+    return says_of_limit(ground, answer.place);
+  }
+  if (answer.number == PECHUVO_UNKNOWN_NAME && ground->table.length == 0) {
+    struct line line = line_at(&ground->mesh, answer.place);
+    if (line.length == ELEMENT_LINE && has(line, 4, "           0")) {
+      return "names a node or soil that isn't there; soil 0 needs --table";
+    }
+  }
+  return words_of(answer.number);
+}
+
 int status_of(struct pechuvo_answer answer) {
   return answer.number == PECHUVO_ACCEPTED ? ACCEPTED : REFUSED;
 }
@@ -100,7 +157,7 @@ static bool about_claim(struct pechuvo_answer answer) {
   return answer.number >= PECHUVO_CLAIM_FORM && answer.number <= PECHUVO_LOAD_SUM;
 }
 
-void tell_refusal_of(const char *name, uint64_t which, struct pechuvo_answer answer) {
+static void tell(const char *name, uint64_t which, struct pechuvo_answer answer, const char *says) {
   fputs("pechuvo: ", stderr);
   put_name(stderr, name);
   if (which != 0) {
@@ -110,13 +167,19 @@ void tell_refusal_of(const char *name, uint64_t which, struct pechuvo_answer ans
   if (pechuvo_kind_of(answer.number) != PECHUVO_KIND_NONE) {
     fprintf(stderr, ", %s %" PRIu32, kind_word(answer.number), answer.place);
   }
-  fprintf(stderr, ": %s\n", words_of(answer.number));
+  fprintf(stderr, ": %s\n", says);
 }
 
 void tell_refusal(const struct ground *ground, const char *claim, uint64_t which, struct pechuvo_answer answer) {
+  static bool ground_told = false;
   if (about_claim(answer)) {
-    tell_refusal_of(claim, which, answer);
-  } else {
-    tell_refusal_of(about_table(answer) ? ground->table.name : ground->mesh.name, 0, answer);
+    tell(claim, which, answer, says_of(ground, answer));
+  } else if (!ground_told) {
+    tell(about_table(answer) ? ground->table.name : ground->mesh.name, 0, answer, says_of(ground, answer));
+    ground_told = true;
   }
+}
+
+void tell_book_refusal(const char *book, struct pechuvo_answer answer) {
+  tell(book, 0, answer, words_of(answer.number));
 }

@@ -20,14 +20,18 @@ struct columns columns_of(const uint8_t *report);
 const char *words_of(uint32_t number);
 const char *kind_word(uint32_t number);
 
+/* The same of an answer: no more than its line can have wrong, and a hint where a table is missing. */
+const char *says_of(const struct ground *ground, struct pechuvo_answer answer);
+
 /* ACCEPTED or REFUSED. */
 int status_of(struct pechuvo_answer answer);
 
-/* Says a refusal on standard error, with a file's name. 'which' is the claim's place among the claims of a file, 0
-   where it has a file of its own. */
-void tell_refusal_of(const char *name, uint64_t which, struct pechuvo_answer answer);
-
-/* The same with the name of the file that the refusal is about: mesh, table or claim. */
+/* Says a refusal on standard error, with the name of the file that it is about: mesh, table or claim. 'which' is the
+   claim's place among the claims of a file, 0 where it has a file of its own. What is about the mesh or its table is
+   said once, however many claims there are. */
 void tell_refusal(const struct ground *ground, const char *claim, uint64_t which, struct pechuvo_answer answer);
+
+/* The same of a refusal that is about a book. */
+void tell_book_refusal(const char *book, struct pechuvo_answer answer);
 
 #endif

@@ -20,6 +20,7 @@ struct session {
   bool commits; /* else asks */
   bool json;
   const char *count; /* that the ask saw; NULL where the book's own is meant */
+  const struct ground *ground; /* NULL where no claim is judged */
   int claims;
   char **claim;
   struct pechuvo_answer *answers; /* one for each claim */
@@ -31,7 +32,7 @@ static void put_json_claims(const struct session *session) {
     fputs(k == 0 ? "{\"claim\": " : ", {\"claim\": ", stdout);
     put_json_name(session->claim[k]);
     fputs(", ", stdout);
-    put_json_answer(session->answers[k], words_of(session->answers[k].number));
+    put_json_answer(session->answers[k], says_of(session->ground, session->answers[k]));
     putchar('}');
   }
   putchar(']');
@@ -103,8 +104,8 @@ static int make(const struct session *session) {
 }
 
 /* Whether the claims are for the mesh of the book; an empty one is for any. */
-static bool is_same_mesh(const struct session *session, const struct ground *ground, const struct kept_book *kept) {
-  bool same = !kept->mesh_there || kept->mesh == sum_of(ground);
+static bool is_same_mesh(const struct session *session, const struct kept_book *kept) {
+  bool same = !kept->mesh_there || kept->mesh == sum_of(session->ground);
   if (!same) {
     complain(session->name, "this book is for another mesh, or for another table with it");
   }
@@ -112,9 +113,9 @@ static bool is_same_mesh(const struct session *session, const struct ground *gro
 }
 
 /* One claim after another, each on the book that the last one left; false where one can't be read. */
-static bool judge_claims(const struct session *session, const struct ground *ground, uint64_t count,
-                         struct pechuvo_book *told) {
+static bool judge_claims(const struct session *session, uint64_t count, struct pechuvo_book *told) {
   static struct file claim;
+  const struct ground *ground = session->ground;
   for (int k = 0; k < session->claims; k++) {
     if (!read_file(session->claim[k], &claim)) {
       return false;
@@ -130,7 +131,7 @@ static bool judge_claims(const struct session *session, const struct ground *gro
 }
 
 /* The book that is told and each refusal; the worst of the claims' statuses. */
-static int tell(const struct session *session, const struct ground *ground, const struct pechuvo_book *told) {
+static int tell(const struct session *session, const struct pechuvo_book *told) {
   int status = ACCEPTED;
   put_book(session, told);
   for (int k = 0; k < session->claims; k++) {
@@ -140,21 +141,20 @@ static int tell(const struct session *session, const struct ground *ground, cons
       continue;
     }
     if (answer.number == PECHUVO_BOOK_TAKES_NONE) {
-      tell_refusal_of(session->name, 0, answer);
+      tell_book_refusal(session->name, answer);
     } else {
-      tell_refusal(ground, session->claim[k], 0, answer);
+      tell_refusal(session->ground, session->claim[k], 0, answer);
     }
   }
   return status;
 }
 
-static int ask(const struct session *session, const struct ground *ground) {
+static int ask(const struct session *session) {
   struct kept_book kept;
-  if (!read_book(session->name, &kept) || !is_same_mesh(session, ground, &kept) ||
-      !judge_claims(session, ground, 0, &kept.book)) {
+  if (!read_book(session->name, &kept) || !is_same_mesh(session, &kept) || !judge_claims(session, 0, &kept.book)) {
     return FAILED;
   }
-  return tell(session, ground, &kept.book);
+  return tell(session, &kept.book);
 }
 
 /* The count that is named: the given one, else the one that the book has. */
@@ -168,12 +168,12 @@ static bool named_count(const struct session *session, const struct kept_book *k
 }
 
 /* The book is read while no other command may write it, so the count that it has is the count that is named. */
-static bool commit_claims(const struct session *session, const struct ground *ground, struct kept_book *kept) {
+static bool commit_claims(const struct session *session, struct kept_book *kept) {
   struct rewriting next;
   uint64_t count;
   if (!begin_rewriting(session->name, &next) || !read_book(next.name, kept) ||
-      !is_same_mesh(session, ground, kept) || !named_count(session, kept, &count) ||
-      !judge_claims(session, ground, count, &kept->book)) {
+      !is_same_mesh(session, kept) || !named_count(session, kept, &count) ||
+      !judge_claims(session, count, &kept->book)) {
     give_up_rewriting(&next);
     return false;
   }
@@ -186,7 +186,7 @@ static bool commit_claims(const struct session *session, const struct ground *gr
     return true;
   }
   kept->mesh_there = true;
-  kept->mesh = sum_of(ground);
+  kept->mesh = sum_of(session->ground);
   if (!end_rewriting(&next, kept)) {
     return false;
   }
@@ -194,9 +194,9 @@ static bool commit_claims(const struct session *session, const struct ground *gr
   return true;
 }
 
-static int commit(const struct session *session, const struct ground *ground) {
+static int commit(const struct session *session) {
   struct kept_book kept;
-  return commit_claims(session, ground, &kept) ? tell(session, ground, &kept.book) : FAILED;
+  return commit_claims(session, &kept) ? tell(session, &kept.book) : FAILED;
 }
 
 static int take_claims(struct session *session, const struct arguments *given) {
@@ -208,8 +208,9 @@ static int take_claims(struct session *session, const struct arguments *given) {
     return complain_of_system(session->name);
   }
   int status = FAILED;
+  session->ground = &ground;
   if (read_ground(given->operand[2], given->table, &ground)) {
-    status = session->commits ? commit(session, &ground) : ask(session, &ground);
+    status = session->commits ? commit(session) : ask(session);
   }
   free(session->answers);
   return status;

@@ -14,13 +14,32 @@ struct asked {
   bool several; /* each line has its claim's name */
 };
 
+/* The archive says whether it takes so many, before all else and so without any file. */
+static bool are_taken(int64_t decimals) {
+  uint8_t report[PECHUVO_REPORT];
+  return pechuvo_check(NULL, 0, NULL, 0, NULL, 0, decimals, report, sizeof report).number != PECHUVO_WRONG_DECIMALS;
+}
+
 static bool read_decimals(const struct arguments *given, int64_t *decimals) {
   *decimals = PECHUVO_USUAL_DECIMALS;
-  if (given->decimals == NULL || read_signed(given->decimals, decimals)) {
+  if (given->decimals == NULL) {
     return true;
   }
-  complain(given->decimals, "--decimals asks for a whole number");
-  return false;
+  if (!read_signed(given->decimals, decimals)) {
+    complain(given->decimals, "--decimals asks for a whole number");
+    return false;
+  }
+  if (!are_taken(*decimals)) {
+    complain("--decimals", words_of(PECHUVO_WRONG_DECIMALS));
+    return false;
+  }
+  return true;
+}
+
+/* Whether lines of three columns are where a claim begins with one of four. */
+static bool looks_like_table(const struct file *file) {
+  enum { TABLE_LINE_BYTES = 37 };
+  return file->length % TABLE_LINE_BYTES == 0 && file->length != 0 && file->bytes[TABLE_LINE_BYTES - 1] == '\n';
 }
 
 /* The report line as it was written; before the byte 10 the claim's name, where there are several. */
@@ -37,10 +56,6 @@ static int check_claim(const struct ground *ground, const struct file *claim, co
   uint8_t report[PECHUVO_REPORT];
   struct pechuvo_answer answer =
       pechuvo_check(GIVEN(ground->mesh), GIVEN(ground->table), GIVEN(*claim), asked->decimals, report, sizeof report);
-  if (answer.number == PECHUVO_WRONG_DECIMALS) {
-    /* No report is written, and none would be for any other claim. */
-    return complain("--decimals", words_of(answer.number));
-  }
   if (asked->json) {
     put_json_verdict(ground, claim->name, 0, answer, report);
     return status_of(answer);
@@ -48,6 +63,9 @@ static int check_claim(const struct ground *ground, const struct file *claim, co
   put_line(claim->name, asked->several, report);
   if (answer.number != PECHUVO_ACCEPTED) {
     tell_refusal(ground, claim->name, 0, answer);
+  }
+  if (answer.number == PECHUVO_CLAIM_FORM && looks_like_table(claim)) {
+    complain(claim->name, "this looks like a table, and --table takes one");
   }
   return status_of(answer);
 }

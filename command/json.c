@@ -80,7 +80,7 @@ void put_json_verdict(const struct ground *ground, const char *claim, uint64_t w
     printf(", \"which\": %" PRIu64, which);
   }
   fputs(", ", stdout);
-  put_json_answer(answer, words_of(answer.number));
+  put_json_answer(answer, says_of(ground, answer));
   put_json_loads(answer, report);
   fputs("}\n", stdout);
 }

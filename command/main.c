@@ -21,7 +21,7 @@ static const char help[] =
     "pechuvo book BOOK ask MESH CLAIM.. [--table TABLE] [--json]\n"
     "pechuvo book BOOK commit MESH CLAIM.. [--table TABLE] [--count N] [--json]\n"
     "    a book of the best bracket of the claims for one mesh, kept in a file\n"
-    "pechuvo --help\n"
+    "pechuvo --help, -h or help\n"
     "pechuvo --version\n"
     "\n"
     "After -- each word is a file's name. Refusals and mistakes are said on standard error.\n"
@@ -70,7 +70,7 @@ static int answer(int count, char **words) {
     fputs(help, stderr);
     return FAILED;
   }
-  if (is_asked("--help", count, words)) {
+  if (is_asked("--help", count, words) || is_asked("-h", count, words) || strcmp(words[0], "help") == 0) {
     fputs(help, stdout);
     return ACCEPTED;
   }

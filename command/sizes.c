@@ -19,7 +19,7 @@ static void put_json(const struct ground *ground, struct pechuvo_answer answer, 
   putchar('{');
   put_json_ground(ground);
   fputs(", ", stdout);
-  put_json_answer(answer, answer.number == PECHUVO_ACCEPTED ? "the mesh passes its checks" : words_of(answer.number));
+  put_json_answer(answer, answer.number == PECHUVO_ACCEPTED ? "the mesh passes its checks" : says_of(ground, answer));
   for (int k = 0; k < SIZES; k++) {
     printf(", \"%s\": ", all[k].name);
     if (answer.number == PECHUVO_ACCEPTED) {

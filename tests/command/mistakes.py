@@ -37,6 +37,21 @@ def read(path):
         return file.read()
 
 
+def said_once(program, status, output, what, *words):
+    """A run that says one thing on standard error, on one line."""
+    got = program.run(*words)
+    agree(words, (got[0], got[1] if output is None else output, got[2].decode()),
+          (status, got[1], f"pechuvo: {what}\n"))
+
+
+def changed(folder, line, column, number, source=MESH):
+    """A file with another number in a column of a line, both from 1."""
+    lines = read(source).split(b"\n")
+    text = lines[line - 1]
+    lines[line - 1] = text[:12 * (column - 1)] + f"{number:12}".encode() + text[12 * column:]
+    return write(folder, "changed", b"\n".join(lines))
+
+
 def usage(program):
     help_text = program.expect(ACCEPTED, None, "--help")
     agree("no arguments", program.run(), (FAILED, b"", help_text))
@@ -46,7 +61,10 @@ def usage(program):
         program.expect(FAILED, b"", command, errors=f"pechuvo: {command}: ")
         program.expect(FAILED, b"", command, MESH, CLAIM, CLAIM, "--no-such", errors="--no-such: ")
     agree("--version", program.expect(ACCEPTED, None, "--version").split()[0], b"pechuvo")
-    for word, shown in (("explain", "explain"), ("--json", "--json"), ("-h", "-h"), ("", "''")):
+    for words in (["-h"], ["help"], ["help", "check"], ["check", "-h"], ["book", "-h"]):
+        program.expect(ACCEPTED, help_text, *words)
+    program.expect(FAILED, b"", "check", "--", MESH, "-h", errors="-h: No such file")
+    for word, shown in (("explain", "explain"), ("--json", "--json"), ("-help", "-help"), ("", "''")):
         program.expect(FAILED, b"", word, errors=f"pechuvo: {shown}: no such command")
     program.expect(FAILED, b"", "check", MESH, errors="check: a mesh and at least one claim")
     program.expect(FAILED, b"", "run", MESH, errors="run: a mesh and one file of claims")
@@ -58,8 +76,10 @@ def options(program):
     one = ["check", MESH, CLAIM]
     for count in ("x", "", "+3", "03", "3.0", " 3", "9223372036854775808"):
         program.expect(FAILED, b"", *one, "--decimals", count, errors="--decimals asks for a whole number")
-    for count in ("8", "-1", "9223372036854775807"):
-        program.expect(FAILED, b"", *one, "--decimals", count, errors="--decimals: number of decimals other than")
+    for count in ("8", "-1", "9223372036854775807", "-9223372036854775808"):
+        for words in (one, [*one, CLAIM, ABOVE]):
+            said_once(program, FAILED, b"", "--decimals: number of decimals other than 0 to 7",
+                      *words, "--decimals", count)
     program.expect(FAILED, b"", *one, "--decimals", errors="--decimals: its value is missing")
     program.expect(FAILED, b"", *one, "--decimals", "3", "--decimals=3", errors="--decimals=3: given twice")
     program.expect(FAILED, b"", *one, "--table", TABLE, "--table", TABLE, errors="--table: given twice")
@@ -116,6 +136,46 @@ def files(program, folder):
     program.expect(FAILED, WORKED + b" " + CLAIM.encode() + b"\n" + IS_ABOVE + b" " + ABOVE.encode() + b"\n",
                    "check", MESH, CLAIM, absent, ABOVE,
                    errors=[f"{absent}: No such file", f"{ABOVE}: refused with 22, row 1"])
+
+
+def says(program, folder):
+    """What is said of a refusal: once for all claims where it is the mesh's, no more than the line can have wrong, and
+    a hint where a table is missing or stands where a claim should."""
+    limit, slope = "mesh number outside its limits", os.path.join(SHEETS, "table_slope")
+    counts = limit + ": the count of nodes, elements, soils, edges, sides or jumps; with 108 sides at most 40 nodes"
+    of_108 = os.path.join(SHEETS, "footing_108.mesh")
+    for place, column, number, source, words in (
+            (1, 5, 13, MESH, counts), (1, 1, 41, of_108, counts), (2, 9, 2, MESH, limit), (3, 1, 1001, MESH, limit),
+            (2, 9, 1, of_108, limit + "; or a soil of kind 1 on a mesh with 108 sides"), (4, 2, -1, of_108, limit)):
+        mesh = changed(folder, place, column, number, source)
+        for claims in ([CLAIM], [CLAIM, ABOVE, CLAIM]):
+            said_once(program, REFUSED, None, f"{mesh}: refused with 2, line {place}: {words}",
+                      "check", mesh, *claims)
+            told = program.expect(REFUSED, None, "check", mesh, *claims, "--json").splitlines()
+            agree(f"{place} as JSON", [json.loads(each)["says"] for each in told], [words] * len(claims))
+        said_once(program, REFUSED, None, f"{mesh}: refused with 2, line {place}: {words}", "sizes", mesh)
+    table = changed(folder, 1, 2, 2001, TABLE)
+    said_once(program, REFUSED, None, f"{table}: refused with 2, line 1001: table number outside its limits",
+              "check", MESH, CLAIM, CLAIM, "--table", table)
+    mesh, claim, table = (slope + end for end in (".mesh", ".claim", ".table"))
+    missing = f"{mesh}: refused with 4, line 21: names a node or soil that isn't there"
+    book = os.path.join(folder, "hint.book")
+    program.expect(ACCEPTED, None, "book", book, "new")
+    for given in (["check", mesh, claim], ["check", mesh, claim, table],
+                  ["check", mesh, claim, "--table", "/dev/null"], ["sizes", mesh],
+                  ["book", book, "ask", mesh, claim, claim]):
+        said_once(program, REFUSED, None, f"{missing}; soil 0 needs --table", *given)
+    program.expect(REFUSED, None, "run", mesh, claim, errors=f"{missing}; soil 0 needs --table\n")
+    told = json.loads(program.expect(REFUSED, None, "book", book, "ask", mesh, claim, "--json"))
+    agree("a book as JSON", told["claims"][0]["says"], missing.split(": ")[-1] + "; soil 0 needs --table")
+    # Another soil or node that isn't there, and soil 0 with a table, have no hint.
+    for column, number, with_table in ((5, 4, []), (1, 99, ["--table", table])):
+        other = changed(folder, 21, column, number, mesh)
+        said_once(program, REFUSED, None, missing.replace(mesh, other), "check", other, claim, *with_table)
+    hint = f"{table}: this looks like a table, and --table takes one"
+    program.expect(REFUSED, None, "check", MESH, CLAIM, table, errors=[f"{table}: refused with 11, line 1", hint])
+    for other in (MESH, write(folder, "empty", b"")):
+        said_once(program, REFUSED, None, f"{other}: refused with 11, line 1: claim form", "check", MESH, other)
 
 
 def lengths(program, folder):
@@ -193,6 +253,7 @@ def main():
     options(program)
     names(program, folder)
     files(program, folder)
+    says(program, folder)
     lengths(program, folder)
     runs(program, folder)
     streams(program, folder)
