@@ -6,7 +6,8 @@
      target/check sheets/worked.mesh sheets/worked.claim
      target/check sheets/table_slope.mesh sheets/table_slope.claim sheets/table_slope.table
 
-   The status is 0 where the claim is accepted, 1 where it is refused, 2 where a file is missing. */
+   The status is 0 where the claim is accepted, 1 where it is refused, 2 where a file can't be read or the output not
+   be written. */
 #include <stdio.h>
 
 #include "pechuvo.h"
@@ -17,6 +18,7 @@
 /* 0 to 7. */
 #define DECIMALS 6
 
+/* The length of a file, above MOST where it can't be read. That may show in reading alone: a folder can be opened. */
 static size_t read_file(const char *name, uint8_t *bytes) {
   FILE *file = fopen(name, "rb");
   if (file == NULL) {
@@ -24,6 +26,10 @@ static size_t read_file(const char *name, uint8_t *bytes) {
     return MOST + 1;
   }
   size_t length = fread(bytes, 1, MOST, file);
+  if (ferror(file) != 0) {
+    perror(name);
+    length = MOST + 1;
+  }
   fclose(file);
   return length;
 }
@@ -44,5 +50,10 @@ int main(int count, char **words) {
   struct pechuvo_answer answer = pechuvo_check(mesh, mesh_length, table, table_length, claim, claim_length,
                                                DECIMALS, report, sizeof report);
   fwrite(report, 1, sizeof report, stdout);
+  /* What was printed may still be kept back, so whether it could be written shows at its end. */
+  if (ferror(stdout) != 0 || fclose(stdout) != 0) {
+    perror("standard output");
+    return 2;
+  }
   return answer.number != 0;
 }
