@@ -5,8 +5,10 @@ library libpechuvo and tells what comes back; it judges nothing itself.
 
     import pechuvo
     answer = pechuvo.check(mesh, claim)     # the bytes of the two files
-    print(answer)                           # accepted, or refused: 22, row 1
+    print(answer)                           # accepted, or refused: 22, row 1: strength fails (..)
     print(answer.report.split())            # the four columns of the report line
+
+docs/FILES.md of the repository has the columns of the files, and which row, column or line is whose.
 
 A refused mesh, table, claim, book or trial is an answer, never an exception. Exceptions are for wrong use:
 TypeError for an argument of another type, OverflowError for a number beyond 64 bits, OSError where the library is
@@ -22,6 +24,7 @@ repository that this file stands in; what the system's loader finds.
 
 import array
 import ctypes
+import enum
 import mmap
 import operator
 import os
@@ -32,12 +35,37 @@ from pathlib import Path
 from typing import Any, Dict, Iterable, List, Optional, Tuple, Union
 
 __all__ = [
-    "Answer", "Book", "BookAnswer", "Loads", "NextStrength", "REPORT", "Run", "Sizes", "Verdict",
-    "check", "check_numbers", "check_run", "load", "mesh_sizes", "next_strength",
+    "Answer", "Book", "BookAnswer", "Loads", "NextStrength", "Number", "Run", "Sizes", "Verdict", "MOST_CLAIM_BYTES",
+    "MOST_CLAIM_NUMBERS", "MOST_COMMITS", "MOST_DECIMALS", "MOST_EDGES", "MOST_ELEMENTS", "MOST_JUMPS", "MOST_LAYERS",
+    "MOST_MESH_BYTES", "MOST_MESH_NUMBERS", "MOST_NODES", "MOST_NODES_WITH_108", "MOST_PAIRS", "MOST_PAIRS_WITH_108",
+    "MOST_SIDES", "MOST_SOILS", "MOST_TABLE_BYTES", "MOST_TABLE_NUMBERS", "REPORT", "TABLE_LINE", "USUAL_DECIMALS",
+    "WORDS", "check", "check_numbers", "check_run", "load", "mesh_sizes", "next_strength",
 ]
 
 REPORT = 113
 """The bytes of a report line."""
+
+# The limits of include/pechuvo.h, which says more of each.
+MOST_DECIMALS = 7
+USUAL_DECIMALS = 6
+MOST_NODES = 100
+MOST_ELEMENTS = 100
+MOST_SOILS = 16
+MOST_EDGES = 60
+MOST_JUMPS = 60
+MOST_PAIRS = 100
+MOST_LAYERS = 32
+MOST_SIDES = 108
+MOST_NODES_WITH_108 = 40
+MOST_PAIRS_WITH_108 = 40
+TABLE_LINE = 1001
+MOST_MESH_NUMBERS = 1526
+MOST_TABLE_NUMBERS = 96
+MOST_CLAIM_NUMBERS = 5124
+MOST_MESH_BYTES = 18649
+MOST_TABLE_BYTES = 1184
+MOST_CLAIM_BYTES = 61789
+MOST_COMMITS = 1000000
 
 File = Union[bytes, bytearray, memoryview, mmap.mmap]
 Numbers = Union[Iterable[int], memoryview]
@@ -46,6 +74,76 @@ _SONAME = "libpechuvo.so.1"
 
 
 # What is told
+
+class Number(enum.IntEnum):
+    """What a number says; WORDS has it in words."""
+
+    ACCEPTED = 0
+    MESH_FORM = 1
+    MESH_LIMIT = 2
+    NO_RIGHT_ANGLE = 3
+    UNKNOWN_NAME = 4
+    NO_LEFT_TURN = 5
+    SIDE_TWICE = 6
+    NODE_UNUSED = 7
+    WRONG_EDGE = 8
+    CLAIM_FORM = 11
+    CLAIM_LIMIT = 12
+    WRONG_PARTS = 13
+    EQUALITY_FAILS = 21
+    STRENGTH_FAILS = 22
+    UNFIXED_MULTIPLIER = 31
+    COLUMN_SUM = 32
+    LOAD_SUM = 33
+    SHORT_BUFFER = 41
+    TOO_MANY_PAIRS = 42
+    WRONG_DECIMALS = 43
+    WRONG_JUMP = 44
+    LAYER_MISSING = 45
+    WRONG_LAYER = 46
+    ELEMENTS_OVERLAP = 47
+    BOOK_TAKES_NONE = 48
+    NO_NEXT_STRENGTH = 49
+
+
+WORDS: Dict[int, str] = {
+    Number.ACCEPTED: "accepted: each part that the claim has passes its checks",
+    Number.MESH_FORM: "mesh or table form: length, character, spelling, bytes missing or left over",
+    Number.MESH_LIMIT: "mesh or table number outside its limits; a soil of kind 1 on a mesh with 108 sides",
+    Number.NO_RIGHT_ANGLE: "p^2 + q^2 is not h^2",
+    Number.UNKNOWN_NAME: "names a node or soil that isn't there",
+    Number.NO_LEFT_TURN: "not a left turn at all corners: four, or three of a triangle",
+    Number.SIDE_TWICE: "a directed side that a lower element has",
+    Number.NODE_UNUSED: "in no element",
+    Number.WRONG_EDGE: "edge is no element's side, or its reverse is one, or an earlier edge has it",
+    Number.CLAIM_FORM: "claim form",
+    Number.CLAIM_LIMIT: "claim number outside its limits",
+    Number.WRONG_PARTS: "both parts absent; field with n = 0; no field and n or l not 0",
+    Number.EQUALITY_FAILS: "equality fails (balance, side and jump rows, counted together from 1)",
+    Number.STRENGTH_FAILS: "strength fails (strength rows, counted from 1, by pairs)",
+    Number.UNFIXED_MULTIPLIER: "nonzero multiplier on an unfixed row",
+    Number.COLUMN_SUM: "column sum not 0",
+    Number.LOAD_SUM: "m is 0 or less",
+    Number.SHORT_BUFFER: "report buffer under 113 bytes",
+    Number.TOO_MANY_PAIRS:
+        "brings the 101st pair of a node and a soil of the elements around it, or the 41st on a mesh with "
+        "108 sides",
+    Number.WRONG_DECIMALS: "number of decimals other than 0 to 7",
+    Number.WRONG_JUMP:
+        "jump: its two sides are not outer sides that face each other, or one is used by an edge or an "
+        "earlier jump",
+    Number.LAYER_MISSING: "table: the lowest height of the mesh in no layer, in quarters of a unit",
+    Number.WRONG_LAYER:
+        "table: the first whose top isn't above its bottom; if there is none, the first that shares a height "
+        "of the mesh with an earlier one",
+    Number.ELEMENTS_OVERLAP: "shares a point inside both with a lower element; touching is fine",
+    Number.BOOK_TAKES_NONE:
+        "the book takes no such call: the named count differs, the count is 1,000,000 or more, or a bound "
+        "has a denominator not above 0",
+    Number.NO_NEXT_STRENGTH:
+        "no next strength: an input isn't finite and above 0, l1 = l2, or the result isn't finite and above 0",
+}
+"""What each number says, in words."""
 
 _KINDS = {
     "line": (1, 2, 3, 4, 8, 11, 12, 13, 44, 46),
@@ -74,10 +172,16 @@ class Verdict:
         """What the place is: a line, element, node, row, column or height (in quarters of a unit), or None."""
         return _KIND_OF.get(self.number)
 
+    @property
+    def words(self) -> str:
+        """What the number says."""
+        return WORDS.get(self.number, "a number that this file does not know")
+
     def __str__(self) -> str:
         if self.accepted:
             return "accepted"
-        return f"refused: {self.number}" + (f", {self.kind} {self.place}" if self.kind else "")
+        place = f", {self.kind} {self.place}" if self.kind else ""
+        return f"refused: {self.number}{place}: {self.words}"
 
 
 @dataclass(frozen=True)

@@ -361,40 +361,56 @@ def mapped(file):
         return mmap.mmap(disk.fileno(), 0, access=mmap.ACCESS_READ)
 
 
+def said(verdict):
+    """A verdict in words, without those of its number."""
+    text, words = str(verdict), f": {verdict.words}"
+    assert text == "accepted" or text.endswith(words), text
+    return text[:-len(words)] if text.endswith(words) else text
+
+
 class Edges(unittest.TestCase):
     def test_empty_inputs(self):
         mesh, claim, _ = sheet("worked")
-        self.assertEqual(str(pechuvo.check(b"", b"")), "refused: 1, line 1")
-        self.assertEqual(str(pechuvo.check(b"", claim, bytearray())), "refused: 1, line 1")
-        self.assertEqual(str(pechuvo.check(mesh, memoryview(b""))), "refused: 11, line 1")
+        self.assertEqual(said(pechuvo.check(b"", b"")), "refused: 1, line 1")
+        self.assertEqual(said(pechuvo.check(b"", claim, bytearray())), "refused: 1, line 1")
+        self.assertEqual(said(pechuvo.check(mesh, memoryview(b""))), "refused: 11, line 1")
         self.assertEqual(pechuvo.check_run(mesh, b""), pechuvo.Run((), 0))
         self.assertEqual(pechuvo.check_run(mesh, claim, most=0), pechuvo.Run((), 0))
-        self.assertEqual([str(answer) for answer in pechuvo.check_run(b"", b"").answers], ["refused: 1, line 1"])
-        self.assertEqual(str(pechuvo.check_numbers([], [])), "refused: 1, line 1")
-        self.assertEqual(str(pechuvo.mesh_sizes(b"")), "refused: 1, line 1")
-        self.assertEqual(str(pechuvo.Book().ask(mesh, b"")), "refused: 11, line 1")
-        self.assertEqual(str(pechuvo.check(mesh, claim)), "accepted")
+        self.assertEqual([said(answer) for answer in pechuvo.check_run(b"", b"").answers], ["refused: 1, line 1"])
+        self.assertEqual(said(pechuvo.check_numbers([], [])), "refused: 1, line 1")
+        self.assertEqual(said(pechuvo.mesh_sizes(b"")), "refused: 1, line 1")
+        self.assertEqual(said(pechuvo.Book().ask(mesh, b"")), "refused: 11, line 1")
+        self.assertEqual(said(pechuvo.check(mesh, claim)), "accepted")
 
     def test_other_decimals(self):
         for decimals in (-1, 8, 2**32 + 6, -(2**63), 2**63 - 1):
             answer = pechuvo.check(*sheet("worked"), decimals=decimals)
             self.assertEqual((answer.number, answer.place, answer.kind, answer.report), (43, 0, None, None))
-            self.assertEqual(str(answer), "refused: 43")
+            self.assertEqual(said(answer), "refused: 43")
 
     def test_hostile_sizes(self):
         mesh, claim, table = sheet("table_worked")
         long = bytes(1 << 26)
         numbers = lent(bytes(1 << 23))
-        self.assertEqual(str(pechuvo.check(long, long, long)), "refused: 1, line 1")
-        self.assertEqual(str(pechuvo.check(mesh + long, claim, table)),
+        self.assertEqual(said(pechuvo.check(long, long, long)), "refused: 1, line 1")
+        self.assertEqual(said(pechuvo.check(mesh + long, claim, table)),
                          f"refused: 1, line {mesh.count(10) + 1}")
-        self.assertEqual(str(pechuvo.check(mesh, claim + long, table)), f"refused: 11, line {claim.count(10) + 1}")
+        self.assertEqual(said(pechuvo.check(mesh, claim + long, table)), f"refused: 11, line {claim.count(10) + 1}")
         self.assertEqual(pechuvo.check(mesh, claim, long).number, 1)
         self.assertEqual([answer.number for answer in pechuvo.check_run(mesh, long, table).answers], [11])
         self.assertEqual([answer.number for answer in pechuvo.check_run(long, long).answers], [1])
         self.assertEqual(pechuvo.check_numbers(numbers, numbers, numbers).number, 2)
         for number in (-(2**63), 2**63 - 1):
-            self.assertEqual(str(pechuvo.check_numbers([number] * 1000, [number] * 1000)), "refused: 2, line 1")
+            self.assertEqual(said(pechuvo.check_numbers([number] * 1000, [number] * 1000)), "refused: 2, line 1")
+
+    def test_numbers_and_limits(self):
+        mesh, claim, table = sheet("worked_above")
+        answer = pechuvo.check(mesh, claim, table)
+        self.assertEqual(answer.number, pechuvo.Number.STRENGTH_FAILS)
+        self.assertEqual(str(answer), "refused: 22, row 1: strength fails (strength rows, counted from 1, by pairs)")
+        self.assertEqual(pechuvo.Verdict(9, 1).words, "a number that this file does not know")
+        self.assertIsNotNone(pechuvo.check(mesh, claim, table, decimals=pechuvo.MOST_DECIMALS).report)
+        self.assertIsNone(pechuvo.check(mesh, claim, table, decimals=pechuvo.MOST_DECIMALS + 1).report)
 
     def test_refused_strengths(self):
         infinity = float("inf")
@@ -498,6 +514,7 @@ class Library(unittest.TestCase):
     """Where the library is looked for: each time a copy of pechuvo.py in a folder of its own."""
 
     PROGRAM = "import pechuvo, sys; pechuvo.load(*sys.argv[1:]); print(pechuvo.check(b'', b''))"
+    REFUSED = f"refused: 1, line 1: {pechuvo.WORDS[1]}"
 
     def setUp(self):
         folder = tempfile.TemporaryDirectory()
@@ -526,19 +543,19 @@ class Library(unittest.TestCase):
         return folder
 
     def test_a_path(self):
-        self.assertEqual(self.told(self.library, PECHUVO_LIBRARY="/missing"), "refused: 1, line 1")
+        self.assertEqual(self.told(self.library, PECHUVO_LIBRARY="/missing"), self.REFUSED)
 
     def test_the_environment(self):
         self.lend("target", "shared")
-        self.assertEqual(self.told(PECHUVO_LIBRARY=self.library), "refused: 1, line 1")
+        self.assertEqual(self.told(PECHUVO_LIBRARY=self.library), self.REFUSED)
         self.assertIn("/missing", self.told(PECHUVO_LIBRARY="/missing"))
 
     def test_beside_the_repository(self):
         self.lend("target", "shared")
-        self.assertEqual(self.told(), "refused: 1, line 1")
+        self.assertEqual(self.told(), self.REFUSED)
 
     def test_the_systems_loader(self):
-        self.assertEqual(self.told(LD_LIBRARY_PATH=str(self.lend("elsewhere"))), "refused: 1, line 1")
+        self.assertEqual(self.told(LD_LIBRARY_PATH=str(self.lend("elsewhere"))), self.REFUSED)
 
     def test_none_and_another(self):
         wrong = self.told()

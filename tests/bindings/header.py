@@ -1,9 +1,11 @@
 #!/usr/bin/env python3
-"""Holds the structs and calls of both bindings to include/pechuvo.h.
+"""Holds the structs, calls, numbers, words and limits of both bindings to include/pechuvo.h.
 
 header.py program         a C program that prints the layout of every struct in the header
-header.py compare LAYOUT  compares what that program printed with the structs of pechuvo.py, and the calls of the
-                          header with those of pechuvo.py and ffi.rs (whose structs the crate's own test compares)
+header.py compare LAYOUT  compares what that program printed with the structs of pechuvo.py, the calls of the header
+                          with those of pechuvo.py and ffi.rs (whose structs the crate's own test compares), and its
+                          numbers, their words and kinds of place and its limits with those of pechuvo.py, number.rs
+                          and limits.rs
 
 In a layout a struct has a line with its name and size, then one for each field: name, offset and type.
 """
@@ -14,9 +16,11 @@ import sys
 from pathlib import Path
 
 ROOT = Path(__file__).resolve().parents[2]
-sys.path.insert(0, str(ROOT / "bindings" / "python"))
+RUST = ROOT / "bindings" / "rust" / "src"
+sys.path[:0] = [str(ROOT / "bindings" / "python"), str(ROOT / "tests" / "command")]
 
 import pechuvo
+import words
 
 # A type in C, what a layout calls it, what ctypes and Rust call it.
 NUMBERS = [
@@ -100,13 +104,62 @@ def rust_calls():
 
 
 def declared_in_rust():
-    text = (ROOT / "bindings" / "rust" / "src" / "ffi.rs").read_text(encoding="ascii")
+    text = (RUST / "ffi.rs").read_text(encoding="ascii")
     found = re.findall(r"fn (pechuvo_\w+)\(([^)]*)\) -> (\w+);", text)
     return {name: (result, re.findall(r": ([^,\n]+)", taken)) for name, taken, result in found}
 
 
+def numbers():
+    """The names of the header's enum with their numbers."""
+    body = re.search(r"enum pechuvo_number \{(.*?)\};", declarations(), flags=re.DOTALL)[1]
+    return {name: int(number) for name, number in re.findall(r"PECHUVO_(\w+) = (\d+)", body)}
+
+
+def limits():
+    """The header's constants but for the version."""
+    text = (ROOT / "include" / "pechuvo.h").read_text(encoding="ascii")
+    found = re.findall(r"^#define PECHUVO_(\w+) (\d+)$", text, flags=re.MULTILINE)
+    return {name: int(number) for name, number in found if not name.startswith("VERSION")}
+
+
+def in_rust():
+    """The enum of number.rs, in the header's spelling, and its words by number."""
+    text = re.sub(r"\\\n\s*", "", (RUST / "number.rs").read_text(encoding="ascii"))
+    found = re.findall(r'^    (\w+) = (\d+),\s+"(.*)";$', text, flags=re.MULTILINE)
+    named = {re.sub(r"(?<!^)([A-Z])", r"_\1", name).upper(): int(number) for name, number, _ in found}
+    return named, {int(number): said for _, number, said in found}
+
+
+def limits_in_rust():
+    text = (RUST / "limits.rs").read_text(encoding="ascii")
+    found = re.findall(r"^pub const (\w+): \w+ = ([\d_]+);$", text, flags=re.MULTILINE)
+    return {name: int(number) for name, number in found}
+
+
+def compare_numbers():
+    """What differs in the numbers, their words and the limits."""
+    rust, said_in_rust = in_rust()
+    if {number.name: number.value for number in pechuvo.Number} != numbers() or rust != numbers():
+        yield "the numbers of pechuvo.py or number.rs and the header"
+    if pechuvo.WORDS != said_in_rust:
+        yield "the words of pechuvo.py and number.rs"
+    table = {number: (kind, said) for number, kind, said in words.header_table()}
+    if sorted(table) != sorted(pechuvo.WORDS):
+        yield "the numbers that have words and those of the header's table"
+    for number, (kind, said) in table.items():
+        if not pechuvo.WORDS.get(number, "").startswith(words.shared(said)):
+            yield f"the words of {number} and the header's"
+        if (pechuvo.Verdict(number, 0).kind or "none") != kind:
+            yield f"the kind of place of {number} in pechuvo.py and the header"
+    if {name: getattr(pechuvo, name, None) for name in limits()} != limits():
+        yield "the limits of pechuvo.py and the header"
+    # The bytes of a report are Report::BYTES there.
+    if limits_in_rust() != {name: number for name, number in limits().items() if name != "REPORT"}:
+        yield "the limits of limits.rs and the header"
+
+
 def compare(layout):
-    differ = []
+    differ = list(compare_numbers())
     if layout != list(python_layout()):
         differ.append("the structs of pechuvo.py and the header")
     if names_of_calls() != {name for name, _, _ in calls()}:
@@ -117,7 +170,8 @@ def compare(layout):
         differ.append("the calls of ffi.rs and the header")
     for what in differ:
         print(f"DIFFER: {what}")
-    print(f"{len(list(structs()))} structs and {len(list(calls()))} calls of the header")
+    print(f"{len(list(structs()))} structs, {len(list(calls()))} calls, {len(numbers())} numbers and {len(limits())} "
+          "limits of the header")
     return 1 if differ else 0
 
 

@@ -27,6 +27,11 @@ def header_table():
     return rows
 
 
+def shared(said):
+    """The header's words of a number without what they say of a call's own numbers: which call."""
+    return said.split("; pechuvo_")[0].split("; the two calls")[0]
+
+
 def told_table(path):
     with open(path, encoding="utf-8") as file:
         rows = [line.split("\t") for line in file.read().splitlines()]
@@ -41,13 +46,13 @@ def main():
         manual = " ".join(file.read().split())
     for number, (kind, words) in header.items():
         agree(f"{number}: kind of place", told[number][0], kind)
-        # Of a call's own numbers the header also says which call; the command says more of a book's.
-        start = words.split("; pechuvo_")[0].split("; the two calls")[0]
-        if not told[number][1].startswith(start):
-            fail(f"{number}: {told[number][1]!r}, not {start!r}")
+        # The command says more of a book's.
+        if not told[number][1].startswith(shared(words)):
+            fail(f"{number}: {told[number][1]!r}, not {shared(words)!r}")
         if number not in UNSEEN and told[number][1] not in manual:
             fail(f"{number}: not in the manual page")
     print(f"{len(header)} numbers, each with the header's words")
 
 
-main()
+if __name__ == "__main__":
+    main()

@@ -21,10 +21,13 @@
 mod book;
 #[allow(unsafe_code)]
 mod ffi;
+pub mod limits;
+mod number;
 mod refusal;
 mod report;
 
 pub use book::Book;
+pub use number::Number;
 pub use refusal::{Kind, Refusal};
 pub use report::{Answer, Report, Run};
 

@@ -1,5 +1,6 @@
 //! What a refusal says.
 
+use crate::Number;
 use std::error::Error;
 use std::fmt;
 
@@ -69,13 +70,20 @@ impl Refusal {
             kind,
         })
     }
+
+    /// What the number says.
+    pub fn words(&self) -> &'static str {
+        Number::of(self.number).map_or("a number that this crate does not know", Number::words)
+    }
 }
 
 impl fmt::Display for Refusal {
     fn fmt(&self, out: &mut fmt::Formatter<'_>) -> fmt::Result {
         write!(out, "refused: {}", self.number)?;
-        self.kind
-            .map_or(Ok(()), |kind| write!(out, ", {kind} {}", self.place))
+        if let Some(kind) = self.kind {
+            write!(out, ", {kind} {}", self.place)?;
+        }
+        write!(out, ": {}", self.words())
     }
 }
 

@@ -2,13 +2,16 @@
 
 use crate::files::Sheet;
 use pechuvo::{
-    check, check_numbers, check_run, mesh_sizes, next_strength, Book, Kind, Mesh, Refusal, Run,
+    check, check_numbers, check_run, limits, mesh_sizes, next_strength, Book, Kind, Mesh, Number,
+    Refusal, Run,
 };
 
+/// An answer without the words that go with its number.
 fn refusal(answer: Result<impl Sized, Refusal>) -> String {
-    answer
-        .err()
-        .map_or("accepted".to_string(), |refusal| refusal.to_string())
+    answer.err().map_or("accepted".to_string(), |refusal| {
+        let (told, words) = (refusal.to_string(), format!(": {}", refusal.words()));
+        told.strip_suffix(&words).expect("words").to_string()
+    })
 }
 
 #[test]
@@ -121,6 +124,22 @@ fn a_refusal_is_an_error() {
     }
     assert_eq!(
         fails().expect_err("refused").to_string(),
-        "refused: 1, line 1"
+        "refused: 1, line 1: mesh or table form: length, character, spelling, bytes missing or left over"
     );
+}
+
+#[test]
+fn numbers_and_limits() {
+    assert_eq!(Number::of(22), Some(Number::StrengthFails));
+    assert_eq!(Number::StrengthFails as u32, 22);
+    assert_eq!(Number::of(9), None);
+    let sheet = Sheet::named("worked_above");
+    let refused = check(&sheet.on(), &sheet.claim, 6).result();
+    let refused = refused.expect_err("more than is carried");
+    assert_eq!(Number::of(refused.number), Some(Number::StrengthFails));
+    assert_eq!(refused.words(), Number::StrengthFails.words());
+    let most = check(&sheet.on(), &sheet.claim, limits::MOST_DECIMALS);
+    assert!(most.report().is_some());
+    let more = check(&sheet.on(), &sheet.claim, limits::MOST_DECIMALS + 1);
+    assert!(more.report().is_none());
 }
