@@ -57,6 +57,8 @@ $(SHARED): command/exported.map $(ARCHIVE)
 
 install: all
 	@case "$(PREFIX)" in /*) ;; *) echo "PREFIX: $(PREFIX): not a path from the root"; exit 1;; esac
+	@case "$(PREFIX) $(LIBDIR) $(INCLUDEDIR)" in *\ *\ *\ * | *[\|\&\\\#\']*) \
+	  echo "PREFIX: $(PREFIX): a compiler's flags take no such path: a space or one of | & \\ # '"; exit 1;; esac
 	install -d "$(DESTDIR)$(BINDIR)" "$(DESTDIR)$(INCLUDEDIR)" "$(DESTDIR)$(LIBDIR)/pkgconfig" \
 	  "$(DESTDIR)$(MANDIR)/man1" "$(DESTDIR)$(DOCDIR)/pictures"
 	install -m 755 $(COMMAND) "$(DESTDIR)$(BINDIR)"
