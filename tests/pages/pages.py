@@ -1,6 +1,6 @@
 """The pages of this repository: pages.py OUT, where OUT is what 'make BUILD=OUT' built. Every path that they name is
-there; every script has its run bit; quick commands, run as they stand but for OUT in place of target, end with the
-status and the words that are said of them."""
+there; every script has its run bit; no table is cut; quick commands, run as they stand but for OUT in place of target,
+end with the status and the words that are said of them."""
 
 import fnmatch
 import os
@@ -96,6 +96,18 @@ def hold_paths(page, text, found):
             fail(f"{page} names {name}, which isn't there")
 
 
+def hold_tables(found):
+    """In every page, a table goes on from its head, with no blank line in it: its second line is of dashes."""
+    for page in found:
+        if page.endswith(".md"):
+            with open(page, encoding="utf-8") as file:
+                blocks = re.split(r"\n{2,}", re.sub(r"^```.*?^```", "", file.read(), flags=re.DOTALL | re.MULTILINE))
+            for block in blocks:
+                rows = [line for line in block.split("\n") if line.startswith("|")]
+                if rows and not (len(rows) > 1 and re.fullmatch(r"[|:\- ]+", rows[1])):
+                    fail(f"{page}: a table without its head: {rows[0]}")
+
+
 def hold_run_bits(found):
     """The files that begin as scripts do are those that can be run."""
     for path in found:
@@ -126,6 +138,7 @@ def hold_command(page, command, found, out):
 def main():
     out, found, ran = sys.argv[1], repository(), 0
     hold_run_bits(found)
+    hold_tables(found)
     for page in PAGES:
         with open(page, encoding="utf-8") as file:
             text = file.read()
