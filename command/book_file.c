@@ -184,6 +184,7 @@ static bool keep_mode(FILE *stream, const char *old_name) {
   return stat(old_name, &old) == 0 && fchmod(fileno(stream), old.st_mode & 07777) == 0;
 }
 
+/* The new file has the book and then its name, or it is gone. */
 static bool write_new_file(const struct rewriting *next, const struct kept_book *kept) {
   FILE *stream = make_file(next->new_name);
   if (stream == NULL) {
@@ -192,18 +193,17 @@ static bool write_new_file(const struct rewriting *next, const struct kept_book 
   bool good = (is_kept(stream, kept) && keep_mode(stream, next->name)) || fails(next->new_name);
   /* What was to be written is on the disk, so closing can lose nothing. */
   fclose(stream);
+  good = good && (rename(next->new_name, next->name) == 0 || fails(next->name));
+  if (!good) {
+    unlink(next->new_name);
+  }
   return good;
 }
 
 bool end_rewriting(struct rewriting *next, const struct kept_book *kept) {
-  bool good = clear_new_file(next->new_name);
+  bool good = clear_new_file(next->new_name) && write_new_file(next, kept);
   if (good) {
-    good = write_new_file(next, kept) && (rename(next->new_name, next->name) == 0 || fails(next->name));
-    if (good) {
-      keep_name(next->name);
-    } else {
-      unlink(next->new_name);
-    }
+    keep_name(next->name);
   }
   give_up_rewriting(next);
   return good;
