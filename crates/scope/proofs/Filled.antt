@@ -355,7 +355,7 @@ module _ (f : ℕ → ℤ) (m : List ℤ) (k : MeshFacts (given f m)) where
       let r = (k.node v (omega (arith, nodes_kept f m))).y_range in
       omega (arith, (count_range (y (given f m) v) r.least r.most).1, ap count (y_kept f m v l))
 
-  heights : NodeHeights m (lowest m) (highest m)
+  pub heights : NodeHeights m (lowest m) (highest m)
   heights = heights_of m (omega (arith, k.counts.nodes_least, nodes_kept f m)) node_most
 
   -- the lowest node and the highest stand where they stood

@@ -99,20 +99,24 @@ module _ (t m : List ℤ) where
         omega arith in subst (InLayer t) e (lower (r - 4 * lowest m) (omega arith));
   }
 
-  layer_rows : EachIn (LayerRow t m) (layer_phases t m)
+  -- the rows between this mesh's lowest node and its highest
+  abbrev pub Row : ℕ → Place → Type 0
+  Row = LayerRow t (lowest m) (highest m)
+
+  pub layer_rows : EachIn Row (layer_phases t m)
   layer_rows = (
-    λ i c h l r. row (LayerRow t m) r (λ x. forty_six i (lowest_fails h l x)),
+    λ i c h l r. row Row r (λ x. forty_six i (lowest_fails h l x)),
     λ tops. (
-      λ i c h l r. row (LayerRow t m) r (λ x. forty_six_else i (alone tops) (lowest_fails h l x)),
+      λ i c h l r. row Row r (λ x. forty_six_else i (alone tops) (lowest_fails h l x)),
       λ parts. (
-        λ k c h l r. row (LayerRow t m) r
+        λ k c h l r. row Row r
             (λ x. forty_five (4 * lowest m + k) (alone tops) (alone parts) (gap_at k h (alone l) x)),
         λ gaps. tt,
       ),
     ),
   )
 
-  row_layers : {k : ℕ} {p : Place} → LayerRow t m k p → RefusedBy (layer_phases t m) k p
+  pub row_layers : {k : ℕ} {p : Place} → Row k p → RefusedBy (layer_phases t m) k p
   row_layers (forty_six i h) =
       inl (record { here = i; there = h.there; lower = held h.lower; fails = inl (h.fails, refl); called = refl })
   row_layers (forty_six_else i tops h) =
@@ -138,9 +142,9 @@ module _ (t m : List ℤ) where
       )
 
   -- refused with a number and a place exactly when the table of refusals has a row with them
-  pub layers_refused : (k : ℕ) (p : Place) → (check_phases (layer_phases t m) ≡ Refused k p) ↔ LayerRow t m k p
+  pub layers_refused : (k : ℕ) (p : Place) → (check_phases (layer_phases t m) ≡ Refused k p) ↔ Row k p
   layers_refused k p = (
-    λ e. each_refusal (LayerRow t m) (layer_phases t m) layer_rows (layers_exact.refuses.why k p e),
+    λ e. each_refusal Row (layer_phases t m) layer_rows (layers_exact.refuses.why k p e),
     λ r. layers_exact.refuses.refused k p (row_layers r),
   )
 

@@ -55,6 +55,8 @@ pub mod SoilAllowed
 pub mod GivenLines
 pub mod Table
 pub mod TableVerdict
+pub mod TableLines
+pub mod TabledRows
 pub mod TableApplied
 pub mod Applied
 pub mod AppliedBeds

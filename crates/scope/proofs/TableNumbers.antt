@@ -27,6 +27,7 @@ use Rattle.scope.specs.Refusals.{rule_number, rule_steps, line_steps, lines_phas
 use Rattle.scope.specs.Refusals.{shape_phases, mesh_phases, field_phases, multiplier_phases, field_part}
 use Rattle.scope.specs.Refusals.{multiplier_part, part_phases, claim_phases, LineRefusal, SoundTo, CountFails}
 use Rattle.scope.specs.Refusals.{LimitFails, RuleFails, MeshLineNumbers, ClaimLineNumbers, table_numbers, InTable}
+use Rattle.scope.specs.Refusals.{Refusal}
 use Rattle.scope.proofs.Decides.{either, equal}
 use Rattle.scope.proofs.Lines.{line_after}
 use Rattle.scope.proofs.Phases.{EachIn, each_refusal, each_join, each_part, own_number}
@@ -68,7 +69,7 @@ first_failing_lem (e ∷ earlier) r later line h f = inr (h.0, first_failing_lem
 -- ---- the step of a line, by its number
 
 -- what a refusal of line k comes from
-abbrev Cause : Layout → List ℤ → ℕ → ℕ → Type 0
+abbrev pub Cause : Layout → List ℤ → ℕ → ℕ → Type 0
 Cause f ns k c = (CountFails f ns k × (f.form_number ≡ c))
     ⊎ ((LimitFails f ns k × (f.limit_number ≡ c)) ⊎ ((r : Rule) × (RuleFails f ns r k × (rule_number r ≡ c))))
 
@@ -114,10 +115,18 @@ module _ (f : Layout) (ns : List ℤ) where
       of (inr (e, inl x)) = left e (omega (arith, ap place_number x.called)) x.fails
       of (inr (e, inr x)) = absurd x.1
 
+  -- what holds of every refusal of a file's lines, by what it comes from
+  pub each_cause : (Q : ℕ → Place → Type 0) → ((k c : ℕ) → Cause f ns k c → Q c (Line (suc k)))
+      → EachIn Q (line_phases f ns)
+  each_cause Q of = (
+    λ k c h l r. of k c (line_cause k c h (λ j i. line_sound f ns j (l j i)) r),
+    λ e. (λ k c h l r. of (line_count (groups f ns)) c (left e refl r), λ i. tt),
+  )
+
   before_holds : {k : ℕ} → SoundTo f ns k → Below k (HoldsAt (lines_phase f ns))
   before_holds b j h = sound_line f ns j (b j h)
 
-  count_refused : (k : ℕ) → CountFails f ns k → LineRefusal f ns f.form_number (Line (suc k))
+  pub count_refused : (k : ℕ) → CountFails f ns k → LineRefusal f ns f.form_number (Line (suc k))
   count_refused k h = record { by = of h.fails }
     where
       of : ((k < line_count (groups f ns)) × (¬ Complete f ns k))
@@ -138,7 +147,7 @@ module _ (f : Layout) (ns : List ℤ) where
                 }),
           )
 
-  limit_refused : (k : ℕ) → LimitFails f ns k → LineRefusal f ns f.limit_number (Line (suc k))
+  pub limit_refused : (k : ℕ) → LimitFails f ns k → LineRefusal f ns f.limit_number (Line (suc k))
   limit_refused k h = record {
     by = inl (record {
       here = k;
@@ -150,7 +159,7 @@ module _ (f : Layout) (ns : List ℤ) where
     });
   }
 
-  rule_refused : (r : Rule) (k : ℕ) → RuleFails f ns r k → LineRefusal f ns (rule_number r) (Line (suc k))
+  pub rule_refused : (r : Rule) (k : ℕ) → RuleFails f ns r k → LineRefusal f ns (rule_number r) (Line (suc k))
   rule_refused r k h = record {
     by = inl (record {
       here = k;
@@ -379,3 +388,18 @@ in_table m c k p r = each_refusal InTableNumbers (mesh_phases m ++ claim_phases 
           λ k c h l r. own_listed (listed 31 tt) r,
           λ e. (λ k c h l r. own_listed (listed 32 tt) r, λ e. (λ k c h l r. own_listed (listed 33 tt) r, λ i. tt)),
         ))))
+
+-- ---- a number that is not in the list
+
+in_is : (k : ℕ) (ks : List ℕ) → k ∈ ks → T (is_in k ks)
+unfolding is_in
+in_is k (a ∷ rest) (Memᴰ.head e) = (either (equal k a) (record { holds = λ t. t; passes = λ t. t })).passes (inl e)
+in_is k (a ∷ rest) (Memᴰ.tail h) =
+    (either (equal k a) (record { holds = λ t. t; passes = λ t. t })).passes (inr (in_is k rest h))
+in_is k [] h = elim h [ ]
+
+-- neither 45 nor 46, which are a table's
+pub no_layers : {m c : List ℤ} {k : ℕ} {p : Place} → Refusal m c k p → ¬ ((k ≡ 45) ⊎ (k ≡ 46))
+unfolding is_in
+no_layers {m} {c} {k} {p} r (inl e) = in_is 45 table_numbers (subst (λ i. i ∈ table_numbers) e (in_table m c k p r))
+no_layers {m} {c} {k} {p} r (inr e) = in_is 46 table_numbers (subst (λ i. i ∈ table_numbers) e (in_table m c k p r))

@@ -56,7 +56,7 @@ module _ (t m : List ℤ) where
   pub sound_table : AllPass (table_line_phases t m) → LinesSound (table_layout m) t
   sound_table a = lines_sound (table_layout m) t (a.0, (a.1.0, tt))
 
-  table_sound : LinesSound (table_layout m) t → AllPass (table_line_phases t m)
+  pub table_sound : LinesSound (table_layout m) t → AllPass (table_line_phases t m)
   table_sound s = let a = sound_lines (table_layout m) t s in (a.0, (a.1.0, tt))
 
   of_table : AllPass (line_phases (layout_with true) m ++ (table_line_phases t m ++ layer_phases t m)) → TablePasses t m
@@ -194,6 +194,12 @@ module _ (t m : List ℤ) where
             (verdict_in_two ∙ ap (λ (o : Outcome). answer o (verdict (mesh_read t m) c)) e)
         by (Fails k p) e = early k p (table_exact.refuses.why k p e)
             (verdict_in_two ∙ ap (λ (o : Outcome). answer o (verdict (mesh_read t m) c)) e)
+
+    -- as the order before 5 has it
+    pub early_refused : {k : ℕ} {p : Place} → RefusedBy (table_phases t m) k p → tabled_verdict t m c ≡ Refused k p
+    unfolding answer
+    early_refused {k} {p} r = verdict_in_two ∙ ap (λ (o : Outcome). answer o (verdict (mesh_read t m) c))
+        (table_exact.refuses.refused k p r)
 
     pub fits_late : TableFits t m → tabled_verdict t m c ≡ verdict (mesh_read t m) c
     unfolding answer

@@ -1,14 +1,15 @@
--- What 46 and 45 say, and what a filled mesh is, in plain statements (document 02, N8): each refusal with all before
--- it, each height in exactly one layer, lines in another order, the soil of each element.
+-- What 46 and 45 say, and what a filled mesh is, in plain statements (document 02, N8): the two among themselves (with
+-- all lines before them in `TabledRows`), each height in exactly one layer, lines in another order, the soil of each
+-- element.
 use Rattle.std.specs.Prelude.{◌≡◌, ◌↔◌, ◌⊎◌, List, ℕ, ◌+◌, ◌*◌, ◌≤◌, ◌<◌, ℤ, pos, ◌≤ℤ◌, length}
 use Rattle.scope.specs.declared.Place.{Place}
-use Rattle.scope.specs.declared.Place.TheVariants.{Height}
+use Rattle.scope.specs.declared.Place.TheVariants.{Line, Height}
 use Rattle.scope.specs.Columns.{at}
 use Rattle.scope.specs.Layout.{count, entry}
 use Rattle.scope.specs.Mesh.{element_lines, mesh_groups, nodes, elements, y, corner}
 use Rattle.scope.specs.Statements.{AllSay}
 use Rattle.scope.specs.RefusalTable.{LowestFails, AtAll}
-use Rattle.scope.specs.Layers.{layers, bottom, top, soil, layer_line, lowest, highest, Has, TopAbove, Apart, InLayer}
+use Rattle.scope.specs.Layers.{layers, bottom, top, soil, Has, TopAbove, Apart, InLayer}
 use Rattle.scope.specs.Filled.{height_of, soil_place}
 
 -- ---- the two refusals
@@ -27,13 +28,15 @@ pub record LowestGap (t : List ℤ) (lo hi q : ℕ) : Type 0 where
   pub in_none : ¬ InLayer t q
   pub below : (r : ℕ) → 4 * lo ≤ r → r < q → InLayer t r
 
--- the rows of 46 and 45, as `RefusalTable` has those of the other numbers
-pub data LayerRow (t m : List ℤ) : ℕ → Place → Type 0 where
-  forty_six : (i : ℕ) → LowestFails (layers t) (TopAbove t) i → LayerRow t m 46 (layer_line i)
-  forty_six_else : (i : ℕ) → AtAll (layers t) (TopAbove t)
-      → LowestFails (layers t) (Apart t (lowest m) (highest m)) i → LayerRow t m 46 (layer_line i)
-  forty_five : (q : ℕ) → AtAll (layers t) (TopAbove t) → AtAll (layers t) (Apart t (lowest m) (highest m))
-      → LowestGap t (lowest m) (highest m) q → LayerRow t m 45 (Height q)
+-- the rows of 46 and 45 of a table whose lines have passed, from the lowest node's height to the highest's: "46, with
+-- the first line whose top isn't above its bottom, else the first that shares such a height with an earlier line; then
+-- 45, with the lowest such height in no layer, counted in quarters"
+pub data LayerRow (t : List ℤ) (lo hi : ℕ) : ℕ → Place → Type 0 where
+  forty_six : (i : ℕ) → LowestFails (layers t) (TopAbove t) i → LayerRow t lo hi 46 (Line (1001 + i))
+  forty_six_else : (i : ℕ) → AtAll (layers t) (TopAbove t) → LowestFails (layers t) (Apart t lo hi) i
+      → LayerRow t lo hi 46 (Line (1001 + i))
+  forty_five : (q : ℕ) → AtAll (layers t) (TopAbove t) → AtAll (layers t) (Apart t lo hi) → LowestGap t lo hi q
+      → LayerRow t lo hi 45 (Height q)
 
 -- ---- where both pass
 

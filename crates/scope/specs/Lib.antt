@@ -35,6 +35,7 @@ pub mod Filled
 pub mod LayerRows
 pub mod Table
 pub mod TableVerdict
+pub mod TabledRows
 pub mod PolygonRule
 pub mod RowNumbers
 pub mod Printed

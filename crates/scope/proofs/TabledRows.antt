@@ -1,0 +1,289 @@
+-- Each refusal of a mesh with a table is a row, and each row a refusal: what comes before 5 phase by phase, a table's
+-- lines by their own three numbers, and the rest by the rows of the mesh that is read.
+use mathlib.Core.Path.{◌≡◌, refl, sym, ◌∙◌, ap, subst, subst₂}
+use mathlib.Core.Logic.{◌↔◌, ◌⊎◌, inl, inr, ◌≢◌}
+use mathlib.Core.Bool.{Bool, true, cond}
+use mathlib.Core.List.{List, [], ◌∷◌, ◌++◌}
+use Prim.Native.Nat.{ℕ, suc, ◌+◌, ◌*◌, ◌≤◌, ◌<◌}
+use native.Mathlib.Decide.{dec_lt}
+use native.Mathlib.Omega.{arith}
+use lib.IntN.{ℤ, pos}
+use lib.ListN.{length}
+use Rattle.scope.specs.declared.Place.{Place}
+use Rattle.scope.specs.declared.Place.TheVariants.{Line}
+use Rattle.scope.specs.Cases.Verdict.{Refused}
+use Rattle.scope.specs.Columns.{right_angle, naming, parts, at_most_where}
+use Rattle.scope.specs.Layout.{groups, line_count, number_count}
+use Rattle.scope.specs.Mesh.{layout_with}
+use Rattle.scope.specs.Phases.{RefusedBy}
+use Rattle.scope.specs.Statements.{LinesSound}
+use Rattle.scope.specs.Refusals.{rule_number, line_phases, LineRefusal}
+use Rattle.scope.specs.Layers.{lowest, highest, layer_phases}
+use Rattle.scope.specs.Filled.{filled, with_soils}
+use Rattle.scope.specs.Table.{table_lines, table_layout, table_line_phases, has_table, mesh_read}
+use Rattle.scope.specs.LayerRows.{NodeHeights, LayerRow, TableSound}
+use Rattle.scope.specs.TableVerdict.{tabled_verdict, TabledRefusal, TablePasses, TableFits}
+use Rattle.scope.specs.TabledRows.{LinesPass, LayersRefused, TableLaid, TabledRow, without, mesh_one, mesh_two}
+use Rattle.scope.specs.TabledRows.{mesh_three, mesh_four, mesh_two_with, own_one, own_two, own_four, of_layers}
+use Rattle.scope.specs.TabledRows.{of_filled}
+use Rattle.scope.specs.TabledRows.{MeshLinesPass, Begun, OwnForm, OwnTo, OwnLines}
+use Rattle.scope.specs.RefusalTable.{TableRow}
+use Rattle.scope.proofs.Decides.{Decides, is_yes}
+use Rattle.scope.proofs.Phases.{EachIn, each_refusal, each_join, each_as, each_there, join_refused, refused_there}
+use Rattle.scope.proofs.Refusals.{lines_sound, sound_lines}
+use Rattle.scope.proofs.TableNumbers.{no_layers, Cause, each_cause, count_refused, limit_refused, rule_refused}
+use Rattle.scope.proofs.RefusalTable.{table_row, table_exact}
+use Rattle.scope.proofs.Exactly.{refused_exactly}
+use Rattle.scope.proofs.Layers.{same_heights, layer_rows, row_layers}
+use Rattle.scope.proofs.Filled.{heights}
+use Rattle.scope.proofs.Table.{named_facts}
+use Rattle.scope.proofs.TableVerdict.{table_phases, OfTable, Came, early, late, came, early_number, early_refused}
+use Rattle.scope.proofs.TableVerdict.{fits_late, tabled_refused, sound_table, table_sound}
+use Rattle.scope.proofs.TableLines.{OwnFails, own_count, own_fails, own_line, own_number_count, there, counted}
+use Rattle.scope.proofs.TableLines.{has_begun, of_layout, own_lines, lines_own, line_refused, left_refused}
+
+-- ---- each refusal is a row
+
+-- there is a table
+is_there : (t : List ℤ) → Decides (has_table t) (t ≢ [])
+unfolding has_table
+is_there [] = record { holds = λ x e. x; passes = λ h. h refl }
+is_there (z ∷ t) = record { holds = λ x e. cc; passes = λ h. tt }
+
+filled_there : (t m : List ℤ) → t ≢ [] → mesh_read t m ≡ filled t m
+unfolding mesh_read
+filled_there t m some = ap (λ (b : Bool). cond b (filled t m) m) (is_yes (is_there t) some)
+
+-- what sound lines say of the lowest node and of the highest
+heights_lem : (m : List ℤ) → LinesSound (layout_with true) m → NodeHeights m (lowest m) (highest m)
+unfolding with_soils
+heights_lem m s = heights (λ e. pos 1) m (named_facts m s)
+
+module _ (t m c : List ℤ) where
+  -- a number before 5 is none of a claim's header
+  abbrev Early : ℕ → Place → Type 0
+  Early k p = OfTable k → TabledRow t m c k p
+
+  numbered : {i k : ℕ} {p : Place} → i ≡ k → TabledRow t m c i p → TabledRow t m c k p
+  numbered {p = p} e r = subst (λ (n : ℕ). TabledRow t m c n p) e r
+
+  mesh_row : t ≢ [] → (k n : ℕ) → Cause (layout_with true) m k n → Early n (Line (suc k))
+  unfolding layout_with rule_number
+  mesh_row some k n (inl h) o = numbered h.1 (mesh_one k some h.0)
+  mesh_row some k n (inr (inl h)) o = numbered h.1 (mesh_two k some h.0)
+  mesh_row some k n (inr (inr (right_angle, h))) o = numbered h.1 (mesh_three k some h.0)
+  mesh_row some k n (inr (inr (naming cs, h))) o = numbered h.1 (mesh_four cs k some h.0)
+  mesh_row some k n (inr (inr (parts, h))) o = absurd (none o)
+    where
+      none : OfTable n → ⊥
+      none (z, inl l) = absurd (omega (arith, h.1, l))
+      none (z, inr (inl e)) = absurd (omega (arith, h.1, e))
+      none (z, inr (inr e)) = absurd (omega (arith, h.1, e))
+  mesh_row some k n (inr (inr (at_most_where a b d z, h))) o = numbered h.1 (mesh_two_with a b d z k some h.0)
+
+  own_row : MeshLinesPass t m → (i n : ℕ) → Begun t i → OwnTo t m i → OwnFails t m i n
+      → TabledRow t m c n (Line (1001 + i))
+  own_row s i n b before (inl h) = numbered h.1 (own_one i s before b h.0)
+  own_row s i n b before (inr (f, inl h)) = numbered h.1 (own_two i s before f h.0)
+  own_row s i n b before (inr (f, inr (w, h))) = numbered h.1 (own_four i s before f w h.0)
+
+  placed_at : {n i j : ℕ} → i ≡ j → TabledRow t m c n (Line i) → TabledRow t m c n (Line j)
+  placed_at {n} e r = subst (λ (a : ℕ). TabledRow t m c n (Line a)) e r
+
+  own_rows : MeshLinesPass t m → EachIn (TabledRow t m c) (table_line_phases t m)
+  unfolding table_lines table_layout
+  own_rows s = (
+    λ k n h l r. let b = counted t m h in
+        placed_at {i = 1001 + k} (omega arith)
+        (own_row s k n (has_begun t m k b) (λ j i. own_line t m j (omega arith) (l j (omega arith)))
+        (own_fails t m k b r)),
+    λ e. (λ k n h l r. last n (λ j i. own_line t m j i (e j (there t m i))) r, λ i. tt),
+  )
+    where
+      last : (n : ℕ) → OwnTo t m (table_lines t)
+          → ((¬ (length t ≤ number_count (groups (table_layout m) t))) × (1 ≡ n))
+          ⊎ ((length t ≤ number_count (groups (table_layout m) t)) × ⊥)
+          → TabledRow t m c n (Line (1000 + suc (line_count (groups (table_layout m) t))))
+      last n before (inl h) =
+          let more : 3 * table_lines t < length t = omega (arith, own_number_count t m, h.0) in
+          numbered h.1
+          (placed_at {i = 1001 + table_lines t} (omega (arith, own_count t m))
+          (own_one (table_lines t) s before more (λ f. absurd (omega (arith, more, f.0, f.1)))))
+      last n before (inr h) = absurd h.1
+
+  layers_row : MeshLinesPass t m → OwnLines t m → {k : ℕ} {p : Place} → LayerRow t (lowest m) (highest m) k p
+      → TabledRow t m c k p
+  layers_row s o r = of_layers (record {
+    lowest = lowest m;
+    highest = highest m;
+    before = record { mesh = s; own = o; heights = heights_lem m s.lines };
+    row = r;
+  })
+
+  early_rows : t ≢ [] → EachIn Early (line_phases (layout_with true) m ++ (table_line_phases t m ++ layer_phases t m))
+  early_rows some =
+      each_join Early (line_phases (layout_with true) m) (table_line_phases t m ++ layer_phases t m)
+      (each_cause (layout_with true) m Early (mesh_row some))
+      (λ a. let s : MeshLinesPass t m = record { table = some; lines = lines_sound (layout_with true) m a } in
+      each_join Early (table_line_phases t m) (layer_phases t m)
+      (each_as (TabledRow t m c) Early (table_line_phases t m) (λ k p x o. x) (own_rows s))
+      (λ b. each_as (LayerRow t (lowest m) (highest m)) Early (layer_phases t m)
+      (λ k p x o. layers_row s (own_lines t m b) x) (layer_rows t m)))
+
+  early_row : {k : ℕ} {p : Place} → RefusedBy (table_phases t m) k p → TabledRow t m c k p
+  early_row {k} {p} r =
+      each_refusal Early (table_phases t m)
+      (each_there Early (line_phases (layout_with true) m ++ (table_line_phases t m ++ layer_phases t m)) (is_there t)
+      early_rows)
+      r (early_number t m k p r)
+
+  laid : t ≢ [] → TablePasses t m → TableLaid t m
+  laid some f =
+      let s : MeshLinesPass t m = record { table = some; lines = f.mesh_lines } in
+      record {
+        lowest = lowest m;
+        highest = highest m;
+        before = record {
+          mesh = s;
+          own = own_lines t m (table_sound t m f.lines);
+          heights = heights_lem m f.mesh_lines;
+        };
+        sound = f.sound;
+      }
+
+-- the mesh that is read: the filled one, or without a table the mesh itself
+late_row : (t m c : List ℤ) {k : ℕ} {p : Place} → TableFits t m → TableRow (mesh_read t m) c k p → TabledRow t m c k p
+unfolding mesh_read has_table
+late_row [] m c f r = without refl r
+late_row (z ∷ t) m c f r = of_filled (laid (z ∷ t) m c (λ e. cc) (f refl)) r
+
+module _ (t m c : List ℤ) where
+  tabled_row : {k : ℕ} {p : Place} → TabledRefusal t m c k p → TabledRow t m c k p
+  tabled_row {k} {p} r = by (came t m c) ((tabled_refused t m c k p).1 r)
+    where
+      number_lem : {i j : ℕ} {q s : Place} → Refused i q ≡ Refused j s → i ≡ j
+      number_lem d = cc
+
+      place_lem : {i j : ℕ} {q s : Place} → Refused i q ≡ Refused j s → q ≡ s
+      place_lem d = cc
+
+      by : Came t m c → tabled_verdict t m c ≡ Refused k p → TabledRow t m c k p
+      by (early i q x d) e = subst₂ (λ (n : ℕ) (s : Place). TabledRow t m c n s) (number_lem (sym d ∙ e))
+          (place_lem (sym d ∙ e)) (early_row t m c x)
+      by (late f d) e = late_row t m c f (table_row (mesh_read t m) c k p
+          ((refused_exactly (mesh_read t m) c k p).0 (sym d ∙ e)))
+
+-- ---- and back
+
+neither : {k : ℕ} → k ≤ 4 → (k ≡ 45) ⊎ (k ≡ 46) → ⊥
+neither l (inl e) = omega arith
+neither l (inr e) = omega arith
+
+module _ (t m : List ℤ) where
+  early_refusal : {k : ℕ} {p : Place} → t ≢ []
+      → RefusedBy (line_phases (layout_with true) m ++ (table_line_phases t m ++ layer_phases t m)) k p
+      → RefusedBy (table_phases t m) k p
+  early_refusal {k} {p} some r =
+      refused_there (line_phases (layout_with true) m ++ (table_line_phases t m ++ layer_phases t m)) (is_there t) some
+      k p r
+
+  mesh_refusal : {k : ℕ} {p : Place} → t ≢ [] → LineRefusal (layout_with true) m k p → RefusedBy (table_phases t m) k p
+  mesh_refusal {k} {p} some r = early_refusal some
+      (join_refused (line_phases (layout_with true) m) (table_line_phases t m ++ layer_phases t m) k p (inl r.by))
+
+  after_mesh : {k : ℕ} {p : Place} → MeshLinesPass t m → RefusedBy (table_line_phases t m ++ layer_phases t m) k p
+      → RefusedBy (table_phases t m) k p
+  after_mesh {k} {p} s r = early_refusal s.table
+      (join_refused (line_phases (layout_with true) m) (table_line_phases t m ++ layer_phases t m) k p
+      (inr (sound_lines (layout_with true) m s.lines, r)))
+
+  own_refusal : {k : ℕ} {p : Place} → MeshLinesPass t m → RefusedBy (table_line_phases t m) k p
+      → RefusedBy (table_phases t m) k p
+  own_refusal {k} {p} s r = after_mesh s (join_refused (table_line_phases t m) (layer_phases t m) k p (inl r))
+
+  own_refused : (i k : ℕ) → MeshLinesPass t m → OwnTo t m i → OwnForm t i → OwnFails t m i k
+      → RefusedBy (table_phases t m) k (Line (1001 + i))
+  own_refused i k s before f r =
+      own_refusal s (line_refused t m i k (of_layout t m i f.0 (omega (arith, f.1))) before r)
+
+  form_refused : (i : ℕ) → MeshLinesPass t m → OwnTo t m i → Begun t i → ¬ OwnForm t i
+      → RefusedBy (table_phases t m) 1 (Line (1001 + i))
+  form_refused i s before b x = own_refusal s (of (dec_lt i (table_lines t)))
+    where
+      of : Dec (i < table_lines t) → RefusedBy (table_line_phases t m) 1 (Line (1001 + i))
+      of (yes l) = line_refused t m i 1 l before (inl (x, refl))
+      of (no l) = left_refused t m i before b l
+
+  -- the heights that a row names are the lowest and the highest
+  at_heights : {lo hi : ℕ} (Q : ℕ → ℕ → Type 0) → LinesPass t m lo hi → Q lo hi → Q (lowest m) (highest m)
+  at_heights Q b h = let e = same_heights b.heights (heights_lem m b.mesh.lines) in subst₂ Q e.0 e.1 h
+
+  layers_refusal : {k : ℕ} {p : Place} → LayersRefused t m k p → RefusedBy (table_phases t m) k p
+  layers_refusal {k} {p} r =
+      after_mesh r.before.mesh
+      (join_refused (table_line_phases t m) (layer_phases t m) k p
+      (inr (
+        lines_own t m r.before.own,
+        row_layers t m (at_heights (λ (lo hi : ℕ). LayerRow t lo hi k p) r.before r.row),
+      )))
+
+  laid_fits : TableLaid t m → TableFits t m
+  laid_fits l e = record {
+    mesh_lines = l.before.mesh.lines;
+    lines = sound_table t m (lines_own t m l.before.own);
+    sound = at_heights (TableSound t) l.before l.sound;
+  }
+
+module _ (t m c : List ℤ) where
+  early_lem : {k : ℕ} {p : Place} → RefusedBy (table_phases t m) k p → TabledRefusal t m c k p
+  early_lem {k} {p} r = (tabled_refused t m c k p).0 (early_refused t m c r)
+
+  late_lem : {k : ℕ} {p : Place} → TableFits t m → TableRow (mesh_read t m) c k p → TabledRefusal t m c k p
+  late_lem {k} {p} f r = (tabled_refused t m c k p).0
+      (fits_late t m c f ∙ (refused_exactly (mesh_read t m) c k p).1 ((table_exact (mesh_read t m) c k p).1 r))
+
+without_row : {t : List ℤ} (m c : List ℤ) {k : ℕ} {p : Place} → t ≡ [] → TableRow m c k p → TabledRefusal t m c k p
+unfolding mesh_read has_table
+without_row m c {k} {p} e r = subst (λ (u : List ℤ). TabledRefusal u m c k p) (sym e) (late_lem [] m c (λ h. cc) r)
+
+module _ (t m c : List ℤ) where
+  of_mesh_line : {k : ℕ} {p : Place} → t ≢ [] → LineRefusal (layout_with true) m k p → TabledRefusal t m c k p
+  of_mesh_line some r = early_lem t m c (mesh_refusal t m some r)
+
+  row_tabled : {k : ℕ} {p : Place} → TabledRow t m c k p → TabledRefusal t m c k p
+  unfolding layout_with rule_number
+  row_tabled {k} {p} (without e r) = without_row m c e r
+  row_tabled (mesh_one k some h) = of_mesh_line some (count_refused (layout_with true) m k h)
+  row_tabled (mesh_two k some h) = of_mesh_line some (limit_refused (layout_with true) m k h)
+  row_tabled (mesh_three k some h) = of_mesh_line some (rule_refused (layout_with true) m right_angle k h)
+  row_tabled (mesh_four cs k some h) = of_mesh_line some (rule_refused (layout_with true) m (naming cs) k h)
+  row_tabled (mesh_two_with a b d z k some h) =
+      of_mesh_line some (rule_refused (layout_with true) m (at_most_where a b d z) k h)
+  row_tabled (own_one i s before b x) = early_lem t m c (form_refused t m i s before b x)
+  row_tabled (own_two i s before f x) = early_lem t m c (own_refused t m i 2 s before f (inr (f, inl (x, refl))))
+  row_tabled (own_four i s before f w x) =
+      early_lem t m c (own_refused t m i 4 s before f (inr (f, inr (w, (x, refl)))))
+  row_tabled (of_layers r) = early_lem t m c (layers_refusal t m r)
+  row_tabled {k} {p} (of_filled l r) = late_lem t m c (laid_fits t m l)
+      (subst (λ (f : List ℤ). TableRow f c k p) (sym (filled_there t m l.before.mesh.table)) r)
+
+  -- refused with a number and a place exactly when there is a row with them
+  pub tabled_exactly : (k : ℕ) (p : Place) → TabledRefusal t m c k p ↔ TabledRow t m c k p
+  tabled_exactly k p = (tabled_row t m c, row_tabled)
+
+  -- 46 and 45 come exactly where the layers are refused with all lines before them
+  only_layers : {k : ℕ} {p : Place} → TabledRow t m c k p → (k ≡ 45) ⊎ (k ≡ 46) → LayersRefused t m k p
+  only_layers {k} {p} (without e r) h = absurd (no_layers ((table_exact m c k p).1 r) h)
+  only_layers (mesh_one k some x) h = absurd (neither (omega arith) h)
+  only_layers (mesh_two k some x) h = absurd (neither (omega arith) h)
+  only_layers (mesh_three k some x) h = absurd (neither (omega arith) h)
+  only_layers (mesh_four cs k some x) h = absurd (neither (omega arith) h)
+  only_layers (mesh_two_with a b d z k some x) h = absurd (neither (omega arith) h)
+  only_layers (own_one i s before b x) h = absurd (neither (omega arith) h)
+  only_layers (own_two i s before f x) h = absurd (neither (omega arith) h)
+  only_layers (own_four i s before f w x) h = absurd (neither (omega arith) h)
+  only_layers (of_layers r) h = r
+  only_layers {k} {p} (of_filled l r) h = absurd (no_layers ((table_exact (filled t m) c k p).1 r) h)
+
+  pub layers_exactly : (k : ℕ) (p : Place) → (k ≡ 45) ⊎ (k ≡ 46) → TabledRefusal t m c k p ↔ LayersRefused t m k p
+  layers_exactly k p h = (λ r. only_layers (tabled_row t m c r) h, λ r. row_tabled (of_layers r))
