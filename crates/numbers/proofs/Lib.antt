@@ -11,3 +11,4 @@ pub mod Blends
 pub mod PromisesAppliedBeds
 pub mod MixedSays
 pub mod MixedApplied
+pub mod TableApplied

@@ -1,9 +1,9 @@
 -- The promises with a table hold of every answer: the verdict came early, by the table, or is the one on the filled
 -- mesh.
 use mathlib.Core.Path.{◌≡◌, refl, sym, ◌∙◌, ap, subst, subst₂}
-use mathlib.Core.Logic.{◌⊎◌, inl, inr, ◌≢◌}
+use mathlib.Core.Logic.{◌↔◌, ◌⊎◌, inl, inr, ◌≢◌}
 use mathlib.Core.List.{List}
-use Prim.Native.Nat.{ℕ, ◌≤◌}
+use Prim.Native.Nat.{ℕ, ◌+◌, ◌≤◌}
 use native.Mathlib.Omega.{arith}
 use lib.IntN.{ℤ}
 use Rattle.scope.specs.declared.Place.{Place}
@@ -13,6 +13,8 @@ use Rattle.scope.specs.Columns.{has_field}
 use Rattle.scope.specs.Answer.{place_number, place_for, number_of, place_of}
 use Rattle.scope.specs.Table.{mesh_read}
 use Rattle.scope.specs.TableVerdict.{tabled_verdict, TabledRefusal, TablePasses, TableFits}
+use Rattle.scope.specs.LayerRows.{LowestGap, LayerRow, forty_six, forty_six_else, forty_five}
+use Rattle.scope.specs.TabledRows.{LayersRefused}
 use Rattle.scope.specs.Filled.{with_soils}
 use Rattle.scope.proofs.Exactly.{refused_exactly}
 use Rattle.scope.proofs.PlaceKinds.{place_kind, place_number_lem}
@@ -20,10 +22,12 @@ use Rattle.scope.proofs.Filled.{element_layer, filled_from_lem, reordered_filled
 use Rattle.scope.proofs.Table.{named_facts}
 use Rattle.scope.proofs.TableVerdict.{Came, early, late, came, fits_late, tabled_refused, early_number, early_kind}
 use Rattle.scope.proofs.TableVerdict.{tabled_zero, read_lines_lem, no_table_verdict}
+use Rattle.scope.proofs.TabledRows.{tabled_exactly, layers_exactly}
 use Rattle.numbers.proofs.Promises.{of_verdict, refused_not_zero}
 use Rattle.numbers.specs.declared.numbers_answer.NumbersAnswer.{NumbersAnswer}
 use Rattle.numbers.specs.NumbersAnswer.{answer_of}
-use Rattle.numbers.specs.TablePromises.{TableAnswers, TableReturned, TableExactly, AsFilled, FilledMesh}
+use Rattle.numbers.specs.TablePromises.{TableAnswers, TableReturned, FirstLayerFails, LayersAsked, TableExactly}
+use Rattle.numbers.specs.TablePromises.{AsFilled, FilledMesh}
 
 pub table_returned : {t m c : List ℤ} {r : NumbersAnswer} → TableAnswers t m c r → TableReturned t m c r.number r.place
 table_returned {t} {m} {c} e =
@@ -47,6 +51,18 @@ refused_kind t m c {k} {p} e = by (came t m c)
         (early_kind t m i q r)
     by (late f d) = place_kind ((refused_exactly (mesh_read t m) c k p).0 (sym d ∙ e))
 
+-- what a row of 46 or 45 says of its place
+line_row : {t : List ℤ} {lo hi k : ℕ} {p : Place} → LayerRow t lo hi k p → k ≡ 46
+    → (i : ℕ) × FirstLayerFails t lo hi i × (place_number p ≡ 1001 + i)
+line_row (forty_six i h) e = (i, inl h, refl)
+line_row (forty_six_else i a h) e = (i, inr (a, h), refl)
+line_row (forty_five q a b g) e = absurd (omega (arith, e))
+
+gap_row : {t : List ℤ} {lo hi k : ℕ} {p : Place} → LayerRow t lo hi k p → k ≡ 45 → LowestGap t lo hi (place_number p)
+gap_row (forty_six i h) e = absurd (omega (arith, e))
+gap_row (forty_six_else i a h) e = absurd (omega (arith, e))
+gap_row (forty_five q a b g) e = g
+
 module _ (t m c : List ℤ) (number place : ℕ) (h : TableReturned t m c number place) where
   is_refused : {k : ℕ} {p : Place} → tabled_verdict t m c ≡ Refused k p → (number ≡ k) × (place ≡ place_number p)
   is_refused e = (h.number_is ∙ ap number_of e, h.place_is ∙ ap place_of e)
@@ -60,44 +76,79 @@ module _ (t m c : List ℤ) (number place : ℕ) (h : TableReturned t m c number
       by (Accepted o a b) e = inr (h.number_is ∙ ap number_of e, h.place_is ∙ ap place_of e)
       by (Refused k p) e = inl (k, p, e)
 
+  not_zero : {k : ℕ} {p : Place} → tabled_verdict t m c ≡ Refused k p → k ≢ 0
+  not_zero {k} {p} e z = of (came t m c)
+    where
+      of : Came t m c → ⊥
+      of (early i q r d) = absurd (omega (arith, (early_number t m i q r).0, ap number_of (sym d ∙ e)))
+      of (late f d) = refused_not_zero (mesh_read t m) c (sym d ∙ e) z
+
+  zero_place : number ≡ 0 → ((k : ℕ) × (p : Place) × (tabled_verdict t m c ≡ Refused k p))
+      ⊎ ((number ≡ 0) × (place ≡ 0)) → place ≡ 0
+  zero_place z (inl (k, p, e)) = absurd (not_zero e (sym (is_refused e).0 ∙ z))
+  zero_place z (inr e) = e.1
+
+  to : {k j : ℕ} → k ≢ 0 → number ≡ k → place ≡ j → ((i : ℕ) × (p : Place) × (tabled_verdict t m c ≡ Refused i p))
+      ⊎ ((number ≡ 0) × (place ≡ 0)) → TabledRefusal t m c k (place_for k j)
+  to {k} {j} nonzero a b (inl (i, p, e)) =
+      let same : i ≡ k = sym (is_refused e).0 ∙ a in
+      let there : place_number p ≡ j = sym (is_refused e).1 ∙ b in
+      subst₂ (λ (n : ℕ) (q : Place). TabledRefusal t m c n q) same
+      (refused_kind t m c e ∙ ap (λ (x : ℕ). place_for x (place_number p)) same ∙ ap (place_for k) there)
+      ((tabled_refused t m c i p).0 e)
+  to nonzero a b (inr e) = absurd (nonzero (sym a ∙ e.0))
+
+  unfit : ¬ TableFits t m → Came t m c → (number ≤ 4) ⊎ ((number ≡ 45) ⊎ (number ≡ 46))
+  unfit f (late g e) = absurd (f g)
+  unfit f (early k p r e) = subst (λ (n : ℕ). (n ≤ 4) ⊎ ((n ≡ 45) ⊎ (n ≡ 46))) (sym (is_refused e).0)
+      (early_number t m k p r).1
+
+  refuses : (k j : ℕ) → k ≢ 0 → ((number ≡ k) × (place ≡ j)) ↔ TabledRefusal t m c k (place_for k j)
+  refuses k j nonzero = (
+    λ e. to nonzero e.0 e.1 cases_of,
+    λ r. let e = (tabled_refused t m c k (place_for k j)).1 r in
+        ((is_refused e).0, (is_refused e).1 ∙ place_number_lem k j),
+  )
+
+  layers_exactly_lem : (k j : ℕ) → (k ≡ 45) ⊎ (k ≡ 46)
+      → ((number ≡ k) × (place ≡ j)) ↔ LayersRefused t m k (place_for k j)
+  layers_exactly_lem k j o = (
+    λ e. (layers_exactly t m c k (place_for k j) o).0 ((refuses k j (some o)).0 e),
+    λ r. (refuses k j (some o)).1 ((layers_exactly t m c k (place_for k j) o).1 r),
+  )
+    where
+      some : {k : ℕ} → (k ≡ 45) ⊎ (k ≡ 46) → k ≢ 0
+      some (inl e) z = omega arith
+      some (inr e) z = omega arith
+
+  layers_asked : LayersAsked t m number place
+  layers_asked = record {
+    exactly = layers_exactly_lem;
+    line = λ e.
+        let r = (layers_exactly_lem 46 place (inr refl)).0 (e, refl) in
+        let (i, f, a) = line_row r.row refl in
+        (r.lowest, r.highest, i, r.before, f, sym (place_number_lem 46 place) ∙ a);
+    gap = λ e.
+        let r = (layers_exactly_lem 45 place (inl refl)).0 (e, refl) in (
+          r.lowest,
+          r.highest,
+          r.before,
+          subst (LowestGap _ r.lowest r.highest) (place_number_lem 45 place) (gap_row r.row refl),
+        );
+  }
+
   pub table_exactly : TableExactly t m c number place
   table_exactly = record {
     zero = (λ e. (tabled_zero t m c).0 (sym h.number_is ∙ e), λ a. h.number_is ∙ (tabled_zero t m c).1 a);
     place_zero = λ e. zero_place e cases_of;
-    refuses = λ k j nonzero. (
-      λ e. to nonzero e.0 e.1 cases_of,
-      λ r. let e = (tabled_refused t m c k (place_for k j)).1 r in
-          ((is_refused e).0, (is_refused e).1 ∙ place_number_lem k j),
+    refuses = refuses;
+    row = λ k j nonzero. (
+      λ e. (tabled_exactly t m c k (place_for k j)).0 ((refuses k j nonzero).0 e),
+      λ r. (refuses k j nonzero).1 ((tabled_exactly t m c k (place_for k j)).1 r),
     );
-    unfit = λ f. by f (came t m c);
+    layers_asked = layers_asked;
+    unfit = λ f. unfit f (came t m c);
   }
-    where
-      not_zero : {k : ℕ} {p : Place} → tabled_verdict t m c ≡ Refused k p → k ≢ 0
-      not_zero {k} {p} e z = of (came t m c)
-        where
-          of : Came t m c → ⊥
-          of (early i q r d) = absurd (omega (arith, (early_number t m i q r).0, ap number_of (sym d ∙ e)))
-          of (late f d) = refused_not_zero (mesh_read t m) c (sym d ∙ e) z
-
-      zero_place : number ≡ 0 → ((k : ℕ) × (p : Place) × (tabled_verdict t m c ≡ Refused k p))
-          ⊎ ((number ≡ 0) × (place ≡ 0)) → place ≡ 0
-      zero_place z (inl (k, p, e)) = absurd (not_zero e (sym (is_refused e).0 ∙ z))
-      zero_place z (inr e) = e.1
-
-      to : {k j : ℕ} → k ≢ 0 → number ≡ k → place ≡ j → ((i : ℕ) × (p : Place) × (tabled_verdict t m c ≡ Refused i p))
-          ⊎ ((number ≡ 0) × (place ≡ 0)) → TabledRefusal t m c k (place_for k j)
-      to {k} {j} nonzero a b (inl (i, p, e)) =
-          let same : i ≡ k = sym (is_refused e).0 ∙ a in
-          let there : place_number p ≡ j = sym (is_refused e).1 ∙ b in
-          subst₂ (λ (n : ℕ) (q : Place). TabledRefusal t m c n q) same
-          (refused_kind t m c e ∙ ap (λ (x : ℕ). place_for x (place_number p)) same ∙ ap (place_for k) there)
-          ((tabled_refused t m c i p).0 e)
-      to nonzero a b (inr e) = absurd (nonzero (sym a ∙ e.0))
-
-      by : ¬ TableFits t m → Came t m c → (number ≤ 4) ⊎ ((number ≡ 45) ⊎ (number ≡ 46))
-      by f (late g e) = absurd (f g)
-      by f (early k p r e) = subst (λ (n : ℕ). (n ≤ 4) ⊎ ((n ≡ 45) ⊎ (n ≡ 46))) (sym (is_refused e).0)
-          (early_number t m k p r).1
 
 pub as_filled : {t m c : List ℤ} {r : NumbersAnswer} → TableAnswers t m c r → AsFilled t m c r
 as_filled {t} {m} {c} h = record {
