@@ -1,5 +1,5 @@
--- The rows of N8 applied to document 01's sheet with tables that are refused: antt computes each answer, and the promise
--- says which row it is.
+-- The promises about a table that is refused, applied to document 01's sheet: antt computes each answer, and the
+-- promise says what is not so of the table.
 use mathlib.Core.Path.{◌≡◌, refl}
 use mathlib.Core.Logic.{inr}
 use mathlib.Core.List.{List, [], ◌∷◌, ◌++◌}
@@ -9,7 +9,7 @@ use lib.IntN.{ℤ, pos}
 use Rattle.scope.specs.declared.Place.TheVariants.{Line}
 use Rattle.scope.specs.Answer.{place_for}
 use Rattle.scope.specs.LayerRows.{LowestGap}
-use Rattle.scope.specs.TabledRows.{LinesPass, LayersRefused, TabledRow}
+use Rattle.scope.specs.TabledRows.{OwnFormFails, OwnLimitsFail, OwnSoilFails, LinesPass, LayersRefused, TabledRow}
 use Rattle.scope.specs.Worked.{worked_mesh}
 use Rattle.scope.specs.WorkedTable.{layer}
 use Rattle.numbers.specs.TablePromises.{TableAnswers, TableExactly, FirstLayerFails}
@@ -43,17 +43,19 @@ no_soil_answered : TableAnswers no_soil worked_mesh [] (refusal 4 1001)
 unfolding opened worked_mesh
 no_soil_answered = refl
 
-pub short_row : TabledRow short worked_mesh [] 1 (Line 1002)
-unfolding place_for
-short_row = ((asked short 1 1002 short_answered).row 1 1002 (λ e. omega arith)).0 (refl, refl)
+pub short_form : OwnFormFails short worked_mesh 1
+short_form = ((asked short 1 1002 short_answered).own_lines_asked.form 1).0 (refl, refl)
 
+pub high_limits : OwnLimitsFail high worked_mesh 0
+high_limits = ((asked high 2 1001 high_answered).own_lines_asked.limits 0).0 (refl, refl)
+
+pub no_soil_named : OwnSoilFails no_soil worked_mesh 0
+no_soil_named = ((asked no_soil 4 1001 no_soil_answered).own_lines_asked.soil 0).0 (refl, refl)
+
+-- as rows of the whole table of refusals
 pub high_row : TabledRow high worked_mesh [] 2 (Line 1001)
 unfolding place_for
 high_row = ((asked high 2 1001 high_answered).row 2 1001 (λ e. omega arith)).0 (refl, refl)
-
-pub no_soil_row : TabledRow no_soil worked_mesh [] 4 (Line 1001)
-unfolding place_for
-no_soil_row = ((asked no_soil 4 1001 no_soil_answered).row 4 1001 (λ e. omega arith)).0 (refl, refl)
 
 -- ---- 46 and 45: a layer without height after two that overlap, two that overlap, one that ends too low
 

@@ -14,7 +14,7 @@ use Rattle.scope.specs.Answer.{place_number, place_for, number_of, place_of}
 use Rattle.scope.specs.Table.{mesh_read}
 use Rattle.scope.specs.TableVerdict.{tabled_verdict, TabledRefusal, TablePasses, TableFits}
 use Rattle.scope.specs.LayerRows.{LowestGap, LayerRow, forty_six, forty_six_else, forty_five}
-use Rattle.scope.specs.TabledRows.{LayersRefused}
+use Rattle.scope.specs.TabledRows.{LayersRefused, TabledRow}
 use Rattle.scope.specs.Filled.{with_soils}
 use Rattle.scope.proofs.Exactly.{refused_exactly}
 use Rattle.scope.proofs.PlaceKinds.{place_kind, place_number_lem}
@@ -23,10 +23,12 @@ use Rattle.scope.proofs.Table.{named_facts}
 use Rattle.scope.proofs.TableVerdict.{Came, early, late, came, fits_late, tabled_refused, early_number, early_kind}
 use Rattle.scope.proofs.TableVerdict.{tabled_zero, read_lines_lem, no_table_verdict}
 use Rattle.scope.proofs.TabledRows.{tabled_exactly, layers_exactly}
+use Rattle.scope.proofs.TabledPlaces.{one_of_line, two_of_line, four_of_line}
 use Rattle.numbers.proofs.Promises.{of_verdict, refused_not_zero}
 use Rattle.numbers.specs.declared.numbers_answer.NumbersAnswer.{NumbersAnswer}
 use Rattle.numbers.specs.NumbersAnswer.{answer_of}
-use Rattle.numbers.specs.TablePromises.{TableAnswers, TableReturned, FirstLayerFails, LayersAsked, TableExactly}
+use Rattle.numbers.specs.TablePromises.{TableAnswers, TableReturned, OwnLinesAsked, FirstLayerFails, LayersAsked}
+use Rattle.numbers.specs.TablePromises.{TableExactly}
 use Rattle.numbers.specs.TablePromises.{AsFilled, FilledMesh}
 
 pub table_returned : {t m c : List ℤ} {r : NumbersAnswer} → TableAnswers t m c r → TableReturned t m c r.number r.place
@@ -110,6 +112,25 @@ module _ (t m c : List ℤ) (number place : ℕ) (h : TableReturned t m c number
         ((is_refused e).0, (is_refused e).1 ∙ place_number_lem k j),
   )
 
+  row : (k j : ℕ) → k ≢ 0 → ((number ≡ k) × (place ≡ j)) ↔ TabledRow t m c k (place_for k j)
+  row k j nonzero = (
+    λ e. (tabled_exactly t m c k (place_for k j)).0 ((refuses k j nonzero).0 e),
+    λ r. (refuses k j nonzero).1 ((tabled_exactly t m c k (place_for k j)).1 r),
+  )
+
+  -- the same in other words
+  told_as : {k j : ℕ} {A : Type 0} → k ≢ 0 → TabledRow t m c k (place_for k j) ↔ A
+      → ((number ≡ k) × (place ≡ j)) ↔ A
+  told_as {k} {j} nonzero e = (λ h. e.0 ((row k j nonzero).0 h), λ a. (row k j nonzero).1 (e.1 a))
+
+  own_lines_asked : OwnLinesAsked t m number place
+  unfolding place_for
+  own_lines_asked = record {
+    form = λ i. told_as (λ e. omega arith) (one_of_line t m c i);
+    limits = λ i. told_as (λ e. omega arith) (two_of_line t m c i);
+    soil = λ i. told_as (λ e. omega arith) (four_of_line t m c i);
+  }
+
   layers_exactly_lem : (k j : ℕ) → (k ≡ 45) ⊎ (k ≡ 46)
       → ((number ≡ k) × (place ≡ j)) ↔ LayersRefused t m k (place_for k j)
   layers_exactly_lem k j o = (
@@ -142,10 +163,8 @@ module _ (t m c : List ℤ) (number place : ℕ) (h : TableReturned t m c number
     zero = (λ e. (tabled_zero t m c).0 (sym h.number_is ∙ e), λ a. h.number_is ∙ (tabled_zero t m c).1 a);
     place_zero = λ e. zero_place e cases_of;
     refuses = refuses;
-    row = λ k j nonzero. (
-      λ e. (tabled_exactly t m c k (place_for k j)).0 ((refuses k j nonzero).0 e),
-      λ r. (refuses k j nonzero).1 ((tabled_exactly t m c k (place_for k j)).1 r),
-    );
+    row = row;
+    own_lines_asked = own_lines_asked;
     layers_asked = layers_asked;
     unfit = λ f. unfit f (came t m c);
   }

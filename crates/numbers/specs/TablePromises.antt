@@ -13,7 +13,7 @@ use Rattle.scope.specs.LayerRows.{LowestGap, OneLayer, FilledFrom, Reordered}
 use Rattle.scope.specs.Filled.{height_of, filled}
 use Rattle.scope.specs.Table.{mesh_read}
 use Rattle.scope.specs.TableVerdict.{tabled_verdict, TabledRefusal, TableFits}
-use Rattle.scope.specs.TabledRows.{LinesPass, LayersRefused, TabledRow}
+use Rattle.scope.specs.TabledRows.{OwnFormFails, OwnLimitsFail, OwnSoilFails, LinesPass, LayersRefused, TabledRow}
 use Rattle.numbers.specs.declared.numbers_answer.NumbersAnswer.{NumbersAnswer}
 use Rattle.numbers.specs.NumbersAnswer.{answer_of}
 use Rattle.numbers.specs.Promises.{Answers}
@@ -26,6 +26,14 @@ TableAnswers t m c r = r ≡ answer_of (has_field c) (tabled_verdict t m c)
 pub record TableReturned (t m c : List ℤ) (number place : ℕ) : Type 0 where
   pub number_is : number ≡ number_of (tabled_verdict t m c)
   pub place_is : place ≡ place_of (tabled_verdict t m c)
+
+-- "The table's own form, limits and soil numbers are judged as a mesh's, with 1, 2 and 4 ..; its lines are numbered from
+-- 1,001, above any of the mesh's": each of these at such a line comes exactly where line i of the table, counted from 0,
+-- is the first that fails, and fails so
+pub record OwnLinesAsked (t m : List ℤ) (number place : ℕ) : Type 0 where
+  pub form : (i : ℕ) → ((number ≡ 1) × (place ≡ 1001 + i)) ↔ OwnFormFails t m i
+  pub limits : (i : ℕ) → ((number ≡ 2) × (place ≡ 1001 + i)) ↔ OwnLimitsFail t m i
+  pub soil : (i : ℕ) → ((number ≡ 4) × (place ≡ 1001 + i)) ↔ OwnSoilFails t m i
 
 -- 46 is "with the first line whose top isn't above its bottom, else the first that shares such a height with an earlier
 -- line": line i of the table, counted from 0
@@ -49,6 +57,7 @@ pub record TableExactly (t m c : List ℤ) (number place : ℕ) : Type 0 where
   pub place_zero : number ≡ 0 → place ≡ 0
   pub refuses : (k j : ℕ) → k ≢ 0 → ((number ≡ k) × (place ≡ j)) ↔ TabledRefusal t m c k (place_for k j)
   pub row : (k j : ℕ) → k ≢ 0 → ((number ≡ k) × (place ≡ j)) ↔ TabledRow t m c k (place_for k j)
+  pub own_lines_asked : OwnLinesAsked t m number place
   pub layers_asked : LayersAsked t m number place
   pub unfit : ¬ TableFits t m → (number ≤ 4) ⊎ ((number ≡ 45) ⊎ (number ≡ 46))
 

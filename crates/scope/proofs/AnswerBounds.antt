@@ -38,7 +38,7 @@ pub mesh_lines_lem : (m : List ℤ) → Counts m → line_count (groups mesh_lay
 unfolding layout_with groups mesh_header soil_lines node_lines element_lines edge_lines jump_lines line_count
 mesh_lines_lem m c = omega (arith, c)
 
-claim_lines_lem : (m c : List ℤ) → MeshSound m → line_count (groups (claim_layout m) c) ≤ 421
+pub claim_lines_lem : (m c : List ℤ) → MeshSound m → line_count (groups (claim_layout m) c) ≤ 421
 unfolding claim_layout groups claim_header stress_lines element_multipliers edge_multipliers jump_multipliers
     strength_multipliers line_count
 claim_lines_lem m c s =

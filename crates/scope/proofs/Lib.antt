@@ -57,6 +57,7 @@ pub mod Table
 pub mod TableVerdict
 pub mod TableLines
 pub mod TabledRows
+pub mod TabledPlaces
 pub mod TableApplied
 pub mod Applied
 pub mod AppliedBeds

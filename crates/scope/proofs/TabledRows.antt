@@ -23,6 +23,7 @@ use Rattle.scope.specs.Filled.{filled, with_soils}
 use Rattle.scope.specs.Table.{table_lines, table_layout, table_line_phases, has_table, mesh_read}
 use Rattle.scope.specs.LayerRows.{NodeHeights, LayerRow, TableSound}
 use Rattle.scope.specs.TableVerdict.{tabled_verdict, TabledRefusal, TablePasses, TableFits}
+use Rattle.scope.specs.TabledRows.{OwnFormFails}
 use Rattle.scope.specs.TabledRows.{LinesPass, LayersRefused, TableLaid, TabledRow, without, mesh_one, mesh_two}
 use Rattle.scope.specs.TabledRows.{mesh_three, mesh_four, mesh_two_with, own_one, own_two, own_four, of_layers}
 use Rattle.scope.specs.TabledRows.{of_filled}
@@ -83,9 +84,12 @@ module _ (t m c : List ℤ) where
 
   own_row : MeshLinesPass t m → (i n : ℕ) → Begun t i → OwnTo t m i → OwnFails t m i n
       → TabledRow t m c n (Line (1001 + i))
-  own_row s i n b before (inl h) = numbered h.1 (own_one i s before b h.0)
-  own_row s i n b before (inr (f, inl h)) = numbered h.1 (own_two i s before f h.0)
-  own_row s i n b before (inr (f, inr (w, h))) = numbered h.1 (own_four i s before f w h.0)
+  own_row s i n b before (inl h) = numbered h.1
+      (own_one i (record { mesh = s; before = before; begun = b; fails = h.0 }))
+  own_row s i n b before (inr (f, inl h)) = numbered h.1
+      (own_two i (record { mesh = s; before = before; form = f; fails = h.0 }))
+  own_row s i n b before (inr (f, inr (w, h))) = numbered h.1
+      (own_four i (record { mesh = s; before = before; form = f; limits = w; fails = h.0 }))
 
   placed_at : {n i j : ℕ} → i ≡ j → TabledRow t m c n (Line i) → TabledRow t m c n (Line j)
   placed_at {n} e r = subst (λ (a : ℕ). TabledRow t m c n (Line a)) e r
@@ -108,7 +112,12 @@ module _ (t m c : List ℤ) where
           let more : 3 * table_lines t < length t = omega (arith, own_number_count t m, h.0) in
           numbered h.1
           (placed_at {i = 1001 + table_lines t} (omega (arith, own_count t m))
-          (own_one (table_lines t) s before more (λ f. absurd (omega (arith, more, f.0, f.1)))))
+          (own_one (table_lines t) (record {
+            mesh = s;
+            before = before;
+            begun = more;
+            fails = λ f. absurd (omega (arith, more, f.0, f.1));
+          })))
       last n before (inr h) = absurd h.1
 
   layers_row : MeshLinesPass t m → OwnLines t m → {k : ℕ} {p : Place} → LayerRow t (lowest m) (highest m) k p
@@ -206,13 +215,12 @@ module _ (t m : List ℤ) where
   own_refused i k s before f r =
       own_refusal s (line_refused t m i k (of_layout t m i f.0 (omega (arith, f.1))) before r)
 
-  form_refused : (i : ℕ) → MeshLinesPass t m → OwnTo t m i → Begun t i → ¬ OwnForm t i
-      → RefusedBy (table_phases t m) 1 (Line (1001 + i))
-  form_refused i s before b x = own_refusal s (of (dec_lt i (table_lines t)))
+  form_refused : (i : ℕ) → OwnFormFails t m i → RefusedBy (table_phases t m) 1 (Line (1001 + i))
+  form_refused i h = own_refusal h.mesh (of (dec_lt i (table_lines t)))
     where
       of : Dec (i < table_lines t) → RefusedBy (table_line_phases t m) 1 (Line (1001 + i))
-      of (yes l) = line_refused t m i 1 l before (inl (x, refl))
-      of (no l) = left_refused t m i before b l
+      of (yes l) = line_refused t m i 1 l h.before (inl (h.fails, refl))
+      of (no l) = left_refused t m i h.before h.begun l
 
   -- the heights that a row names are the lowest and the highest
   at_heights : {lo hi : ℕ} (Q : ℕ → ℕ → Type 0) → LinesPass t m lo hi → Q lo hi → Q (lowest m) (highest m)
@@ -259,10 +267,11 @@ module _ (t m c : List ℤ) where
   row_tabled (mesh_four cs k some h) = of_mesh_line some (rule_refused (layout_with true) m (naming cs) k h)
   row_tabled (mesh_two_with a b d z k some h) =
       of_mesh_line some (rule_refused (layout_with true) m (at_most_where a b d z) k h)
-  row_tabled (own_one i s before b x) = early_lem t m c (form_refused t m i s before b x)
-  row_tabled (own_two i s before f x) = early_lem t m c (own_refused t m i 2 s before f (inr (f, inl (x, refl))))
-  row_tabled (own_four i s before f w x) =
-      early_lem t m c (own_refused t m i 4 s before f (inr (f, inr (w, (x, refl)))))
+  row_tabled (own_one i h) = early_lem t m c (form_refused t m i h)
+  row_tabled (own_two i h) =
+      early_lem t m c (own_refused t m i 2 h.mesh h.before h.form (inr (h.form, inl (h.fails, refl))))
+  row_tabled (own_four i h) =
+      early_lem t m c (own_refused t m i 4 h.mesh h.before h.form (inr (h.form, inr (h.limits, (h.fails, refl)))))
   row_tabled (of_layers r) = early_lem t m c (layers_refusal t m r)
   row_tabled {k} {p} (of_filled l r) = late_lem t m c (laid_fits t m l)
       (subst (λ (f : List ℤ). TableRow f c k p) (sym (filled_there t m l.before.mesh.table)) r)
@@ -279,9 +288,9 @@ module _ (t m c : List ℤ) where
   only_layers (mesh_three k some x) h = absurd (neither (omega arith) h)
   only_layers (mesh_four cs k some x) h = absurd (neither (omega arith) h)
   only_layers (mesh_two_with a b d z k some x) h = absurd (neither (omega arith) h)
-  only_layers (own_one i s before b x) h = absurd (neither (omega arith) h)
-  only_layers (own_two i s before f x) h = absurd (neither (omega arith) h)
-  only_layers (own_four i s before f w x) h = absurd (neither (omega arith) h)
+  only_layers (own_one i x) h = absurd (neither (omega arith) h)
+  only_layers (own_two i x) h = absurd (neither (omega arith) h)
+  only_layers (own_four i x) h = absurd (neither (omega arith) h)
   only_layers (of_layers r) h = r
   only_layers {k} {p} (of_filled l r) h = absurd (no_layers ((table_exact (filled t m) c k p).1 r) h)
 

@@ -55,6 +55,26 @@ OwnTo t m i = (j : ℕ) → j < i → OwnLine t m j
 abbrev pub OwnLines : List ℤ → List ℤ → Type 0
 OwnLines t m = (i : ℕ) → Begun t i → OwnLine t m i
 
+-- the first line that does not, and which of the three it fails
+pub record OwnFormFails (t m : List ℤ) (i : ℕ) : Type 0 where
+  pub mesh : MeshLinesPass t m
+  pub before : OwnTo t m i
+  pub begun : Begun t i
+  pub fails : ¬ OwnForm t i
+
+pub record OwnLimitsFail (t m : List ℤ) (i : ℕ) : Type 0 where
+  pub mesh : MeshLinesPass t m
+  pub before : OwnTo t m i
+  pub form : OwnForm t i
+  pub fails : ¬ OwnLimits t i
+
+pub record OwnSoilFails (t m : List ℤ) (i : ℕ) : Type 0 where
+  pub mesh : MeshLinesPass t m
+  pub before : OwnTo t m i
+  pub form : OwnForm t i
+  pub limits : OwnLimits t i
+  pub fails : ¬ OwnSoil t m i
+
 -- ---- the layers
 
 -- all lines pass, and the lowest node is lo high and the highest hi
@@ -93,12 +113,9 @@ pub data TabledRow (t m c : List ℤ) : ℕ → Place → Type 0 where
       → TabledRow t m c 2 (Line (suc k))
   -- "The table's own form, limits and soil numbers are judged as a mesh's, with 1, 2 and 4, after the mesh lines and
   -- before 5; its lines are numbered from 1,001, above any of the mesh's, and a 33rd gets 1"
-  own_one : (i : ℕ) → MeshLinesPass t m → OwnTo t m i → Begun t i → ¬ OwnForm t i
-      → TabledRow t m c 1 (Line (1001 + i))
-  own_two : (i : ℕ) → MeshLinesPass t m → OwnTo t m i → OwnForm t i → ¬ OwnLimits t i
-      → TabledRow t m c 2 (Line (1001 + i))
-  own_four : (i : ℕ) → MeshLinesPass t m → OwnTo t m i → OwnForm t i → OwnLimits t i → ¬ OwnSoil t m i
-      → TabledRow t m c 4 (Line (1001 + i))
+  own_one : (i : ℕ) → OwnFormFails t m i → TabledRow t m c 1 (Line (1001 + i))
+  own_two : (i : ℕ) → OwnLimitsFail t m i → TabledRow t m c 2 (Line (1001 + i))
+  own_four : (i : ℕ) → OwnSoilFails t m i → TabledRow t m c 4 (Line (1001 + i))
   -- 46 and 45
   of_layers : {k : ℕ} {p : Place} → LayersRefused t m k p → TabledRow t m c k p
   -- then 5 and all after it, of the mesh that the table fills, whose lines pass (`FilledMesh`)
