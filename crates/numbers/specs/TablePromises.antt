@@ -27,9 +27,9 @@ pub record TableReturned (t m c : List ℤ) (number place : ℕ) : Type 0 where
   pub number_is : number ≡ number_of (tabled_verdict t m c)
   pub place_is : place ≡ place_of (tabled_verdict t m c)
 
--- "The table's own form, limits and soil numbers are judged as a mesh's, with 1, 2 and 4 ..; its lines are numbered from
--- 1,001, above any of the mesh's": each of these at such a line comes exactly where line i of the table, counted from 0,
--- is the first that fails, and fails so
+-- "The table's own form, limits and soil numbers are judged as a mesh's, with 1, 2 and 4 ..; its lines are numbered
+-- from 1,001, above any of the mesh's": each of these at such a line comes exactly where line i of the table, counted
+-- from 0, is the first that fails, and fails so
 pub record OwnLinesAsked (t m : List ℤ) (number place : ℕ) : Type 0 where
   pub form : (i : ℕ) → ((number ≡ 1) × (place ≡ 1001 + i)) ↔ OwnFormFails t m i
   pub limits : (i : ℕ) → ((number ≡ 2) × (place ≡ 1001 + i)) ↔ OwnLimitsFail t m i

@@ -1,12 +1,12 @@
 -- The promises with a borehole table applied to document 01's sheet with soil 0 and to its tables: one that gives its
--- soil, one with a gap, one with an overlap, one that is cut short; beside them the sheet without a table
--- (`PromisesApplied`).
+-- soil, one with a gap, one with an overlap, one that is cut short, one of soil 0; beside them the sheet without a
+-- table (`PromisesApplied`).
 use mathlib.Core.Path.{◌≡◌, refl, ap}
 use mathlib.Core.Logic.{inl, inr, ◌≢◌}
 use mathlib.Core.Bool.{true}
 use mathlib.Core.List.Memᴰ
 use mathlib.Core.List.{List, [], ◌∷◌}
-use Prim.Native.Nat.{ℕ, zero, suc, ◌<◌}
+use Prim.Native.Nat.{ℕ, zero, suc, ◌+◌, ◌<◌}
 use native.Mathlib.Omega.{arith}
 use lib.IntN.{ℤ, pos}
 use lib.ListN.{take, replicate, get_or, length-replicate}
@@ -18,14 +18,15 @@ use Rattle.scope.specs.Columns.{at as number_at}
 use Rattle.scope.specs.Mesh.{elements, ListsDirection}
 use Rattle.scope.proofs.SameRows.{same_mesh}
 use Rattle.scope.specs.Filled.{height_of, soil_place}
-use Rattle.scope.specs.LayerRows.{OneLayer}
+use Rattle.scope.specs.LayerRows.{LowestGap, OneLayer}
 use Rattle.scope.specs.Statements.{HasField, HasMultipliers}
 use Rattle.scope.specs.Table.{has_table}
 use Rattle.scope.specs.TableVerdict.{TabledRefusal, TableFits}
+use Rattle.scope.specs.TabledRows.{OwnSoilFails, LinesPass, LayersRefused, TabledRow}
 use Rattle.scope.specs.Worked as Numbers
 use Rattle.scope.specs.WorkedTable.{soil_zero}
 use Rattle.numbers.specs.declared.numbers_answer.NumbersAnswer.{NumbersAnswer}
-use Rattle.numbers.specs.TablePromises.{TableAnswers}
+use Rattle.numbers.specs.TablePromises.{TableAnswers, FirstLayerFails}
 use Rattle.reader.specs.File.{file_width, table_of}
 use Rattle.report.specs.Report.{report_bytes, usual_decimals}
 use Rattle.judge.specs.Form.{MeshFormFails}
@@ -51,7 +52,7 @@ opened = tt
 abbrev pub with_table : ℕ → Sheet
 with_table k = get_or tabled_sheets k (sheet "" "" "")
 
--- ---- what is answered: the table that gives the soil; the gap; the overlap; the line that is cut short
+-- ---- what is answered: the table that gives the soil; the gap; the overlap; the line that is cut short; soil 0 in it
 
 soil-answered : Answers (with_table 0).mesh (with_table 0).table (with_table 0).claim (pos 6) room 0 0
     (with_table 0).line
@@ -72,6 +73,11 @@ cut_short_answered : Answers (with_table 5).mesh (with_table 5).table (with_tabl
     (with_table 5).line
 unfolding opened
 cut_short_answered = record { number_is = refl; place_is = refl; buffer_is = refl }
+
+own_soil_answered : Answers (with_table 4).mesh (with_table 4).table (with_table 4).claim (pos 6) room 4 1001
+    (with_table 4).line
+unfolding opened
+own_soil_answered = record { number_is = refl; place_is = refl; buffer_is = refl }
 
 -- ---- the table that gives the soil
 
@@ -149,17 +155,46 @@ sheet_unchanged number place after h =
 -- ---- refused tables
 
 -- 45 at four quarters, and 46 at the second line, exactly as the order has them; neither table fits
+gap_on : OnTable (with_table 1).mesh (with_table 1).table (with_table 1).claim 45 4
+gap_on = on_table (with_table 1).mesh (with_table 1).table (with_table 1).claim (pos 6) room 45 4
+    (with_table 1).line gap_answered fits
+
+overlap_on : OnTable (with_table 2).mesh (with_table 2).table (with_table 2).claim 46 1002
+overlap_on = on_table (with_table 2).mesh (with_table 2).table (with_table 2).claim (pos 6) room 46 1002
+    (with_table 2).line overlap_answered fits
+
 pub gap_refused : TabledRefusal (table_in (with_table 1).table) (mesh_in (with_table 1).mesh)
     (claim_in (mesh_with (with_table 1).mesh (with_table 1).table) (with_table 1).claim) 45 (Height 4)
 unfolding place_for
-gap_refused = ((on_table (with_table 1).mesh (with_table 1).table (with_table 1).claim (pos 6) room 45 4
-    (with_table 1).line gap_answered fits).exactly.refuses 45 4 (λ e. omega arith)).0 (refl, refl)
+gap_refused = (gap_on.exactly.refuses 45 4 (λ e. omega arith)).0 (refl, refl)
 
 pub overlap_refused : TabledRefusal (table_in (with_table 2).table) (mesh_in (with_table 2).mesh)
     (claim_in (mesh_with (with_table 2).mesh (with_table 2).table) (with_table 2).claim) 46 (Line 1002)
 unfolding place_for
-overlap_refused = ((on_table (with_table 2).mesh (with_table 2).table (with_table 2).claim (pos 6) room 46 1002
-    (with_table 2).line overlap_answered fits).exactly.refuses 46 1002 (λ e. omega arith)).0 (refl, refl)
+overlap_refused = (overlap_on.exactly.refuses 46 1002 (λ e. omega arith)).0 (refl, refl)
+
+-- with all lines before them, as rows; what their places are; and soil 0 in the table's own line
+pub gap_row : LayersRefused (table_in (with_table 1).table) (mesh_in (with_table 1).mesh) 45 (Height 4)
+unfolding place_for
+gap_row = (gap_on.exactly.layers_asked.exactly 45 4 (inl refl)).0 (refl, refl)
+
+pub gap_height : (lo hi : ℕ) × LinesPass (table_in (with_table 1).table) (mesh_in (with_table 1).mesh) lo hi
+    × LowestGap (table_in (with_table 1).table) lo hi 4
+gap_height = gap_on.exactly.layers_asked.gap refl
+
+pub overlap_line : (lo hi i : ℕ) × LinesPass (table_in (with_table 2).table) (mesh_in (with_table 2).mesh) lo hi
+    × FirstLayerFails (table_in (with_table 2).table) lo hi i × (1002 ≡ 1001 + i)
+overlap_line = overlap_on.exactly.layers_asked.line refl
+
+pub own_soil_zero : OwnSoilFails (table_in (with_table 4).table) (mesh_in (with_table 4).mesh) 0
+own_soil_zero = ((on_table (with_table 4).mesh (with_table 4).table (with_table 4).claim (pos 6) room 4 1001
+    (with_table 4).line own_soil_answered fits).exactly.own_lines_asked.soil 0).0 (refl, refl)
+
+pub cut_short_row : TabledRow (table_in (with_table 5).table) (mesh_in (with_table 5).mesh)
+    (claim_in (mesh_with (with_table 5).mesh (with_table 5).table) (with_table 5).claim) 1 (Line 1002)
+unfolding place_for
+cut_short_row = ((on_table (with_table 5).mesh (with_table 5).table (with_table 5).claim (pos 6) room 1 1002
+    (with_table 5).line cut_short_answered fits).exactly.row 1 1002 (λ e. omega arith)).0 (refl, refl)
 
 -- the second line is not whole: 1, line 1,002
 pub cut_short_form : MeshFormFails file_width (with_table 5).mesh (with_table 5).table 1001

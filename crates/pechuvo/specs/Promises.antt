@@ -130,8 +130,9 @@ pub record NoTable (mesh : List ℕ) : Type 0 where
   pub calls : (claim : List ℕ) (z : ℤ) (before : List ℕ) (number place : ℕ) (after : List ℕ)
       → Answers mesh [] claim z before number place after ↔ AnswersOn (mesh_in mesh) claim z before number place after
 
--- 0 exactly when, each refusal with its place exactly when, a table that does not fit with 1 to 4, 45 or 46; no number
--- but those; and what the filled mesh is
+-- 0 exactly when, each refusal with its place exactly when, by the order and by rows said by hand, what a table's own
+-- 1, 2, 4, 46 and 45 tell, a table that does not fit with 1 to 4, 45 or 46; no number but those; and what the filled
+-- mesh is
 pub record OnTable (mesh table claim : List ℕ) (number place : ℕ) : Type 0 where
   pub exactly : TableExactly (table_in table) (mesh_in mesh) (claim_in (mesh_with mesh table) claim) number place
   pub listed : number ∈ 45 ∷ 46 ∷ returned_numbers

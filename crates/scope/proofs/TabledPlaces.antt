@@ -1,5 +1,5 @@
--- "its lines are numbered from 1,001, above any of the mesh's": no other 1, 2 or 4 has such a place, so each of these at
--- line 1,001 + i tells what is not so of line i of the table.
+-- "its lines are numbered from 1,001, above any of the mesh's": no other 1, 2 or 4 has such a place, so each of these
+-- at line 1,001 + i tells what is not so of line i of the table.
 use mathlib.Core.Path.{◌≡◌, refl, ap, subst}
 use mathlib.Core.Logic.{◌↔◌, ◌⊎◌, inl, inr}
 use mathlib.Core.Bool.{true}
