@@ -133,10 +133,7 @@ module _ (t m c : List ℤ) (number place : ℕ) (h : TableReturned t m c number
 
   layers_exactly_lem : (k j : ℕ) → (k ≡ 45) ⊎ (k ≡ 46)
       → ((number ≡ k) × (place ≡ j)) ↔ LayersRefused t m k (place_for k j)
-  layers_exactly_lem k j o = (
-    λ e. (layers_exactly t m c k (place_for k j) o).0 ((refuses k j (some o)).0 e),
-    λ r. (refuses k j (some o)).1 ((layers_exactly t m c k (place_for k j) o).1 r),
-  )
+  layers_exactly_lem k j o = told_as (some o) (layers_exactly t m c k (place_for k j) o)
     where
       some : {k : ℕ} → (k ≡ 45) ⊎ (k ≡ 46) → k ≢ 0
       some (inl e) z = omega arith

@@ -29,6 +29,7 @@ use Rattle.scope.proofs.Checks.{passed_is_not_refused, then_refused}
 use Rattle.scope.proofs.PlaceKinds.{place_number_lem, mesh_place_kind, mesh_exactly}
 use Rattle.scope.proofs.Refusals.{lines_passed, mesh_passed, mesh_exact}
 use Rattle.scope.proofs.Table.{tabled_exact}
+use Rattle.scope.proofs.TabledRows.{tabled_mesh_exactly}
 use Rattle.scope.proofs.TableVerdict.{table_phases, table_exact, in_two, early_number, early_kind}
 use Rattle.reader.specs.File.{file_width, line_bytes}
 use Rattle.judge.specs.declared.room.MeshSizes.{MeshSizes}
@@ -213,14 +214,22 @@ module _ (mesh table : List ℕ) (r : MeshSizes) (asked : SizesAsked mesh table 
       one_header_lem = header_once;
     }
 
+  refused_lem : (k j : ℕ) → k ≢ 0
+      → ((r.number ≡ k) × (r.place ≡ j)) ↔ RefusedBy (tabled_phases (table_in table) (mesh_in mesh)) k (place_for k j)
+  unfolding mesh_outcome
+  refused_lem k j h =
+      let x = refused_as (table_in table) (mesh_in mesh) o refl k j h in
+      (λ p. x.0 (sym numbers.0 ∙ p.0, sym numbers.1 ∙ p.1), λ y. let p = x.1 y in (numbers.0 ∙ p.0, numbers.1 ∙ p.1))
+
   pub sizes_told : SizesTold mesh table r
   unfolding mesh_outcome
   sizes_told = record {
     accepted = (accepted, λ a. numbers.0 ∙ ap mesh_number_of (mesh_accepted mesh table a));
     place_zero = λ e. numbers.1 ∙ ap mesh_place_of (all_pass e);
-    refused = λ k j h.
-        let x = refused_as (table_in table) (mesh_in mesh) o refl k j h in
-        (λ p. x.0 (sym numbers.0 ∙ p.0, sym numbers.1 ∙ p.1), λ y. let p = x.1 y in (numbers.0 ∙ p.0, numbers.1 ∙ p.1));
+    refused = refused_lem;
+    row = λ k j h.
+        let e = tabled_mesh_exactly (table_in table) (mesh_in mesh) k (place_for k j) in
+        let x = refused_lem k j h in (λ p. e.0 (x.0 p), λ y. x.1 (e.1 y));
     no_sizes_lem = none_of m r o told;
     sizes = sizes_of;
   }

@@ -24,6 +24,7 @@ use Rattle.scope.specs.Phases.{RefusedBy}
 use Rattle.scope.specs.Filled.{soil_place}
 use Rattle.scope.specs.Table.{mesh_read, tabled_phases}
 use Rattle.scope.specs.TableVerdict.{TablePasses, TableFits}
+use Rattle.scope.specs.TabledRows.{TabledMeshRow}
 use Rattle.scope.specs.Bracket.{Open}
 use Rattle.scope.specs.Parts.{carried, allowed, SameRows, NumberOf}
 use Rattle.scope.specs.Tests.{row_at}
@@ -350,7 +351,10 @@ pub record SizesTold (mesh table : List ℕ) (r : MeshSizes) : Type 0 where
   -- 0 exactly when the mesh is accepted; else "its refusal and no sizes"
   pub accepted : (r.number ≡ 0) ↔ MeshAccepted mesh table
   pub place_zero : r.number ≡ 0 → r.place ≡ 0
+  -- each refusal with its place exactly when the order has it, and exactly when a row said by hand has it
   pub refused : (k j : ℕ) → k ≢ 0
       → ((r.number ≡ k) × (r.place ≡ j)) ↔ RefusedBy (tabled_phases (table_in table) (mesh_in mesh)) k (place_for k j)
+  pub row : (k j : ℕ) → k ≢ 0
+      → ((r.number ≡ k) × (r.place ≡ j)) ↔ TabledMeshRow (table_in table) (mesh_in mesh) k (place_for k j)
   pub no_sizes_lem : r.number ≢ 0 → r ≡ no_sizes r.number r.place
   pub sizes : r.number ≡ 0 → SizesOf (mesh_with mesh table) r

@@ -139,7 +139,7 @@ shape_refusal : (m : List ℤ) {k : ℕ} {p : Place} → LinesSound mesh_layout 
 shape_refusal m {k} {p} lines r = join_refused (line_phases mesh_layout m) (shape_phases m) k p
     (inr (sound_lines mesh_layout m lines, r))
 
-row_mesh : (m : List ℤ) {k : ℕ} {p : Place} → MeshRow m k p → RefusedBy (mesh_phases m) k p
+pub row_mesh : (m : List ℤ) {k : ℕ} {p : Place} → MeshRow m k p → RefusedBy (mesh_phases m) k p
 row_mesh m {k} {p} (of_lines r) = join_refused (line_phases mesh_layout m) (shape_phases m) k p (inl r.by)
 row_mesh m (five e lines h) =
     shape_refusal m lines

@@ -16,9 +16,9 @@ use Rattle.scope.specs.Claim.{claim_layout}
 use Rattle.scope.specs.Refusals.{rule_number, line_phases, LineRefusal, Refusal}
 use Rattle.scope.specs.RefusalTable.{TableRow}
 use Rattle.scope.specs.LayerRows.{LayerRow, forty_six, forty_six_else, forty_five}
-use Rattle.scope.specs.TabledRows.{OwnFormFails, OwnLimitsFail, OwnSoilFails, TabledRow, without, mesh_one, mesh_two}
+use Rattle.scope.specs.TabledRows.{OwnFormFails, OwnLimitsFail, OwnSoilFails, EarlyRow, mesh_one, mesh_two}
 use Rattle.scope.specs.TabledRows.{mesh_three, mesh_four, mesh_two_with, own_one, own_two, own_four, of_layers}
-use Rattle.scope.specs.TabledRows.{of_filled}
+use Rattle.scope.specs.TabledRows.{TabledRow, of_alone, of_early, of_filled}
 use Rattle.scope.proofs.Phases.{each_refusal}
 use Rattle.scope.proofs.NumberRanges.{header_counts}
 use Rattle.scope.proofs.LineRefusals.{NotOfLines, ByLines, by_lines}
@@ -79,9 +79,8 @@ module _ (t m c : List ℤ) (i : ℕ) where
   same : {j : ℕ} → Line (1001 + j) ≡ Line (1001 + i) → j ≡ i
   same e = omega (arith, ap place_number e)
 
-  of_line : {k : ℕ} {p : Place} → TabledRow t m c k p → k ≤ 4 → p ≡ Line (1001 + i) → OfLine t m k i
+  of_line : {k : ℕ} {p : Place} → EarlyRow t m k p → k ≤ 4 → p ≡ Line (1001 + i) → OfLine t m k i
   unfolding layout_with rule_number
-  of_line (without z r) l e = absurd (far (low_row r) l e)
   of_line (mesh_one k some h) l e = absurd (far_line (count_refused (layout_with true) m k h) e)
   of_line (mesh_two k some h) l e = absurd (far_line (limit_refused (layout_with true) m k h) e)
   of_line (mesh_three k some h) l e = absurd (far_line (rule_refused (layout_with true) m right_angle k h) e)
@@ -92,10 +91,14 @@ module _ (t m c : List ℤ) (i : ℕ) where
   of_line (own_two j h) l e = inr (inl (subst (OwnLimitsFail t m) (same e) h, refl))
   of_line (own_four j h) l e = inr (inr (subst (OwnSoilFails t m) (same e) h, refl))
   of_line (of_layers r) l e = absurd (omega (arith, l, layer_number r.row))
-  of_line (of_filled h r) l e = absurd (far (low_row r) l e)
+
+  told : {k : ℕ} → k ≤ 4 → TabledRow t m c k (Line (1001 + i)) → OfLine t m k i
+  told l (of_alone z r) = absurd (far (low_row r) l refl)
+  told l (of_early r) = of_line r l refl
+  told l (of_filled h r) = absurd (far (low_row r) l refl)
 
   pub one_of_line : TabledRow t m c 1 (Line (1001 + i)) ↔ OwnFormFails t m i
-  one_of_line = (λ r. by (of_line r (omega arith) refl), λ h. own_one i h)
+  one_of_line = (λ r. by (told (omega arith) r), λ h. of_early (own_one i h))
     where
       by : OfLine t m 1 i → OwnFormFails t m i
       by (inl h) = h.0
@@ -103,7 +106,7 @@ module _ (t m c : List ℤ) (i : ℕ) where
       by (inr (inr h)) = absurd (omega (arith, h.1))
 
   pub two_of_line : TabledRow t m c 2 (Line (1001 + i)) ↔ OwnLimitsFail t m i
-  two_of_line = (λ r. by (of_line r (omega arith) refl), λ h. own_two i h)
+  two_of_line = (λ r. by (told (omega arith) r), λ h. of_early (own_two i h))
     where
       by : OfLine t m 2 i → OwnLimitsFail t m i
       by (inl h) = absurd (omega (arith, h.1))
@@ -111,7 +114,7 @@ module _ (t m c : List ℤ) (i : ℕ) where
       by (inr (inr h)) = absurd (omega (arith, h.1))
 
   pub four_of_line : TabledRow t m c 4 (Line (1001 + i)) ↔ OwnSoilFails t m i
-  four_of_line = (λ r. by (of_line r (omega arith) refl), λ h. own_four i h)
+  four_of_line = (λ r. by (told (omega arith) r), λ h. of_early (own_four i h))
     where
       by : OfLine t m 4 i → OwnSoilFails t m i
       by (inl h) = absurd (omega (arith, h.1))
