@@ -79,7 +79,7 @@ module _ (m : List ℤ) (number place : ℕ) (sound : MeshSound m) (facts : Fact
   there e l = omega (arith, l, facts.three)
 
   read : (e : ℕ) → e < 3 → TrianglesRead m e
-  read e l = triangles_asked m sound e (there e l)
+  read e l = (triangles_asked m).read sound e (there e l)
 
   pub mesh_says : MeshSays m
   mesh_says = record {
@@ -88,7 +88,7 @@ module _ (m : List ℤ) (number place : ℕ) (sound : MeshSound m) (facts : Fact
         let at = (read 2 (omega arith)).only_repeat i j l k same in
         facts.four_different (subst₂ (λ (a b : ℕ). corner m 2 a ≡ corner m 2 b) at.0 at.1 same);
     as_before = (read 2 (omega arith)).passed_before facts.turns;
-    areas = λ e l. (triangles_asked m sound e l).area_above_0;
+    areas = λ e l. ((triangles_asked m).read sound e l).area_above_0;
     outward =
         let side = facts.edge in
         subst (λ (v : ℕ). Inward m 0 v) side.4

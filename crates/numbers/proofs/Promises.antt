@@ -38,7 +38,7 @@ use Rattle.scope.proofs.Overlaps.{sound_mesh_apart}
 use Rattle.scope.proofs.OverlapRefused.{overlap_named, never_for_this}
 use Rattle.scope.proofs.AcceptedMultipliers.{multipliers_as_printed}
 use Rattle.scope.proofs.Meaning.{area, outward_normal}
-use Rattle.scope.proofs.Triangles.{only_repeat, read_as_triangle, passed_before}
+use Rattle.scope.proofs.Triangles.{only_repeat, read_as_triangle, passed_before, without_triangles}
 use Rattle.numbers.proofs.NumbersListed.{refusal_listed}
 use Rattle.numbers.specs.declared.numbers_answer.NumbersAnswer.{NumbersAnswer}
 use Rattle.numbers.specs.NumbersAnswer.{there, answer_of}
@@ -231,11 +231,14 @@ mesh_answered_exactly m r h = mesh_exactly m (outcome_of r) h
 -- ---- triangles
 
 pub triangles_asked : (m : List ℤ) → TrianglesAsked m
-triangles_asked m sound e there = record {
-  triangle = read_as_triangle m e;
-  only_repeat = only_repeat m e (sound.left_turns e there);
-  area = area m e;
-  area_above_0 = (area m e).above_0 (sound.left_turns e there);
-  outward = λ g. outward_normal m g e;
-  passed_before = passed_before m e;
+triangles_asked m = record {
+  read = λ sound e there. record {
+    triangle = read_as_triangle m e;
+    only_repeat = only_repeat m e (sound.left_turns e there);
+    area = area m e;
+    area_above_0 = (area m e).above_0 (sound.left_turns e there);
+    outward = λ g. outward_normal m g e;
+    passed_before = passed_before m e;
+  };
+  before = without_triangles m;
 }

@@ -3,9 +3,10 @@
 use mathlib.Core.Path.{◌≡◌, refl, sym, ◌∙◌, ap, subst₂}
 use mathlib.Core.Logic.{inl}
 use mathlib.Core.List.{List, ◌++◌}
-use Prim.Native.Nat.{ℕ, ◌<◌}
+use Prim.Native.Nat.{ℕ, zero, suc, ◌<◌}
 use native.Mathlib.Omega.{arith}
 use lib.IntN.{ℤ, pos, neg_ℤ}
+use lib.Signed.{lt_z_yes}
 use Rattle.integer.specs.Members.{◌∈◌}
 use Rattle.scope.specs.Rows.{balance_rows, side_rows, equality_rows, strength_pairs, strength_rows}
 use Rattle.scope.specs.Claim.{stress}
@@ -17,9 +18,10 @@ use Rattle.scope.specs.AcceptedField.{MeetsCriterion}
 use Rattle.scope.specs.Worked.{zeros, worked_mesh, worked_stresses}
 use Rattle.scope.specs.Worked.{sheet, two_triangles, field_alone, fill_over_clay}
 use Rattle.scope.specs.Worked.{over_clay, blocks, block_edges, joint, two_blocks, on_joint}
-use Rattle.scope.specs.Mesh.{elements, sides, jumps, corner, element_soil, jump_from, facing_from}
+use Rattle.scope.specs.Mesh.{elements, edges, sides, jumps, corner, element_soil, jump_from, facing_from}
 use Rattle.scope.specs.Statements.{MeshSound}
-use Rattle.scope.specs.Triangles.{Triangle}
+use Rattle.scope.specs.RefusalTable.{AtAll}
+use Rattle.scope.specs.Triangles.{Triangle, FourLeftTurns, OwnSidesBefore, OuterEdgeBefore, SameRefusals}
 use Rattle.scope.specs.Pairs.{SoilAround, rows_before}
 use Rattle.scope.specs.Jumps.{SameTraction}
 use Rattle.numbers.specs.declared.numbers_answer.NumbersAnswer.{NumbersAnswer}
@@ -58,7 +60,7 @@ unfolding computed zeros two_triangles
 second_element = (omega arith, refl)
 
 pub second_triangle : Triangle two_triangles 1
-second_triangle = (triangles_asked two_triangles triangles_sound 1 second_element.0).triangle second_element.1
+second_triangle = ((triangles_asked two_triangles).read triangles_sound 1 second_element.0).triangle second_element.1
 
 -- the sheet's element has four different corners, as before
 one_element : 0 < elements worked_mesh
@@ -71,8 +73,32 @@ different e = let z : ◌≡◌ {A = ℕ} 2 3 = e in omega arith
 
 pub sheet_no_repeat : (i j : ℕ) → i < j → j < 4 → corner worked_mesh 0 i ≡ corner worked_mesh 0 j → ⊥
 sheet_no_repeat i j l h same =
-    let (second, third) = (triangles_asked worked_mesh sheet_accepted.mesh 0 one_element).only_repeat i j l h same in
+    let read = (triangles_asked worked_mesh).read sheet_accepted.mesh 0 one_element in
+    let (second, third) = read.only_repeat i j l h same in
     different (subst₂ (λ (a b : ℕ). corner worked_mesh 0 a ≡ corner worked_mesh 0 b) second third same)
+
+-- it passed document 01's 5, so that it passes document 01's own 6 and 8 as it passes today's
+sheet_turns : AtAll (elements worked_mesh) (FourLeftTurns worked_mesh)
+unfolding computed zeros worked_mesh
+sheet_turns zero l zero h = lt_z_yes tt
+sheet_turns zero l (suc zero) h = lt_z_yes tt
+sheet_turns zero l (suc (suc zero)) h = lt_z_yes tt
+sheet_turns zero l (suc (suc (suc zero))) h = lt_z_yes tt
+sheet_turns zero l (suc (suc (suc (suc i)))) h = absurd (omega (arith, h))
+sheet_turns (suc e) l i h = absurd (omega (arith, l))
+
+sheet_before : SameRefusals worked_mesh
+sheet_before = let before = (triangles_asked worked_mesh).before in before.same (before.passed_before sheet_turns)
+
+pub sheet_passed_before : AtAll (elements worked_mesh) (OwnSidesBefore worked_mesh)
+    × AtAll (edges worked_mesh) (OuterEdgeBefore worked_mesh)
+sheet_passed_before =
+    (sheet_before.six.pass.0 sheet_accepted.mesh.own_sides, sheet_before.eight.pass.0 sheet_accepted.mesh.outer_edges)
+
+-- "which now get refusal 5": document 01's 5 refused the two triangles
+pub triangles_refused_before : ¬ AtAll (elements two_triangles) (FourLeftTurns two_triangles)
+triangles_refused_before left =
+    (triangles_asked two_triangles).before.passed_before left 1 second_element.0 second_element.1
 
 -- ---- pairs: fill over clay, whose nodes 3 and 4 have both soils
 

@@ -34,7 +34,7 @@ use Rattle.scope.specs.Blends.{BlendedClaims}
 use Rattle.scope.specs.Parts.{carried, SameRows, PartsBracket, NumberOf}
 use Rattle.scope.specs.Tests.{row_at}
 use Rattle.scope.specs.Meaning.{Area, OutwardNormal}
-use Rattle.scope.specs.Triangles.{ReadAsTriangle, PassedBefore}
+use Rattle.scope.specs.Triangles.{ReadAsTriangle, PassedBefore, WithoutTriangles}
 use Rattle.scope.specs.Pairs.{Pairs, SoundPairs}
 use Rattle.scope.specs.Overlaps.{NoneOnEachOther, OnEachOther}
 use Rattle.scope.specs.SideLimits.{LimitsBySides}
@@ -172,8 +172,8 @@ pub record SidesAsked (m : List ℤ) (number place : ℕ) : Type 0 where
   pub polygon : MeshSound m → ListedPolygon (sides m)
 
 -- "An element whose third and fourth nodes are the same is to be read as a triangle: its balance rows are the same
--- sums, .. and three left turns are asked. The repeat makes no side .. Every other repeat still gets 5. A file that
--- passed before gives the same report." (document 02, N1)
+-- sums, .. and three left turns are asked. The repeat makes no side .. Every other repeat still gets 5." (document 02,
+-- N1)
 pub record TrianglesRead (m : List ℤ) (e : ℕ) : Type 0 where
   pub triangle : ReadAsTriangle m e
   pub only_repeat : (i j : ℕ) → i < j → j < 4 → corner m e i ≡ corner m e j → (i ≡ 2) × (j ≡ 3)
@@ -182,9 +182,11 @@ pub record TrianglesRead (m : List ℤ) (e : ℕ) : Type 0 where
   pub outward : (g : ℕ) → OutwardNormal m g e
   pub passed_before : PassedBefore m e
 
--- of each element of a mesh that passes
-abbrev pub TrianglesAsked : List ℤ → Type 0
-TrianglesAsked m = MeshSound m → (e : ℕ) → e < elements m → TrianglesRead m e
+-- of each element of a mesh that passes; and "A file that passed before gives the same report": a mesh that passed
+-- document 01's 5, as every mesh without triangles, passes and fails document 01's own 5, 6 and 8, at the same place
+pub record TrianglesAsked (m : List ℤ) : Type 0 where
+  pub read : MeshSound m → (e : ℕ) → e < elements m → TrianglesRead m e
+  pub before : WithoutTriangles m
 
 -- ==== Demand 3: loads compared
 

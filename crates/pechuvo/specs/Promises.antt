@@ -121,8 +121,8 @@ pub record AsRead (mesh table claim : List ℕ) (z : ℤ) (before : List ℕ) (n
       → ((e : ℕ) → e < elements (mesh_in mesh) → ¬ (at (mesh_in mesh) (soil_place (mesh_in mesh) e) ≡ pos 0))
       → AnswersOn (mesh_in mesh) claim z before number place after
 
--- "an empty one is no table": every call without one is exactly the call on two files, "A file that passed before gives
--- the same report"
+-- "handed over as a third file; an empty one is no table": every call without one is exactly the call on two files, so
+-- that "Without a table, soil 0 still gets 4"
 pub record NoTable (mesh : List ℕ) : Type 0 where
   pub read : mesh_with mesh [] ≡ mesh_in mesh
   pub outcome : mesh_outcome file_width mesh [] ≡ mesh_check (mesh_in mesh)

@@ -1,6 +1,8 @@
 -- An element has three corners or four, by whether its third and fourth node are the same; a turn at two equal nodes is
--- 0, so no other repeat turns left.
+-- 0, so no other repeat turns left. Without triangles the corners around an element are its four, and each check is
+-- document 01's.
 use mathlib.Core.Path.{◌≡◌, refl, sym, ◌∙◌, ap, subst}
+use mathlib.Core.Logic.{◌↔◌}
 use mathlib.Core.List.{List, [], ◌∷◌}
 use Prim.Native.Nat.{ℕ, zero, suc, ◌+◌, ◌-◌, ◌%◌, ◌<◌, ◌≤◌}
 use native.Mathlib.Nat.{mod-lt}
@@ -11,11 +13,13 @@ use lib.Signed.{◌<ℤ◌, <ℤ_irrefl}
 use borrow.Author.Tests.{eqb-true, eqb-false, eq-eqb, ne_eqb}
 use borrow.Table.Steps.{cases}
 use Rattle.integer.proofs.Ring.{ring, terms}
-use Rattle.scope.specs.Mesh.{x, y, corner, corner_count, around}
+use Rattle.scope.specs.Mesh.{elements, x, y, corner, corner_count, around}
 use Rattle.scope.specs.Rows.{node}
 use Rattle.scope.specs.Tests.{turn}
-use Rattle.scope.specs.Statements.{LeftTurns}
-use Rattle.scope.specs.Triangles.{OnlyRepeat, ReadAsTriangle, PassedBefore}
+use Rattle.scope.specs.Statements.{LeftTurns, OwnSides, IsSide, OuterEdge}
+use Rattle.scope.specs.Triangles.{OnlyRepeat, ReadAsTriangle, FourLeftTurns, OwnSidesBefore, SideBefore}
+use Rattle.scope.specs.Triangles.{OuterEdgeBefore, PassedBefore, SameAnswer, SameRefusals, NoTriangles}
+use Rattle.scope.specs.Triangles.{WithoutTriangles}
 
 -- ---- three or four
 
@@ -144,9 +148,115 @@ read_as_triangle m e h =
       again = around_is m e 3 3 c;
     }
 
+-- four left turns are at four different corners
+four_different : (m : List ℤ) (e : ℕ) → FourLeftTurns m e → ¬ (corner m e 2 ≡ corner m e 3)
+unfolding node
+four_different m e left =
+    (turns_different m (corner m e 1) (corner m e 2) (corner m e 3) (left 2 (lit< tt))).second_third
+
 pub passed_before : (m : List ℤ) (e : ℕ) → PassedBefore m e
 unfolding node
 passed_before m e left =
-    let different = (turns_different m (corner m e 1) (corner m e 2) (corner m e 3) (left 2 (lit< tt))).second_third in
-    let c = four_corners m e different in
+    let c = four_corners m e (four_different m e left) in
     record { four = c; corners = λ i. around_is m e i 4 c }
+
+-- ---- a mesh without triangles: 5, 6 and 8 are document 01's
+
+same_answer : {count : ℕ} {P Q : ℕ → Type 0} → ((k : ℕ) → k < count → P k ↔ Q k) → SameAnswer count P Q
+same_answer same = record {
+  pass = (λ all k l. (same k l).0 (all k l), λ all k l. (same k l).1 (all k l));
+  fail = λ k. (
+    λ f. record {
+      there = f.there;
+      lower = λ j l. (same j (omega (arith, l, f.there))).0 (f.lower j l);
+      fails = λ q. f.fails ((same k f.there).1 q);
+    },
+    λ f. record {
+      there = f.there;
+      lower = λ j l. (same j (omega (arith, l, f.there))).1 (f.lower j l);
+      fails = λ p. f.fails ((same k f.there).0 p);
+    },
+  );
+}
+
+module _ (m : List ℤ) (none : NoTriangles m) where
+  four : (e : ℕ) → e < elements m → corner_count m e ≡ 4
+  four e l = four_corners m e (none e l)
+
+  same_corner : (e : ℕ) → e < elements m → (i : ℕ) → around m e i ≡ node m e i
+  unfolding node
+  same_corner e l i = around_is m e i 4 (four e l)
+
+  -- 5
+  same_turns : (e : ℕ) → e < elements m → LeftTurns m e ↔ FourLeftTurns m e
+  unfolding around node
+  same_turns e l = (
+    turn_at m e 4 (four e l),
+    λ left. subst (λ (n : ℕ). (i : ℕ) → i < n
+        → pos 0 <ℤ turn m (corner m e ((i + (n - 1)) % n)) (corner m e (i % n)) (corner m e ((i + 1) % n)))
+        (sym (four e l)) left,
+  )
+
+  -- 6
+  to_own : (e : ℕ) → e < elements m → OwnSides m e → OwnSidesBefore m e
+  to_own e l own i h d b j k s =
+      let there : d < elements m = omega arith in
+      own i (omega (arith, h, four e l)) d b j (omega (arith, k, four d there)) (
+        same_corner d there j ∙ s.0 ∙ sym (same_corner e l i),
+        same_corner d there (j + 1) ∙ s.1 ∙ sym (same_corner e l (i + 1)),
+      )
+
+  from_own : (e : ℕ) → e < elements m → OwnSidesBefore m e → OwnSides m e
+  from_own e l own i h d b j k s =
+      let there : d < elements m = omega arith in
+      own i (omega (arith, h, four e l)) d b j (omega (arith, k, four d there)) (
+        sym (same_corner d there j) ∙ s.0 ∙ same_corner e l i,
+        sym (same_corner d there (j + 1)) ∙ s.1 ∙ same_corner e l (i + 1),
+      )
+
+  -- 8
+  to_side : {a b : ℕ} → IsSide m a b → SideBefore m a b
+  to_side s = record {
+    element = s.element;
+    there = s.there;
+    place = s.place;
+    four = omega (arith, s.inside, four s.element s.there);
+    first = sym (same_corner s.element s.there s.place) ∙ s.same.0;
+    second = sym (same_corner s.element s.there (s.place + 1)) ∙ s.same.1;
+  }
+
+  from_side : {a b : ℕ} → SideBefore m a b → IsSide m a b
+  from_side s = record {
+    element = s.element;
+    there = s.there;
+    place = s.place;
+    inside = omega (arith, s.four, four s.element s.there);
+    same = (
+      same_corner s.element s.there s.place ∙ s.first,
+      same_corner s.element s.there (s.place + 1) ∙ s.second,
+    );
+  }
+
+  same_edge : (g : ℕ) → OuterEdge m g ↔ OuterEdgeBefore m g
+  same_edge g = (
+    λ e. record {
+      is_side = to_side e.outer.is_side;
+      reverse_is_none = λ s. e.outer.reverse_is_none (from_side s);
+      is_first = e.is_first;
+    },
+    λ e. record {
+      outer = record { is_side = from_side e.is_side; reverse_is_none = λ s. e.reverse_is_none (to_side s) };
+      is_first = e.is_first;
+    },
+  )
+
+  same_refusals : SameRefusals m
+  same_refusals = record {
+    five = same_answer same_turns;
+    six = same_answer (λ e l. (to_own e l, from_own e l));
+    eight = same_answer (λ g l. same_edge g);
+  }
+
+pub without_triangles : (m : List ℤ) → WithoutTriangles m
+without_triangles m =
+    record { same = same_refusals m; passed_before = λ left e l. four_different m e (left e l) }
