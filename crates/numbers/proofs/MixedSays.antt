@@ -34,7 +34,7 @@ use Rattle.scope.specs.Worked.{zeros}
 use Rattle.scope.proofs.Computed.{computed}
 use Rattle.numbers.specs.declared.numbers_answer.NumbersAnswer.{NumbersAnswer}
 use Rattle.numbers.specs.Promises.{Answers, Returned, TellsField, MeshAnswered, CriterionForEachPair, PairsAsked}
-use Rattle.numbers.specs.Promises.{OverlapsAsked, JumpsAsked, SidesAsked, TrianglesRead}
+use Rattle.numbers.specs.Promises.{OverlapsAsked, JumpsAsked, SidesAsked, TrianglesRead, TrianglesAsked}
 use Rattle.numbers.specs.TablePromises.{TableAnswers}
 use Rattle.numbers.specs.MixedSheet.{mixed, two_layers, layers_turned, lower_layer, unfilled, soils_written}
 use Rattle.numbers.specs.MixedSheet.{mixed_field, mixed_multipliers, mixed_claim, claim_108, bedded_claim}
@@ -73,13 +73,14 @@ pub record Facts (m : List ℤ) : Type 0 where
   pub one_jump : 0 < jumps m
 
 -- by the promises of any call on the mesh, on numbers or on files
-module _ (m : List ℤ) (number place : ℕ) (sound : MeshSound m) (facts : Facts m) (pairs : PairsAsked m number place)
-    (overlaps : OverlapsAsked m number place) (joints : JumpsAsked m) (polygons : SidesAsked m number place) where
+module _ (m : List ℤ) (number place : ℕ) (sound : MeshSound m) (facts : Facts m) (triangles : TrianglesAsked m)
+    (pairs : PairsAsked m number place) (overlaps : OverlapsAsked m number place) (joints : JumpsAsked m)
+    (polygons : SidesAsked m number place) where
   there : (e : ℕ) → e < 3 → e < elements m
   there e l = omega (arith, l, facts.three)
 
   read : (e : ℕ) → e < 3 → TrianglesRead m e
-  read e l = (triangles_asked m).read sound e (there e l)
+  read e l = triangles.read sound e (there e l)
 
   pub mesh_says : MeshSays m
   mesh_says = record {
@@ -88,7 +89,7 @@ module _ (m : List ℤ) (number place : ℕ) (sound : MeshSound m) (facts : Fact
         let at = (read 2 (omega arith)).only_repeat i j l k same in
         facts.four_different (subst₂ (λ (a b : ℕ). corner m 2 a ≡ corner m 2 b) at.0 at.1 same);
     as_before = (read 2 (omega arith)).passed_before facts.turns;
-    areas = λ e l. ((triangles_asked m).read sound e l).area_above_0;
+    areas = λ e l. (triangles.read sound e l).area_above_0;
     outward =
         let side = facts.edge in
         subst (λ (v : ℕ). Inward m 0 v) side.4
@@ -133,11 +134,12 @@ module _ (m c : List ℤ) (r : NumbersAnswer) (h : Answers m c r) (accepted : r.
   sound = ((returns_zero_exactly m c r.number r.place answered).exactly.0 accepted).mesh
 
   says : MeshSays m
-  says = mesh_says m r.number r.place sound facts (pairs_asked m c r.number r.place answered)
+  says = mesh_says m r.number r.place sound facts (triangles_asked m) (pairs_asked m c r.number r.place answered)
       (overlaps_asked m c r.number r.place answered) (jumps_asked m) (sides_asked m c r.number r.place answered)
 
   pub many_says_lem : sides m ≡ 108 → FewNodes m
-  many_says_lem = few_nodes m r.number r.place sound facts (pairs_asked m c r.number r.place answered)
+  many_says_lem = few_nodes m r.number r.place sound facts (triangles_asked m)
+      (pairs_asked m c r.number r.place answered)
       (overlaps_asked m c r.number r.place answered) (jumps_asked m) (sides_asked m c r.number r.place answered)
 
   -- the mesh alone has the number 0

@@ -15,6 +15,7 @@ pub mod Promises
 pub mod TablePromises
 pub mod FilePromises
 pub mod PromisesApplied
+pub mod TrianglesApplied
 pub mod LoadsApplied
 pub mod PromisesApplied108
 pub mod PromisesAppliedBeds

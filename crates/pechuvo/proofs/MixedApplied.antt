@@ -129,8 +129,8 @@ module _ (s : Sheet) (m c : List ℤ) (h : Answers s.mesh s.table s.claim (pos 6
   }
     where
       mesh : MeshSays m
-      mesh = mesh_says m 0 0 sound facts accepted_call.pairs accepted_call.overlaps accepted_call.jumps
-          accepted_call.sides
+      mesh = mesh_says m 0 0 sound facts accepted_call.triangles accepted_call.pairs accepted_call.overlaps
+          accepted_call.jumps accepted_call.sides
 
       rows : OpenRowsPrinted m c (take report_bytes s.line)
       rows = open_lem s m c 0 0 h table_fits mesh_is claim_is refl has_field has_multipliers

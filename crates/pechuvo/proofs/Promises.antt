@@ -41,6 +41,7 @@ use Rattle.numbers.specs.Promises.{Returned}
 use Rattle.numbers.proofs.Promises.{returns_zero_exactly, refuses_exactly, numbers_listed, rows_refused}
 use Rattle.numbers.proofs.Promises.{field_exactly, multipliers_exactly, pairs_asked, sides_asked, overlaps_asked}
 use Rattle.numbers.proofs.Promises.{criterion_for_each_pair, directions_asked, jumps_asked, tractions_on_joints}
+use Rattle.numbers.proofs.Promises.{triangles_asked}
 use Rattle.report.specs.Text.{Said, number as shows, said}
 use Rattle.report.specs.Report.{report_bytes, report_line, most_decimals, Decimals, is_decimals}
 use Rattle.report.specs.Says.{LoadSays, no_load, rounded, Says, says_accepted, says_refused, LineSays}
@@ -320,6 +321,7 @@ module _ (m : List ℤ) (claim : List ℕ) (z : ℤ) (before : List ℕ) (number
         rows = rows_refused m c number place r;
         field = field_exactly m c number place r;
         multipliers = multipliers_exactly m c number place r;
+        triangles = triangles_asked m;
         pairs = pairs_asked m c number place r;
         criterion = criterion_for_each_pair m c number place r;
         directions = directions_asked m c number place r;

@@ -81,7 +81,7 @@ told b = record { number = 0; place = 0; book = b }
 
 -- of an accepted call on the mesh m, as it is read, and the claim c, that wrote this line
 pub record CallSays (m c : List ℤ) (line : List ℕ) : Type 0 where
-  -- `OnMesh`: its pairs, overlaps, jumps and sides; and the rest of it
+  -- `OnMesh`: its triangles, pairs, overlaps, jumps and sides; and the rest of it
   pub mesh : MeshSays m
   pub accepted : ClaimAccepted m c
   pub rows_met : MeetsPrinted m (stress m c) (l c) (n c)

@@ -33,7 +33,7 @@ use Rattle.numbers.specs.declared.numbers_answer.NumbersAnswer.{NumbersAnswer}
 use Rattle.numbers.specs.Promises.{returned_numbers, ReturnsZero, RefusesExactly, NumbersListed, TellsField}
 use Rattle.numbers.specs.Promises.{RowsRefused, FieldExactly, MultipliersExactly, CriterionForEachPair}
 use Rattle.numbers.specs.Promises.{DirectionsAsked, PairsAsked, SidesAsked, OverlapsAsked, JumpsAsked}
-use Rattle.numbers.specs.Promises.{TractionsOnJoints, FractionsBracket}
+use Rattle.numbers.specs.Promises.{TractionsOnJoints, TrianglesAsked, FractionsBracket}
 use Rattle.numbers.specs.NumbersAnswer.{answer_of}
 use Rattle.numbers.specs.TablePromises.{TableAnswers, TableExactly, FilledMesh}
 use Rattle.reader.specs.File.{file_of, table_of, table_numbers_of, file_width, line_bytes}
@@ -142,8 +142,8 @@ pub record OnTable (mesh table claim : List ℕ) (number place : ℕ) : Type 0 w
 -- ==== Demand 2: what is accepted, what is refused, what is printed; where a line is written (`Room`)
 
 -- 0 exactly when, each refusal with its place exactly when, no number but those of the table, each part accepted
--- exactly when, the pairs with the criterion for each, strength by direction, the elements that lie on each other, the
--- jumps with the tractions on their joints, and what goes by the number of sides
+-- exactly when, the triangles, the pairs with the criterion for each, strength by direction, the elements that lie on
+-- each other, the jumps with the tractions on their joints, and what goes by the number of sides
 pub record OnMesh (m c : List ℤ) (number place : ℕ) : Type 0 where
   pub returns_zero : ReturnsZero m c number place
   pub refuses : RefusesExactly m c number place
@@ -151,6 +151,7 @@ pub record OnMesh (m c : List ℤ) (number place : ℕ) : Type 0 where
   pub rows : RowsRefused m c number place
   pub field : FieldExactly m c number
   pub multipliers : MultipliersExactly m c number
+  pub triangles : TrianglesAsked m
   pub pairs : PairsAsked m number place
   pub criterion : TellsField c number → CriterionForEachPair m c
   pub directions : DirectionsAsked m c number
