@@ -5,10 +5,13 @@ use mathlib.Core.Logic.{◌⊎◌}
 use mathlib.Core.List.Memᴰ
 use Prim.Native.Nat.{ℕ, zero, suc, ◌+◌, ◌*◌, ◌<◌, ◌≤◌}
 use native.Mathlib.Omega.{arith}
-use lib.IntN.{pos, neg_ℤ}
+use mathlib.Core.List.{List}
+use lib.IntN.{ℤ, pos, neg_ℤ}
 use Rattle.std.specs.Prelude.{Result}
 use Rattle.scope.specs.declared.Refusal as Answered
-use Rattle.scope.specs.Mesh.{soils, sides, ByDirection, ListsDirection}
+use Rattle.scope.specs.Mesh.{mesh_layout, soils, sides, ByDirection, ListsDirection}
+use Rattle.scope.specs.Cases.Outcome.{Passed}
+use Rattle.scope.specs.Verdict.{line_at}
 use Rattle.integer.specs.Members.{◌∈◌}
 use Rattle.scope.specs.Layers.{Has}
 use Rattle.scope.specs.Polygon.{point, half_turn, polygon_of}
@@ -19,8 +22,9 @@ use Rattle.scope.specs.Printed.{StrengthAt}
 use Rattle.scope.specs.RowNumbers.{side_numbered}
 use Rattle.scope.specs.Answer.{outcome_of, place_for, mesh_number_of}
 use Rattle.scope.specs.declared.Place.TheVariants.{Row}
-use Rattle.scope.specs.Refusals.{Refusal}
-use Rattle.scope.specs.Statements.{HasField, HasMultipliers}
+use Rattle.scope.specs.Refusals.{SoundTo, Refusal}
+use Rattle.scope.specs.Statements.{Complete, HasField, HasMultipliers}
+use Rattle.scope.proofs.Refusals.{line_passed}
 use Rattle.scope.specs.TableVerdict.{TableFits}
 use Rattle.numbers.specs.declared.numbers_answer.NumbersAnswer.{NumbersAnswer}
 use Rattle.numbers.specs.Promises.{Answers, Returned, MeshAnswered}
@@ -29,7 +33,7 @@ use Rattle.numbers.specs.MixedSheet.{two_layers, layers_turned, lower_layer, unf
 use Rattle.numbers.specs.MixedSheet.{mixed_claim, claim_108, bedded_claim}
 use Rattle.numbers.specs.MixedSheet.{ClaimSays, PlainSays, BeddedSays, FewNodes, TableSays, RefusedSays, JointFails}
 use Rattle.numbers.specs.MixedSheet.{ClayFails, BedFails, GapRefused}
-use Rattle.numbers.proofs.Promises.{returned, refuses_exactly, rows_refused}
+use Rattle.numbers.proofs.Promises.{returned, refuses_exactly, rows_refused, sides_asked}
 use Rattle.numbers.proofs.TablePromises.{table_returned, table_exactly}
 use Rattle.numbers.proofs.MixedSays.{opened, facts_lem, filled_lem, mesh_alone, claim_says, plain_says, bedded_says}
 use Rattle.numbers.proofs.MixedSays.{many_says_lem, refused_says, table_fits, on_filled, table_facts, answer, refusal}
@@ -175,9 +179,28 @@ pub many_sides : sides (soils_written 108 0) ≡ 108
 unfolding opened
 many_sides = refl
 
-pub many_few : FewNodes (soils_written 108 0)
+pub many_few : FewNodes (soils_written 108 0) (claim_108 64 even)
 many_few =
-    many_says_lem (soils_written 108 0) (claim_108 64 even) many_answer many_on_filled refl (facts_lem 108 0) many_sides
+    many_says_lem (soils_written 108 0) (claim_108 64 even) many_answer many_on_filled refl (facts_lem 108 0)
+    many_parts.1 many_sides
+
+-- and with clay of kind 1, line 3: any answer has 2 there
+bedded_108 : (sides (soils_written 108 1) ≡ 108) × (1 < soils (soils_written 108 1))
+    × ByDirection (soils_written 108 1) 1 × (line_at mesh_layout (soils_written 108 1) 0 ≡ Passed)
+    × (line_at mesh_layout (soils_written 108 1) 1 ≡ Passed) × Complete mesh_layout (soils_written 108 1) 2
+unfolding opened
+bedded_108 = (refl, omega arith, refl, refl, refl, refl)
+
+header_passes : SoundTo mesh_layout (soils_written 108 1) 2
+header_passes zero h = (line_passed mesh_layout (soils_written 108 1) 0).says bedded_108.3
+header_passes (suc zero) h = (line_passed mesh_layout (soils_written 108 1) 1).says bedded_108.4
+header_passes (suc (suc k)) h = absurd (omega (arith, h))
+
+pub bedded_108_refused : (c : List ℤ) (r : NumbersAnswer) → Answers (soils_written 108 1) c r
+    → (r.number ≡ 2) × (r.place ≡ 3)
+bedded_108_refused c r h =
+    (sides_asked (soils_written 108 1) c r.number r.place (returned h)).bedded_soil bedded_108.0 1 bedded_108.1
+    bedded_108.2 header_passes bedded_108.5
 
 beyond_108 : TableAnswers two_layers (unfilled 108 0) (claim_108 65 even) (refusal 22 109)
 unfolding opened

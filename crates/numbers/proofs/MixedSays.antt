@@ -73,9 +73,9 @@ pub record Facts (m : List ℤ) : Type 0 where
   pub one_jump : 0 < jumps m
 
 -- by the promises of any call on the mesh, on numbers or on files
-module _ (m : List ℤ) (number place : ℕ) (sound : MeshSound m) (facts : Facts m) (triangles : TrianglesAsked m)
+module _ (m c : List ℤ) (number place : ℕ) (sound : MeshSound m) (facts : Facts m) (triangles : TrianglesAsked m)
     (pairs : PairsAsked m number place) (overlaps : OverlapsAsked m number place) (joints : JumpsAsked m)
-    (polygons : SidesAsked m number place) where
+    (polygons : SidesAsked m c number place) where
   there : (e : ℕ) → e < 3 → e < elements m
   there e l = omega (arith, l, facts.three)
 
@@ -120,10 +120,13 @@ module _ (m : List ℤ) (number place : ℕ) (sound : MeshSound m) (facts : Fact
     polygon = polygons.polygon sound;
   }
 
-  pub few_nodes : sides m ≡ 108 → FewNodes m
-  few_nodes e =
-      let limits = polygons.limits.with_108 e in record
-      { few_nodes = limits.nodes_few sound; few_pairs = limits.pairs_few sound }
+  pub few_nodes : number ≡ 0 → HasMultipliers c → sides m ≡ 108 → FewNodes m c
+  few_nodes z there e =
+      let limits = polygons.limits.with_108 e in record {
+        few_nodes = limits.nodes_few sound;
+        few_pairs = limits.pairs_few sound;
+        small_multipliers = polygons.small_multipliers z there e;
+      }
 
 -- by those of any answer that accepts a claim on it
 module _ (m c : List ℤ) (r : NumbersAnswer) (h : Answers m c r) (accepted : r.number ≡ 0) (facts : Facts m) where
@@ -134,13 +137,13 @@ module _ (m c : List ℤ) (r : NumbersAnswer) (h : Answers m c r) (accepted : r.
   sound = ((returns_zero_exactly m c r.number r.place answered).exactly.0 accepted).mesh
 
   says : MeshSays m
-  says = mesh_says m r.number r.place sound facts (triangles_asked m) (pairs_asked m c r.number r.place answered)
+  says = mesh_says m c r.number r.place sound facts (triangles_asked m) (pairs_asked m c r.number r.place answered)
       (overlaps_asked m c r.number r.place answered) (jumps_asked m) (sides_asked m c r.number r.place answered)
 
-  pub many_says_lem : sides m ≡ 108 → FewNodes m
-  many_says_lem = few_nodes m r.number r.place sound facts (triangles_asked m)
-      (pairs_asked m c r.number r.place answered)
-      (overlaps_asked m c r.number r.place answered) (jumps_asked m) (sides_asked m c r.number r.place answered)
+  pub many_says_lem : HasMultipliers c → sides m ≡ 108 → FewNodes m c
+  many_says_lem = few_nodes m c r.number r.place sound facts (triangles_asked m)
+      (pairs_asked m c r.number r.place answered) (overlaps_asked m c r.number r.place answered) (jumps_asked m)
+      (sides_asked m c r.number r.place answered) accepted
 
   -- the mesh alone has the number 0
   pub mesh_alone : {A : Type 0} (a : Result A Answered.Refusal) → MeshAnswered m a → mesh_number_of (outcome_of a) ≡ 0

@@ -5,11 +5,12 @@ use mathlib.Core.Logic.{◌⊎◌, inl, inr, ◌≢◌}
 use mathlib.Core.Bool.{Bool}
 use mathlib.Core.List.Memᴰ
 use mathlib.Core.List.{List}
-use Prim.Native.Nat.{ℕ, ◌≤◌}
+use Prim.Native.Nat.{ℕ, suc, ◌≤◌}
 use native.Mathlib.Omega.{arith}
-use lib.IntN.{ℤ}
+use lib.IntN.{ℤ, pos}
+use lib.Signed.{◌<ℤ◌, lt_z_yes}
 use Rattle.scope.specs.declared.Place.{Place}
-use Rattle.scope.specs.declared.Place.TheVariants.{Line, Element}
+use Rattle.scope.specs.declared.Place.TheVariants.{Element}
 use Rattle.scope.specs.Cases.Verdict.{Verdict}
 use Rattle.scope.specs.Cases.Verdict.{Accepted, Refused}
 use Rattle.std.specs.Prelude.{Result}
@@ -20,6 +21,7 @@ use Rattle.scope.specs.Mesh.{sides}
 use Rattle.scope.specs.Claim.{stress}
 use Rattle.scope.specs.Verdict.{verdict, lower_load, upper_load, open_count}
 use Rattle.scope.specs.Refusals.{mesh_phases, claim_phases, MeshRefusal, Refusal}
+use Rattle.scope.specs.SideLimits.{strength_line}
 use Rattle.scope.specs.Accepted.{FieldAccepted}
 use Rattle.scope.proofs.PlaceKinds.{place_kind, place_number_lem, mesh_exactly}
 use Rattle.scope.proofs.RefusedRows.{equality_fails, strength_fails, pairs_fail}
@@ -33,6 +35,7 @@ use Rattle.scope.proofs.Pairs.{pairs, sound_pairs}
 use Rattle.scope.proofs.Phases.{join_refused}
 use Rattle.scope.proofs.NumberRanges.{mesh_facts}
 use Rattle.scope.proofs.PolygonRule.{listed_polygon}
+use Rattle.scope.proofs.LimitsRefused.{over_limit}
 use Rattle.scope.proofs.SideLimits.{limits_by_sides}
 use Rattle.scope.proofs.Overlaps.{sound_mesh_apart}
 use Rattle.scope.proofs.OverlapRefused.{overlap_named, never_for_this}
@@ -196,17 +199,31 @@ module _ (m c : List ℤ) (number place : ℕ) (h : Returned m c number place) w
     refused = λ e. pairs_fail m c place ((refuses_exactly.exactly 42 place (λ z. omega arith)).0 (e, refl));
   }
 
-  pub sides_asked : SidesAsked m number place
+  pub sides_asked : SidesAsked m c number place
   unfolding place_for
   sides_asked = record {
     limits = limits_by_sides m;
     many_nodes = λ l e h. (refuses_exactly.exactly 2 1 (λ z. omega arith)).1
         (of_mesh (((limits_by_sides m).with_108 e).nodes_refused l h));
+    small_multipliers = λ z there e.
+        let a = returns_zero_exactly.exactly.0 z in
+        λ p i h l. (((limits_by_sides m).with_108 e).strength_few c a.mesh a.lines there p i h l).most;
+    large_multiplier = λ sound there e a i h l large before whole.
+        (refuses_exactly.exactly 12 (suc (strength_line m c a)) (λ z. omega arith)).1
+        (((limits_by_sides m).with_108 e).strength_refused c sound there a i h l (λ b. over_limit large b.most) before
+        whole);
+    bedded_soil = λ e s h kind before whole.
+        (refuses_exactly.exactly 2 (suc (suc s)) (λ z. omega arith)).1
+        (of_mesh (((limits_by_sides m).with_108 e).kind_refused s h (λ b. over_limit (above_0 kind) b.most) before
+        whole));
     polygon = λ s. listed_polygon (sides m) (mesh_facts m s.lines).counts.sides_listed;
   }
     where
-      of_mesh : MeshRefusal m 2 (Line 1) → Refusal m c 2 (Line 1)
-      of_mesh r = record { by = join_refused (mesh_phases m) (claim_phases m c) 2 (Line 1) (inl r.by) }
+      of_mesh : {p : Place} → MeshRefusal m 2 p → Refusal m c 2 p
+      of_mesh {p} r = record { by = join_refused (mesh_phases m) (claim_phases m c) 2 p (inl r.by) }
+
+      above_0 : {z : ℤ} → z ≡ pos 1 → pos 0 <ℤ z
+      above_0 e = rw e (lt_z_yes tt)
 
   pub overlaps_asked : OverlapsAsked m number place
   unfolding place_for

@@ -1,7 +1,8 @@
 -- One small sheet with all that document 02 adds to a mesh: two triangles in two soils, which share two nodes, beside a
 -- block on a joint, and a borehole table that gives the triangles their soils; with 12 or 108 sides, and clay of either
 -- kind. And what each promise says of it.
-use Rattle.std.specs.Prelude.{◌≡◌, ◌≢◌, List, [], ◌∷◌, ◌++◌, ℕ, ◌+◌, ◌*◌, ◌≤◌, ◌<◌, ℤ, pos, negsuc, neg_ℤ, ◌<ℤ◌, length}
+use Rattle.std.specs.Prelude.{◌≡◌, ◌≢◌, List, [], ◌∷◌, ◌++◌, ℕ, ◌+◌, ◌*◌, ◌≤◌, ◌<◌, ℤ, pos, negsuc, neg_ℤ, ◌<ℤ◌}
+use Rattle.std.specs.Prelude.{◌≤ℤ◌, length}
 use Rattle.integer.specs.Fraction.{◌over◌, ◌≈ᶠ◌}
 use Rattle.integer.specs.Members.{◌∈◌}
 use Rattle.scope.specs.declared.Place.TheVariants.{Height}
@@ -21,6 +22,7 @@ use Rattle.scope.specs.Triangles.{Triangle, AsBefore}
 use Rattle.scope.specs.Pairs.{Before, SoundPairs}
 use Rattle.scope.specs.Jumps.{SoundJumps, SameTraction}
 use Rattle.scope.specs.Overlaps.{NoneOnEachOther}
+use Rattle.scope.specs.SideLimits.{strength_at}
 use Rattle.scope.specs.PolygonRule.{ListedPolygon}
 use Rattle.scope.specs.Bracket.{Open, NoneOpen}
 use Rattle.scope.specs.Parts.{carried, NumberOf, PartsBracket}
@@ -170,10 +172,11 @@ pub record BeddedSays (m c : List ℤ) (r : NumbersAnswer) : Type 0 where
   pub plane : PlaneHoldsAt m (stress m c) (n c) (record { at = 2; soil = 1 }) (point (pos 4) (pos 3))
   pub untold : (r.l ≡ pos 0) × (r.n ≡ pos 0)
 
--- with 108 sides (`SidesAsked`): no more nodes and pairs than such a mesh may have
-pub record FewNodes (m : List ℤ) : Type 0 where
+-- with 108 sides (`SidesAsked`): no more nodes and pairs than such a mesh may have, and no larger multipliers
+pub record FewNodes (m c : List ℤ) : Type 0 where
   pub few_nodes : nodes m ≤ 40
   pub few_pairs : pair_count m ≤ 40
+  pub small_multipliers : (a i : ℕ) → a < pair_count m → i < sides m → strength_at m c a i ≤ℤ pos 300
 
 -- of the table t and the mesh m with soil 0 (`TableExactly`, `FilledMesh`): it fits, each triangle's height is in one
 -- layer, its lines in another order fill the mesh the same way, and nothing but soil 0 changes

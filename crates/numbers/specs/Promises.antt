@@ -4,21 +4,23 @@
 -- Each is proved of every answer (`proofs/Promises.antt`, `Reported.antt`), applied to document 01's sheet
 -- (`proofs/PromisesApplied.antt`) and to one that has all that document 02 adds (`MixedApplied.antt`). Those about the
 -- number and the place alone serve the check of two files too.
-use Rattle.std.specs.Prelude.{◌≡◌, ◌↔◌, ◌⊎◌, ◌≢◌, List, ◌∷◌, ℕ, ◌+◌, ◌*◌, ◌≤◌, ◌<◌, ℤ, pos, ◌<ℤ◌, length, Result}
+use Rattle.std.specs.Prelude.{◌≡◌, ◌↔◌, ◌⊎◌, ◌≢◌, List, ◌∷◌, ℕ, suc, ◌+◌, ◌*◌, ◌≤◌, ◌<◌, ℤ, pos, ◌≤ℤ◌, ◌<ℤ◌}
+use Rattle.std.specs.Prelude.{length, Result}
 use Rattle.integer.specs.Fraction.{Frac, ◌over◌, ◌≈ᶠ◌, ◌≤ᶠ◌}
 use Rattle.integer.specs.Members.{◌∈◌}
 use Rattle.scope.specs.Columns.{at, has_field, n, l}
-use Rattle.scope.specs.Mesh.{mesh_header_columns, nodes, elements, sides, corner, ListsDirection}
+use Rattle.scope.specs.Mesh.{mesh_header_columns, mesh_layout, nodes, elements, soils, sides, corner, ByDirection}
+use Rattle.scope.specs.Mesh.{ListsDirection}
 use Rattle.scope.specs.Polygon.{Point}
-use Rattle.scope.specs.Rows.{rows_of, twice_area}
+use Rattle.scope.specs.Rows.{rows_of, twice_area, pair_count}
 use Rattle.scope.specs.Sums.{live_sum, limit_sum}
 use Rattle.scope.specs.Claim.{claim_layout, stress, multiplier}
 use Rattle.scope.specs.declared.Refusal as Answered
 use Rattle.scope.specs.Verdict.{mesh_check, verdict}
 use Rattle.scope.specs.Answer.{outcome_of, place_for, number_of, place_of}
 use Rattle.scope.specs.AnsweredMesh.{MeshExactly}
-use Rattle.scope.specs.Statements.{LinesSound, MeshSound, HasField, HasMultipliers}
-use Rattle.scope.specs.Refusals.{Refusal}
+use Rattle.scope.specs.Statements.{Complete, LinesSound, MeshSound, HasField, HasMultipliers}
+use Rattle.scope.specs.Refusals.{SoundTo, Refusal}
 use Rattle.scope.specs.Refusals.{table_numbers}
 use Rattle.scope.specs.Accepted.{FieldAccepted, MultipliersAccepted, ClaimAccepted}
 use Rattle.scope.specs.Printed.{MeetsPrinted}
@@ -37,7 +39,7 @@ use Rattle.scope.specs.Meaning.{Area, OutwardNormal}
 use Rattle.scope.specs.Triangles.{ReadAsTriangle, PassedBefore, WithoutTriangles}
 use Rattle.scope.specs.Pairs.{Pairs, SoundPairs}
 use Rattle.scope.specs.Overlaps.{NoneOnEachOther, OnEachOther}
-use Rattle.scope.specs.SideLimits.{LimitsBySides}
+use Rattle.scope.specs.SideLimits.{strength_at, strength_line, LimitsBySides}
 use Rattle.scope.specs.PolygonRule.{ListedPolygon}
 use Rattle.numbers.specs.declared.numbers_answer.NumbersAnswer.{NumbersAnswer}
 use Rattle.numbers.specs.NumbersAnswer.{answer_of}
@@ -166,9 +168,21 @@ TractionsOnJoints m c number = TellsField c number → TractionsAgree m c
 -- 12 are given as for other limits. That every corner is on the circle, in order, with none left out is shown for the
 -- whole list together, and what holds for a polygon of any listed number of sides now includes this one" (document 02,
 -- N9)
-pub record SidesAsked (m : List ℤ) (number place : ℕ) : Type 0 where
+pub record SidesAsked (m c : List ℤ) (number place : ℕ) : Type 0 where
   pub limits : LimitsBySides m
   pub many_nodes : mesh_header_columns ≤ length m → sides m ≡ 108 → pos 40 <ℤ at m 0 → (number ≡ 2) × (place ≡ 1)
+  -- an accepted claim has none above 300; 12 with the line of one, if the mesh passes and the lines before it, and it
+  -- has all its numbers
+  pub small_multipliers : number ≡ 0 → HasMultipliers c → sides m ≡ 108 → (a i : ℕ) → a < pair_count m → i < sides m
+      → strength_at m c a i ≤ℤ pos 300
+  pub large_multiplier : MeshSound m → HasMultipliers c → sides m ≡ 108 → (a i : ℕ) → a < pair_count m → i < sides m
+      → pos 300 <ℤ strength_at m c a i → SoundTo (claim_layout m) c (strength_line m c a)
+      → Complete (claim_layout m) c (strength_line m c a)
+      → (number ≡ 12) × (place ≡ suc (strength_line m c a))
+  -- "Kind 1 with 108 sides gets 2, with the soil's line" (N14): of soil s, counted from 0, after the header, if the
+  -- lines before it pass and it has all its numbers
+  pub bedded_soil : sides m ≡ 108 → (s : ℕ) → s < soils m → ByDirection m s → SoundTo mesh_layout m (suc s)
+      → Complete mesh_layout m (suc s) → (number ≡ 2) × (place ≡ suc (suc s))
   pub polygon : MeshSound m → ListedPolygon (sides m)
 
 -- "An element whose third and fourth nodes are the same is to be read as a triangle: its balance rows are the same

@@ -129,7 +129,7 @@ module _ (s : Sheet) (m c : List ℤ) (h : Answers s.mesh s.table s.claim (pos 6
   }
     where
       mesh : MeshSays m
-      mesh = mesh_says m 0 0 sound facts accepted_call.triangles accepted_call.pairs accepted_call.overlaps
+      mesh = mesh_says m c 0 0 sound facts accepted_call.triangles accepted_call.pairs accepted_call.overlaps
           accepted_call.jumps accepted_call.sides
 
       rows : OpenRowsPrinted m c (take report_bytes s.line)

@@ -156,7 +156,7 @@ pub record OnMesh (m c : List ℤ) (number place : ℕ) : Type 0 where
   pub criterion : TellsField c number → CriterionForEachPair m c
   pub directions : DirectionsAsked m c number
   pub jumps : JumpsAsked m
-  pub sides : SidesAsked m number place
+  pub sides : SidesAsked m c number place
   pub overlaps : OverlapsAsked m number place
   pub tractions : TractionsOnJoints m c number
 

@@ -19,8 +19,9 @@ pub mod LineRefusals
 pub mod Directions
 pub mod NumberRanges
 pub mod Pairs
-pub mod SideLimits
 pub mod ClaimNumberRanges
+pub mod LimitsRefused
+pub mod SideLimits
 pub mod PolygonRule
 pub mod Printed
 pub mod Meets

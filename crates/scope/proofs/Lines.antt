@@ -11,7 +11,7 @@ use borrow.Author.Tests.{lt-ltb, le-ltb}
 use Rattle.scope.specs.Columns.{Limit, free, at}
 use Rattle.scope.specs.Layout.{Group, Layout, Placed, width, groups, line_count, lines_before, numbers_before}
 use Rattle.scope.specs.Layout.{line_of, line_numbers, entry}
-use Rattle.scope.specs.Statements.{Within, AllWithin, AllSay, LineSound, LinesSound}
+use Rattle.scope.specs.Statements.{Within, AllWithin, AllSay, Complete, InLimits, LineSound, LinesSound}
 
 -- no group at all
 abbrev pub no_group : Group
@@ -70,6 +70,24 @@ within-at [] zs c e h w = absurd (omega arith)
 within-at (a ∷ limits) [] c e h w = absurd (omega arith)
 within-at (a ∷ limits) (z ∷ zs) zero e h w = w.0
 within-at (a ∷ limits) (z ∷ zs) (suc c) e h w = within-at limits zs c (omega arith) (omega arith) w.1
+
+-- each number of a line that is there whole, within its limits, is within its own
+pub line_within : (f : Layout) (ns : List ℤ) (j i : ℕ) → i < (group (groups f ns) j).lines
+    → Complete f ns (lines_before (groups f ns) j + i) → InLimits f ns (lines_before (groups f ns) j + i) → (c : ℕ)
+    → c < width (group (groups f ns) j) → Within (get_or (group (groups f ns) j).limits c free)
+    (entry (groups f ns) ns j i c)
+unfolding line_numbers
+line_within f ns j i h whole within c l =
+    let gs : List Group = groups f ns in
+    let e : line_of 0 gs (lines_before gs j + i)
+    ≡ record { group = group gs j; first = numbers_before gs j + i * width (group gs j) } =
+    line_in_group gs 0 j i h ∙ ap (λ (a : ℕ). record { group = group gs j; first = a + i * width (group gs j) })
+    (zero-add (numbers_before gs j)) in
+    let g : (length (line_in gs ns j i) ≡ width (group gs j)) × AllWithin (group gs j).limits (line_in gs ns j i) =
+    subst (λ (l : Placed). (length (line_numbers ns l) ≡ width l.group) × AllWithin l.group.limits (line_numbers ns l))
+    e (whole, within) in
+    subst (λ (z : ℤ). Within (get_or (group gs j).limits c free) z) (at_line_in gs ns j i c l)
+    (within-at (group gs j).limits (line_in gs ns j i) c g.0 l g.1)
 
 -- what a sound line says of its numbers in the file
 pub record LineFacts (gs : List Group) (ns : List ℤ) (j i : ℕ) : Type 0 where

@@ -1,25 +1,23 @@
 -- The limits by number of sides are those of the definitions, by whether there are 108; a header over its limit of
 -- nodes fails its limits or its rule.
-use mathlib.Core.Path.{◌≡◌, refl, ap, subst}
+use mathlib.Core.Path.{◌≡◌, refl, subst}
 use mathlib.Core.Logic.{◌↔◌, ◌⊎◌, inl, inr}
 use mathlib.Core.Bool.{Bool, true, false, cond}
 use mathlib.Core.List.{List, [], ◌∷◌}
 use Prim.Native.Nat.{ℕ, ◌≤◌, ◌<◌}
 use native.Mathlib.Omega.{arith}
 use lib.IntN.{ℤ, pos}
-use lib.Signed.{◌≤ℤ◌, ◌<ℤ◌, <ℤ_irrefl}
+use lib.Signed.{◌≤ℤ◌, ◌<ℤ◌}
 use lib.Dec.{eqb}
-use lib.ListN.{length, replicate}
+use lib.ListN.{length}
 use lib.Seq.{length-take-le}
 use borrow.Author.Tests.{ne_eqb}
-use Rattle.integer.proofs.Order.{≤ℤ-<ℤ_trans}
 use Rattle.scope.specs.declared.Place.TheVariants.{Line}
-use Rattle.scope.specs.Columns.{between, Rule, at_most_where, at}
+use Rattle.scope.specs.Columns.{Rule, at_most_where, at}
 use Rattle.scope.specs.Layout.{groups, line_of, line_numbers, line_count, numbers_at}
 use Rattle.scope.specs.Mesh.{most_pairs, most_sides, most_strength, nodes_for_108, pairs_for_108, strength_for_108}
 use Rattle.scope.specs.Mesh.{nodes_with, pairs_with, strength_multiplier, mesh_header_columns, mesh_header}
-use Rattle.scope.specs.Mesh.{mesh_layout, layout_with, nodes, sides, kind_with, soil_lines, soil_kind}
-use Rattle.scope.specs.Claim.{strength_multipliers}
+use Rattle.scope.specs.Mesh.{mesh_layout, layout_with, nodes, sides, kind_with, soil_kind}
 use Rattle.scope.specs.Rows.{pair_count, pair_at}
 use Rattle.scope.specs.Statements.{Says, InLimits, RulesHold, PairsFit}
 use Rattle.scope.specs.Refusals.{rule_number, line_phases, shape_phases, MeshRefusal}
@@ -30,6 +28,7 @@ use Rattle.scope.proofs.Statements.{all_within_lem}
 use Rattle.scope.proofs.Phases.{join_refused}
 use Rattle.scope.proofs.NumberRanges.{count_is, mesh_facts}
 use Rattle.scope.proofs.Pairs.{pairs, few_pairs_lem}
+use Rattle.scope.proofs.LimitsRefused.{over_limit, kind_refused_lem, strength_refused_lem, strength_few_lem}
 
 -- ---- the most, whatever the number of sides
 
@@ -80,9 +79,6 @@ header_refused m there over = record {
     by {b = true} d = inr (d.holds tt, inl (λ s. over (d.holds tt) (s, tt), refl))
     by {b = false} d = inl (λ w. d.passes w, refl)
 
-over_limit : {B : ℕ} {z : ℤ} → pos B <ℤ z → z ≤ℤ pos B → ⊥
-over_limit h k = <ℤ_irrefl (≤ℤ-<ℤ_trans k h)
-
 nodes_over : (m : List ℤ) → at m 4 ≡ pos 108 → mesh_header_columns ≤ length m → pos 40 <ℤ at m 0
     → MeshRefusal m 2 (Line 1)
 unfolding layout_with groups mesh_header line_of line_numbers at
@@ -103,7 +99,6 @@ module _ (m : List ℤ) {node_most pair_most strength_most kind_most : ℕ} (a :
     (d : kind_with (sides m) ≡ kind_most) where
   limits_are : (mesh_header_columns ≤ length m → pos node_most <ℤ at m 0 → MeshRefusal m 2 (Line 1))
       → SideLimits m node_most pair_most strength_most kind_most
-  unfolding strength_multipliers soil_lines
   limits_are refused = record {
     nodes_refused = refused;
     nodes_few = λ s. subst (λ (k : ℕ). nodes m ≤ k) a (mesh_facts m s.lines).counts.nodes_fit;
@@ -111,8 +106,9 @@ module _ (m : List ℤ) {node_most pair_most strength_most kind_most : ℕ} (a :
         (λ (k : ℕ). LowestFails (nodes m) (PairsFit m) v ↔ ((k < pair_count m) × ((pair_at m k).at ≡ v))) b
         ((pairs m).brings_one_more v);
     pairs_few = λ s. subst (λ (k : ℕ). pair_count m ≤ k) b (few_pairs_lem m s);
-    strength_limits = λ k. ap (λ (z : ℕ). replicate (sides m) (between (pos 0) (pos z))) c;
-    kind_limit = λ k. ap (λ (z : ℕ). between (pos 0) (pos z)) d;
+    strength_refused = λ k s h. strength_refused_lem m k h c s;
+    strength_few = λ k s lines h. strength_few_lem m k h c s lines;
+    kind_refused = kind_refused_lem m d;
     kinds_fit = λ s k l. subst (λ (z : ℕ). soil_kind m k ≤ℤ pos z) d ((mesh_facts m s.lines).soil k l).kind_range.most;
   }
 
