@@ -26,7 +26,8 @@ mesh_fractions m sound =
     record {
       laws = laws;
       accepted_field = λ c h field. laws.whole_numbers (n c) h (stress m c) (l c) field.meets;
-      at_most = λ k f mults meets. laws.at_most f (multiplier m k) meets (multipliers_meet_lem m k mults);
+      at_most = λ k f mults meets. laws.at_most f (multiplier m k) meets (multipliers_meet_lem m k mults)
+          mults.meet.live;
     }
 
 -- against accepted multipliers for the same rows

@@ -183,8 +183,8 @@ pub blend_laws : (N : ℕ) (rs : List Row) → Columns N rs → BlendLaws N rs
 blend_laws N rs within = record {
   can_be_blended = λ a b h f g. blend_of N a b h f g;
   meets = λ a b h f g k blend v w. meets N a b h f g k blend rs v w;
-  at_most = λ a b h f g k blend v w y mults. (fraction_laws N rs within).at_most k y
-      (meets N a b h f g k blend rs v w) mults;
+  at_most = λ a b h f g k blend v w y mults live. (fraction_laws N rs within).at_most k y
+      (meets N a b h f g k blend rs v w) mults live;
   between = λ a b h f g k blend l. between a b h f.load.proper g.load.proper k.load.proper blend.load l;
   first_alone = λ a h f g k blend. record {
     stresses = λ j l. first_back a h (f.stress j) (g.stress j) (k.stress j) (blend.stresses j l);

@@ -157,5 +157,5 @@ fraction_laws N rs within = record {
     written = record { above_0 = h; stresses = λ j k. record { cross-≡ = refl }; load = record { cross-≡ = refl } };
     meets = met;
   };
-  at_most = λ f w h mults. load_at_most N rs within f w h mults;
+  at_most = λ f w h mults live. load_at_most N rs within f w h mults;
 }

@@ -39,9 +39,9 @@ pub record BlendLaws (columns : ℕ) (rs : List Row) : Type 0 where
   -- of fields that meet the rows it meets them
   pub meets : (a b : ℕ) → 0 < a + b → (f g k : FractionField) → Blend columns a b f g k → FractionsMeet columns f rs
       → FractionsMeet columns g rs → FractionsMeet columns k rs
-  -- then its load is at most W/m
+  -- then its load is at most W/m, where m is above 0
   pub at_most : (a b : ℕ) → 0 < a + b → (f g k : FractionField) → Blend columns a b f g k → FractionsMeet columns f rs
-      → FractionsMeet columns g rs → (w : ℕ → ℤ) → MultipliersMeet w rs columns
+      → FractionsMeet columns g rs → (w : ℕ → ℤ) → MultipliersMeet w rs columns → pos 0 <ℤ live_sum w rs
       → k.load.value ≤ᶠ limit_sum w rs over live_sum w rs
   -- its load lies between theirs
   pub between : (a b : ℕ) → 0 < a + b → (f g k : FractionField) → Blend columns a b f g k

@@ -53,8 +53,8 @@ NoneOpen s l n w rs = (k : ℕ) → k < length rs → ¬ Open s l n (w k) (row_a
 pub record Bracket (s : ℕ → ℤ) (l n : ℤ) (w : ℕ → ℤ) (rs : List Row) : Type 0 where
   -- W·n - l·m is the sum over strength rows of multiplier times strength to spare
   pub gap : limit_sum w rs *ℤ n -ℤ l *ℤ live_sum w rs ≡ weighted_sum (to_spare s l n) (weighed w rs)
-  -- l/n is at most W/m
+  -- l·m is at most W·n: where n and m are above 0, l/n is at most W/m
   pub at_most : (l *ℤ live_sum w rs) ≤ℤ (limit_sum w rs *ℤ n)
-  -- equal exactly when no strength row is open
+  -- these are equal exactly when no strength row is open
   pub equal : (l *ℤ live_sum w rs ≡ limit_sum w rs *ℤ n) ↔ NoneOpen s l n w rs
   pub count : (open_rows s l n w rs ≡ 0) ↔ (l *ℤ live_sum w rs ≡ limit_sum w rs *ℤ n)

@@ -49,6 +49,6 @@ pub record FractionLaws (columns : ℕ) (rs : List Row) : Type 0 where
   -- a field of whole numbers over n is one
   pub whole_numbers : (n : ℤ) (h : pos 0 <ℤ n) (s : ℕ → ℤ) (l : ℤ) → FieldMeets s l n rs
       → FractionsMeet columns (field_over n h s l) rs
-  -- its load is at most W/m
+  -- its load is at most W/m, where m is above 0
   pub at_most : (f : FractionField) (w : ℕ → ℤ) → FractionsMeet columns f rs → MultipliersMeet w rs columns
-      → f.load.value ≤ᶠ limit_sum w rs over live_sum w rs
+      → pos 0 <ℤ live_sum w rs → f.load.value ≤ᶠ limit_sum w rs over live_sum w rs
