@@ -201,15 +201,15 @@ module _ {g : Polygon} {n radius step product : ℕ} (f : PolygonFits g n radius
   -- within its largest step and its largest cross product
   pub run-within : (k : ℕ) → k < n → Within step (run_of (side_at g k))
   unfolding run_of
-  run-within k l = record { within = omega (arith, f.rule.largest_step.bounds (side_at g k) (side_in k l)) }
+  run-within k l = record { within = omega (arith, f.largest_step.bounds (side_at g k) (side_in k l)) }
 
   pub rise_within : (k : ℕ) → k < n → Within step (rise_of (side_at g k))
   unfolding rise_of
-  rise_within k l = record { within = omega (arith, f.rule.largest_step.bounds (side_at g k) (side_in k l)) }
+  rise_within k l = record { within = omega (arith, f.largest_step.bounds (side_at g k) (side_in k l)) }
 
   pub cross-within : (k : ℕ) → k < n → Within product (cross_of (side_at g k))
   unfolding cross_of
-  cross-within k l = record { within = f.rule.largest_cross.bounds (side_at g k) (side_in k l) }
+  cross-within k l = record { within = f.largest_cross.bounds (side_at g k) (side_in k l) }
 
   -- a polygon's numbers, from the table of its corners
   numbered : (r : List Step) → StepsUpTo n r (pairs_of g.corners) → (k : ℕ) → k < n

@@ -34,7 +34,7 @@ use Rattle.scope.proofs.Jumps.{sound_jumps, tip_asks_nothing, no_jumps}
 use Rattle.scope.proofs.Pairs.{pairs, sound_pairs}
 use Rattle.scope.proofs.Phases.{join_refused}
 use Rattle.scope.proofs.NumberRanges.{mesh_facts}
-use Rattle.scope.proofs.PolygonRule.{listed_polygon}
+use Rattle.scope.proofs.PolygonRule.{polygon_asked}
 use Rattle.scope.proofs.LimitsRefused.{over_limit}
 use Rattle.scope.proofs.SideLimits.{limits_by_sides}
 use Rattle.scope.proofs.Overlaps.{sound_mesh_apart}
@@ -216,7 +216,7 @@ module _ (m c : List ℤ) (number place : ℕ) (h : Returned m c number place) w
         (refuses_exactly.exactly 2 (suc (suc s)) (λ z. omega arith)).1
         (of_mesh (((limits_by_sides m).with_108 e).kind_refused s h (λ b. over_limit (above_0 kind) b.most) before
         whole));
-    polygon = λ s. listed_polygon (sides m) (mesh_facts m s.lines).counts.sides_listed;
+    polygon = λ s. polygon_asked (sides m) (mesh_facts m s.lines).counts.sides_listed;
   }
     where
       of_mesh : {p : Place} → MeshRefusal m 2 p → Refusal m c 2 p

@@ -23,7 +23,7 @@ use Rattle.scope.specs.Pairs.{Before, SoundPairs}
 use Rattle.scope.specs.Jumps.{SoundJumps, SameTraction}
 use Rattle.scope.specs.Overlaps.{NoneOnEachOther}
 use Rattle.scope.specs.SideLimits.{strength_at}
-use Rattle.scope.specs.PolygonRule.{ListedPolygon}
+use Rattle.scope.specs.PolygonRule.{PolygonAsked}
 use Rattle.scope.specs.Bracket.{Open, NoneOpen}
 use Rattle.scope.specs.Parts.{carried, NumberOf, PartsBracket}
 use Rattle.scope.specs.Blends.{BlendedClaims}
@@ -128,7 +128,7 @@ pub record MeshSays (m : List ℤ) : Type 0 where
   -- `OverlapsAsked`, `JumpsAsked`, `SidesAsked`
   pub apart : NoneOnEachOther m
   pub joints : SoundJumps m
-  pub polygon : ListedPolygon (sides m)
+  pub polygon : PolygonAsked (sides m)
 
 -- of the mesh and the claim, with the answer r that accepts it
 pub record ClaimSays (m c : List ℤ) (r : NumbersAnswer) : Type 0 where

@@ -40,7 +40,7 @@ use Rattle.scope.specs.Triangles.{ReadAsTriangle, PassedBefore, WithoutTriangles
 use Rattle.scope.specs.Pairs.{Pairs, SoundPairs}
 use Rattle.scope.specs.Overlaps.{NoneOnEachOther, OnEachOther}
 use Rattle.scope.specs.SideLimits.{strength_at, strength_line, LimitsBySides}
-use Rattle.scope.specs.PolygonRule.{ListedPolygon}
+use Rattle.scope.specs.PolygonRule.{PolygonAsked}
 use Rattle.numbers.specs.declared.numbers_answer.NumbersAnswer.{NumbersAnswer}
 use Rattle.numbers.specs.NumbersAnswer.{answer_of}
 
@@ -183,7 +183,7 @@ pub record SidesAsked (m c : List ℤ) (number place : ℕ) : Type 0 where
   -- lines before it pass and it has all its numbers
   pub bedded_soil : sides m ≡ 108 → (s : ℕ) → s < soils m → ByDirection m s → SoundTo mesh_layout m (suc s)
       → Complete mesh_layout m (suc s) → (number ≡ 2) × (place ≡ suc (suc s))
-  pub polygon : MeshSound m → ListedPolygon (sides m)
+  pub polygon : MeshSound m → PolygonAsked (sides m)
 
 -- "An element whose third and fourth nodes are the same is to be read as a triangle: its balance rows are the same
 -- sums, .. and three left turns are asked. The repeat makes no side .. Every other repeat still gets 5." (document 02,

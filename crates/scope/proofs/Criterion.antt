@@ -144,7 +144,7 @@ module _ (h sx sy t : ℤ) where
   in_criterion : square P ≡ h *ℤ h *ℤ ((sx -ℤ sy) *ℤ (sx -ℤ sy) +ℤ (pos 2 *ℤ t) *ℤ (pos 2 *ℤ t))
   in_criterion = ring (h ∷ sx ∷ sy ∷ t ∷ []) (search terms depth 100) refl
 
-pub criterion : {g : Polygon} {sides step product : ℕ} → PolygonRule g sides step product → WithinCriterion g
+pub criterion : {g : Polygon} {sides : ℕ} → PolygonRule g sides → WithinCriterion g
 unfolding cross
 criterion {g} rule p q h C n sx sy t rows =
     let at = around (P h sx sy t) g.radius g.corners rule.has_radius rule.once_around_lem in
@@ -160,7 +160,7 @@ criterion {g} rule p q h C n sx sy t rows =
 -- ---- the listed polygons, and a mesh
 
 pub criterion_of : (k : ℕ) → WithinCriterion (polygon_of k)
-criterion_of k = let (sides, step, product, rule) = polygon_rule k in criterion rule
+criterion_of k = let (sides, rule) = polygon_rule k in criterion rule
 
 pub field_criterion : (m : List ℤ) (s : ℕ → ℤ) (l n : ℤ) → MeetsPrinted m s l n → (a : Pair) → a ∈ strength_pairs m
     → ¬ ByDirection m a.soil → CriterionAt m s n a

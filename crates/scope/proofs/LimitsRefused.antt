@@ -16,7 +16,7 @@ use Rattle.integer.proofs.Order.{≤ℤ-<ℤ_trans}
 use Rattle.scope.specs.declared.Place.TheVariants.{Line}
 use Rattle.scope.specs.Columns.{Limit, between, free, at, has_multipliers}
 use Rattle.scope.specs.Layout.{Layout, width, groups, lines_before, numbers_before, entry}
-use Rattle.scope.specs.Mesh.{strength_multiplier, kind_with, mesh_header, soil_lines, mesh_layout, mesh_groups}
+use Rattle.scope.specs.Mesh.{strength_multiplier, kind_with, mesh_header, soil_lines, mesh_layout, layout_with, mesh_groups}
 use Rattle.scope.specs.Mesh.{elements, soils, edges, sides, jumps, soil_entry, soil_kind}
 use Rattle.scope.specs.Claim.{claim_header, if_there, stress_lines, element_multipliers, edge_multipliers}
 use Rattle.scope.specs.Claim.{jump_multipliers, strength_multipliers, claim_layout, multiplier}
@@ -55,13 +55,13 @@ module _ (m : List ℤ) where
   -- ---- a soil's kind
 
   soil_line_is : (s : ℕ) → lines_before (groups mesh_layout m) 1 + s ≡ suc s
-  unfolding mesh_layout groups mesh_header lines_before
+  unfolding layout_with groups mesh_header lines_before
   soil_line_is s = omega arith
 
   pub kind_refused_lem : {most : ℕ} → kind_with (sides m) ≡ most → (s : ℕ) → s < soils m
       → ¬ Between (pos 0) (pos most) (soil_kind m s) → SoundTo mesh_layout m (suc s)
       → Complete mesh_layout m (suc s) → MeshRefusal m 2 (Line (suc (suc s)))
-  unfolding mesh_layout groups mesh_groups soil_lines soil_entry soil_kind
+  unfolding layout_with groups mesh_groups soil_lines soil_entry soil_kind
   kind_refused_lem e s h out before whole =
       let fails : LimitFails mesh_layout m (lines_before (groups mesh_layout m) 1 + s) =
       limit_fails mesh_layout m 1 s 8 h (omega arith)

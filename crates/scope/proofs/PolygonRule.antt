@@ -30,7 +30,7 @@ use Rattle.scope.specs.Claim.{stress_columns}
 use Rattle.scope.specs.Bounds.{most_radius, most_step, most_cross, weighted_step, weighted_cross, most_strength_rows}
 use Rattle.scope.specs.Bounds.{most_plane_radius, twice_strength, strength_right_with, strength_sum}
 use Rattle.scope.specs.PolygonRule.{OnCircle, OnceAround, step_size, cross_size, Largest, PolygonRule, PolygonFits}
-use Rattle.scope.specs.PolygonRule.{ListedPolygon, HalfTurn}
+use Rattle.scope.specs.PolygonRule.{ListedPolygon, HalfTurn, RadiusFor, PolygonAsked}
 
 -- ---- tests
 
@@ -89,8 +89,8 @@ on_circle r v = eq_z (v.px *ℤ v.px +ℤ v.py *ℤ v.py) (r *ℤ r)
 turns_left : Side → Bool
 turns_left s = lt_z (pos 0) (cross s.from s.to)
 
-polygon_test : Polygon → ℕ → ℕ → ℕ → Bool
-polygon_test g sides step product =
+polygon_test : Polygon → ℕ → Bool
+polygon_test g sides =
     let r : ℕ = nat_abs g.radius in
     lt_z (pos 0) g.radius
     && eqb (length g.corners) sides
@@ -99,8 +99,10 @@ polygon_test g sides step product =
     && once_around g.radius g.corners
     && halves g.radius g.corners
     && every turns_left (polygon_sides g.corners)
-    && largest step_size (polygon_sides g.corners) step
-    && largest cross_size (polygon_sides g.corners) product
+
+sizes_test : Polygon → ℕ → ℕ → Bool
+sizes_test g step product =
+    largest step_size (polygon_sides g.corners) step && largest cross_size (polygon_sides g.corners) product
 
 -- ---- what the tests say
 
@@ -290,10 +292,9 @@ largest_yes size ss k t =
     }
 
 -- the test says the rule
-tested : (g : Polygon) (sides step product : ℕ) → T (polygon_test g sides step product)
-    → PolygonRule g sides step product
+tested : (g : Polygon) (sides : ℕ) → T (polygon_test g sides) → PolygonRule g sides
 unfolding polygon_test on_circle turns_left
-tested g sides step product t = record {
+tested g sides t = record {
   has_radius = lt_z_yes (search (and_l, and_r) depth 10);
   count = eqb→eq (length g.corners) sides (search (and_l, and_r) depth 10);
   on_circle_lem = λ v m. eq_z_yes (every_yes (on_circle g.radius) g.corners (search (and_l, and_r) depth 10) v m);
@@ -302,50 +303,48 @@ tested g sides step product t = record {
   half_turn_lem = half_turn_lem g.radius g.corners (search (and_l, and_r) depth 10);
   left_turns_lem = λ s m. lt_z_yes
       (every_yes turns_left (polygon_sides g.corners) (search (and_l, and_r) depth 10) s m);
-  largest_step = largest_yes step_size (polygon_sides g.corners) step (search (and_l, and_r) depth 10);
-  largest_cross = largest_yes cross_size (polygon_sides g.corners) product (search (and_l, and_r) depth 10);
 }
 
 -- ---- the four polygons
 
 -- every definition that a table's test computes with
 shown : Unit {0}
-unfolding polygon_test on_circle turns_left largest once_around halves in_half half_turn from_upper walk has_signed
-    is_point some every twelve twenty thirty_six one_hundred_eight four_quadrants quarter_turn polygon_sides sides_to
-    cross polygon_of
+unfolding polygon_test sizes_test on_circle turns_left largest once_around halves in_half half_turn from_upper walk
+    has_signed is_point some every twelve twenty thirty_six one_hundred_eight four_quadrants quarter_turn
+    polygon_sides sides_to cross polygon_of
 shown = tt
 
-pub twelve-sides : PolygonRule (polygon_of 12) 12 3 15
+pub twelve-sides : PolygonRule (polygon_of 12) 12
 unfolding shown
-twelve-sides = tested twelve 12 3 15 tt
+twelve-sides = tested twelve 12 tt
 
-pub twenty-sides : PolygonRule (polygon_of 20) 20 8 220
+pub twenty-sides : PolygonRule (polygon_of 20) 20
 unfolding shown
-twenty-sides = tested twenty 20 8 220 tt
+twenty-sides = tested twenty 20 tt
 
-pub thirty_six_sides : PolygonRule (polygon_of 36) 36 16 1183
+pub thirty_six_sides : PolygonRule (polygon_of 36) 36
 unfolding shown
-thirty_six_sides = tested thirty_six 36 16 1183 tt
+thirty_six_sides = tested thirty_six 36 tt
 
-pub one_hundred_eight_sides : PolygonRule (polygon_of 108) 108 153 177735
+pub one_hundred_eight_sides : PolygonRule (polygon_of 108) 108
 unfolding shown
-one_hundred_eight_sides = tested one_hundred_eight 108 153 177735 tt
+one_hundred_eight_sides = tested one_hundred_eight 108 tt
 
 -- whatever the number of sides
-pub polygon_rule : (k : ℕ) → (sides step product : ℕ) × PolygonRule (polygon_of k) sides step product
+pub polygon_rule : (k : ℕ) → (sides : ℕ) × PolygonRule (polygon_of k) sides
 unfolding polygon_of
 polygon_rule k = go (eqb k 12) (eqb k 20) (eqb k 36)
   where
-    go : (a b c : Bool) → (sides step product : ℕ) × PolygonRule
+    go : (a b c : Bool) → (sides : ℕ) × PolygonRule
         (elim a [
           | true ↦ twelve
           | false ↦ elim b
               [ true ↦ twenty | false ↦ elim c [ true ↦ thirty_six | false ↦ one_hundred_eight ] ]
-        ]) sides step product
-    go true b c = (12, 3, 15, twelve-sides)
-    go false true c = (20, 8, 220, twenty-sides)
-    go false false true = (36, 16, 1183, thirty_six_sides)
-    go false false false = (108, 153, 177735, one_hundred_eight_sides)
+        ]) sides
+    go true b c = (12, twelve-sides)
+    go false true c = (20, twenty-sides)
+    go false false true = (36, thirty_six_sides)
+    go false false false = (108, one_hundred_eight_sides)
 
 -- ---- a listed number of sides, by cases once: all that rows and sums read of it
 
@@ -366,11 +365,14 @@ bounds_test sides radius step product =
     && leb (nodes_with sides * stress_columns + pairs_with sides * sides)
     (nodes_for_108 * stress_columns + most_strength_rows)
 
-bounded : {g : Polygon} {sides step product : ℕ} (radius : ℕ) → PolygonRule g sides step product → g.radius ≡ pos radius
-    → T (bounds_test sides radius step product) → PolygonFits g sides radius step product
-unfolding bounds_test
-bounded {sides = sides} {step = step} {product = product} radius rule e t = record {
+bounded : {g : Polygon} {sides : ℕ} (radius step product : ℕ) → PolygonRule g sides → g.radius ≡ pos radius
+    → T (sizes_test g step product) → T (bounds_test sides radius step product)
+    → PolygonFits g sides radius step product
+unfolding sizes_test bounds_test
+bounded {g = g} {sides = sides} radius step product rule e sizes t = record {
   rule = rule;
+  largest_step = largest_yes step_size (polygon_sides g.corners) step (search (and_l, and_r) depth 10);
+  largest_cross = largest_yes cross_size (polygon_sides g.corners) product (search (and_l, and_r) depth 10);
   radius_is = e;
   some_sides = ltb→lt 0 sides (search (and_l, and_r) depth 15);
   few_sides = leb→le sides most_sides (search (and_l, and_r) depth 15);
@@ -392,11 +394,31 @@ bounded {sides = sides} {step = step} {product = product} radius rule e t = reco
 pub listed_polygon : (k : ℕ) → SidesListed k → ListedPolygon k
 unfolding shown bounds_test nodes_with pairs_with strength_multiplier kind_with strength_right_with
 listed_polygon k (inl e) =
-    subst ListedPolygon (sym e) (record { radius = 5; step = 3; product = 15; fits = bounded 5 twelve-sides refl tt })
+    subst ListedPolygon (sym e)
+    (record { radius = 5; step = 3; product = 15; fits = bounded 5 3 15 twelve-sides refl tt tt })
 listed_polygon k (inr (inl e)) =
     subst ListedPolygon (sym e)
-    (record { radius = 25; step = 8; product = 220; fits = bounded 25 twenty-sides refl tt })
+    (record { radius = 25; step = 8; product = 220; fits = bounded 25 8 220 twenty-sides refl tt tt })
 listed_polygon k (inr (inr (inl e))) = subst ListedPolygon (sym e)
-    (record { radius = 65; step = 16; product = 1183; fits = bounded 65 thirty_six_sides refl tt })
+    (record { radius = 65; step = 16; product = 1183; fits = bounded 65 16 1183 thirty_six_sides refl tt tt })
 listed_polygon k (inr (inr (inr e))) = subst ListedPolygon (sym e)
-    (record { radius = 1105; step = 153; product = 177735; fits = bounded 1105 one_hundred_eight_sides refl tt })
+    (record {
+      radius = 1105;
+      step = 153;
+      product = 177735;
+      fits = bounded 1105 153 177735 one_hundred_eight_sides refl tt tt;
+    })
+
+-- what the documents ask of it
+abbrev RadiusOf : ℕ → Type 0
+RadiusOf k = RadiusFor k (polygon_of k).radius
+
+radius_of : (k : ℕ) → SidesListed k → RadiusOf k
+unfolding shown
+radius_of k (inl e) = subst RadiusOf (sym e) (inl (refl, refl))
+radius_of k (inr (inl e)) = subst RadiusOf (sym e) (inr (inl (refl, refl)))
+radius_of k (inr (inr (inl e))) = subst RadiusOf (sym e) (inr (inr (inl (refl, refl))))
+radius_of k (inr (inr (inr e))) = subst RadiusOf (sym e) (inr (inr (inr (refl, refl))))
+
+pub polygon_asked : (k : ℕ) → SidesListed k → PolygonAsked k
+polygon_asked k h = record { rule = (listed_polygon k h).fits.rule; radius = radius_of k h }

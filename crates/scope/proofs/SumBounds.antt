@@ -57,7 +57,7 @@ apart h k = linear (h.least & h.most & k.least & k.most) (search bounds depth 40
 -- a cross product of two consecutive corners
 pub cross_bound : {k : ℕ} (g : ListedPolygon k) (d : Side) → d ∈ polygon_sides (polygon_of k).corners
     → Within g.product (cross d.from d.to)
-cross_bound g d m = record { within = g.fits.rule.largest_cross.bounds d m }
+cross_bound g d m = record { within = g.fits.largest_cross.bounds d m }
 
 -- the radius and the corners of a polygon whose soils may have kind 1
 module _ {k : ℕ} (g : ListedPolygon k) (one : 1 ≤ kind_with k) where

@@ -27,6 +27,30 @@ abbrev pub HalfTurn : ℤ → List Point → Type 0
 HalfTurn r corners = (v : Point)
     → (v ∈ half_turn corners) ↔ ((v ∈ corners) × ((v ≡ point r (pos 0)) ⊎ (pos 0 <ℤ v.py)))
 
+-- a polygon of that many sides: "all whole-number points on the circle of radius 1105, in the same turning order ..
+-- every corner is on the circle, in order, with none left out" (document 02, N9)
+pub record PolygonRule (g : Polygon) (sides : ℕ) : Type 0 where
+  pub has_radius : pos 0 <ℤ g.radius
+  pub count : length g.corners ≡ sides
+  pub on_circle_lem : (v : Point) → v ∈ g.corners → OnCircle g.radius v
+  pub none_left_out : (v : Point) → OnCircle g.radius v → v ∈ g.corners
+  pub once_around_lem : OnceAround g.radius g.corners
+  pub half_turn_lem : HalfTurn g.radius g.corners
+  pub left_turns_lem : (s : Side) → s ∈ polygon_sides g.corners → pos 0 <ℤ cross s.from s.to
+
+-- "radius r = 5, 25 or 65 (12, 20 or 36 sides)", and 1105 with 108
+abbrev pub RadiusFor : ℕ → ℤ → Type 0
+RadiusFor sides r =
+    ((sides ≡ 12) × (r ≡ pos 5))
+    ⊎ (((sides ≡ 20) × (r ≡ pos 25)) ⊎ (((sides ≡ 36) × (r ≡ pos 65)) ⊎ ((sides ≡ 108) × (r ≡ pos 1105))))
+
+-- of the polygon of a mesh with that many sides
+pub record PolygonAsked (sides : ℕ) : Type 0 where
+  pub rule : PolygonRule (polygon_of sides) sides
+  pub radius : RadiusFor sides (polygon_of sides).radius
+
+-- ---- the sizes of its numbers, which contracts and the bounds of sums read: no document asks for them
+
 -- the longer of a side's two steps, |c - a| and |d - b|, and the size of its ad - bc
 abbrev pub step_size : Side → ℕ
 step_size s = max (nat_abs (s.to.px -ℤ s.from.px)) (nat_abs (s.to.py -ℤ s.from.py))
@@ -38,24 +62,14 @@ pub record Largest (size : Side → ℕ) (sides : List Side) (k : ℕ) : Type 0 
   pub bounds : (s : Side) → s ∈ sides → size s ≤ k
   pub reached : (s : Side) × (s ∈ sides) × (size s ≡ k)
 
--- a polygon of that many sides, with its largest step and its largest cross product
-pub record PolygonRule (g : Polygon) (sides step product : ℕ) : Type 0 where
-  pub has_radius : pos 0 <ℤ g.radius
-  pub count : length g.corners ≡ sides
-  pub on_circle_lem : (v : Point) → v ∈ g.corners → OnCircle g.radius v
-  pub none_left_out : (v : Point) → OnCircle g.radius v → v ∈ g.corners
-  pub once_around_lem : OnceAround g.radius g.corners
-  pub half_turn_lem : HalfTurn g.radius g.corners
-  pub left_turns_lem : (s : Side) → s ∈ polygon_sides g.corners → pos 0 <ℤ cross s.from s.to
+-- a polygon with its largest step and its largest cross product, whose numbers are within the bounds of all polygons:
+-- its step and its cross product also with the largest multiplier of a row, its rows with the most pairs, and these
+-- with the stresses of the most nodes: with 108 sides a claim has the most numbers. Its sides are even, so that it has
+-- two rows for each corner of the first half turn; where soils may have kind 1, its radius is small
+pub record PolygonFits (g : Polygon) (sides radius step product : ℕ) : Type 0 where
+  pub rule : PolygonRule g sides
   pub largest_step : Largest step_size (polygon_sides g.corners) step
   pub largest_cross : Largest cross_size (polygon_sides g.corners) product
-
--- a polygon whose numbers are within the bounds of all polygons: its step and its cross product also with the largest
--- multiplier of a row, its rows with the most pairs, and these with the stresses of the most nodes: with 108 sides a
--- claim has the most numbers. Its sides are even, so that it has two rows for each corner of the first half turn; where
--- soils may have kind 1, its radius is small
-pub record PolygonFits (g : Polygon) (sides radius step product : ℕ) : Type 0 where
-  pub rule : PolygonRule g sides step product
   pub radius_is : g.radius ≡ pos radius
   pub some_sides : 0 < sides
   pub few_sides : sides ≤ most_sides
@@ -72,7 +86,7 @@ pub record PolygonFits (g : Polygon) (sides radius step product : ℕ) : Type 0 
   pub numbers_fit : nodes_with sides * stress_columns + pairs_with sides * sides
       ≤ nodes_for_108 * stress_columns + most_strength_rows
 
--- the polygon of a mesh with a listed number of sides
+-- of the polygon of a mesh with a listed number of sides
 pub record ListedPolygon (sides : ℕ) : Type 0 where
   pub radius : ℕ
   pub step : ℕ
