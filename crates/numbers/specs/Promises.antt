@@ -196,8 +196,8 @@ pub record TrianglesRead (m : List ℤ) (e : ℕ) : Type 0 where
   pub outward : (g : ℕ) → OutwardNormal m g e
   pub passed_before : PassedBefore m e
 
--- of each element of a mesh that passes; and "A file that passed before gives the same report": a mesh that passed
--- document 01's 5, as every mesh without triangles, passes and fails document 01's own 5, 6 and 8, at the same place
+-- of each element of a mesh that passes; and "A file that passed before gives the same report": on a mesh that passed
+-- document 01's 5, and on every mesh without triangles, 5, 6 and 8 answer as document 01's own, with the same place
 pub record TrianglesAsked (m : List ℤ) : Type 0 where
   pub read : MeshSound m → (e : ℕ) → e < elements m → TrianglesRead m e
   pub before : WithoutTriangles m
