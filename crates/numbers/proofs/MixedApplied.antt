@@ -1,7 +1,7 @@
 -- The promises applied to one sheet with triangles, pairs, a joint and a table, with 12 and with 108 sides and with
 -- bedded clay: antt computes the answers, and `MixedSays` says the rest.
 use mathlib.Core.Path.{◌≡◌, refl, subst}
-use mathlib.Core.Logic.{◌⊎◌}
+use mathlib.Core.Logic.{◌⊎◌, inl}
 use mathlib.Core.List.Memᴰ
 use Prim.Native.Nat.{ℕ, zero, suc, ◌+◌, ◌*◌, ◌<◌, ◌≤◌}
 use native.Mathlib.Omega.{arith}
@@ -132,8 +132,10 @@ gap_answered = refl
 pub gap_refused : GapRefused lower_layer (unfilled 12 0) (mixed_claim 64 even)
 unfolding place_for
 gap_refused =
-    ((table_exactly lower_layer (unfilled 12 0) (mixed_claim 64 even) 45 12 (table_returned gap_answered)).refuses 45 12
-    (λ e. omega arith)).0 (refl, refl)
+    let told = table_exactly lower_layer (unfilled 12 0) (mixed_claim 64 even) 45 12 (table_returned gap_answered) in (
+      (told.refuses 45 12 (λ e. omega arith)).0 (refl, refl),
+      (told.layers_asked.exactly 45 12 (inl refl)).0 (refl, refl),
+    )
 
 lower_unfit : ¬ TableFits lower_layer (unfilled 12 0)
 unfolding opened

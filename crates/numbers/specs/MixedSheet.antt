@@ -32,6 +32,7 @@ use Rattle.scope.specs.LayerRows.{OneLayer, FilledFrom}
 use Rattle.scope.specs.Statements.{LinesSound}
 use Rattle.scope.specs.Filled.{height_of, filled}
 use Rattle.scope.specs.TableVerdict.{TabledRefusal, TableFits}
+use Rattle.scope.specs.TabledRows.{LayersRefused}
 use Rattle.scope.specs.Worked.{zeros}
 use Rattle.scope.specs.WorkedTable.{layer}
 use Rattle.numbers.specs.declared.numbers_answer.NumbersAnswer.{NumbersAnswer}
@@ -199,7 +200,7 @@ abbrev pub JointFails : List ℤ → List ℤ → Type 0
 JointFails m c = ¬ NormalAgreesAt m (stress m c) (l c) (n c) 0 1 4
 
 abbrev pub GapRefused : List ℤ → List ℤ → List ℤ → Type 0
-GapRefused t m c = TabledRefusal t m c 45 (Height 12)
+GapRefused t m c = TabledRefusal t m c 45 (Height 12) × LayersRefused t m 45 (Height 12)
 
 -- one more than the clay carries: row 1 of node 1 with the clay, or, where that is bedded, its row 4, of the plane
 -- (4, 3)

@@ -329,9 +329,11 @@ pub gap_refused : GapRefused (table_in gap_files.table) (mesh_in gap_files.mesh)
     (claim_in (mesh_with gap_files.mesh gap_files.table) gap_files.claim)
 unfolding place_for
 gap_refused =
-    ((on_table gap_files.mesh gap_files.table gap_files.claim
-    (pos 6) room 45 12 gap_files.line gap_answers fits).exactly.refuses 45 12
-    (λ e. omega arith)).0 (refl, refl)
+    let told = (on_table gap_files.mesh gap_files.table gap_files.claim (pos 6) room 45 12 gap_files.line gap_answers
+    fits).exactly in (
+      (told.refuses 45 12 (λ e. omega arith)).0 (refl, refl),
+      (told.layers_asked.exactly 45 12 (inl refl)).0 (refl, refl),
+    )
 
 -- ---- 108 sides
 

@@ -1,12 +1,13 @@
 -- What 46 and 45 say, and what a filled mesh is, in plain statements (document 02, N8): the two among themselves (with
 -- all lines before them in `TabledRows`), each height in exactly one layer, lines in another order, the soil of each
 -- element.
-use Rattle.std.specs.Prelude.{◌≡◌, ◌↔◌, ◌⊎◌, List, ℕ, ◌+◌, ◌*◌, ◌≤◌, ◌<◌, ℤ, pos, ◌≤ℤ◌, length}
+use Rattle.std.specs.Prelude.{◌≡◌, ◌↔◌, ◌⊎◌, true, List, [], ℕ, ◌+◌, ◌*◌, ◌≤◌, ◌<◌, ℤ, pos, ◌≤ℤ◌, length, get_or}
+use Rattle.std.specs.Prelude.{take, drop}
 use Rattle.scope.specs.declared.Place.{Place}
 use Rattle.scope.specs.declared.Place.TheVariants.{Line, Height}
 use Rattle.scope.specs.Columns.{at}
-use Rattle.scope.specs.Layout.{count, entry}
-use Rattle.scope.specs.Mesh.{element_lines, mesh_groups, nodes, elements, y, corner}
+use Rattle.scope.specs.Layout.{Group, groups, count, entry}
+use Rattle.scope.specs.Mesh.{element_lines, mesh_layout, layout_with, mesh_groups, nodes, elements, soils, y, corner}
 use Rattle.scope.specs.Statements.{AllSay}
 use Rattle.scope.specs.RefusalTable.{LowestFails, AtAll}
 use Rattle.scope.specs.Layers.{layers, bottom, top, soil, Has, TopAbove, Apart, InLayer}
@@ -94,6 +95,21 @@ abbrev pub SoilAllowed : ℕ → ℕ → List ℤ → Type 0
 SoilAllowed ns ss line =
     AllSay (element_lines 0 ns 0 ss).rules line
     ↔ (((c : ℕ) → c < 4 → Named ns (at line c)) × ((at line 4 ≡ pos 0) ⊎ Named ss (at line 4)))
+
+-- the group of a mesh's elements
+abbrev pub element_group : List Group → Group
+element_group gs = get_or gs 3 (record { lines = 0; limits = []; rules = [] })
+
+-- so the lines of a mesh with a table are those without one, but that an element's soil may be 0
+pub record LinesWithTable (m : List ℤ) : Type 0 where
+  pub form : (layout_with true).form_number ≡ mesh_layout.form_number
+  pub limit : (layout_with true).limit_number ≡ mesh_layout.limit_number
+  pub lower : take 3 (groups (layout_with true) m) ≡ take 3 (groups mesh_layout m)
+  pub upper : drop 4 (groups (layout_with true) m) ≡ drop 4 (groups mesh_layout m)
+  pub elements_there : (element_group (groups (layout_with true) m)).lines ≡ elements m
+  pub columns : (element_group (groups (layout_with true) m)).limits ≡ (element_group (groups mesh_layout m)).limits
+  pub rules : (line : List ℤ) → AllSay (element_group (groups (layout_with true) m)).rules line
+      ↔ (((c : ℕ) → c < 4 → Named (nodes m) (at line c)) × ((at line 4 ≡ pos 0) ⊎ Named (soils m) (at line 4)))
 
 -- a triangle's third corner counts twice
 abbrev pub RepeatTwice : List ℤ → ℕ → Type 0

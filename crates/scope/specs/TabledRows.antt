@@ -17,7 +17,7 @@ use Rattle.scope.specs.Filled.{filled}
 -- ---- the lines of the mesh
 
 -- there is a table ("an empty one is no table"), and the mesh's lines pass, where an element's soil may be 0
--- (`SoilAllowed`)
+-- (`LinesWithTable`)
 pub record MeshLinesPass (t m : List ℤ) : Type 0 where
   pub table : t ≢ []
   pub lines : LinesSound (layout_with true) m
