@@ -65,7 +65,7 @@ unfolding with_soils
 heights_lem m s = heights (λ e. pos 1) m (named_facts m s)
 
 module _ (t m : List ℤ) where
-  -- a number before 5 is none of a claim's header
+  -- no line before 5 has a claim's rule, 13
   abbrev Early : ℕ → Place → Type 0
   Early k p = OfTable k → EarlyRow t m k p
 
@@ -301,19 +301,23 @@ module _ (t m c : List ℤ) where
 
 -- and so without a claim
 module _ (t m : List ℤ) where
+  by_check : {k : ℕ} {p : Place}
+      → (check_phases (table_phases t m) ≡ Fails k p)
+      ⊎ ((check_phases (table_phases t m) ≡ Passed) × (mesh_check (mesh_read t m) ≡ Fails k p))
+      → RefusedBy (tabled_phases t m) k p
+  by_check {k} {p} h = (tabled_exact t m).refuses.why k p
+      (in_two t m ∙ (then_refused (check_phases (table_phases t m)) (mesh_check (mesh_read t m)) k p).1 h)
+
   late_mesh : {k : ℕ} {p : Place} → TableFits t m → MeshRow (mesh_read t m) k p → RefusedBy (tabled_phases t m) k p
-  late_mesh {k} {p} f r = (tabled_exact t m).refuses.why k p
-      (in_two t m
-      ∙ (then_refused (check_phases (table_phases t m)) (mesh_check (mesh_read t m)) k p).1
-      (inr ((table_phases_exact t m).passes.passed f, (mesh_exact (mesh_read t m)).refuses.refused k p (record { by = row_mesh (mesh_read t m) r }))))
+  late_mesh {k} {p} f r =
+      let refused = (mesh_exact (mesh_read t m)).refuses.refused k p (record { by = row_mesh (mesh_read t m) r }) in
+      by_check (inr ((table_phases_exact t m).passes.passed f, refused))
 
   row_tabled_mesh : {k : ℕ} {p : Place} → TabledMeshRow t m k p → RefusedBy (tabled_phases t m) k p
   row_tabled_mesh {k} {p} (mesh_alone e r) = late_mesh (alone_fits t m e)
       (subst (λ (f : List ℤ). MeshRow f k p) (sym (alone_read t m e)) r)
-  row_tabled_mesh {k} {p} (mesh_early r) = (tabled_exact t m).refuses.why k p
-      (in_two t m
-      ∙ (then_refused (check_phases (table_phases t m)) (mesh_check (mesh_read t m)) k p).1
-      (inl ((table_phases_exact t m).refuses.refused k p (row_early t m r))))
+  row_tabled_mesh {k} {p} (mesh_early r) =
+      by_check (inl ((table_phases_exact t m).refuses.refused k p (row_early t m r)))
   row_tabled_mesh {k} {p} (mesh_filled l r) = late_mesh (laid_fits t m l)
       (subst (λ (f : List ℤ). MeshRow f k p) (sym (filled_there t m l.before.mesh.table)) r)
 
