@@ -24,7 +24,8 @@ use Rattle.scope.specs.Refusals.{mesh_phases, claim_phases, MeshRefusal, Refusal
 use Rattle.scope.specs.SideLimits.{strength_line}
 use Rattle.scope.specs.Accepted.{FieldAccepted}
 use Rattle.scope.proofs.PlaceKinds.{place_kind, place_number_lem, mesh_exactly}
-use Rattle.scope.proofs.RefusedRows.{equality_fails, strength_fails, pairs_fail}
+use Rattle.scope.proofs.RefusedRows.{equality_fails, strength_fails}
+use Rattle.scope.proofs.PairsRefused.{pairs_fail}
 use Rattle.scope.proofs.Exactly.{accepted_exactly, refused_exactly, verdict_cases, returns_zero, claim_by_parts}
 use Rattle.scope.proofs.Exactly.{field_before_multipliers, refused_after_field}
 use Rattle.scope.proofs.Printed.{field-printed}

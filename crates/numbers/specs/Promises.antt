@@ -10,7 +10,7 @@ use Rattle.integer.specs.Fraction.{Frac, ◌over◌, ◌≈ᶠ◌, ◌≤ᶠ◌}
 use Rattle.integer.specs.Members.{◌∈◌}
 use Rattle.scope.specs.Columns.{at, has_field, n, l}
 use Rattle.scope.specs.Mesh.{mesh_header_columns, mesh_layout, nodes, elements, soils, sides, corner, ByDirection}
-use Rattle.scope.specs.Mesh.{ListsDirection}
+use Rattle.scope.specs.Mesh.{ListsDirection, pairs_with}
 use Rattle.scope.specs.Polygon.{Point}
 use Rattle.scope.specs.Rows.{rows_of, twice_area, pair_count}
 use Rattle.scope.specs.Sums.{live_sum, limit_sum}
@@ -24,7 +24,7 @@ use Rattle.scope.specs.Refusals.{SoundTo, Refusal}
 use Rattle.scope.specs.Refusals.{table_numbers}
 use Rattle.scope.specs.Accepted.{FieldAccepted, MultipliersAccepted, ClaimAccepted}
 use Rattle.scope.specs.Printed.{MeetsPrinted}
-use Rattle.scope.specs.RefusedRows.{EqualityFails, StrengthFails, PairsFail}
+use Rattle.scope.specs.RefusedRows.{EqualityFails, StrengthFails}
 use Rattle.scope.specs.PrintedColumns.{MultipliersPrinted, printed_live, printed_limit}
 use Rattle.scope.specs.AcceptedField.{CriterionEverywhere, CriterionAround, PlanesEverywhere, TractionsAgree}
 use Rattle.scope.specs.Planes.{PlaneMeaning, CohesionMeaning}
@@ -37,7 +37,7 @@ use Rattle.scope.specs.Parts.{carried, SameRows, PartsBracket, NumberOf}
 use Rattle.scope.specs.Tests.{row_at}
 use Rattle.scope.specs.Meaning.{Area, OutwardNormal}
 use Rattle.scope.specs.Triangles.{ReadAsTriangle, PassedBefore, WithoutTriangles}
-use Rattle.scope.specs.Pairs.{Pairs, SoundPairs}
+use Rattle.scope.specs.Pairs.{Pairs, SoundPairs, PairsFail}
 use Rattle.scope.specs.Overlaps.{NoneOnEachOther, OnEachOther}
 use Rattle.scope.specs.SideLimits.{strength_at, strength_line, LimitsBySides}
 use Rattle.scope.specs.PolygonRule.{PolygonAsked}
@@ -140,7 +140,7 @@ pub record DirectionsAsked (m c : List ℤ) (number : ℕ) : Type 0 where
 pub record PairsAsked (m : List ℤ) (number place : ℕ) : Type 0 where
   pub listed : Pairs m
   pub sound : MeshSound m → SoundPairs m
-  pub refused : number ≡ 42 → PairsFail m place
+  pub refused : number ≡ 42 → PairsFail m (pairs_with (sides m)) place
 
 -- "A mesh is refused if two elements share a point inside both, fractions included; .. Absent such a point the mesh is
 -- never refused for this. .. Refused: 47, with the higher element of the pair whose higher number is least" (document

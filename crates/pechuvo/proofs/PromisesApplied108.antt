@@ -9,7 +9,7 @@ use lib.Signed.{◌<ℤ◌, ◌≤ℤ◌, lt_z_yes}
 use lib.ListN.{length, get_or}
 use Rattle.scope.specs.Cases.Outcome.{Passed}
 use Rattle.scope.specs.Columns.{at}
-use Rattle.scope.specs.Mesh.{mesh_header_columns, mesh_layout, soils, sides, ByDirection}
+use Rattle.scope.specs.Mesh.{mesh_header_columns, mesh_layout, soils, sides, ByDirection, pairs_with}
 use Rattle.scope.specs.Rows.{pair_count}
 use Rattle.scope.specs.Claim.{claim_layout}
 use Rattle.scope.specs.Verdict.{line_at, mesh_check}
@@ -18,6 +18,7 @@ use Rattle.scope.specs.Refusals.{SoundTo}
 use Rattle.scope.specs.SideLimits.{strength_at, strength_line}
 use Rattle.scope.specs.RefusedRows.{PairsFail}
 use Rattle.scope.proofs.Refusals.{line_passed, mesh_passed}
+use Rattle.scope.specs.Pairs.{PairsFail}
 use Rattle.pechuvo.specs.Sheets.{Sheet, sheet}
 use Rattle.pechuvo.specs.Sheets108.{many_nodes, sheets_108}
 use Rattle.pechuvo.specs.SheetsBeds.{bedded_block, bedded_half, bedded_unused, bedded_sheets}
@@ -126,8 +127,13 @@ strip_answered : Answers strip.mesh [] strip.claim (pos 6) room 42 22 strip.line
 unfolding A.opened many_nodes sheets_108
 strip_answered = record { number_is = refl; place_is = refl; buffer_is = refl }
 
-pub pair_41 : PairsFail (mesh_in strip.mesh) 22
+strip_sides : pairs_with (sides (mesh_in strip.mesh)) ≡ 40
+unfolding computed_line sheets_108
+strip_sides = refl
+
+pub pair_41 : PairsFail (mesh_in strip.mesh) 40 22
 pair_41 =
+    subst (λ (most : ℕ). PairsFail (mesh_in strip.mesh) most 22) strip_sides (
     (on_mesh (mesh_in strip.mesh) strip.claim (pos 6) room 42 22 strip.line
     (plain strip.mesh strip.claim strip_answered) fits).pairs.refused
-    refl
+    refl)

@@ -39,6 +39,7 @@ pub mod RowNumbers
 pub mod SumBelow
 pub mod PrintedColumns
 pub mod RefusedRows
+pub mod PairsRefused
 pub mod OverlapRefused
 pub mod OpenPlaces
 pub mod SameRows

@@ -7,7 +7,7 @@ use Prim.Native.Nat.{ℕ, ◌*◌, ◌≤◌}
 use native.Mathlib.Omega.{arith}
 use lib.IntN.{ℤ}
 use Rattle.scope.specs.declared.Place.{Place}
-use Rattle.scope.specs.Columns.{Rule, has_field, has_multipliers, n, l}
+use Rattle.scope.specs.Columns.{Rule, right_angle, naming, parts, at_most_where, has_field, has_multipliers, n, l}
 use Rattle.scope.specs.Layout.{Layout, numbers_at, group_at}
 use Rattle.scope.specs.Mesh.{mesh_layout, nodes}
 use Rattle.scope.specs.Claim.{claim_layout, stress, multiplier}
@@ -121,3 +121,32 @@ other_number {f} {ns} k a b d r = each_refusal (λ c p. c ≢ k) (line_phases f 
     step i c (inr (x, inl h)) z = b (sym (h.1 ∙ z))
     step i c (inr (x, inr (y, h))) z = let (r, s) = rule_number_lem (group_at f ns i).rules
         (numbers_at f ns i) c h in d r (sym z ∙ s)
+
+-- the lines of a mesh and of a claim have no number above 13
+module _ (f : Layout) (ns : List ℤ) (a : f.form_number ≤ 13) (b : f.limit_number ≤ 13) where
+  line_number : {k : ℕ} {p : Place} → LineRefusal f ns k p → k ≤ 13
+  unfolding rule_number
+  line_number r = each_refusal (λ k p. k ≤ 13) (line_phases f ns) (
+    λ i k h l x. step i k x,
+    λ e. (λ i k h l x. omega (arith, own_number refl x), λ i. tt),
+  ) r.by
+    where
+      rule : (r : Rule) → rule_number r ≤ 13
+      rule right_angle = omega arith
+      rule (naming cs) = omega arith
+      rule parts = omega arith
+      rule (at_most_where c k d z) = omega arith
+
+      step : (i k : ℕ) → FirstFails (line_steps f (group_at f ns i) (numbers_at f ns i)) k → k ≤ 13
+      step i k (inl h) = omega (arith, h.1)
+      step i k (inr (x, inl h)) = omega (arith, h.1)
+      step i k (inr (x, inr (y, h))) =
+          let (r, s) = rule_number_lem (group_at f ns i).rules (numbers_at f ns i) k h in omega (arith, s, rule r)
+
+pub mesh_line_number : (m : List ℤ) {k : ℕ} {p : Place} → LineRefusal mesh_layout m k p → k ≤ 13
+unfolding mesh_layout
+mesh_line_number m r = line_number mesh_layout m (omega arith) (omega arith) r
+
+pub claim_line_number : (m c : List ℤ) {k : ℕ} {p : Place} → LineRefusal (claim_layout m) c k p → k ≤ 13
+unfolding claim_layout
+claim_line_number m c r = line_number (claim_layout m) c (omega arith) (omega arith) r

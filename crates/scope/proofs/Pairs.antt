@@ -22,7 +22,7 @@ use Rattle.scope.specs.Rows.{pairs_below, pair_rows, strength_pairs, pair_count,
 use Rattle.scope.specs.Statements.{InElement, MeshSound, PairsFit}
 use Rattle.scope.specs.RefusalTable.{LowestFails}
 use Rattle.scope.specs.NumberRanges.{MeshFacts}
-use Rattle.scope.specs.Pairs.{SoilAround, Before, Pairs, soil_before, rows_before, OneSoilEach, SoundPairs}
+use Rattle.scope.specs.Pairs.{SoilAround, Before, Pairs, PairsFail, soil_before, rows_before, OneSoilEach, SoundPairs}
 use Rattle.scope.proofs.Checks.{below_suc}
 use Rattle.scope.proofs.Decides.{First, first_where_lem}
 use Rattle.scope.proofs.Lists.{each_++, at_in, count_last}
@@ -246,11 +246,12 @@ module _ (m : List ℤ) where
   before_fits zero h = omega arith
   before_fits (suc u) h = h u (omega arith)
 
-  brings : (v : ℕ) → LowestFails (nodes m) (PairsFit m) v ↔ ((most < pair_count m) × ((pair_at m most).at ≡ v))
+  -- the node of 42, counted from 1, is that of the first pair beyond the most
+  pub brings_one_more : (v : ℕ) → LowestFails (nodes m) (PairsFit m) v ↔ PairsFail m most (suc v)
   unfolding pair_count strength_pairs
-  brings v = (to, from)
+  brings_one_more v = (to, λ f. from f.many (omega (arith, f.node)))
     where
-      to : LowestFails (nodes m) (PairsFit m) v → (most < pair_count m) × ((pair_at m most).at ≡ v)
+      to : LowestFails (nodes m) (PairsFit m) v → PairsFail m most (suc v)
       to h =
           let there = h.there in
           let here : ¬ (length (pairs_below m (suc v)) ≤ most) = h.fails in
@@ -258,10 +259,10 @@ module _ (m : List ℤ) where
           let small = (node_of_pair (suc v) most (omega arith) many).1 (omega arith) in
           let large : ¬ ((pair_at m most).at < v) = λ g. omega
           (arith, (node_of_pair v most (omega arith) many).0 g, before_fits v h.lower) in
-          (many, omega arith)
+          record { many = many; node = omega arith }
 
-      from : (most < pair_count m) × ((pair_at m most).at ≡ v) → LowestFails (nodes m) (PairsFit m) v
-      from (many, e) =
+      from : most < pair_count m → (pair_at m most).at ≡ v → LowestFails (nodes m) (PairsFit m) v
+      from many e =
           let there : v < nodes m = omega (arith, (pair_there most many).0) in
           record {
             there = there;
@@ -283,7 +284,6 @@ module _ (m : List ℤ) where
   pairs = record {
     exactly = λ a. (λ k. let h = of_below (nodes m) k in (h.0, h.1.0, h.1.1), λ h. in_below (nodes m) h.0 (h.1, h.2));
     ascending = λ i j h l. sorted_at Before (strength_pairs m) _ i j h l (below_sorted (nodes m));
-    brings_one_more = brings;
   }
 
   -- ---- a mesh whose lines are sound

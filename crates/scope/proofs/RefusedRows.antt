@@ -1,37 +1,30 @@
 -- The row of a refusal by its number, as it is printed: the phase's row, the row of that number, and the printed row
 -- are one.
--- The node of 42 by the row of the table.
-use mathlib.Core.Path.{◌≡◌, refl, sym, ap, subst}
-use mathlib.Core.Logic.{◌⊎◌, inl, inr, ◌≢◌}
+use mathlib.Core.Path.{◌≡◌, refl, sym, subst}
+use mathlib.Core.Logic.{◌⊎◌, inl, inr}
 use mathlib.Core.List.{List, ◌++◌}
 use Prim.Native.Nat.{ℕ, suc, ◌+◌, ◌*◌, ◌-◌}
 use native.Mathlib.Omega.{arith}
 use lib.IntN.{ℤ}
 use Rattle.scope.specs.declared.Place.{Place}
-use Rattle.scope.specs.declared.Place.TheVariants.{Row, Node}
+use Rattle.scope.specs.declared.Place.TheVariants.{Row}
 use Rattle.scope.specs.Answer.{place_number}
 use Rattle.scope.specs.Columns.{Rule, right_angle, naming, parts, at_most_where, n, l}
 use Rattle.scope.specs.Mesh.{layout_with, elements, edges, sides, from_node, to_node, jump_from, jump_to, facing_from}
 use Rattle.scope.specs.Mesh.{facing_to}
 use Rattle.scope.specs.Polygon.{polygon_of}
-use Rattle.scope.specs.Claim.{claim_layout, stress}
+use Rattle.scope.specs.Claim.{stress}
 use Rattle.scope.specs.Rows as R
 use Rattle.scope.specs.Rows.{pair_at, equality_rows, strength_rows}
 use Rattle.scope.specs.Meets.{RowMet}
-use Rattle.scope.specs.Refusals.{rule_number, mesh_phases, claim_phases, Refusal}
+use Rattle.scope.specs.Refusals.{mesh_phases, claim_phases, Refusal}
 use Rattle.scope.specs.RowNumbers.{row_numbered, side_numbered, RowNumbers, corner_numbered}
-use Rattle.scope.specs.RefusalTable.{MeshRow, of_lines, five, six, seven, forty_seven, eight, forty_four, forty_two}
-use Rattle.scope.specs.RefusalTable.{TableRow, of_mesh, of_claim_lines, twenty_one, twenty_two, thirty_one}
-use Rattle.scope.specs.RefusalTable.{thirty_two, thirty_three}
-use Rattle.scope.specs.RefusedRows.{EqualityFails, StrengthFails, PairsFail}
+use Rattle.scope.specs.RefusedRows.{EqualityFails, StrengthFails}
 use Rattle.scope.proofs.Phases.{EachIn, each_refusal, own_number}
 use Rattle.scope.proofs.Exactly.{OfParts, not_of_parts, each_number, refused_on_mesh}
-use Rattle.scope.proofs.LineRefusals.{other_number}
 use Rattle.scope.proofs.NumberRanges.{mesh_facts}
-use Rattle.scope.proofs.Pairs.{pairs}
 use Rattle.scope.proofs.Printed.{balance_x_lem, balance_y_lem, normal, shear, jump_normal_lem, jump_shear_lem}
 use Rattle.scope.proofs.Printed.{strength, plus_row, minus_row}
-use Rattle.scope.proofs.RefusalTable.{table_row}
 use Rattle.scope.proofs.RowNumbers.{row_numbers}
 use Rattle.scope.specs.Tests.{row_at}
 
@@ -143,39 +136,3 @@ module _ (m c : List ℤ) where
               ((minus_row m (stress m c) (l c) (n c) (polygon_of (sides m)).radius (pair_at m a)
               (corner_numbered (polygon_of (sides m)) (suc i))).1 g);
         }
-
--- ---- 42
-
--- no rule of a line has the number 42
-no_rule : (r : Rule) → 42 ≢ rule_number r
-unfolding rule_number
-no_rule right_angle e = omega arith
-no_rule (naming cs) e = omega arith
-no_rule parts e = omega arith
-no_rule (at_most_where c k d z) e = omega arith
-
-module _ (m c : List ℤ) where
-  of_mesh_row : {k : ℕ} {p : Place} → MeshRow m k p → k ≡ 42 → PairsFail m (place_number p)
-  unfolding layout_with
-  of_mesh_row (of_lines r) e = absurd (other_number 42 (λ z. omega arith) (λ z. omega arith) no_rule r e)
-  of_mesh_row (five k l h) e = absurd (omega arith)
-  of_mesh_row (six k l a h) e = absurd (omega arith)
-  of_mesh_row (seven v l a b h) e = absurd (omega arith)
-  of_mesh_row (forty_seven k l a b d h) e = absurd (omega arith)
-  of_mesh_row (eight g l a b d k h) e = absurd (omega arith)
-  of_mesh_row (forty_four j l a b d k g h) e = absurd (omega arith)
-  of_mesh_row (forty_two v l a b d k g i h) e = let (many, at) =
-      ((pairs m).brings_one_more v).0 h in record { many = many; node = ap suc (sym at) }
-
-  of_table_row : {k : ℕ} {p : Place} → TableRow m c k p → k ≡ 42 → PairsFail m (place_number p)
-  unfolding claim_layout
-  of_table_row (of_mesh r) e = of_mesh_row r e
-  of_table_row (of_claim_lines s r) e = absurd (other_number 42 (λ z. omega arith) (λ z. omega arith) no_rule r e)
-  of_table_row (twenty_one k b h f) e = absurd (omega arith)
-  of_table_row (twenty_two k b h a f) e = absurd (omega arith)
-  of_table_row (thirty_one k b h f) e = absurd (omega arith)
-  of_table_row (thirty_two j b h a f) e = absurd (omega arith)
-  of_table_row (thirty_three b h a d f) e = absurd (omega arith)
-
-  pub pairs_fail : (place : ℕ) → Refusal m c 42 (Node place) → PairsFail m place
-  pairs_fail place r = of_table_row (table_row m c 42 (Node place) r) refl

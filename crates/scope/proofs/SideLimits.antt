@@ -4,7 +4,7 @@ use mathlib.Core.Path.{◌≡◌, refl, subst}
 use mathlib.Core.Logic.{◌↔◌, ◌⊎◌, inl, inr}
 use mathlib.Core.Bool.{Bool, true, false, cond}
 use mathlib.Core.List.{List, [], ◌∷◌}
-use Prim.Native.Nat.{ℕ, ◌≤◌, ◌<◌}
+use Prim.Native.Nat.{ℕ, suc, ◌≤◌}
 use native.Mathlib.Omega.{arith}
 use lib.IntN.{ℤ, pos}
 use lib.Signed.{◌≤ℤ◌, ◌<ℤ◌}
@@ -17,8 +17,10 @@ use Rattle.scope.specs.Columns.{Rule, at_most_where, at}
 use Rattle.scope.specs.Layout.{groups, line_of, line_numbers, line_count, numbers_at}
 use Rattle.scope.specs.Mesh.{most_pairs, most_sides, most_strength, nodes_for_108, pairs_for_108, strength_for_108}
 use Rattle.scope.specs.Mesh.{nodes_with, pairs_with, strength_multiplier, mesh_header_columns, mesh_header}
-use Rattle.scope.specs.Mesh.{mesh_layout, layout_with, nodes, sides, kind_with, soil_kind}
+use Rattle.scope.specs.Mesh.{mesh_layout, layout_with, nodes, sides, kind_with, soil_kind, soil_lines}
 use Rattle.scope.specs.Rows.{pair_count, pair_at}
+use Rattle.scope.specs.Claim.{strength_multipliers}
+use Rattle.scope.specs.Pairs.{PairsFail}
 use Rattle.scope.specs.Statements.{Says, InLimits, RulesHold, PairsFit}
 use Rattle.scope.specs.Refusals.{rule_number, line_phases, shape_phases, MeshRefusal}
 use Rattle.scope.specs.RefusalTable.{LowestFails}
@@ -27,7 +29,7 @@ use Rattle.scope.proofs.Decides.{Decides}
 use Rattle.scope.proofs.Statements.{all_within_lem}
 use Rattle.scope.proofs.Phases.{join_refused}
 use Rattle.scope.proofs.NumberRanges.{count_is, mesh_facts}
-use Rattle.scope.proofs.Pairs.{pairs, few_pairs_lem}
+use Rattle.scope.proofs.Pairs.{pairs, few_pairs_lem, brings_one_more}
 use Rattle.scope.proofs.LimitsRefused.{over_limit, kind_refused_lem, strength_refused_lem, strength_few_lem}
 
 -- ---- the most, whatever the number of sides
@@ -102,9 +104,8 @@ module _ (m : List ℤ) {node_most pair_most strength_most kind_most : ℕ} (a :
   limits_are refused = record {
     nodes_refused = refused;
     nodes_few = λ s. subst (λ (k : ℕ). nodes m ≤ k) a (mesh_facts m s.lines).counts.nodes_fit;
-    brings_one_more = λ v. subst
-        (λ (k : ℕ). LowestFails (nodes m) (PairsFit m) v ↔ ((k < pair_count m) × ((pair_at m k).at ≡ v))) b
-        ((pairs m).brings_one_more v);
+    brings_one_more = λ v. subst (λ (k : ℕ). LowestFails (nodes m) (PairsFit m) v ↔ PairsFail m k (suc v)) b
+        (brings_one_more m v);
     pairs_few = λ s. subst (λ (k : ℕ). pair_count m ≤ k) b (few_pairs_lem m s);
     strength_refused = λ k s h. strength_refused_lem m k h c s;
     strength_few = λ k s lines h. strength_few_lem m k h c s lines;

@@ -1,13 +1,11 @@
 -- The pairs of a node and a soil (document 02, N2), said without the search for soils or the test of 42: which they
 -- are, their order, how many, and where they are document 01's.
-use Rattle.std.specs.Prelude.{◌≡◌, ◌↔◌, ◌⊎◌, List, map, ℕ, ◌<◌, ◌≤◌, ℤ}
+use Rattle.std.specs.Prelude.{◌≡◌, ◌↔◌, ◌⊎◌, List, map, ℕ, suc, ◌<◌, ◌≤◌, ℤ}
 use Rattle.integer.specs.Members.{◌∈◌}
 use Rattle.scope.specs.Mesh.{pairs_with, nodes, elements, soils, sides, corner, element_soil}
 use Rattle.scope.specs.Polygon.{polygon_of}
 use Rattle.scope.specs.Rows.{Row, Pair, joined, count_from, first_where, has_corner, pair_rows, strength_pairs}
 use Rattle.scope.specs.Rows.{pair_count, pair_at, strength_rows}
-use Rattle.scope.specs.Statements.{PairsFit}
-use Rattle.scope.specs.RefusalTable.{LowestFails}
 
 abbrev pub HasCorner : List ℤ → ℕ → ℕ → Type 0
 HasCorner m v e = (i : ℕ) × (i < 4) × (corner m e i ≡ v)
@@ -29,10 +27,12 @@ pub record Pairs (m : List ℤ) : Type 0 where
       → (a ∈ strength_pairs m) ↔ ((a.at < nodes m) × (a.soil < soils m) × SoilAround m a.at a.soil)
   -- "soils ascending", "in that order": strictly, so that no pair is listed twice
   pub ascending : (i j : ℕ) → i < j → j < pair_count m → Before (pair_at m i) (pair_at m j)
-  -- 42 is "with the node that brings the 101st pair", the 41st with 108 sides (document 02, N9): the first beyond the
-  -- most
-  pub brings_one_more : (v : ℕ) → LowestFails (nodes m) (PairsFit m) v
-      ↔ ((pairs_with (sides m) < pair_count m) × ((pair_at m (pairs_with (sides m))).at ≡ v))
+
+-- 42 is "with the node that brings the 101st pair", the 41st with 108 sides (document 02, N9): the first beyond the
+-- most
+pub record PairsFail (m : List ℤ) (most place : ℕ) : Type 0 where
+  pub many : most < pair_count m
+  pub node : place ≡ suc (pair_at m most).at
 
 -- ---- document 01's strength rows
 

@@ -1,8 +1,8 @@
 -- What the place of 21 and of 22 says (document 01, 'Rows'): the row of that number, as it is printed, is the one that
--- the field does not meet; and what that of 42 says (document 02, N2).
+-- the field does not meet.
 use Rattle.std.specs.Prelude.{◌≡◌, List, ℕ, suc, ◌+◌, ◌*◌, ◌-◌, ◌<◌, ℤ, ◌≤◌}
 use Rattle.scope.specs.Columns.{n, l}
-use Rattle.scope.specs.Mesh.{pairs_with, elements, edges, sides, jumps, from_node, to_node, jump_from, jump_to}
+use Rattle.scope.specs.Mesh.{elements, edges, sides, jumps, from_node, to_node, jump_from, jump_to}
 use Rattle.scope.specs.Mesh.{facing_from, facing_to, ByDirection}
 use Rattle.scope.specs.Polygon.{polygon_of}
 use Rattle.scope.specs.Claim.{stress}
@@ -49,8 +49,3 @@ module _ (m c : List ℤ) (place : ℕ) where
         → place ≡ a * sides m + 2 * suc j
         → ¬ PlaneMinusAt m (stress m c) (l c) (n c) (polygon_of (sides m)).radius (pair_at m a)
         (corner_numbered (polygon_of (sides m)) (suc j))
-
--- refusal 42: "with the node that brings the 101st pair", the 41st with 108 sides
-pub record PairsFail (m : List ℤ) (place : ℕ) : Type 0 where
-  pub many : pairs_with (sides m) < pair_count m
-  pub node : place ≡ suc (pair_at m (pairs_with (sides m))).at

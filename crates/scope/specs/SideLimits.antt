@@ -1,16 +1,17 @@
 -- The limits that go by a mesh's number of sides (document 02, N9 and N14), said number by number: "Such a mesh has at
 -- most 40 nodes and 40 node-and-soil pairs, and its strength multipliers are at most 300; over these, 2, 42 and 12 are
 -- given as for other limits." "Kind 1 with 108 sides gets 2, with the soil's line."
-use Rattle.std.specs.Prelude.{◌≡◌, ◌↔◌, List, ℕ, suc, ◌+◌, ◌*◌, ◌≤◌, ◌<◌, ℤ, pos, ◌<ℤ◌, length, ◌≤ℤ◌}
+use Rattle.std.specs.Prelude.{◌≡◌, ◌↔◌, List, ℕ, suc, ◌+◌, ◌*◌, ◌≤◌, ◌<◌, ℤ, pos, ◌<ℤ◌, length, ◌≤ℤ◌, replicate, get_or}
 use Rattle.scope.specs.declared.Place.TheVariants.{Line}
-use Rattle.scope.specs.Columns.{at, has_field}
+use Rattle.scope.specs.Columns.{at, has_field, between, free}
 use Rattle.scope.specs.Mesh.{mesh_header_columns, mesh_layout, nodes, elements, soils, edges, sides, jumps, soil_kind}
-use Rattle.scope.specs.Mesh.{equality_count}
-use Rattle.scope.specs.Claim.{if_there, claim_layout, multiplier}
+use Rattle.scope.specs.Mesh.{equality_count, soil_lines}
+use Rattle.scope.specs.Claim.{if_there, claim_layout, multiplier, strength_multipliers}
 use Rattle.scope.specs.Rows.{pair_count, pair_at}
 use Rattle.scope.specs.NumberRanges.{Between}
 use Rattle.scope.specs.Statements.{Complete, LinesSound, PairsFit, MeshSound, HasMultipliers}
 use Rattle.scope.specs.Refusals.{SoundTo, MeshRefusal, Refusal}
+use Rattle.scope.specs.Pairs.{PairsFail}
 use Rattle.scope.specs.RefusalTable.{LowestFails}
 
 -- the strength multiplier of pair a and side i, both counted from 0
@@ -29,7 +30,7 @@ pub record SideLimits (m : List ℤ) (node_most pair_most strength_most kind_mos
   pub nodes_few : MeshSound m → nodes m ≤ node_most
   -- 42, with the node of the first pair beyond the most
   pub brings_one_more : (v : ℕ) → LowestFails (nodes m) (PairsFit m) v
-      ↔ ((pair_most < pair_count m) × ((pair_at m pair_most).at ≡ v))
+      ↔ PairsFail m pair_most (suc v)
   pub pairs_few : MeshSound m → pair_count m ≤ pair_most
   -- 12, with the line of one outside its limit: the mesh passes, as do the lines before, and this one has all its
   -- numbers
