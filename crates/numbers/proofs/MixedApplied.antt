@@ -1,7 +1,7 @@
 -- The promises applied to one sheet with triangles, pairs, a joint and a table, with 12 and with 108 sides and with
 -- bedded clay: antt computes the answers, and `MixedSays` says the rest.
 use mathlib.Core.Path.{◌≡◌, refl, subst}
-use mathlib.Core.Logic.{◌⊎◌, inl}
+use mathlib.Core.Logic.{◌⊎◌, inl, inr}
 use mathlib.Core.List.Memᴰ
 use Prim.Native.Nat.{ℕ, zero, suc, ◌+◌, ◌*◌, ◌<◌, ◌≤◌}
 use native.Mathlib.Omega.{arith}
@@ -19,13 +19,14 @@ use Rattle.scope.specs.Rows.{Pair, pair_count, pair_at}
 use Rattle.scope.specs.Claim.{stress}
 use Rattle.scope.specs.Columns.{n, l}
 use Rattle.scope.specs.Printed.{StrengthAt}
-use Rattle.scope.specs.RowNumbers.{side_numbered}
+use Rattle.scope.specs.RefusedRows.{nth_side}
 use Rattle.scope.specs.Answer.{outcome_of, place_for, mesh_number_of}
 use Rattle.scope.specs.declared.Place.TheVariants.{Row}
 use Rattle.scope.specs.Refusals.{SoundTo, Refusal}
 use Rattle.scope.specs.Statements.{Complete, HasField, HasMultipliers}
 use Rattle.scope.proofs.Refusals.{line_passed}
 use Rattle.scope.specs.TableVerdict.{TableFits}
+use Rattle.scope.proofs.RefusedRows.{jump_normal_from_fails, side_fails, plane_minus_fails}
 use Rattle.numbers.specs.declared.numbers_answer.NumbersAnswer.{NumbersAnswer}
 use Rattle.numbers.specs.Promises.{Answers, Returned, MeshAnswered}
 use Rattle.numbers.specs.TablePromises.{TableAnswers}
@@ -95,12 +96,16 @@ beyond_on_filled =
     on_filled two_layers (unfilled 12 0) (mixed_claim 65 even) (refusal 22 13) beyond_answered fits_lem
     (filled_lem 12 0)
 
-pub clay_fails : ClayFails (soils_written 12 0) (mixed_claim 65 even)
+pub clay_fails : ClayFails (soils_written 12 0) (mixed_claim 65 even) 13
 unfolding opened
 clay_fails =
-    ((rows_refused (soils_written 12 0) (mixed_claim 65 even) 22 13 (returned beyond_on_filled)).strength
-    refl).strength 1 0
-    (omega arith) (omega arith) mixed_kinds.0 refl
+    let lowest =
+    ((rows_refused (soils_written 12 0) (mixed_claim 65 even) 22 13 (returned beyond_on_filled)).strength refl).1 in
+    record {
+      lowest = lowest;
+      named = side_fails (soils_written 12 0) (mixed_claim 65 even) (inl refl) lowest.fails 1 0 (omega arith)
+          (omega arith) mixed_kinds.0 refl;
+    }
 
 pub clay_refusal : Refusal (soils_written 12 0) (mixed_claim 65 even) 22 (Row 13)
 unfolding place_for
@@ -121,9 +126,13 @@ unfolding opened
 joint_fails =
     let on = on_filled two_layers (unfilled 12 0) (mixed_claim 64 (neg_ℤ (pos 39)))
     (refusal 21 15) uneven_answered fits_lem (filled_lem 12 0) in
-    ((rows_refused (soils_written 12 0) (mixed_claim 64 (neg_ℤ (pos 39))) 21 15 (returned on)).equality
-    refl).jump_normal_from 0
-    (omega arith) refl
+    let lowest =
+    (rows_refused (soils_written 12 0) (mixed_claim 64 (neg_ℤ (pos 39))) 21 15 (returned on)).equality refl in
+    record {
+      lowest = lowest;
+      named = jump_normal_from_fails (soils_written 12 0) (mixed_claim 64 (neg_ℤ (pos 39))) lowest.fails 0 (omega arith)
+          refl;
+    }
 
 gap_answered : TableAnswers lower_layer (unfilled 12 0) (mixed_claim 64 even) (refusal 45 12)
 unfolding opened
@@ -236,13 +245,18 @@ many_pair_kind : ¬ ByDirection (soils_written 108 0) (pair_at (soils_written 10
 unfolding opened
 many_pair_kind e = let z : ◌≡◌ {A = ℕ} 0 1 = cc in omega arith
 
-pub many_clay_fails : ClayFails (soils_written 108 0) (claim_108 65 even)
+pub many_clay_fails : ClayFails (soils_written 108 0) (claim_108 65 even) 109
 many_clay_fails =
-    subst (λ (a : Pair). ¬ StrengthAt (soils_written 108 0) (stress (soils_written 108 0) (claim_108 65 even))
-    (l (claim_108 65 even)) (n (claim_108 65 even)) (polygon_of (sides (soils_written 108 0))).radius a
-    (side_numbered (polygon_of (sides (soils_written 108 0))) 1)) many_row.3
-    (((rows_refused (soils_written 108 0) (claim_108 65 even) 22 109 beyond_108_returned).strength refl).strength 1 0
-    many_row.0 many_row.1 many_pair_kind many_row.2)
+    let lowest =
+    ((rows_refused (soils_written 108 0) (claim_108 65 even) 22 109 beyond_108_returned).strength refl).1 in
+    record {
+      lowest = lowest;
+      named = subst (λ (a : Pair). ¬ StrengthAt (soils_written 108 0) (stress (soils_written 108 0) (claim_108 65 even))
+          (l (claim_108 65 even)) (n (claim_108 65 even)) (polygon_of (sides (soils_written 108 0))).radius a
+          (nth_side (soils_written 108 0) 0)) many_row.3
+          (side_fails (soils_written 108 0) (claim_108 65 even) (inr (inr (inr many_sides))) lowest.fails 1 0 many_row.0
+          many_row.1 many_pair_kind many_row.2);
+    }
 
 pub many_clay_refusal : Refusal (soils_written 108 0) (claim_108 65 even) 22 (Row 109)
 unfolding place_for
@@ -307,8 +321,12 @@ bed_returned =
 pub bed_fails : BedFails (soils_written 12 1) (bedded_claim 66 even)
 unfolding opened
 bed_fails =
-    ((rows_refused (soils_written 12 1) (bedded_claim 66 even) 22 16 bed_returned).strength refl).plane_minus 1 1
-    (omega arith) (omega arith) refl refl
+    let lowest = ((rows_refused (soils_written 12 1) (bedded_claim 66 even) 22 16 bed_returned).strength refl).1 in
+    record {
+      lowest = lowest;
+      named = plane_minus_fails (soils_written 12 1) (bedded_claim 66 even) (inl refl) lowest.fails 1 1 (omega arith)
+          (omega arith) refl refl;
+    }
 
 pub bed_refusal : Refusal (soils_written 12 1) (bedded_claim 66 even) 22 (Row 16)
 unfolding place_for

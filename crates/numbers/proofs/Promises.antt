@@ -22,9 +22,12 @@ use Rattle.scope.specs.Claim.{stress}
 use Rattle.scope.specs.Verdict.{verdict, lower_load, upper_load, open_count}
 use Rattle.scope.specs.Refusals.{mesh_phases, claim_phases, MeshRefusal, Refusal}
 use Rattle.scope.specs.SideLimits.{strength_line}
+use Rattle.scope.specs.RefusalTable.{TableRow}
 use Rattle.scope.specs.Accepted.{FieldAccepted}
 use Rattle.scope.proofs.PlaceKinds.{place_kind, place_number_lem, mesh_exactly}
-use Rattle.scope.proofs.RefusedRows.{equality_fails, strength_fails}
+use Rattle.scope.proofs.RefusalTable.{table_row}
+use Rattle.scope.proofs.RefusedRows.{refused_equality, refused_strength}
+use Rattle.scope.proofs.RefusedColumns.{refused_unfixed, refused_column}
 use Rattle.scope.proofs.PairsRefused.{pairs_fail}
 use Rattle.scope.proofs.Exactly.{accepted_exactly, refused_exactly, verdict_cases, returns_zero, claim_by_parts}
 use Rattle.scope.proofs.Exactly.{field_before_multipliers, refused_after_field}
@@ -131,9 +134,14 @@ module _ (m c : List ℤ) (number place : ℕ) (h : Returned m c number place) w
   pub rows_refused : RowsRefused m c number place
   unfolding place_for
   rows_refused = record {
-    equality = λ e. equality_fails m c place ((refuses_exactly.exactly 21 place (λ z. omega arith)).0 (e, refl));
-    strength = λ e. strength_fails m c place ((refuses_exactly.exactly 22 place (λ z. omega arith)).0 (e, refl));
+    equality = λ e. refused_equality m c (row 21 (λ z. omega arith) e);
+    strength = λ e. refused_strength m c (row 22 (λ z. omega arith) e);
+    unfixed = λ e. refused_unfixed m c (row 31 (λ z. omega arith) e);
+    column = λ e. refused_column m c (row 32 (λ z. omega arith) e);
   }
+    where
+      row : (k : ℕ) → k ≢ 0 → number ≡ k → TableRow m c k (place_for k place)
+      row k nonzero e = table_row m c k (place_for k place) ((refuses_exactly.exactly k place nonzero).0 (e, refl))
 
   tells_field : FieldAccepted m c → TellsField c number
   tells_field a = (a.there, by (verdict_cases m c))

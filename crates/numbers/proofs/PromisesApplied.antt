@@ -26,6 +26,8 @@ use Rattle.scope.specs.Refusals.{MeshRefusal, Refusal}
 use Rattle.scope.specs.Verdict.{verdict}
 use Rattle.scope.specs.Accepted.{FieldAccepted, MultipliersAccepted, ClaimAccepted}
 use Rattle.scope.specs.Printed.{MeetsPrinted}
+use Rattle.scope.specs.RefusedRows.{Lowest, None}
+use Rattle.scope.specs.RefusedColumns.{UnfixedWeighed, ColumnFails}
 use Rattle.scope.specs.AcceptedField.{MeetsCriterion}
 use Rattle.scope.specs.Bracket.{Open, NoneOpen}
 use Rattle.scope.specs.Fractions.{Fraction, FractionField, field_over}
@@ -40,7 +42,8 @@ use Rattle.scope.specs.Mesh.{element_soil, ByDirection}
 use Rattle.numbers.specs.declared.numbers_answer.NumbersAnswer.{NumbersAnswer}
 use Rattle.numbers.specs.Promises.{Answers, CallsBracket, returned_numbers, TellsField, FieldInFractions, MeshAnswered}
 use Rattle.numbers.proofs.Promises.{mesh_answered_exactly, returned, returns_zero_exactly, refuses_exactly}
-use Rattle.numbers.proofs.Promises.{numbers_listed, field_exactly, multipliers_exactly, criterion_for_each_pair}
+use Rattle.numbers.proofs.Promises.{numbers_listed, rows_refused, field_exactly, multipliers_exactly}
+use Rattle.numbers.proofs.Promises.{criterion_for_each_pair}
 use Rattle.numbers.proofs.Reported.{field-reported}
 use Rattle.numbers.proofs.Reported.{multipliers_reported, open_rows_reported, field_in_fractions, calls_bracket}
 use Rattle.numbers.proofs.Reported.{call_bracket, accepted_parts, fractions_bracket}
@@ -143,6 +146,34 @@ pub refused_column-7 : Refusal worked_mesh sheet29 32 (Column 7)
 unfolding place_for
 refused_column-7 = ((refuses_exactly worked_mesh sheet29 32 7 (returned refused_answered)).exactly 32 7
     (λ e. omega arith)).0 (refl, refl)
+
+-- no row has 31, and no column below 7 has a sum other than 0
+pub column_7 : None (UnfixedWeighed worked_mesh sheet29) × Lowest (ColumnFails worked_mesh sheet29) 7
+column_7 = (rows_refused worked_mesh sheet29 32 7 (returned refused_answered)).column refl
+
+-- 1 on the shear of the third edge at its from-node, which is row 12 and unfixed
+unfoldable pub on_free_shear : List ℤ
+on_free_shear = (pos 0 ∷ pos 1 ∷ pos 0 ∷ pos 0 ∷ []) ++ zeros 11 ++ (pos 1 ∷ zeros 50)
+
+abbrev answer31 : NumbersAnswer
+answer31 = record {
+  number = 31;
+  place = 12;
+  field = 0;
+  multipliers = 0;
+  l = pos 0;
+  n = pos 0;
+  w = pos 0;
+  m = pos 0;
+  open_rows = 0;
+}
+
+unfixed_answered : Answers (free_shear (pos 0)) on_free_shear answer31
+unfolding computed zeros free_shear on_free_shear
+unfixed_answered = refl
+
+pub unfixed_12 : Lowest (UnfixedWeighed (free_shear (pos 0)) on_free_shear) 12
+unfixed_12 = (rows_refused (free_shear (pos 0)) on_free_shear 31 12 (returned unfixed_answered)).unfixed refl
 
 pub listed_32 : 32 ∈ returned_numbers
 listed_32 = (numbers_listed worked_mesh sheet29 32 7 (returned refused_answered)).listed

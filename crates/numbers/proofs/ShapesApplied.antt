@@ -12,7 +12,8 @@ use Rattle.scope.specs.Rows.{balance_rows, side_rows, equality_rows, strength_pa
 use Rattle.scope.specs.Claim.{stress}
 use Rattle.scope.proofs.Computed.{computed}
 use Rattle.scope.specs.Polygon.{polygon_of}
-use Rattle.scope.specs.RowNumbers.{side_numbered}
+use Rattle.scope.specs.RefusedRows.{nth_side}
+use Rattle.scope.proofs.RefusedRows.{jump_normal_from_fails, side_fails}
 use Rattle.scope.specs.Printed.{NormalAgreesAt, StrengthAt}
 use Rattle.scope.specs.AcceptedField.{MeetsCriterion}
 use Rattle.scope.specs.Worked.{zeros, worked_mesh, worked_stresses}
@@ -123,10 +124,12 @@ beyond_clay_answered = refl
 -- the row that is not met is that of node 3 with the clay, pair 4, and a row that document 01 did not have
 pub clay_row_fails : ¬ StrengthAt fill_over_clay (stress fill_over_clay (over_clay 20)) (pos 20) (pos 1)
     (polygon_of (sides fill_over_clay)).radius (record { at = 2; soil = 1 })
-    (side_numbered (polygon_of (sides fill_over_clay)) 1)
+    (nth_side fill_over_clay 0)
 unfolding computed zeros fill_over_clay over_clay beyond_clay
-clay_row_fails = ((rows_refused fill_over_clay (over_clay 20) 22 37 (returned beyond_clay_answered)).strength
-    refl).strength 3 0 (omega arith) (omega arith) (λ e. let z : ◌≡◌ {A = ℕ} 0 1 = cc in omega arith) refl
+clay_row_fails =
+    side_fails fill_over_clay (over_clay 20) (inl refl)
+    ((rows_refused fill_over_clay (over_clay 20) 22 37 (returned beyond_clay_answered)).strength refl).1.fails 3 0
+    (omega arith) (omega arith) (λ e. let z : ◌≡◌ {A = ℕ} 0 1 = cc in omega arith) refl
 
 -- l 10: accepted, and node 3 meets the criterion with the strength of the fill and with that of the clay
 pub within_clay : NumbersAnswer
@@ -239,8 +242,9 @@ uneven_answered = refl
 pub uneven_normal : ¬ NormalAgreesAt two_blocks (stress two_blocks uneven_claim) (pos 40) (pos 1) 0
     (jump_from two_blocks 0) (facing_from two_blocks 0)
 unfolding computed zeros blocks block_edges joint two_blocks on_joint uneven_answer
-uneven_normal = ((rows_refused two_blocks uneven_claim 21 13 (returned uneven_answered)).equality refl).jump_normal_from
-    0 (omega arith) refl
+uneven_normal =
+    jump_normal_from_fails two_blocks uneven_claim
+    ((rows_refused two_blocks uneven_claim 21 13 (returned uneven_answered)).equality refl).fails 0 (omega arith) refl
 
 -- document 01's sheet has no jump: its equality rows stay
 no_jump : jumps worked_mesh ≡ 0

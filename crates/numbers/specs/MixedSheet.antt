@@ -14,7 +14,7 @@ use Rattle.scope.specs.Claim.{stress, multiplier}
 use Rattle.scope.specs.Accepted.{ClaimAccepted, FieldAccepted, MultipliersAccepted}
 use Rattle.scope.specs.Printed.{MeetsPrinted, NormalAgreesAt, StrengthAt, PlaneMinusAt}
 use Rattle.scope.specs.PrintedColumns.{MultipliersPrinted, printed_live, printed_limit}
-use Rattle.scope.specs.RowNumbers.{side_numbered, corner_numbered}
+use Rattle.scope.specs.RefusedRows.{Lowest, EqualityFails, StrengthFails, nth_corner, nth_side}
 use Rattle.scope.specs.AcceptedField.{MeetsCriterion}
 use Rattle.scope.specs.Planes.{PlaneHoldsAt}
 use Rattle.scope.specs.Meaning.{Inward}
@@ -195,21 +195,23 @@ pub record RefusedSays (r : NumbersAnswer) : Type 0 where
   pub no_multipliers : (r.multipliers ≡ 0) × (r.w ≡ pos 0) × (r.m ≡ pos 0)
   pub no_rows : r.open_rows ≡ 0
 
--- what is refused (`RowsRefused`, `TableExactly`): the joint pressed with 40 and with 39, and the lower layer alone
-abbrev pub JointFails : List ℤ → List ℤ → Type 0
-JointFails m c = ¬ NormalAgreesAt m (stress m c) (l c) (n c) 0 1 4
+-- what is refused (`RowsRefused`, `TableExactly`): the joint pressed with 40 and with 39, its row 15 the normal one at
+-- node 2, which node 5 faces; and the lower layer alone
+pub record JointFails (m c : List ℤ) : Type 0 where
+  pub lowest : Lowest (EqualityFails m c) 15
+  pub named : ¬ NormalAgreesAt m (stress m c) (l c) (n c) 0 1 4
 
 abbrev pub GapRefused : List ℤ → List ℤ → List ℤ → Type 0
 GapRefused t m c = TabledRefusal t m c 45 (Height 12) × LayersRefused t m 45 (Height 12)
 
--- one more than the clay carries: row 1 of node 1 with the clay, or, where that is bedded, its row 4, of the plane
--- (4, 3)
-abbrev pub ClayFails : List ℤ → List ℤ → Type 0
-ClayFails m c =
-    ¬ StrengthAt m (stress m c) (l c) (n c) (polygon_of (sides m)).radius (record { at = 0; soil = 1 })
-    (side_numbered (polygon_of (sides m)) 1)
+-- one more than the clay carries: row 1 of node 1 with the clay, at this place, or, where that is bedded, its row 4, of
+-- the plane (4, 3)
+pub record ClayFails (m c : List ℤ) (place : ℕ) : Type 0 where
+  pub lowest : Lowest (StrengthFails m c) place
+  pub named : ¬ StrengthAt m (stress m c) (l c) (n c) (polygon_of (sides m)).radius (record { at = 0; soil = 1 })
+      (nth_side m 0)
 
-abbrev pub BedFails : List ℤ → List ℤ → Type 0
-BedFails m c =
-    ¬ PlaneMinusAt m (stress m c) (l c) (n c) (polygon_of (sides m)).radius (record { at = 0; soil = 1 })
-    (corner_numbered (polygon_of (sides m)) 2)
+pub record BedFails (m c : List ℤ) : Type 0 where
+  pub lowest : Lowest (StrengthFails m c) 16
+  pub named : ¬ PlaneMinusAt m (stress m c) (l c) (n c) (polygon_of (sides m)).radius (record { at = 0; soil = 1 })
+      (nth_corner m 1)

@@ -24,7 +24,8 @@ use Rattle.scope.specs.Refusals.{SoundTo, Refusal}
 use Rattle.scope.specs.Refusals.{table_numbers}
 use Rattle.scope.specs.Accepted.{FieldAccepted, MultipliersAccepted, ClaimAccepted}
 use Rattle.scope.specs.Printed.{MeetsPrinted}
-use Rattle.scope.specs.RefusedRows.{EqualityFails, StrengthFails}
+use Rattle.scope.specs.RefusedRows.{Lowest, None, EqualityFails, StrengthFails}
+use Rattle.scope.specs.RefusedColumns.{UnfixedWeighed, ColumnFails}
 use Rattle.scope.specs.PrintedColumns.{MultipliersPrinted, printed_live, printed_limit}
 use Rattle.scope.specs.AcceptedField.{CriterionEverywhere, CriterionAround, PlanesEverywhere, TractionsAgree}
 use Rattle.scope.specs.Planes.{PlaneMeaning, CohesionMeaning}
@@ -77,11 +78,14 @@ pub record NumbersListed (number place : ℕ) : Type 0 where
   pub line_one : number ≡ 13 → place ≡ 1
   pub column_zero : number ≡ 33 → place ≡ 0
 
--- the place of 21 and of 22 is the number of a row that, as document 01 prints it, the field does not meet; strength
--- rows "are numbered by node-and-soil pairs" (document 02, N2)
+-- the place of 21 and of 22 is the number of a row that, as document 01 prints it, the field does not meet; that of 31,
+-- of an unfixed row with a multiplier other than 0; that of 32, of a column whose sum is not 0. No lower one is so; and
+-- with 22 no row has 21, with 32 none has 31
 pub record RowsRefused (m c : List ℤ) (number place : ℕ) : Type 0 where
-  pub equality : number ≡ 21 → EqualityFails m c place
-  pub strength : number ≡ 22 → StrengthFails m c place
+  pub equality : number ≡ 21 → Lowest (EqualityFails m c) place
+  pub strength : number ≡ 22 → None (EqualityFails m c) × Lowest (StrengthFails m c) place
+  pub unfixed : number ≡ 31 → Lowest (UnfixedWeighed m c) place
+  pub column : number ≡ 32 → None (UnfixedWeighed m c) × Lowest (ColumnFails m c) place
 
 -- the number tells of a field that is there that it is accepted: no refusal before 31 came
 abbrev pub TellsField : List ℤ → ℕ → Type 0

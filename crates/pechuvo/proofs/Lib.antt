@@ -16,6 +16,7 @@ pub mod TablePromises
 pub mod FilePromises
 pub mod PromisesApplied
 pub mod TrianglesApplied
+pub mod PlacesApplied
 pub mod LoadsApplied
 pub mod PromisesApplied108
 pub mod PromisesAppliedBeds

@@ -17,8 +17,9 @@ use Rattle.scope.specs.Mesh.{sides, ByDirection}
 use Rattle.scope.specs.Columns.{n, l}
 use Rattle.scope.specs.Claim.{stress}
 use Rattle.scope.specs.Rows.{Pair, pair_count, pair_at}
-use Rattle.scope.specs.Polygon.{point, polygon_of}
-use Rattle.scope.specs.RowNumbers.{side_numbered}
+use Rattle.scope.specs.Polygon.{point, polygon_of, SidesListed}
+use Rattle.scope.specs.RefusedRows.{nth_side}
+use Rattle.scope.proofs.RefusedRows.{side_fails}
 use Rattle.scope.specs.Printed.{StrengthAt}
 use Rattle.scope.specs.Planes.{PlaneHoldsAt}
 use Rattle.scope.specs.Accepted.{MultipliersAccepted}
@@ -313,12 +314,21 @@ row_13 : (1 < pair_count (soils_written 12 0)) × (0 < sides (soils_written 12 0
 unfolding opened
 row_13 = (omega arith, omega arith, λ e. let z : ◌≡◌ {A = ℕ} 0 1 = cc in omega arith, refl, refl)
 
-pub clay_fails : ClayFails (soils_written 12 0) (mixed_claim 65 even)
+twelve_sides : SidesListed (sides (soils_written 12 0))
+unfolding opened
+twelve_sides = inl refl
+
+pub clay_fails : ClayFails (soils_written 12 0) (mixed_claim 65 even) 13
 clay_fails =
-    subst (λ (a : Pair). ¬ StrengthAt (soils_written 12 0) (stress (soils_written 12 0) (mixed_claim 65 even))
-    (l (mixed_claim 65 even)) (n (mixed_claim 65 even)) (polygon_of (sides (soils_written 12 0))).radius a
-    (side_numbered (polygon_of (sides (soils_written 12 0))) 1)) row_13.4
-    ((beyond_call.rows.strength refl).strength 1 0 row_13.0 row_13.1 row_13.2 row_13.3)
+    let lowest = (beyond_call.rows.strength refl).1 in
+    record {
+      lowest = lowest;
+      named = subst (λ (a : Pair). ¬ StrengthAt (soils_written 12 0) (stress (soils_written 12 0) (mixed_claim 65 even))
+          (l (mixed_claim 65 even)) (n (mixed_claim 65 even)) (polygon_of (sides (soils_written 12 0))).radius a
+          (nth_side (soils_written 12 0) 0)) row_13.4
+          (side_fails (soils_written 12 0) (mixed_claim 65 even) twelve_sides lowest.fails 1 0 row_13.0 row_13.1
+          row_13.2 row_13.3);
+    }
 
 -- the lower layer alone
 gap_answers : Answers gap_files.mesh gap_files.table gap_files.claim (pos 6) room 45 12 gap_files.line

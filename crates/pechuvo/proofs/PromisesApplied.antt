@@ -16,9 +16,10 @@ use Rattle.integer.specs.Members.{◌∈◌}
 use Rattle.scope.specs.Columns.{n, l}
 use Rattle.scope.specs.Mesh.{mesh_layout, elements, edges, sides, corner, element_soil, from_node, jumps, ByDirection}
 use Rattle.scope.specs.Mesh.{ListsDirection}
-use Rattle.scope.specs.Polygon.{polygon_of}
+use Rattle.scope.specs.Polygon.{polygon_of, SidesListed}
 use Rattle.scope.specs.Rows.{Pair, pair_count, pair_at}
-use Rattle.scope.specs.RowNumbers.{side_numbered}
+use Rattle.scope.specs.RefusedRows.{nth_side}
+use Rattle.scope.proofs.RefusedRows.{normal_from_fails, side_fails}
 use Rattle.scope.specs.Pairs.{Before}
 use Rattle.scope.specs.Claim.{claim_layout, stress}
 use Rattle.scope.specs.Statements.{HasField, HasMultipliers}
@@ -242,8 +243,10 @@ unfolding opened
 row_3 = (omega arith, refl)
 
 pub row_3_fails : ¬ NormalAt mesh_at3 (stress mesh_at3 claim_at3) (l claim_at3) (n claim_at3) 0 (from_node mesh_at3 0)
-row_3_fails = ((on_mesh (mesh_in (at 3).mesh) (at 3).claim (pos 6) room 21 3 (at 3).line
-    (plain (at 3).mesh (at 3).claim row_3-answered) fits).rows.equality refl).normal_from 0 row_3.0 row_3.1
+row_3_fails =
+    normal_from_fails mesh_at3 claim_at3
+    ((on_mesh (mesh_in (at 3).mesh) (at 3).claim (pos 6) room 21 3 (at 3).line
+    (plain (at 3).mesh (at 3).claim row_3-answered) fits).rows.equality refl).fails 0 row_3.0 row_3.1
 
 -- the sheet's files are those of their numbers
 pub sheet_mesh_file : (at 0).mesh ≡ file_of file_width mesh_layout (mesh_in (at 0).mesh)
@@ -295,19 +298,24 @@ fourth_pair : (3 < pair_count mesh_of_seam) × (0 < sides mesh_of_seam) × (37 �
 unfolding opened seam_mesh seam_fault
 fourth_pair = (omega arith, omega arith, refl, refl)
 
+seam_sides : SidesListed (sides mesh_of_seam)
+unfolding opened seam_mesh seam_fault
+seam_sides = inl refl
+
 no_bedded_clay : ¬ ByDirection mesh_of_seam (pair_at mesh_of_seam 3).soil
 unfolding opened seam_mesh seam_fault
 no_bedded_clay e = let z : ◌≡◌ {A = ℕ} 0 1 = cc in omega arith
 
 pub clay_row_fails : ¬ StrengthAt mesh_of_seam (stress mesh_of_seam claim_of_seam) (l claim_of_seam) (n claim_of_seam)
     (polygon_of (sides mesh_of_seam)).radius (record { at = 2; soil = 1 })
-    (side_numbered (polygon_of (sides mesh_of_seam)) 1)
+    (nth_side mesh_of_seam 0)
 clay_row_fails =
     subst (λ (a : Pair). ¬ StrengthAt mesh_of_seam (stress mesh_of_seam claim_of_seam) (l claim_of_seam)
     (n claim_of_seam) (polygon_of (sides mesh_of_seam)).radius a
-    (side_numbered (polygon_of (sides mesh_of_seam)) 1)) fourth_pair.3
-    (((on_mesh (mesh_in seam_fault.mesh) seam_fault.claim (pos 6) room 22 37 seam_fault.line
-    (plain seam_fault.mesh seam_fault.claim fault_answered) fits).rows.strength refl).strength 3 0 fourth_pair.0
+    (nth_side mesh_of_seam 0)) fourth_pair.3
+    (side_fails mesh_of_seam claim_of_seam seam_sides
+    ((on_mesh (mesh_in seam_fault.mesh) seam_fault.claim (pos 6) room 22 37 seam_fault.line
+    (plain seam_fault.mesh seam_fault.claim fault_answered) fits).rows.strength refl).1.fails 3 0 fourth_pair.0
     fourth_pair.1 no_bedded_clay fourth_pair.2)
 
 -- the two blocks press on their joint alike

@@ -38,7 +38,9 @@ pub mod RowCounts
 pub mod RowNumbers
 pub mod SumBelow
 pub mod PrintedColumns
+pub mod SideCorners
 pub mod RefusedRows
+pub mod RefusedColumns
 pub mod PairsRefused
 pub mod OverlapRefused
 pub mod OpenPlaces

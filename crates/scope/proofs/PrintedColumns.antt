@@ -4,9 +4,8 @@ use mathlib.Core.Path.{◌≡◌, refl, sym, ◌∙◌, ap, ap₂}
 use mathlib.Core.Logic.{◌↔◌, ◌⊎◌, inl, inr}
 use mathlib.Core.Bool.{Bool, true, false, cond, ◌||◌}
 use mathlib.Core.List.{List, [], ◌∷◌}
-use Prim.Native.Nat.{ℕ, zero, suc, ◌+◌, ◌*◌, ◌-◌, ◌/◌, ◌%◌, ◌<◌}
+use Prim.Native.Nat.{ℕ, zero, suc, ◌+◌, ◌*◌, ◌/◌, ◌%◌, ◌<◌}
 use native.Mathlib.Nat.{zero-mul, suc-mul, div-add-mod', mod-lt}
-use native.Mathlib.Decide.{dec_lt}
 use native.Mathlib.Omega.{arith}
 use lib.IntN.{ℤ, pos, negsuc, ◌+ℤ◌, ◌-ℤ◌, ◌*ℤ◌, neg_ℤ, +ℤ_idl}
 use lib.ListN.{length}
@@ -34,7 +33,7 @@ use Rattle.scope.proofs.Printed.{rows_printed}
 use Rattle.scope.proofs.RowCounts.{equality_count_lem}
 use Rattle.scope.proofs.RowNumbers.{element_rows, edge_rows, rows_of_jump, balance_at, side_at_lem, jump_at}
 use Rattle.scope.proofs.RowNumbers.{equality_among, strength_among, strength_at, row_count, even_sides, plus_at}
-use Rattle.scope.proofs.RowNumbers.{minus_at}
+use Rattle.scope.proofs.RowNumbers.{minus_at, InElementRows, InEdge, InJump, which_row}
 use Rattle.scope.specs.Tests.{row_at}
 
 -- ---- sums below a number, in pieces
@@ -243,70 +242,15 @@ none_if what fixed c = go (eq_z fixed what || eq_z fixed (pos 3)) (either (equal
     go true d = (λ h f. absurd (f (d.holds tt)), λ h. tt)
     go false d = (λ h f. h, λ h. h (λ k. d.passes k))
 
-normal_free : (m : List ℤ) (g v : ℕ) (c : ℤ) → NoneOnUnfixed c (normal_row m g v) ↔
+pub normal_free : (m : List ℤ) (g v : ℕ) (c : ℤ) → NoneOnUnfixed c (normal_row m g v) ↔
     (¬ FixesNormal (edge_entry m g 2) → c ≡ pos 0)
 unfolding normal_row
 normal_free m g v c = none_if (pos 1) (edge_entry m g 2) c
 
-shear_free : (m : List ℤ) (g v : ℕ) (c : ℤ) → NoneOnUnfixed c (shear_row m g v) ↔
+pub shear_free : (m : List ℤ) (g v : ℕ) (c : ℤ) → NoneOnUnfixed c (shear_row m g v) ↔
     (¬ FixesShear (edge_entry m g 2) → c ≡ pos 0)
 unfolding shear_row
 shear_free m g v c = none_if (pos 2) (edge_entry m g 2) c
-
--- place k of the equality rows is one of an element, one of an edge, or one of a jump
-record InEdge (m : List ℤ) (k : ℕ) : Type 0 where
-  edge : ℕ
-  there : edge < edges m
-  row : ℕ
-  four : row < 4
-  is : k ≡ elements m * 2 + (edge * 4 + row)
-
-record InJump (m : List ℤ) (k : ℕ) : Type 0 where
-  jump : ℕ
-  there : jump < jumps m
-  row : ℕ
-  four : row < 4
-  is : k ≡ elements m * 2 + edges m * 4 + (jump * 4 + row)
-
-record InElementRows (m : List ℤ) (k : ℕ) : Type 0 where
-  element : ℕ
-  there : element < elements m
-  row : ℕ
-  two : row < 2
-  is : k ≡ element * 2 + row
-
-which_row : (m : List ℤ) (k : ℕ) → k < elements m * 2 + edges m * 4 + jumps m * 4
-    → InElementRows m k ⊎ (InEdge m k ⊎ InJump m k)
-which_row m k h = by (dec_lt k (elements m * 2)) (dec_lt k (elements m * 2 + edges m * 4))
-  where
-    by : Dec (k < elements m * 2) → Dec (k < elements m * 2 + edges m * 4)
-        → InElementRows m k ⊎ (InEdge m k ⊎ InJump m k)
-    by (yes f) g =
-        let d = div-add-mod' k 2 in
-        let r = mod-lt k {m = 2} (omega arith) in
-        inl (record { element = k / 2; there = omega arith; row = k % 2; two = r; is = sym d })
-    by (no f) (yes g) =
-        let d = div-add-mod' (k - elements m * 2) 4 in
-        let r = mod-lt (k - elements m * 2) {m = 4} (omega arith) in
-        inr (inl (record {
-          edge = (k - elements m * 2) / 4;
-          there = omega arith;
-          row = (k - elements m * 2) % 4;
-          four =
-              r;
-          is = omega arith;
-        }))
-    by (no f) (no g) =
-        let d = div-add-mod' (k - (elements m * 2 + edges m * 4)) 4 in
-        let r = mod-lt (k - (elements m * 2 + edges m * 4)) {m = 4} (omega arith) in
-        inr (inr (record {
-          jump = (k - (elements m * 2 + edges m * 4)) / 4;
-          there = omega arith;
-          row =
-              (k - (elements m * 2 + edges m * 4)) % 4;
-          four = r;
-          is = omega arith;
-        }))
 
 module _ (m : List ℤ) (w : ℕ → ℤ) where
   -- at each number of an edge's rows
@@ -326,13 +270,13 @@ module _ (m : List ℤ) (w : ℕ → ℤ) where
       (λ u. (f.shear_unfixed g h u).1)
   edge_row f g (suc (suc (suc (suc i)))) h k = absurd (omega arith)
 
-  element_row : (e i : ℕ) (c : ℤ) → i < 2 → NoneOnUnfixed c (row_at (element_rows m e) i)
+  pub element_row : (e i : ℕ) (c : ℤ) → i < 2 → NoneOnUnfixed c (row_at (element_rows m e) i)
   unfolding row_at balance_x balance_y
   element_row e zero c k = tt
   element_row e (suc zero) c k = tt
   element_row e (suc (suc i)) c k = absurd (omega arith)
 
-  jump_row : (j i : ℕ) (c : ℤ) → i < 4 → NoneOnUnfixed c (row_at (rows_of_jump m j) i)
+  pub jump_row : (j i : ℕ) (c : ℤ) → i < 4 → NoneOnUnfixed c (row_at (rows_of_jump m j) i)
   unfolding row_at jump_normal jump_shear agree_row
   jump_row j zero c k = tt
   jump_row j (suc zero) c k = tt

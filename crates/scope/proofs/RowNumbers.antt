@@ -1,9 +1,11 @@
 -- The rows by their number: pieces of equal length joined, row j of piece i has the place i times that length plus j.
 use mathlib.Core.Path.{◌≡◌, refl, sym, ◌∙◌, ap, ap₂}
+use mathlib.Core.Logic.{◌⊎◌, inl, inr}
 use mathlib.Core.Bool.{Bool, true, false, cond}
 use mathlib.Core.List.{List, [], ◌∷◌, ◌++◌}
 use Prim.Native.Nat.{ℕ, zero, suc, ◌+◌, ◌*◌, ◌-◌, ◌<◌, ◌/◌, ◌%◌}
 use native.Mathlib.Nat.{zero-add, zero-mul, suc-mul, div-add-mod', mod-lt}
+use native.Mathlib.Decide.{dec_lt}
 use native.Mathlib.Omega.{arith}
 use lib.IntN.{ℤ, pos, neg_ℤ}
 use lib.Dec.{eqb}
@@ -111,6 +113,61 @@ module _ (m : List ℤ) where
   unfolding rows_of
   strength_among k = ap (λ n. row_at (equality_rows m ++ strength_rows m) (n + k)) (sym (equality_count_lem m))
       ∙ rows_after (equality_rows m) (strength_rows m) k
+
+-- place k of the equality rows is one of an element, one of an edge, or one of a jump
+pub record InEdge (m : List ℤ) (k : ℕ) : Type 0 where
+  pub edge : ℕ
+  pub there : edge < edges m
+  pub row : ℕ
+  pub four : row < 4
+  pub is : k ≡ elements m * 2 + (edge * 4 + row)
+
+pub record InJump (m : List ℤ) (k : ℕ) : Type 0 where
+  pub jump : ℕ
+  pub there : jump < jumps m
+  pub row : ℕ
+  pub four : row < 4
+  pub is : k ≡ elements m * 2 + edges m * 4 + (jump * 4 + row)
+
+pub record InElementRows (m : List ℤ) (k : ℕ) : Type 0 where
+  pub element : ℕ
+  pub there : element < elements m
+  pub row : ℕ
+  pub two : row < 2
+  pub is : k ≡ element * 2 + row
+
+pub which_row : (m : List ℤ) (k : ℕ) → k < elements m * 2 + edges m * 4 + jumps m * 4
+    → InElementRows m k ⊎ (InEdge m k ⊎ InJump m k)
+which_row m k h = by (dec_lt k (elements m * 2)) (dec_lt k (elements m * 2 + edges m * 4))
+  where
+    by : Dec (k < elements m * 2) → Dec (k < elements m * 2 + edges m * 4)
+        → InElementRows m k ⊎ (InEdge m k ⊎ InJump m k)
+    by (yes f) g =
+        let d = div-add-mod' k 2 in
+        let r = mod-lt k {m = 2} (omega arith) in
+        inl (record { element = k / 2; there = omega arith; row = k % 2; two = r; is = sym d })
+    by (no f) (yes g) =
+        let d = div-add-mod' (k - elements m * 2) 4 in
+        let r = mod-lt (k - elements m * 2) {m = 4} (omega arith) in
+        inr (inl (record {
+          edge = (k - elements m * 2) / 4;
+          there = omega arith;
+          row = (k - elements m * 2) % 4;
+          four =
+              r;
+          is = omega arith;
+        }))
+    by (no f) (no g) =
+        let d = div-add-mod' (k - (elements m * 2 + edges m * 4)) 4 in
+        let r = mod-lt (k - (elements m * 2 + edges m * 4)) {m = 4} (omega arith) in
+        inr (inr (record {
+          jump = (k - (elements m * 2 + edges m * 4)) / 4;
+          there = omega arith;
+          row =
+              (k - (elements m * 2 + edges m * 4)) % 4;
+          four = r;
+          is = omega arith;
+        }))
 
 -- ---- strength rows
 
