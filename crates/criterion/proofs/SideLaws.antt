@@ -5,7 +5,7 @@ use mathlib.Core.List.{List, [], ◌∷◌, ◌++◌, map}
 use Prim.Native.Nat.{ℕ, zero, suc, ◌+◌, ◌%◌, ◌≤◌, ◌<◌, zero-le}
 use mathlib.Core.Logic.{◌⊎◌, inl, inr, ⊎_elim}
 use native.Mathlib.Decide.{dec_lt}
-use native.Mathlib.Nat.{le_trans, mod-eq_of_lt, mod_self}
+use native.Mathlib.Nat.{le_trans}
 use native.Mathlib.Omega.{arith}
 use native.Mathlib.Numerals.{add-one}
 use lib.IntN.{ℤ, pos, negsuc, nat_abs}
@@ -18,21 +18,7 @@ use Rattle.std.proofs.lemmas.List.{get_or_past, get_or-map, ext_get_or}
 use Rattle.integer.specs.Bounds.{Within}
 use Rattle.integer.proofs.BoundLaws.{Within-le}
 use Rattle.integer.specs.Members.{◌∈◌}
-use Rattle.scope.specs.Polygon.{
-  Point,
-  point,
-  Side,
-  Polygon,
-  sides_to,
-  polygon_sides,
-  quarter_turn,
-  four_quadrants,
-  twelve,
-  twenty,
-  thirty_six,
-  one_hundred_eight,
-  polygon_of,
-}
+use Rattle.scope.specs.Polygon.{Point, point, Side, Polygon, polygon_sides, quarter_turn, four_quadrants, twelve, twenty, thirty_six, one_hundred_eight, polygon_of}
 use Rattle.scope.specs.Bounds.{most_radius, most_step, most_cross}
 use Rattle.scope.specs.PolygonRule.{PolygonFits, ListedPolygon}
 use Rattle.scope.specs.Rows.{cross}
@@ -62,17 +48,8 @@ use Rattle.criterion.specs.StrengthContracts.{
 }
 use Rattle.scope.proofs.PolygonRule.{legs_within}
 use Rattle.scope.proofs.RowCounts.{side_of_each}
+use Rattle.scope.proofs.SideCorners.{between, polygon_side}
 use Rattle.scope.proofs.Checks.{below_suc}
-
--- ---- the corner after a corner
-
-next_inner : (n k : ℕ) → k + 1 < n → k + 1 ≡ next n k
-unfolding next
-next_inner n k h = sym (mod-eq_of_lt h)
-
-next_last : (n k : ℕ) → k + 1 ≡ n → 0 ≡ next n k
-unfolding next
-next_last n k e = sym (ap (λ i. i % n) e ∙ mod_self n)
 
 -- ---- one side more
 
@@ -116,47 +93,13 @@ unfolding pairs_of
 length-pairs_of [] = refl
 length-pairs_of (v ∷ cs) = omega (arith, length-pairs_of cs)
 
-abbrev between : Point → Point → Side
-between v w = record { from = v; to = w }
-
-nowhere : Side
-nowhere = between (point (pos 0) (pos 0)) (point (pos 0) (pos 0))
-
-at-sides_to : (end : Point) (cs : List Point) (k : ℕ) → k < length cs
-    → get_or (sides_to end cs) k nowhere ≡ between (get_or cs k origin) (get_or (cs ++ (end ∷ [])) (suc k) origin)
-unfolding sides_to
-at-sides_to end [] k h = absurd (omega arith)
-at-sides_to end (v ∷ []) zero h = refl
-at-sides_to end (v ∷ []) (suc k) h = absurd (omega arith)
-at-sides_to end (v ∷ w ∷ rest) zero h = refl
-at-sides_to end (v ∷ w ∷ rest) (suc k) h = at-sides_to end (w ∷ rest) k (omega arith)
-
-corner_after : (v : Point) (rest : List Point) (k : ℕ) → k < length (v ∷ rest)
-    → get_or ((v ∷ rest) ++ (v ∷ [])) (suc k) origin ≡ get_or (v ∷ rest) (next (length (v ∷ rest)) k) origin
-corner_after v rest k h = by (dec_lt (k + 1) (length (v ∷ rest)))
-  where
-    by : Dec (k + 1 < length (v ∷ rest)) → get_or ((v ∷ rest) ++ (v ∷ [])) (suc k) origin
-        ≡ get_or (v ∷ rest) (next (length (v ∷ rest)) k) origin
-    by (yes l) =
-        get_or-append (v ∷ rest) (v ∷ []) origin (suc k) (omega arith)
-        ∙ ap (λ i. get_or (v ∷ rest) i origin) (sym (add-one k) ∙ next_inner (length (v ∷ rest)) k l)
-    by (no l) =
-        let e : suc k ≡ length (v ∷ rest) = omega arith in
-        ap (λ i. get_or ((v ∷ rest) ++ (v ∷ [])) i origin) e
-        ∙ get_or-append_seam (v ∷ rest) v [] origin
-        ∙ ap (λ i. get_or (v ∷ rest) i origin) (next_last (length (v ∷ rest)) k (omega arith))
-
 side_at_lem : (g : Polygon) (k : ℕ) → k < length g.corners
     → side_at g k ≡ between (get_or g.corners k origin) (get_or g.corners (next (length g.corners) k) origin)
-unfolding side_at polygon_sides nowhere
-side_at_lem g k h = go g.corners k h
-  where
-    go : (cs : List Point) (k : ℕ) → k < length cs
-        → get_or (polygon_sides cs) k (between (point (pos 0) (pos 0)) (point (pos 0) (pos 0)))
-        ≡ between (get_or cs k origin) (get_or cs (next (length cs) k) origin)
-    go [] k h = absurd (omega arith)
-    go (v ∷ rest) k h = at-sides_to v (v ∷ rest) k h
-        ∙ ap (λ w. between (get_or (v ∷ rest) k origin) w) (corner_after v rest k h)
+unfolding side_at origin next
+side_at_lem g k h =
+    polygon_side g.corners k h
+    ∙ ap (λ i. between (get_or g.corners k (point (pos 0) (pos 0)))
+    (get_or g.corners (i % length g.corners) (point (pos 0) (pos 0)))) (sym (add-one k))
 
 module _ (g : Polygon) (n : ℕ) (count : length g.corners ≡ n) (k : ℕ) (l : k < n) where
   side_is_lem : side_at g k ≡ between (get_or g.corners k origin) (get_or g.corners (next n k) origin)

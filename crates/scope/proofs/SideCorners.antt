@@ -14,7 +14,7 @@ use Rattle.scope.specs.RowNumbers.{side_at, corner_at}
 use Rattle.scope.specs.RefusedRows.{nth_corner, nth_side}
 use Rattle.scope.proofs.PolygonRule.{listed_polygon}
 
-abbrev between : Point → Point → Side
+abbrev pub between : Point → Point → Side
 between v w = record { from = v; to = w }
 
 abbrev origin : Point
@@ -46,7 +46,7 @@ next_corner v rest k h = by (dec_lt (suc k) (length (v ∷ rest)))
         ∙ ap (λ i. get_or (v ∷ rest) i origin)
         (sym (ap (λ i. i % length (v ∷ rest)) e ∙ mod_self (length (v ∷ rest))))
 
-polygon_side : (cs : List Point) (k : ℕ) → k < length cs → get_or (polygon_sides cs) k (between origin origin)
+pub polygon_side : (cs : List Point) (k : ℕ) → k < length cs → get_or (polygon_sides cs) k (between origin origin)
     ≡ between (get_or cs k origin) (get_or cs (suc k % length cs) origin)
 unfolding polygon_sides
 polygon_side [] k h = absurd (omega arith)
