@@ -19,7 +19,7 @@ use Rattle.scope.specs.Rows.{Pair, pair_count, pair_at}
 use Rattle.scope.specs.Claim.{stress}
 use Rattle.scope.specs.Columns.{n, l}
 use Rattle.scope.specs.Printed.{StrengthAt}
-use Rattle.scope.specs.RefusedRows.{nth_side}
+use Rattle.scope.specs.Printed.{nth_side}
 use Rattle.scope.specs.Answer.{outcome_of, place_for, mesh_number_of}
 use Rattle.scope.specs.declared.Place.TheVariants.{Row}
 use Rattle.scope.specs.Refusals.{SoundTo, Refusal}

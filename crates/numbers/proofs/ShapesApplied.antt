@@ -12,7 +12,7 @@ use Rattle.scope.specs.Rows.{balance_rows, side_rows, equality_rows, strength_pa
 use Rattle.scope.specs.Claim.{stress}
 use Rattle.scope.proofs.Computed.{computed}
 use Rattle.scope.specs.Polygon.{polygon_of}
-use Rattle.scope.specs.RefusedRows.{nth_side}
+use Rattle.scope.specs.Printed.{nth_side}
 use Rattle.scope.proofs.RefusedRows.{jump_normal_from_fails, side_fails}
 use Rattle.scope.specs.Printed.{NormalAgreesAt, StrengthAt}
 use Rattle.scope.specs.AcceptedField.{MeetsCriterion}

@@ -14,7 +14,8 @@ use Rattle.scope.specs.Claim.{stress, multiplier}
 use Rattle.scope.specs.Accepted.{ClaimAccepted, FieldAccepted, MultipliersAccepted}
 use Rattle.scope.specs.Printed.{MeetsPrinted, NormalAgreesAt, StrengthAt, PlaneMinusAt}
 use Rattle.scope.specs.PrintedColumns.{MultipliersPrinted, printed_live, printed_limit}
-use Rattle.scope.specs.RefusedRows.{Lowest, EqualityFails, StrengthFails, nth_corner, nth_side}
+use Rattle.scope.specs.RefusedRows.{Lowest, EqualityFails, StrengthFails}
+use Rattle.scope.specs.Printed.{nth_corner, nth_side}
 use Rattle.scope.specs.AcceptedField.{MeetsCriterion}
 use Rattle.scope.specs.Planes.{PlaneHoldsAt}
 use Rattle.scope.specs.Meaning.{Inward}

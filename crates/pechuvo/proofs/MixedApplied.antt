@@ -18,7 +18,7 @@ use Rattle.scope.specs.Columns.{n, l}
 use Rattle.scope.specs.Claim.{stress}
 use Rattle.scope.specs.Rows.{Pair, pair_count, pair_at}
 use Rattle.scope.specs.Polygon.{point, polygon_of, SidesListed}
-use Rattle.scope.specs.RefusedRows.{nth_side}
+use Rattle.scope.specs.Printed.{nth_side}
 use Rattle.scope.proofs.RefusedRows.{side_fails}
 use Rattle.scope.specs.Printed.{StrengthAt}
 use Rattle.scope.specs.Planes.{PlaneHoldsAt}

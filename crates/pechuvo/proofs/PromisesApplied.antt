@@ -18,7 +18,7 @@ use Rattle.scope.specs.Mesh.{mesh_layout, elements, edges, sides, corner, elemen
 use Rattle.scope.specs.Mesh.{ListsDirection}
 use Rattle.scope.specs.Polygon.{polygon_of, SidesListed}
 use Rattle.scope.specs.Rows.{Pair, pair_count, pair_at}
-use Rattle.scope.specs.RefusedRows.{nth_side}
+use Rattle.scope.specs.Printed.{nth_side}
 use Rattle.scope.proofs.RefusedRows.{normal_from_fails, side_fails}
 use Rattle.scope.specs.Pairs.{Before}
 use Rattle.scope.specs.Claim.{claim_layout, stress}

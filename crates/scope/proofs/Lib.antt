@@ -36,9 +36,9 @@ pub mod Bracket
 pub mod Fractions
 pub mod RowCounts
 pub mod RowNumbers
+pub mod SideCorners
 pub mod SumBelow
 pub mod PrintedColumns
-pub mod SideCorners
 pub mod RefusedRows
 pub mod RefusedColumns
 pub mod PairsRefused

@@ -21,8 +21,9 @@ use Rattle.scope.specs.Sums.{weighted_sum, left_side, right_side, weighed, unit,
 use Rattle.scope.specs.Sums.{limit_sum}
 use Rattle.scope.specs.Statements.{NoneOnUnfixed}
 use Rattle.scope.specs.RowNumbers.{side_at, corner_at}
-use Rattle.scope.specs.Printed.{FixesNormal, FixesShear}
+use Rattle.scope.specs.Printed.{FixesNormal, FixesShear, nth_corner}
 use Rattle.scope.specs.PrintedColumns.{less_x, less_y, less_normal, less_shear, less_jump_normal, less_jump_shear}
+use Rattle.scope.specs.PrintedColumns.{less_strength}
 use Rattle.scope.specs.PrintedColumns.{sum_below, of_element, of_edge, of_jump, of_pair, weighed_rows, ColumnsPrinted}
 use Rattle.scope.specs.PrintedColumns.{MultipliersAsPrinted, MultipliersPrinted, less_plus, less_minus, weighed_sides}
 use Rattle.scope.specs.PrintedColumns.{weighed_planes, weighed_pair}
@@ -31,6 +32,7 @@ use Rattle.scope.proofs.SumBelow.{sum_below_cong, sum_below_front, sum_below_add
 use Rattle.scope.proofs.Weighted.{weighted_same, weighted_zero, weighted_multiple}
 use Rattle.scope.proofs.Printed.{rows_printed}
 use Rattle.scope.proofs.RowCounts.{equality_count_lem}
+use Rattle.scope.proofs.SideCorners.{corner_is, side_is}
 use Rattle.scope.proofs.RowNumbers.{element_rows, edge_rows, rows_of_jump, balance_at, side_at_lem, jump_at}
 use Rattle.scope.proofs.RowNumbers.{equality_among, strength_among, strength_at, row_count, even_sides, plus_at}
 use Rattle.scope.proofs.RowNumbers.{minus_at, InElementRows, InEdge, InJump, which_row}
@@ -109,7 +111,8 @@ module _ (m : List ℤ) (listed : SidesListed (sides m)) (w : ℕ → ℤ) (s : 
     by_sides e =
         sum_below_cong _ _ (sides m)
         (λ k j. strength_term (a * sides m + k) (strength_at m listed a k h j e)
-        ((rows_printed m s l n).strength (pair_at m a) (side_at (polygon_of (sides m)) k)))
+        ((rows_printed m s l n).strength (pair_at m a) (side_at (polygon_of (sides m)) k)
+        ∙ ap (less_strength m s l n (pair_at m a)) (side_is m listed k j)))
 
     by_planes : by_direction m (pair_at m a).soil ≡ true → sum_below of_row (sides m) ≡ weighed_planes m w s l n a
     unfolding of_row weighed_planes sum_below
@@ -118,14 +121,15 @@ module _ (m : List ℤ) (listed : SidesListed (sides m)) (w : ℕ → ℤ) (s : 
         ∙ sum_pieces of_row 2 (sides m / 2)
         ∙ sum_below_cong _ _ (sides m / 2) (λ j i.
         let v = corner_at (polygon_of (sides m)) j in
+        let same : v ≡ nth_corner m j = corner_is m listed j (omega (arith, even_sides m listed)) in
         let low : 2 * j + 1 < sides m = omega (arith, even_sides m listed) in
-        let first = of_pair m w a (2 * j) *ℤ less_plus m s l n (pair_at m a) v in
+        let first = of_pair m w a (2 * j) *ℤ less_plus m s l n (pair_at m a) (nth_corner m j) in
         ap₂ (λ x y. pos 0 +ℤ x +ℤ y)
         (ap of_row (omega arith) ∙ strength_term (a * sides m + 2 * j) (plus_at m listed a j h low e)
-        ((rows_printed m s l n).plane_plus (pair_at m a) v))
+        ((rows_printed m s l n).plane_plus (pair_at m a) v ∙ ap (less_plus m s l n (pair_at m a)) same))
         (ap of_row (omega arith) ∙ strength_term (a * sides m + (2 * j + 1)) (minus_at m listed a j h low e)
-        ((rows_printed m s l n).plane_minus (pair_at m a) v))
-        ∙ ap (λ x. x +ℤ of_pair m w a (2 * j + 1) *ℤ less_minus m s l n (pair_at m a) v) (+ℤ_idl first))
+        ((rows_printed m s l n).plane_minus (pair_at m a) v ∙ ap (less_minus m s l n (pair_at m a)) same))
+        ∙ ap (λ x. x +ℤ of_pair m w a (2 * j + 1) *ℤ less_minus m s l n (pair_at m a) (nth_corner m j)) (+ℤ_idl first))
 
     pair_terms : sum_below of_row (sides m) ≡ weighed_pair m w s l n a
     unfolding weighed_pair

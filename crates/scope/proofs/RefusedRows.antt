@@ -23,14 +23,12 @@ use Rattle.scope.specs.Rows.{pair_count, pair_at, equality_rows, strength_rows}
 use Rattle.scope.specs.Tests.{row_at}
 use Rattle.scope.specs.Meets.{RowMet}
 use Rattle.scope.specs.RowNumbers.{side_at, corner_at, side_row, direction_row}
-use Rattle.scope.specs.Printed.{NormalAt, NormalAgreesAt, StrengthAt, PlanePlusAt, PlaneMinusAt}
+use Rattle.scope.specs.Printed.{NormalAt, NormalAgreesAt, StrengthAt, PlanePlusAt, PlaneMinusAt, nth_corner, nth_side}
 use Rattle.scope.specs.RefusalTable.{LowestFails, AtAll, of_lines, TableRow, of_mesh, of_claim_lines, twenty_one}
 use Rattle.scope.specs.RefusalTable.{twenty_two}
 use Rattle.scope.specs.RefusedRows.{Lowest, None, EqualityFails, balance_along_x, balance_along_y, normal_from}
 use Rattle.scope.specs.RefusedRows.{shear_from, normal_to, shear_to, jump_normal_from, jump_shear_from}
 use Rattle.scope.specs.RefusedRows.{jump_normal_to, jump_shear_to, StrengthFails, of_side, plane_plus, plane_minus}
-use Rattle.scope.specs.RefusedRows.{nth_side}
-use Rattle.scope.specs.RefusedRows.{nth_corner}
 use Rattle.scope.proofs.Directions.{direction_is, no_direction, is_direction, not_direction}
 use Rattle.scope.proofs.LineRefusals.{mesh_line_number, claim_line_number}
 use Rattle.scope.proofs.NumberRanges.{mesh_facts}

@@ -11,7 +11,7 @@ use lib.Seq.{get_or-append_seam}
 use Rattle.scope.specs.Mesh.{sides}
 use Rattle.scope.specs.Polygon.{Point, point, Side, sides_to, polygon_sides, polygon_of, SidesListed}
 use Rattle.scope.specs.RowNumbers.{side_at, corner_at}
-use Rattle.scope.specs.RefusedRows.{nth_corner, nth_side}
+use Rattle.scope.specs.Printed.{nth_corner, nth_side}
 use Rattle.scope.proofs.PolygonRule.{listed_polygon}
 
 abbrev pub between : Point → Point → Side

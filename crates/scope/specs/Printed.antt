@@ -1,12 +1,12 @@
 -- The rows as document 01 prints them ('Rows'), and those of jumps (N6) and of strength by direction (N14) as document
 -- 02 says them, over whole numbers, with l and n on the side where they have them; and what a field that meets the rows
 -- of a mesh meets.
-use Rattle.std.specs.Prelude.{◌≡◌, ◌↔◌, ◌⊎◌, List, ℕ, ◌+◌, ◌%◌, ◌<◌, ℤ, pos, ◌+ℤ◌, ◌-ℤ◌, ◌*ℤ◌, neg_ℤ, ◌≤ℤ◌}
+use Rattle.std.specs.Prelude.{◌≡◌, ◌↔◌, ◌⊎◌, List, get_or, ℕ, suc, ◌+◌, ◌%◌, ◌<◌, ℤ, pos, ◌+ℤ◌, ◌-ℤ◌, ◌*ℤ◌, neg_ℤ, ◌≤ℤ◌}
 use Rattle.integer.specs.Members.{◌∈◌}
 use Rattle.scope.specs.Mesh.{elements, edges, sides, jumps, p, q, h, cohesion, dead_x, dead_y, live_x, live_y, x, y}
 use Rattle.scope.specs.Mesh.{corner, element_soil, edge_entry, from_node, to_node, jump_from, jump_to, facing_from}
 use Rattle.scope.specs.Mesh.{facing_to, cohesion_across, ByDirection}
-use Rattle.scope.specs.Polygon.{Side, polygon_sides, polygon_of, Point, half_turn}
+use Rattle.scope.specs.Polygon.{Side, polygon_sides, polygon_of, Point, point, half_turn}
 use Rattle.scope.specs.Rows.{sx, sy, t, twice_area, step_x, step_y, jump_step_x, jump_step_y, Pair, strength_pairs}
 use Rattle.scope.specs.Rows.{rows_of}
 use Rattle.scope.specs.Meets.{FieldMeets}
@@ -136,6 +136,16 @@ PlanePlus r v p q ch cv n sx sy t = plane_plus v p q sx sy t ≤ℤ plane_resist
 
 abbrev pub PlaneMinus : (r : ℤ) → Point → (p q ch cv n sx sy t : ℤ) → Type 0
 PlaneMinus r v p q ch cv n sx sy t = plane_minus v p q sx sy t ≤ℤ plane_resistance r v q ch cv n
+
+-- ---- corners and sides, counted from 0
+
+-- corner k of the mesh's polygon, "counterclockwise from (r, 0)"; after the last comes the first
+abbrev pub nth_corner : List ℤ → ℕ → Point
+nth_corner m k = get_or (polygon_of (sides m)).corners (k % sides m) (point (pos 0) (pos 0))
+
+-- "Side k runs from corner (a, b) to the next, (c, d)"
+abbrev pub nth_side : List ℤ → ℕ → Side
+nth_side m k = record { from = nth_corner m k; to = nth_corner m (suc k) }
 
 -- ---- a field on the mesh m: its stresses s by column, with l and n
 

@@ -12,9 +12,10 @@ use Rattle.scope.specs.Rows.{pair_at, balance_x, balance_y, normal_row, shear_ro
 use Rattle.scope.specs.Rows.{equality_rows, rows_of}
 use Rattle.scope.specs.Statements.{MeetsColumns}
 use Rattle.scope.specs.Sums.{left_side, right_side, unit, column_sum, live_sum, limit_sum}
-use Rattle.scope.specs.RowNumbers.{side_at, corner_at, side_row, direction_row}
+use Rattle.scope.specs.RowNumbers.{side_row, direction_row}
 use Rattle.scope.specs.Printed.{force_x, force_y, body_force, normal_force, shear_force, edge_force, FixesNormal}
-use Rattle.scope.specs.Printed.{FixesShear, deviator, resistance, plane_plus, plane_minus, plane_resistance}
+use Rattle.scope.specs.Printed.{FixesShear, deviator, resistance, plane_plus, plane_minus, plane_resistance, nth_corner}
+use Rattle.scope.specs.Printed.{nth_side}
 
 -- ---- a printed row in a field: its left side minus its right side
 
@@ -113,14 +114,14 @@ module _ (m : List ℤ) (w : ℕ → ℤ) where
   -- of the first half turn
   unfoldable pub weighed_sides : (ℕ → ℤ) → ℤ → ℤ → ℕ → ℤ
   weighed_sides s l n a =
-      sum_below (λ k. of_pair a k *ℤ less_strength m s l n (pair_at m a) (side_at (polygon_of (sides m)) k)) (sides m)
+      sum_below (λ k. of_pair a k *ℤ less_strength m s l n (pair_at m a) (nth_side m k)) (sides m)
 
   unfoldable pub weighed_planes : (ℕ → ℤ) → ℤ → ℤ → ℕ → ℤ
   weighed_planes s l n a =
       sum_below
       (λ j.
-      of_pair a (2 * j) *ℤ less_plus m s l n (pair_at m a) (corner_at (polygon_of (sides m)) j)
-      +ℤ of_pair a (2 * j + 1) *ℤ less_minus m s l n (pair_at m a) (corner_at (polygon_of (sides m)) j))
+      of_pair a (2 * j) *ℤ less_plus m s l n (pair_at m a) (nth_corner m j)
+      +ℤ of_pair a (2 * j + 1) *ℤ less_minus m s l n (pair_at m a) (nth_corner m j))
       (sides m / 2)
 
   unfoldable pub weighed_pair : (ℕ → ℤ) → ℤ → ℤ → ℕ → ℤ

@@ -2,15 +2,15 @@
 -- is printed, and of several the lowest. The rows are numbered here by document 01's words ('Rows') and document 02's
 -- (N2, N6 and N14). Elements, edges, jumps, pairs, corners and sides are counted from 0, so that document 01's element
 -- is `suc e`; rows are counted from 1, as there.
-use Rattle.std.specs.Prelude.{List, ℕ, suc, ◌+◌, ◌*◌, ◌-◌, ◌%◌, ◌<◌, ◌≤◌, ℤ, pos, get_or}
+use Rattle.std.specs.Prelude.{List, ℕ, suc, ◌+◌, ◌*◌, ◌-◌, ◌<◌, ◌≤◌, ℤ}
 use Rattle.scope.specs.Columns.{n, l}
 use Rattle.scope.specs.Mesh.{elements, edges, sides, jumps, from_node, to_node, jump_from, jump_to, facing_from}
 use Rattle.scope.specs.Mesh.{facing_to, ByDirection}
-use Rattle.scope.specs.Polygon.{Point, point, Side, polygon_of}
+use Rattle.scope.specs.Polygon.{polygon_of}
 use Rattle.scope.specs.Claim.{stress}
 use Rattle.scope.specs.Rows.{pair_count, pair_at}
 use Rattle.scope.specs.Printed.{BalanceXAt, BalanceYAt, NormalAt, ShearAt, NormalAgreesAt, ShearAgreesAt, StrengthAt}
-use Rattle.scope.specs.Printed.{PlanePlusAt, PlaneMinusAt}
+use Rattle.scope.specs.Printed.{PlanePlusAt, PlaneMinusAt, nth_corner, nth_side}
 
 -- "lowest place first": it fails at this place, and at no lower one
 pub record Lowest (Fails : ℕ → Type 0) (place : ℕ) : Type 0 where
@@ -50,14 +50,6 @@ pub data EqualityFails (m c : List ℤ) : ℕ → Type 0 where
   jump_shear_to : (j : ℕ) → j < jumps m
       → ¬ ShearAgreesAt m (stress m c) (l c) (n c) j (jump_to m j) (facing_to m j)
       → EqualityFails m c (2 * elements m + 4 * edges m + 4 * j + 4)
-
--- corner k of the mesh's polygon, "counterclockwise from (r, 0)"; after the last comes the first
-abbrev pub nth_corner : List ℤ → ℕ → Point
-nth_corner m k = get_or (polygon_of (sides m)).corners (k % sides m) (point (pos 0) (pos 0))
-
--- "Side k runs from corner (a, b) to the next, (c, d)"
-abbrev pub nth_side : List ℤ → ℕ → Side
-nth_side m k = record { from = nth_corner m k; to = nth_corner m (suc k) }
 
 -- 22: a strength row is printed with this number, and the field does not meet it; "Strength rows .. are numbered by
 -- node-and-soil pairs in that order" (document 02, N2; `Pairs` says which pairs there are)
