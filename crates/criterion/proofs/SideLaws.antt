@@ -18,7 +18,8 @@ use Rattle.std.proofs.lemmas.List.{get_or_past, get_or-map, ext_get_or}
 use Rattle.integer.specs.Bounds.{Within}
 use Rattle.integer.proofs.BoundLaws.{Within-le}
 use Rattle.integer.specs.Members.{◌∈◌}
-use Rattle.scope.specs.Polygon.{Point, point, Side, Polygon, polygon_sides, quarter_turn, four_quadrants, twelve, twenty, thirty_six, one_hundred_eight, polygon_of}
+use Rattle.scope.specs.Polygon.{Point, point, Side, Polygon, polygon_sides, quarter_turn, four_quadrants, twelve}
+use Rattle.scope.specs.Polygon.{twenty, thirty_six, one_hundred_eight, polygon_of}
 use Rattle.scope.specs.Bounds.{most_radius, most_step, most_cross}
 use Rattle.scope.specs.PolygonRule.{PolygonFits, ListedPolygon}
 use Rattle.scope.specs.Rows.{cross}

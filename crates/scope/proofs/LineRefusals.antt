@@ -9,7 +9,7 @@ use lib.IntN.{ℤ}
 use Rattle.scope.specs.declared.Place.{Place}
 use Rattle.scope.specs.Columns.{Rule, right_angle, naming, parts, at_most_where, has_field, has_multipliers, n, l}
 use Rattle.scope.specs.Layout.{Layout, numbers_at, group_at}
-use Rattle.scope.specs.Mesh.{mesh_layout, nodes}
+use Rattle.scope.specs.Mesh.{mesh_layout, layout_with, nodes}
 use Rattle.scope.specs.Claim.{claim_layout, stress, multiplier}
 use Rattle.scope.specs.Rows.{equality_rows, strength_rows, rows_of}
 use Rattle.scope.specs.Statements.{MeshSound}
@@ -144,7 +144,7 @@ module _ (f : Layout) (ns : List ℤ) (a : f.form_number ≤ 13) (b : f.limit_nu
           let (r, s) = rule_number_lem (group_at f ns i).rules (numbers_at f ns i) k h in omega (arith, s, rule r)
 
 pub mesh_line_number : (m : List ℤ) {k : ℕ} {p : Place} → LineRefusal mesh_layout m k p → k ≤ 13
-unfolding mesh_layout
+unfolding layout_with
 mesh_line_number m r = line_number mesh_layout m (omega arith) (omega arith) r
 
 pub claim_line_number : (m c : List ℤ) {k : ℕ} {p : Place} → LineRefusal (claim_layout m) c k p → k ≤ 13

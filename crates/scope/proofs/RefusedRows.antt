@@ -262,7 +262,8 @@ module _ (m c : List ℤ) where
   unfolding row_at
   jump_normal_from_fails {k} f j h e =
       only (equality_rows m) (elements m * 2 + edges m * 4 + (j * 4 + 0)) (equality_not_met k f)
-      (jump_at m j 0 h (omega arith)) (jump_normal_lem m s (l c) (n c) j (jump_from m j) (facing_from m j)) (omega arith)
+      (jump_at m j 0 h (omega arith)) (jump_normal_lem m s (l c) (n c) j (jump_from m j) (facing_from m j))
+      (omega arith)
 
   module _ (listed : SidesListed (sides m)) where
     pub side_fails : {i : ℕ} → StrengthFails m c i → (a k : ℕ) → a < pair_count m → k < sides m

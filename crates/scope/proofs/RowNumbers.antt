@@ -18,11 +18,9 @@ use Rattle.scope.specs.Rows.{Row, Pair, count_from, joined, balance_x, balance_y
 use Rattle.scope.specs.Rows.{side_rows, jump_normal, jump_shear, jump_rows, strength_pairs, pair_count, pair_at}
 use Rattle.scope.specs.Rows.{pair_rows, strength_rows, equality_rows, rows_of, rows_by_sides, rows_by_planes}
 use Rattle.scope.specs.RowNumbers.{side_at, corner_at, side_row, direction_row, plus_minus, direction_row_at}
-use Rattle.scope.specs.RowNumbers.{RowNumbers}
 use Rattle.scope.proofs.RowCounts.{balance_count, side_count, equality_count_lem, polygon_sides_lem, strength_count}
 use Rattle.scope.proofs.RowCounts.{half_length, pair_rows_count}
 use Rattle.scope.proofs.PolygonRule.{listed_polygon}
-use Rattle.scope.proofs.Directions.{direction_is, no_direction}
 use Rattle.scope.proofs.Lists.{count-length, at_count, at_map}
 use Rattle.scope.specs.Tests.{row_at}
 
@@ -269,38 +267,3 @@ module _ (m : List ℤ) (listed : SidesListed (sides m)) where
   unfolding rows_of
   row_count = length-append (equality_rows m) (strength_rows m)
       ∙ ap₂ ◌+◌ (equality_count_lem m) (strength_count m listed)
-
-  pub row_numbers : RowNumbers m
-  unfolding row_at
-  row_numbers = record {
-    balance_x_lem = λ e h. ap (row_at (equality_rows m)) (omega arith) ∙ balance_at m e 0 h (omega arith);
-    balance_y_lem = λ e h. ap (row_at (equality_rows m)) (omega arith) ∙ balance_at m e 1 h (omega arith);
-    normal_from = λ g h. ap (row_at (equality_rows m)) (omega arith) ∙ side_at_lem m g 0 h (omega arith);
-    shear_from = λ g h. ap (row_at (equality_rows m)) (omega arith) ∙ side_at_lem m g 1 h (omega arith);
-    normal_to = λ g h. ap (row_at (equality_rows m)) (omega arith) ∙ side_at_lem m g 2 h (omega arith);
-    shear_to = λ g h. ap (row_at (equality_rows m)) (omega arith) ∙ side_at_lem m g 3 h (omega arith);
-    jump_normal_from = λ j h. ap (row_at (equality_rows m)) (omega arith) ∙ jump_at m j 0 h (omega arith);
-    jump_shear_from = λ j h. ap (row_at (equality_rows m)) (omega arith) ∙ jump_at m j 1 h (omega arith);
-    jump_normal_to = λ j h. ap (row_at (equality_rows m)) (omega arith) ∙ jump_at m j 2 h (omega arith);
-    jump_shear_to = λ j h. ap (row_at (equality_rows m)) (omega arith) ∙ jump_at m j 3 h (omega arith);
-    equalities = equality_count_lem m ∙ omega arith;
-    strength = λ a k h j f. ap (row_at (strength_rows m)) (omega arith)
-        ∙ strength_at a k h j (no_direction m (pair_at m a).soil f)
-        ∙ ap (λ i. side_row m (pair_at m a) (side_at (polygon_of (sides m)) i)) (omega arith);
-    plane_plus = λ a j h i f. ap (row_at (strength_rows m)) (omega arith)
-        ∙ plus_at a j h (omega arith) (direction_is m (pair_at m a).soil f)
-        ∙ ap (λ i. direction_row m (pair_at m a) (corner_at (polygon_of (sides m)) i) (q m (pair_at m a).soil))
-        (sym (less j));
-    plane_minus = λ a j h i f. ap (row_at (strength_rows m)) (omega arith)
-        ∙ minus_at a j h (omega arith) (direction_is m (pair_at m a).soil f)
-        ∙ ap (λ i. direction_row m (pair_at m a) (corner_at (polygon_of (sides m)) i) (neg_ℤ (q m (pair_at m a).soil)))
-        (sym (less j));
-    strengths = strength_count m listed;
-    equality_first = λ k h. ap (row_at (rows_of m)) (less k) ∙ equality_among m k (omega arith)
-        ∙ ap (row_at (equality_rows m)) (sym (less k));
-    strength_after = λ k. ap (row_at (rows_of m)) (omega arith) ∙ strength_among m k
-        ∙ ap (row_at (strength_rows m)) (sym (less k));
-  }
-    where
-      less : (k : ℕ) → suc k - 1 ≡ k
-      less k = omega arith

@@ -9,7 +9,7 @@ use lib.Signed.{◌≤ℤ◌}
 use Rattle.integer.proofs.Order.{pos_≤ℤ}
 use Rattle.scope.specs.Columns.{at}
 use Rattle.scope.specs.Layout.{groups}
-use Rattle.scope.specs.Mesh.{element_lines, mesh_layout, layout_with, nodes, soils}
+use Rattle.scope.specs.Mesh.{element_lines, layout_with, nodes, soils}
 use Rattle.scope.specs.LayerRows.{Named, SoilAllowed, LinesWithTable}
 
 pub zero_or_named : (k : ℕ) (z : ℤ) → pos 0 ≤ℤ z → z ≤ℤ pos k → (z ≡ pos 0) ⊎ Named k z
@@ -48,7 +48,7 @@ soil-allowed ns ss line = (
     corner (suc (suc (suc (suc c)))) l a b d e = absurd (omega arith)
 
 pub lines_with_table : (m : List ℤ) → LinesWithTable m
-unfolding layout_with mesh_layout groups element_lines
+unfolding layout_with groups element_lines
 lines_with_table m = record {
   form = refl;
   limit = refl;

@@ -1,10 +1,10 @@
 -- Documents 01 and 02 as definitions on the numbers of a mesh, a table and a claim, each file after those that it uses.
 -- A reader must believe the definitions: Cases to Tests, Phases, Refusals and Verdict, and for a borehole table Layers,
--- Filled, Table and TableVerdict; Bounds is for contracts. The other files are statements, which say the same a second
--- time (Statements, RefusalTable, RowNumbers, Printed, PrintedColumns, RefusedRows, RefusedColumns, Triangles, Pairs,
--- SideLimits, Overlaps, PolygonRule, Criterion, Meaning, Planes, Jumps, NumberRanges, LayerRows, TabledRows), or what
--- follows from them (Accepted, Bracket, Fractions, Parts, Blends ..). They share what a mesh's numbers are (Mesh), and the steps and
--- areas of Rows, which Meaning ties to what they mean, and no list of rows, phases or pairs.
+-- Filled, Table and TableVerdict; Bounds and RowNumbers are for contracts. The other files are statements, which say
+-- the same a second time (Statements, RefusalTable, Printed, PrintedColumns, RefusedRows, RefusedColumns, Triangles,
+-- Pairs, SideLimits, Overlaps, PolygonRule, Criterion, Meaning, Planes, Jumps, NumberRanges, LayerRows, TabledRows), or
+-- what follows from them (Accepted, Bracket, Fractions, Parts, Blends ..). They share what a mesh's numbers are (Mesh),
+-- and the steps and areas of Rows, which Meaning ties to what they mean, and no list of rows, phases or pairs.
 -- Worked has the numbers of document 01's sheet. 001 and 003, where a comment names them, are sources that document 01
 -- cites by these numbers.
 pub mod Cases
