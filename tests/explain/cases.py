@@ -2,20 +2,16 @@
 
 import json
 import os
-import shutil
-import subprocess
 import sys
 import tempfile
 import xml.etree.ElementTree
 from fractions import Fraction
 
-HERE = os.path.dirname(os.path.abspath(__file__))
-ROOT = os.path.join(HERE, "..", "..")
-TOOLS, SHEETS = os.path.join(ROOT, "tools"), os.path.join(ROOT, "sheets")
-COMMAND = os.path.join(TOOLS, "explain.py")
-sys.path.insert(0, TOOLS)
+from held import ROOT, SHEETS, claim_bytes, claim_changed, failures, files_of, hold, lines_of, mesh_bytes, mesh_changed
+from held import sheet, table_changed, with_line, with_number
 
 import archive
+import command
 import drawing
 import explain
 import reasons
@@ -23,20 +19,6 @@ import rows
 
 CALLS = archive.library()
 SVG = "{http://www.w3.org/2000/svg}"
-failures = []
-
-
-def hold(true, words):
-    if not true:
-        failures.append(words)
-
-
-def files_of(folder, name):
-    return reasons.Files(*(rows.read(os.path.join(folder, name + end)) for end in (".mesh", ".table", ".claim")))
-
-
-def sheet(name):
-    return files_of(SHEETS, name)
 
 
 # What holds of every explanation
@@ -136,51 +118,6 @@ def hold_vectors():
 
 
 # Damaged files
-
-
-def lines_of(data):
-    return data.decode("ascii").split("\n")
-
-
-def with_number(data, line, column, number):
-    """A file with another number in a column; lines and columns count from 1."""
-    lines = lines_of(data)
-    start = 12 * (column - 1)
-    lines[line - 1] = f"{lines[line - 1][:start]}{number:12d}{lines[line - 1][start + 12:]}"
-    return "\n".join(lines).encode("ascii")
-
-
-def with_numbers(data, *changes):
-    for change in changes:
-        data = with_number(data, *change)
-    return data
-
-
-def with_line(data, line, numbers):
-    """A file with a further line before this one."""
-    lines = lines_of(data)
-    lines.insert(line - 1, "".join(f"{number:12d}" for number in numbers))
-    return "\n".join(lines).encode("ascii")
-
-
-def mesh_changed(name, *changes):
-    return sheet(name)._replace(mesh=with_numbers(sheet(name).mesh, *changes))
-
-
-def claim_changed(name, *changes):
-    return sheet(name)._replace(claim=with_numbers(sheet(name).claim, *changes))
-
-
-def table_changed(name, *changes):
-    return sheet(name)._replace(table=with_numbers(sheet(name).table, *changes))
-
-
-def mesh_bytes(change):
-    return sheet("worked")._replace(mesh=change(sheet("worked").mesh))
-
-
-def claim_bytes(change):
-    return sheet("worked")._replace(claim=change(sheet("worked").claim))
 
 
 def free_edge_lost():
@@ -314,86 +251,6 @@ def hold_bedded():
         hold("n" not in told["loads"] and "no carried load is told" in words, f"{name}: {told['loads']}")
 
 
-# The command
-
-FAKE = """
-#include <string.h>
-struct answer { unsigned number, place; };
-struct answer pechuvo_check(const char *mesh, size_t a, const char *table, size_t b, const char *claim, size_t c,
-                            long long decimals, char *report, size_t d) {
-  memset(report, ' ', 113);
-  return (struct answer){22, 2};
-}
-"""
-
-
-def run(*given, command=COMMAND, **environment):
-    done = subprocess.run(
-        [sys.executable, "-B", command, *given], capture_output=True, text=True, env={**os.environ, **environment}
-    )
-    hold("Traceback" not in done.stderr, f"explain.py {' '.join(given)}: {done.stderr}")
-    return done
-
-
-def hold_run(status, words, *given, **more):
-    """A run has this exit status and these words on its output or, from status 2 on, on standard error."""
-    done = run(*given, **more)
-    text = done.stderr if status >= 2 else done.stdout
-    run_words = f"explain.py {' '.join(given)}: {done.returncode}\n{done.stdout}{done.stderr}"
-    hold(done.returncode == status and words in text, run_words)
-    return done
-
-
-def hold_command(out):
-    mesh, claim = os.path.join(SHEETS, "worked.mesh"), os.path.join(SHEETS, "worked.claim")
-    above, absent = os.path.join(SHEETS, "worked_above.claim"), os.path.join(out, "absent")
-    table = os.path.join(SHEETS, "table_gap.table")
-    hold_run(0, "number, place and report are the archive's", mesh, claim)
-    hold_run(1, "refused with 22 at row 1", mesh, above)
-    hold_run(1, "refused with 45 at height 4", mesh, claim, table)
-    hold_run(2, "the following arguments are required", mesh)
-    hold_run(2, f"{absent}: can't be read: No such file", mesh, absent)
-    hold_run(2, f"{absent}: can't be read: No such file", mesh, claim, absent)
-    hold_run(2, f"{out}: can't be read: Is a directory", out, claim)
-    hold_run(2, "which is not overwritten", mesh, claim, "--svg", claim)
-    hold_run(2, "can't be written", mesh, claim, "--svg", os.path.join(absent, "picture"))
-    hold_run(2, "the archive's library can't be used", mesh, claim, PECHUVO_LIBRARY=absent)
-    hold_run(0, "Status: 0 accepted", "--help")
-    strange = os.path.join(out, "mesh\udcff\n.mesh")
-    shutil.copy(mesh, strange)
-    hold_run(0, "accepted", strange, claim, "--svg", os.path.join(out, "strange.svg"))
-    hold_json(mesh, above, os.path.join(out, "picture.svg"))
-    hold_differing(out, mesh, claim)
-    hold_without_archive(out, mesh, claim)
-
-
-def hold_json(mesh, claim, picture):
-    told = json.loads(hold_run(1, "", mesh, claim, "--json", "--svg", picture).stdout)
-    answer = {part: told[part] for part in ("number", "place", "report")}
-    hold((told["number"], told["place"]) == (22, 1) and len(told["reasons"]) == 8, f"--json: {answer}")
-    hold(told["archive"] == answer, "--json: the archive's answer")
-    hold(xml.etree.ElementTree.parse(picture).getroot().tag == SVG + "svg", "--svg: no picture")
-
-
-def hold_differing(out, mesh, claim):
-    source, library = os.path.join(out, "fake.c"), os.path.join(out, "fake.so")
-    with open(source, "w", encoding="ascii") as file:
-        file.write(FAKE)
-    subprocess.run(["gcc", "-shared", "-fPIC", "-o", library, source], check=True)
-    done = hold_run(3, "THE TWO ANSWERS DIFFER", mesh, claim, PECHUVO_LIBRARY=library)
-    hold("the archive: number 22, place 2" in done.stderr, "differing, the archive's answer")
-    hold("THE ARCHIVE SAYS SOMETHING ELSE" in done.stdout, "differing, on standard output")
-    hold(json.loads(run(mesh, claim, "--json", PECHUVO_LIBRARY=library).stdout)["differs"], "differing, --json")
-
-
-def hold_without_archive(out, mesh, claim):
-    """The tools alone, where nothing is built."""
-    copied = os.path.join(out, "tools")
-    shutil.copytree(TOOLS, copied, ignore=shutil.ignore_patterns("__pycache__"))
-    words = "number and place are this tool's own and not the archive's"
-    hold_run(0, words, mesh, claim, command=os.path.join(copied, "explain.py"), PECHUVO_LIBRARY="")
-
-
 def main():
     hold(CALLS is not None, "no archive is built")
     if CALLS is not None:
@@ -404,7 +261,7 @@ def main():
         hold(case_numbers <= set(reasons.MEANINGS), f"not explained: {case_numbers - set(reasons.MEANINGS)}")
         hold_bedded()
         with tempfile.TemporaryDirectory() as out:
-            hold_command(out)
+            command.hold_command(out)
         print(f"{sheets} sheets, {cases} cases, {changed} damaged or telling inputs explained")
     print("\n".join(failures), end="\n" if failures else "")
     sys.exit(bool(failures))
