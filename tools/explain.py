@@ -4,7 +4,7 @@
     explain.py MESH CLAIM [TABLE]               in words
     explain.py MESH CLAIM [TABLE] --json        the same as JSON
     explain.py MESH CLAIM [TABLE] --full        every reason and open row in full, however many
-    explain.py MESH CLAIM [TABLE] --svg FILE    draws the mesh as well
+    explain.py MESH CLAIM [TABLE] --svg FILE    draws the mesh as well, into a new file or over an earlier drawing
 
 Number and place are the archive's, from the shared library that PECHUVO_LIBRARY names, or from target/shared or
 target/staticlib (tests/archive builds it); where there is none they are this tool's own, and that is said.
@@ -15,10 +15,12 @@ than this tool's."""
 import argparse
 import json
 import os
+import stat
 import sys
 
 import archive
 import drawing
+import line_reasons
 import reasons
 
 # The desk program's limit: a longer file is refused as its first bytes are.
@@ -36,6 +38,21 @@ def read(path):
             return file.read(LONGEST)
     except OSError as error:
         raise Unusable(f"{path}: can't be read: {error.strerror}") from None
+
+
+def may_be_drawn(path):
+    """Ends with words where a picture would take the place of something that is no picture: a file that is there is
+    a drawing made before, or a pipe or device, which loses nothing."""
+    if not path:
+        raise Unusable("--svg: the drawing's name is missing")
+    if not os.path.exists(path) or stat.S_ISFIFO(os.stat(path).st_mode) or stat.S_ISCHR(os.stat(path).st_mode):
+        return
+    data = read(path)
+    if data.startswith((b"<svg", b"<?xml")):
+        return
+    if any(line_reasons.header_numbers(data, start) for start in (line_reasons.MESH_START, line_reasons.CLAIM_START)):
+        raise Unusable(f"--svg {path}: this is a mesh or a claim: give another name")
+    raise Unusable(f"--svg {path}: this is there and is no drawing: give another name")
 
 
 def write(path, text):
@@ -62,7 +79,7 @@ def arguments():
     parser.add_argument("--svg", metavar="FILE", help="draw the mesh into this file")
     given = parser.parse_args()
     inputs = [path for path in (given.mesh, given.claim, given.table) if path]
-    if given.svg and any(same_file(given.svg, path) for path in inputs):
+    if given.svg is not None and any(same_file(given.svg, path) for path in inputs):
         parser.error(f"--svg {given.svg}: this is an input, which is not overwritten")
     return given
 
@@ -152,6 +169,8 @@ def difference_words(told):
 def main():
     given = arguments()
     try:
+        if given.svg is not None:
+            may_be_drawn(given.svg)
         files = reasons.Files(read(given.mesh), read(given.table) if given.table else b"", read(given.claim))
         told, mesh = reasons.explanation(files)
         told["archive"] = archive_answer(files)

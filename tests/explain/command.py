@@ -59,8 +59,42 @@ def hold_command(out):
     shutil.copy(mesh, strange)
     hold_run(0, "accepted", strange, claim, "--svg", os.path.join(out, "strange.svg"))
     hold_json(mesh, above, os.path.join(out, "picture.svg"))
+    hold_drawn_over(out)
     hold_differing(out, mesh, claim)
     hold_without_archive(out, mesh, claim)
+
+
+def written(path, data):
+    with open(path, "wb") as file:
+        file.write(data)
+    return path
+
+
+def content(path):
+    with open(path, "rb") as file:
+        return file.read()
+
+
+def hold_drawn_over(out):
+    """A picture takes the place of an earlier one and of nothing else."""
+    mesh, claim = os.path.join(SHEETS, "worked.mesh"), os.path.join(SHEETS, "worked.claim")
+    sheet = [os.path.join(out, f"table_slope.{end}") for end in ("mesh", "claim", "table")]
+    for path in sheet:
+        shutil.copy(os.path.join(SHEETS, os.path.basename(path)), path)
+    windows = written(os.path.join(out, "windows.mesh"), content(mesh).replace(b"\n", b"\r\n"))
+    empty, note = written(os.path.join(out, "empty"), b""), written(os.path.join(out, "note"), b"dear reader")
+    kept = {path: content(path) for path in (*sheet, windows, empty, note)}
+    other = "this is a mesh or a claim: give another name"
+    hold_run(2, f"--svg {sheet[0]}: {other}", "--svg", *sheet)
+    hold_run(2, f"--svg {sheet[1]}: {other}", mesh, claim, "--svg", sheet[1])
+    for path in (sheet[2], windows, empty, note):
+        hold_run(2, f"--svg {path}: this is there and is no drawing", mesh, claim, "--svg", path)
+    hold_run(2, "--svg: the drawing's name is missing", mesh, claim, "--svg=")
+    hold(all(content(path) == data for path, data in kept.items()), "--svg: a file is written over")
+    for start in (b"<svg ", b"<?xml "):
+        drawing = written(os.path.join(out, "drawing.svg"), start)
+        hold_run(0, "accepted", mesh, claim, "--svg", drawing)
+        hold(content(drawing).endswith(b"</svg>"), f"--svg: {start} isn't drawn over")
 
 
 def hold_json(mesh, claim, picture):
