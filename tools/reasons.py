@@ -6,6 +6,7 @@ from fractions import Fraction
 
 import line_reasons
 import mesh_reasons
+import row_names
 import row_reasons
 import rows
 from row_reasons import decimal
@@ -126,7 +127,7 @@ def load_words(mesh):
     """What the load factor multiplies."""
     for number, edge in enumerate(mesh.edges):
         if any(edge.live):
-            yield f"{row_reasons.edge_words(mesh, number)}: live normal {edge.live[0]}, live shear {edge.live[1]}"
+            yield f"{row_names.edge_words(mesh, number)}: live normal {edge.live[0]}, live shear {edge.live[1]}"
     for number, soil in enumerate(mesh.soils):
         if any(soil.live):
             yield f"soil {number + 1}: live force ({soil.live[0]}, {soil.live[1]}) on each unit of area"

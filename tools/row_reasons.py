@@ -1,16 +1,14 @@
-"""What a row is, its two sides written out, and why rows and multipliers are refused (21, 22, 31, 32, 33); for an
-accepted claim its open rows. Whole numbers are the row's own; stresses are those over the row's divisor and n."""
+"""A row's two sides written out, and why rows and multipliers are refused (21, 22, 31, 32, 33); for an accepted claim
+its open rows. Whole numbers are the row's own; stresses are those over the row's divisor and n."""
 
 import math
 from fractions import Fraction
 
 import rows
-from mesh_reasons import element_words, node_words, twice_area
+from mesh_reasons import node_words, twice_area
+from row_names import AXES, PARTS, degrees, place_of, plane_corner, polygon_side, row_name, row_words, side_normal
 
 STRESSES = "sx", "sy", "t"
-PARTS = "normal", "shear"
-ENDS = "from", "to"
-AXES = "x", "y"
 FIXED = {1: "its normal alone", 2: "its shear alone", 3: "both"}
 
 
@@ -56,85 +54,6 @@ def total(terms):
     return sum(c * value for c, _, value in terms)
 
 
-# What a row is
-
-
-def degrees(a, b):
-    return f"{math.degrees(math.atan2(b, a)) % 360:.2f}".rstrip("0").rstrip(".") + " degrees"
-
-
-def pair_words(mesh, pair):
-    node, soil = pair
-    number = rows.strength_pairs(mesh).index(pair) + 1
-    return f"pair {number}, {node_words(mesh, node)} with soil {soil + 1}"
-
-
-def polygon_side(mesh, k):
-    corner = rows.corners(mesh.sides)
-    return corner[k], corner[(k + 1) % mesh.sides]
-
-
-def direction_words(mesh, soil, k):
-    """Side k of the polygon, or the plane and the sense of shear for a soil of kind 1."""
-    if soil.kind:
-        (a, b), _ = polygon_side(mesh, k // 2)
-        sense = "pN - qT" if k % 2 else "pN + qT"
-        return (
-            f"plane {k // 2 + 1} of {mesh.sides // 2}, with the normal ({a}, {b})/{rows.radius(mesh.sides)} at"
-            f" {degrees(a, b)}, {sense}"
-        )
-    (a, b), (c, d) = polygon_side(mesh, k)
-    return (
-        f"side {k + 1} of the polygon's {mesh.sides}, from ({a}, {b}) to ({c}, {d}), with the normal"
-        f" ({d - b}, {a - c}) at {degrees(d - b, a - c)}"
-    )
-
-
-def edge_words(mesh, number):
-    edge = mesh.edges[number]
-    return f"edge {number + 1} (line {rows.edge_line(mesh, number)}, nodes {edge.start + 1} to {edge.end + 1})"
-
-
-def jump_words(mesh, number):
-    line = rows.edge_line(mesh, len(mesh.edges) + number)
-    nodes = " ".join(str(node + 1) for node in mesh.jumps[number])
-    return f"jump {number + 1} (line {line}, nodes {nodes})"
-
-
-def row_words(mesh, row):
-    if row.kind == "balance":
-        number, axis = row.of
-        return f"balance {AXES[axis]} of {element_words(mesh, number)}"
-    if row.kind == "side":
-        number, end, part = row.of
-        node = mesh.edges[number][end]
-        return f"{PARTS[part]} at node {node + 1}, the {ENDS[end]} end of {edge_words(mesh, number)}"
-    if row.kind == "jump":
-        number, end, part = row.of
-        near, far = mesh.jumps[number][end], mesh.jumps[number][end + 2]
-        words = f"{PARTS[part]} of node {near + 1} less node {far + 1}'s"
-        return f"{words}, the {ENDS[end]} end of {jump_words(mesh, number)}"
-    node, soil, k = row.of
-    return f"{pair_words(mesh, (node, soil))}, {direction_words(mesh, mesh.soils[soil], k)}"
-
-
-def row_name(row):
-    return f"strength row {row.number}" if row.kind == "strength" else f"equality row {row.number}"
-
-
-def place_of(mesh, row):
-    """The things that a row is about, counted from 1."""
-    if row.kind == "balance":
-        return {"element": row.of[0] + 1}
-    if row.kind == "side":
-        return {"edge": row.of[0] + 1, "node": mesh.edges[row.of[0]][row.of[1]] + 1}
-    if row.kind == "jump":
-        jump = mesh.jumps[row.of[0]]
-        return {"jump": row.of[0] + 1, "node": jump[row.of[1]] + 1, "facing_node": jump[row.of[1] + 2] + 1}
-    node, soil, _ = row.of
-    return {"pair": rows.strength_pairs(mesh).index((node, soil)) + 1, "node": node + 1, "soil": soil + 1}
-
-
 # In stresses
 
 
@@ -165,11 +84,24 @@ def product(*factors):
     return f"{written} = {math.prod(factors)}"
 
 
+def pulled_most(sx, sy, t):
+    """The direction in the ground in which stresses pull most, or press least, in words."""
+    if sx == sy and not t:
+        return "alike in every direction"
+    return f"most, or pressed least, at {degrees(sx - sy, 2 * t, 2)} from x"
+
+
 def polygon_words(mesh, row, claim):
+    """The side lies in the plane of (sx - sy, 2t), where an angle is twice the one in the ground."""
     node, soil_number, k = row.of
     soil, r = mesh.soils[soil_number], rows.radius(mesh.sides)
     (a, b), (c, d) = polygon_side(mesh, k)
-    cross = a * d - b * c
+    cross, normal = a * d - b * c, side_normal(mesh, k)
+    yield (
+        f"side {k + 1} goes from ({a}, {b}) to ({c}, {d}) in the plane of (sx - sy, 2t), with the normal {normal} at"
+        f" {degrees(*normal)} there; an angle there is twice the one in the ground. By this field node {node + 1} is"
+        f" pulled {pulled_most(*claim.stresses[3 * node : 3 * node + 3])}"
+    )
     yield (
         f"coefficients: p {soil.p}, q {soil.q}, h {soil.h}, cohesion {soil.cohesion};"
         f" r*h*(d - b) = {product(r, soil.h, d - b)}, 2*r*h*(c - a) = {product(2, r, soil.h, c - a)},"
@@ -189,7 +121,7 @@ def polygon_words(mesh, row, claim):
 def plane_words(mesh, row, claim):
     node, soil_number, k = row.of
     soil, r = mesh.soils[soil_number], rows.radius(mesh.sides)
-    (a, b), _ = polygon_side(mesh, k // 2)
+    a, b = plane_corner(mesh, k)
     yield (
         f"coefficients: p {soil.p}, q {soil.q}, N = a*a*sx + 2*a*b*t + b*b*sy, T = a*b*(sy - sx) + (a*a - b*b)*t;"
         f" right q*(r*r*ch + (cv - ch)*a*a)"

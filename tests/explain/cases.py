@@ -1,7 +1,9 @@
 """Holds tools/explain.py to the archive, to its own figures and to the words that a reader needs."""
 
 import json
+import math
 import os
+import re
 import sys
 import tempfile
 import xml.etree.ElementTree
@@ -15,6 +17,7 @@ import command
 import drawing
 import explain
 import reasons
+import row_names
 import rows
 
 CALLS = archive.library()
@@ -214,8 +217,11 @@ def damaged():
         (21, 3, sheet("worked_unbalanced"), "the from end of edge 1 (line 8, nodes 3 to 4): -21 isn't -20"),
         (21, 29, sheet("joint_blocks_uneven"), "the normal is -20 at node 2 and -19 at node 3"),
         (22, 1, sheet("worked_above"), "15*sx1 - 15*sy1 + 10*t1 = 15*0 - 15*(-21) + 10*0 = 315"),
-        (22, 37, sheet("seam_fault"), "pair 4, node 3 at (0, 10) with soil 2, side 1 of the polygon's 12"),
-        (22, None, claim_changed("bedded_block_half", (1, 3, 5)), "plane 2 of 6, with the normal (4, 3)/5 at 36.87"),
+        (22, 37, sheet("seam_fault"), "node 3 at (0, 10) with soil 2, side 1 of the polygon's 12, for ground pulled most"),
+        (22, 37, sheet("seam_fault"), "pulled most, or pressed least, at about 9.2 degrees from x: 900 is"),
+        (22, 37, sheet("seam_fault"), "the plane of (sx - sy, 2t), with the normal (3, 1) at 18.43 degrees there"),
+        (22, 37, sheet("seam_fault"), "By this field node 3 is pulled most, or pressed least, at 0 degrees from x"),
+        (22, None, claim_changed("bedded_block_half", (1, 3, 5)), "plane 2 of 6, whose normal in the ground, (4, 3)/5, is at 36.87"),
         (31, None, claim_changed("wall_passive_sand", (16, 2, 7)), "the multiplier is 7, and this row asks nothing"),
         (32, 7, sheet("worked_column"), "-29 * 1 = -29   equality row 9: normal at node 3"),
         (33, 0, claim_changed("worked", *nothing), "no row with a live load has a multiplier"),
@@ -241,6 +247,27 @@ def hold_damaged():
     return len(cases), {case[0] for case in cases}
 
 
+def hold_directions():
+    """The direction that a strength row's words name is the one in which a pull alone reaches that row first; of kind 1,
+    the one in which a pull is the plane's whole normal stress."""
+    for kind, most_off in ((0, 9.3), (1, 18.5)):
+        soil = rows.Soil(0, 1, 1, 10, (0, 0), (0, 0), kind, 10)
+        mesh = rows.Mesh(12, [soil], [(0, 0)], [rows.Element((0, 0, 0, 0), 0)], [], [])
+        strength = [row for row in rows.rows_of(mesh) if row.kind == "strength"]
+        for turned in range(180):
+            x, y = math.cos(math.radians(turned)), math.sin(math.radians(turned))
+            pull = [x * x, y * y, x * y]
+            if kind:
+                normals = [corner for corner in rows.corners(12)[:6] for _ in (0, 1)]
+                reached = [(a * a * pull[0] + 2 * a * b * pull[2] + b * b * pull[1]) for a, b in normals]
+            else:
+                reached = [sum(c * pull[k] for k, c in row.entries.items()) / row.right for row in strength]
+            words = row_names.row_words(mesh, strength[reached.index(max(reached))])
+            said = float(re.search(r"at (?:about )?([0-9.]+) degrees from x", words)[1])
+            off = abs((said - turned + 90) % 180 - 90)
+            hold(off <= most_off, f"kind {kind}, a pull at {turned} degrees from x: {words}")
+
+
 def hold_bedded():
     """No word of a carried load on a mesh that lists a soil of kind 1."""
     names = [name[:-5] for name in os.listdir(SHEETS) if name.startswith("bedded") and name.endswith(".mesh")]
@@ -260,6 +287,7 @@ def main():
         hold(set(reasons.MEANINGS) == changed_numbers, f"not damaged: {set(reasons.MEANINGS) ^ changed_numbers}")
         hold(case_numbers <= set(reasons.MEANINGS), f"not explained: {case_numbers - set(reasons.MEANINGS)}")
         hold_bedded()
+        hold_directions()
         with tempfile.TemporaryDirectory() as out:
             command.hold_command(out)
         print(f"{sheets} sheets, {cases} cases, {changed} damaged or telling inputs explained")
