@@ -2,7 +2,7 @@
 """Says why a claim is accepted or refused, in words and figures that a reader can redo.
 
     explain.py MESH CLAIM [TABLE]               in words
-    explain.py MESH CLAIM [TABLE] --json        the same as JSON
+    explain.py MESH CLAIM [TABLE] --json        the same as JSON (tools/README.md has its members)
     explain.py MESH CLAIM [TABLE] --full        every reason and open row in full, however many
     explain.py MESH CLAIM [TABLE] --svg FILE    draws the mesh as well, into a new file or over an earlier drawing
 
@@ -13,13 +13,13 @@ Status: 0 accepted, 1 refused, 2 usage or a file that can't be read or written, 
 than this tool's."""
 
 import argparse
-import json
 import os
 import stat
 import sys
 
 import archive
 import drawing
+import json_form
 import line_reasons
 import reasons
 
@@ -177,7 +177,7 @@ def main():
         told["differs"] = differ(told)
         if given.svg:
             write(given.svg, drawing.picture(printable(os.path.basename(given.mesh)), mesh, told))
-        print(json.dumps(told, indent=1) if given.json else "\n".join(in_words(told, given.full)), flush=True)
+        print(json_form.json_text(told) if given.json else "\n".join(in_words(told, given.full)), flush=True)
     except Unusable as problem:
         sys.exit(report_problem(problem))
     except BrokenPipeError:

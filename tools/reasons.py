@@ -120,6 +120,14 @@ def reasons_of(verdict, files, mesh):
     return list(row_reasons.claim_reasons(mesh, *judged_parts(files, mesh)))
 
 
+def with_file(number, reason):
+    """A reason at a line, with the file that has the line."""
+    if "line" not in reason:
+        return reason
+    of_claim = "claim" if number in (11, 12, 13) else "mesh"
+    return {"file": "table" if reason["line"] >= rows.FIRST_LAYER_LINE and of_claim == "mesh" else of_claim, **reason}
+
+
 # What is said beside the reasons
 
 
@@ -166,6 +174,7 @@ def loads(mesh, verdict):
         words.append(f"the limit: W/m = {limit}; no field that meets this mesh's rows has more")
     if verdict.n is not None and verdict.m is not None:
         gap = Fraction(verdict.w, verdict.m) - Fraction(verdict.l, verdict.n)
+        told |= {"gap": str(gap), "width": verdict.w * verdict.n - verdict.m * verdict.l}
         words.append(f"W/m less l/n is {decimal(gap)}" + ("" if gap else ": the two loads are equal"))
     live = list(load_words(mesh))
     words += [f"live: {line}" for line in live] or ["no edge and no soil has a live load"]
@@ -201,7 +210,7 @@ def explanation(files):
         "warnings": [],
     }
     if verdict.number:
-        told["reasons"] = reasons_of(verdict, files, mesh)
+        told["reasons"] = [with_file(verdict.number, reason) for reason in reasons_of(verdict, files, mesh)]
     else:
         told["loads"], told["load_words"] = loads(mesh, verdict)
         all_rows, claim = judged_parts(files, mesh)

@@ -1,5 +1,5 @@
-"""What a row is, in words and as data: its element, edge, jump or pair, and of a strength row the side of the polygon or
-the plane, with the direction in the ground that it means."""
+"""What a row is, in words and as data: its element, edge, jump or pair, and of a strength row the side of the polygon
+or the plane, with the direction in the ground that it means."""
 
 import math
 
@@ -9,12 +9,16 @@ from mesh_reasons import element_words, node_words
 PARTS = "normal", "shear"
 ENDS = "from", "to"
 AXES = "x", "y"
+SENSES = "pN + qT", "pN - qT"
+
+
+def angle(a, b, part=1, places=2):
+    """The angle of (a, b) from x in degrees, counterclockwise, over a part, within a turn over that part."""
+    return round(math.degrees(math.atan2(b, a)) % 360 / part, places) % (360 / part)
 
 
 def degrees(a, b, part=1, places=2):
-    """The angle of (a, b) from x, counterclockwise, or so many parts of it, within a turn of as many parts."""
-    angle = round(math.degrees(math.atan2(b, a)) % 360 / part, places) % (360 // part)
-    return f"{angle:.{places}f}".rstrip("0").rstrip(".") + " degrees"
+    return f"{angle(a, b, part, places):.{places}f}".rstrip("0").rstrip(".") + " degrees"
 
 
 def pair_words(mesh, pair):
@@ -43,10 +47,10 @@ def direction_words(mesh, soil, k):
     where the greatest stress, tension positive, acts at v from x; so a side with its normal at a means v = a/2. Kind
     1: (a, b)/r is the plane's normal itself."""
     if soil.kind:
-        a, b = plane_corner(mesh, k)
+        (a, b), r = plane_corner(mesh, k), rows.radius(mesh.sides)
         return (
-            f"plane {k // 2 + 1} of {mesh.sides // 2}, whose normal in the ground, ({a}, {b})/{rows.radius(mesh.sides)},"
-            f" is at {degrees(a, b)} from x, {'pN - qT' if k % 2 else 'pN + qT'}"
+            f"plane {k // 2 + 1} of {mesh.sides // 2}, whose normal in the ground, ({a}, {b})/{r}, is at"
+            f" {degrees(a, b)} from x, {SENSES[k % 2]}"
         )
     return (
         f"side {k + 1} of the polygon's {mesh.sides}, for ground pulled most, or pressed least, at about"
@@ -86,14 +90,30 @@ def row_name(row):
     return f"strength row {row.number}" if row.kind == "strength" else f"equality row {row.number}"
 
 
+def strength_place(mesh, row):
+    """Of a strength row also the polygon's side or the plane, in figures; angles are in degrees from x."""
+    node, soil, k = row.of
+    place = {"pair": rows.strength_pairs(mesh).index((node, soil)) + 1, "node": node + 1, "soil": soil + 1}
+    corner, next_corner = polygon_side(mesh, k)
+    if mesh.soils[soil].kind:
+        corner = plane_corner(mesh, k)
+        sense = {"corner": list(corner), "sense": SENSES[k % 2], "ground_angle": angle(*corner)}
+        return place | {"plane": k // 2 + 1} | sense
+    normal = side_normal(mesh, k)
+    corners = {"corner": list(corner), "next_corner": list(next_corner), "normal": list(normal)}
+    return place | {"polygon_side": k + 1} | corners | {"angle": angle(*normal), "ground_angle": angle(*normal, 2)}
+
+
 def place_of(mesh, row):
     """The things that a row is about, counted from 1."""
     if row.kind == "balance":
-        return {"element": row.of[0] + 1}
+        number, axis = row.of
+        return {"element": number + 1, "axis": AXES[axis]}
+    if row.kind == "strength":
+        return strength_place(mesh, row)
+    number, end, part = row.of
+    ends = {"end": ENDS[end], "part": PARTS[part]}
     if row.kind == "side":
-        return {"edge": row.of[0] + 1, "node": mesh.edges[row.of[0]][row.of[1]] + 1}
-    if row.kind == "jump":
-        jump = mesh.jumps[row.of[0]]
-        return {"jump": row.of[0] + 1, "node": jump[row.of[1]] + 1, "facing_node": jump[row.of[1] + 2] + 1}
-    node, soil, _ = row.of
-    return {"pair": rows.strength_pairs(mesh).index((node, soil)) + 1, "node": node + 1, "soil": soil + 1}
+        return {"edge": number + 1, **ends, "node": mesh.edges[number][end] + 1}
+    jump = mesh.jumps[number]
+    return {"jump": number + 1, **ends, "node": jump[end] + 1, "facing_node": jump[end + 2] + 1}

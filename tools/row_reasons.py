@@ -197,11 +197,13 @@ def two_sides(mesh, row, claim):
         **place_of(mesh, row),
         "left": total(left),
         "right": total(right),
+        "difference": total(left) - total(right),
         "left_written_out": written_out(left),
         "right_written_out": written_out(right),
         "divisor": by,
         "left_stress": str(left_stress),
         "right_stress": str(right_stress),
+        "difference_stress": str(left_stress - right_stress),
         "words": [
             f"left   {written_out(left)}",
             f"right  {written_out(right)}",
@@ -220,7 +222,7 @@ def failing_reasons(mesh, all_rows, claim):
     """21, then 22: each row that the field doesn't meet."""
     for refusal, row in rows.failing(all_rows, claim):
         sides = two_sides(mesh, row, claim)
-        difference = sides["left"] - sides["right"]
+        difference = sides["difference"]
         much = f"{sides['left']} is {difference} above {sides['right']}"
         if refusal == 21:
             much = f"{sides['left']} isn't {sides['right']}, off by {difference}"
@@ -251,6 +253,11 @@ def product_words(mesh, row, y, coefficient):
     return f"{y} * {factor} = {y * coefficient}   {row_name(row)}: {row_words(mesh, row)}"
 
 
+def term_of(row, y, coefficient):
+    parts = {"row_kind": row.kind, "row": row.number, "multiplier": y, "coefficient": coefficient}
+    return parts | {"product": y * coefficient}
+
+
 def column_reasons(mesh, all_rows, multipliers):
     """32: each column whose sum isn't 0, with every term."""
     sums = rows.column_sums(all_rows, multipliers, 3 * len(mesh.nodes))
@@ -267,8 +274,9 @@ def column_reasons(mesh, all_rows, multipliers):
             f" {found}, not 0",
             "column": column + 1,
             "node": column // 3 + 1,
+            "stress": STRESSES[column % 3],
             "sum": found,
-            "terms": [[row.kind, row.number, y, c, y * c] for row, y, c in terms],
+            "terms": [term_of(*term) for term in terms],
             "words": [
                 "multiplier * coefficient, over all rows:",
                 *(product_words(mesh, *term) for term in terms),
@@ -290,7 +298,7 @@ def load_reasons(mesh, all_rows, multipliers):
         "what": f"the column of l: m is {m}, not above 0",
         "column": 0,
         "sum": m,
-        "terms": [[row.kind, row.number, y, c, y * c] for row, y, c in terms],
+        "terms": [term_of(*term) for term in terms],
         "words": [*words, f"m = {m}; the limit W/m needs m above 0"],
     }
 

@@ -9,19 +9,21 @@ import tempfile
 import xml.etree.ElementTree
 from fractions import Fraction
 
-from held import ROOT, SHEETS, claim_bytes, claim_changed, failures, files_of, hold, lines_of, mesh_bytes, mesh_changed
-from held import sheet, table_changed, with_line, with_number
+from held import ROOT, SHEETS, TOOLS, claim_bytes, claim_changed, failures, files_of, hold, lines_of, mesh_bytes
+from held import mesh_changed, sheet, table_changed, with_line, with_number
 
 import archive
 import command
 import drawing
 import explain
+import json_form
 import reasons
 import row_names
 import rows
 
 CALLS = archive.library()
 SVG = "{http://www.w3.org/2000/svg}"
+members = set()
 
 
 # What holds of every explanation
@@ -39,9 +41,12 @@ def hold_figures(name, item):
     for side in ("left", "right"):
         if side in item:
             written = item[f"{side}_written_out"]
+            hold(item["difference"] == item["left"] - item["right"], f"{name}: the difference of {item['what']}")
             hold(redone(written) == item[side] and written.endswith(str(item[side])), f"{name}: {written}")
     if "terms" in item:
-        hold(sum(y * c for _, _, y, c, _ in item["terms"]) == item["sum"], f"{name}: terms of {item['what']}")
+        products = [term["multiplier"] * term["coefficient"] for term in item["terms"]]
+        told = [term["product"] for term in item["terms"]]
+        hold(products == told and sum(told) == item["sum"], f"{name}: terms of {item['what']}")
 
 
 def hold_point(name, mesh, item):
@@ -76,6 +81,60 @@ def hold_picture(name, mesh, told):
         hold(str(number) in texts, f"{name}: no node number {number} in the picture")
 
 
+def leaves(value, member=None):
+    """(member, value) of all that is no list or object, and of each object's members."""
+    if isinstance(value, dict):
+        for key, part in value.items():
+            members.add(key)
+            yield from leaves(part, key)
+    elif isinstance(value, list):
+        for part in value:
+            yield from leaves(part, member)
+    else:
+        yield member, value
+
+
+def hold_json_form(name, told):
+    """JSON has every figure, and none that a reader would round."""
+    written = json.loads(json_form.json_text(told))
+    before, after = list(leaves(told)), list(leaves(written))
+    same = [str(value) for _, value in before] == [str(value) for _, value in after]
+    hold(same, f"{name}: JSON loses something")
+    for member, value in after:
+        hold(not isinstance(value, int) or abs(value) < 2**53, f"{name}: {member} {value} is rounded by readers")
+
+
+def hold_places():
+    """What a row is about, whole."""
+    files = claim_changed("worked", (2, 1, 5))
+    balance = explained("a stress changed", files)["reasons"][0]
+    side = explained("worked_unbalanced", sheet("worked_unbalanced"))["reasons"][0]
+    jump = explained("joint_blocks_uneven", sheet("joint_blocks_uneven"))["reasons"][0]
+    strength = explained("seam_fault", sheet("seam_fault"))["reasons"][0]
+    plane = explained("bedded_block_half", claim_changed("bedded_block_half", (1, 3, 5)))["reasons"][-1]
+    expected = (
+        (balance, {"element": 1, "axis": "x", "difference": -5}),
+        (side, {"edge": 1, "end": "from", "part": "normal", "node": 3, "difference": -1}),
+        (jump, {"jump": 1, "end": "from", "part": "normal", "node": 2, "facing_node": 3}),
+        (strength, {"polygon_side": 1, "corner": [5, 0], "next_corner": [4, 3], "normal": [3, 1], "angle": 18.43}),
+        (strength, {"pair": 4, "node": 3, "soil": 2, "ground_angle": 9.22, "difference": 600}),
+        (strength, {"left_stress": "30", "right_stress": "10", "difference_stress": "20"}),
+        (plane, {"plane": 6, "corner": [-4, 3], "sense": "pN + qT", "ground_angle": 143.13}),
+    )
+    for reason, place in expected:
+        found = {member: reason.get(member) for member in place}
+        hold(found == place, f"{reason['what']}: {found}, expected {place}")
+
+
+def hold_members():
+    """Every member of the JSON is in the list of tools/README.md, and the list has no other."""
+    with open(os.path.join(TOOLS, "README.md"), encoding="utf-8") as file:
+        section = file.read().split("## What explain.py writes as JSON")[1].split("\n## ")[0]
+    cells = [line.split("|")[1] for line in section.split("\n") if line.startswith("| `")]
+    listed = set(re.findall(r"`(\w+)`", " ".join(cells)))
+    hold(listed == members, f"the members of the JSON and tools/README.md differ by {sorted(listed ^ members)}")
+
+
 def explained(name, files):
     """The explanation of files, held to the archive and to itself."""
     told, mesh = reasons.explanation(files)
@@ -97,8 +156,10 @@ def explained(name, files):
         load, products = told["loads"], [row["multiplier"] * row["spare"] for row in told["open_rows"]]
         if "n" in load:
             width = load["W"] * load["n"] - load["m"] * load["l"]
+            gap = Fraction(load["W"], load["m"]) - Fraction(load["l"], load["n"])
+            hold(load["width"] == width and Fraction(load["gap"]) == gap, f"{name}: the loads {load}")
             hold(sum(products) == width, f"{name}: open rows make {sum(products)}, the bracket {width}")
-    hold(json.loads(json.dumps(told)) == told, f"{name}: JSON loses something")
+    hold_json_form(name, told)
     hold_picture(name, mesh, told)
     return told
 
@@ -217,11 +278,11 @@ def damaged():
         (21, 3, sheet("worked_unbalanced"), "the from end of edge 1 (line 8, nodes 3 to 4): -21 isn't -20"),
         (21, 29, sheet("joint_blocks_uneven"), "the normal is -20 at node 2 and -19 at node 3"),
         (22, 1, sheet("worked_above"), "15*sx1 - 15*sy1 + 10*t1 = 15*0 - 15*(-21) + 10*0 = 315"),
-        (22, 37, sheet("seam_fault"), "node 3 at (0, 10) with soil 2, side 1 of the polygon's 12, for ground pulled most"),
+        (22, 37, sheet("seam_fault"), "with soil 2, side 1 of the polygon's 12, for ground pulled most, or pressed"),
         (22, 37, sheet("seam_fault"), "pulled most, or pressed least, at about 9.2 degrees from x: 900 is"),
         (22, 37, sheet("seam_fault"), "the plane of (sx - sy, 2t), with the normal (3, 1) at 18.43 degrees there"),
         (22, 37, sheet("seam_fault"), "By this field node 3 is pulled most, or pressed least, at 0 degrees from x"),
-        (22, None, claim_changed("bedded_block_half", (1, 3, 5)), "plane 2 of 6, whose normal in the ground, (4, 3)/5, is at 36.87"),
+        (22, None, claim_changed("bedded_block_half", (1, 3, 5)), "whose normal in the ground, (4, 3)/5, is at 36.87"),
         (31, None, claim_changed("wall_passive_sand", (16, 2, 7)), "the multiplier is 7, and this row asks nothing"),
         (32, 7, sheet("worked_column"), "-29 * 1 = -29   equality row 9: normal at node 3"),
         (33, 0, claim_changed("worked", *nothing), "no row with a live load has a multiplier"),
@@ -248,8 +309,8 @@ def hold_damaged():
 
 
 def hold_directions():
-    """The direction that a strength row's words name is the one in which a pull alone reaches that row first; of kind 1,
-    the one in which a pull is the plane's whole normal stress."""
+    """The direction that a strength row's words name is the one in which a pull alone reaches that row first; of kind
+    1, the one in which a pull is the plane's whole normal stress."""
     for kind, most_off in ((0, 9.3), (1, 18.5)):
         soil = rows.Soil(0, 1, 1, 10, (0, 0), (0, 0), kind, 10)
         mesh = rows.Mesh(12, [soil], [(0, 0)], [rows.Element((0, 0, 0, 0), 0)], [], [])
@@ -288,6 +349,8 @@ def main():
         hold(case_numbers <= set(reasons.MEANINGS), f"not explained: {case_numbers - set(reasons.MEANINGS)}")
         hold_bedded()
         hold_directions()
+        hold_places()
+        hold_members()
         with tempfile.TemporaryDirectory() as out:
             command.hold_command(out)
         print(f"{sheets} sheets, {cases} cases, {changed} damaged or telling inputs explained")

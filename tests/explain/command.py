@@ -102,6 +102,8 @@ def hold_json(mesh, claim, picture):
     answer = {part: told[part] for part in ("number", "place", "report")}
     hold((told["number"], told["place"]) == (22, 1) and len(told["reasons"]) == 8, f"--json: {answer}")
     hold(told["archive"] == answer, "--json: the archive's answer")
+    sides = [told["reasons"][0][side] for side in ("left", "right", "difference")]
+    hold(sides == ["315", "300", "15"], f"--json: {sides} are no strings")
     hold(xml.etree.ElementTree.parse(picture).getroot().tag == SVG + "svg", "--svg: no picture")
 
 
