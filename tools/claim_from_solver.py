@@ -19,6 +19,7 @@ import linear_program
 import rows as exact
 import whole_field
 import whole_multipliers
+from table_option import add_table, parsed
 
 FAR = 1e-3  # a part farther than this from the optimum, relative to it, isn't written silently
 SAME = 1e-9  # nearer than this floats don't tell the two apart
@@ -202,7 +203,7 @@ def arguments():
     parser = argparse.ArgumentParser(description=__doc__, formatter_class=argparse.RawDescriptionHelpFormatter)
     parser.add_argument("mesh")
     parser.add_argument("claim", nargs="?", help="written; may be left out where --lp, --mps or --keep is given")
-    parser.add_argument("--table", help="the borehole table, where there is one")
+    add_table(parser)
     parser.add_argument("--part", choices=("field", "multipliers", "both"), default="both")
     parser.add_argument("--seconds", type=int, default=20, help="of each search; 0: only the quick rounding")
     parser.add_argument("--margin", type=float, default=0.0, help="tighten the field's strength rows by this fraction")
@@ -212,7 +213,7 @@ def arguments():
     parser.add_argument("--lp", help="write the linear program in CPLEX LP format")
     parser.add_argument("--mps", help="write it in free MPS format, as the least of -l")
     parser.add_argument("--keep", help="write glpsol's result in the form that --solution takes")
-    words = parser.parse_args()
+    words = parsed(parser)
     if not (words.claim or words.lp or words.mps or words.keep):
         parser.error("a claim file to write, --lp, --mps or --keep is needed")
     if words.seconds < 0 or not 0 <= words.margin < 1 or not 0 <= words.spread < 1 or not 0 <= words.tries <= 900:
@@ -224,7 +225,7 @@ def main():
     words = arguments()
     inputs = [path for path in (words.mesh, words.table, words.solution) if path]
     may_be_written((words.claim, words.lp, words.mps, words.keep), inputs)
-    texts = read(words.mesh), read(words.table) if words.table else b""
+    texts = read(words.mesh), read(words.table) if words.table is not None else b""
     given = words.solution and (read(words.solution).decode("ascii", "replace"), words.solution)
     mesh, rows = judged_mesh(*texts, words.mesh)
     try:

@@ -6,6 +6,8 @@
     explain.py MESH CLAIM [TABLE] --full        every reason and open row in full, however many
     explain.py MESH CLAIM [TABLE] --svg FILE    draws the mesh as well, into a new file or over an earlier drawing
 
+The table may also be given as --table TABLE.
+
 Number and place are the archive's, from the shared library that PECHUVO_LIBRARY names, or from target/shared or
 target/staticlib (tests/archive builds it); where there is none they are this tool's own, and that is said.
 
@@ -22,6 +24,7 @@ import drawing
 import json_form
 import line_reasons
 import reasons
+from table_option import add_table, parsed
 
 # The desk program's limit: a longer file is refused as its first bytes are.
 LONGEST = 65_536
@@ -73,11 +76,11 @@ def arguments():
     parser = argparse.ArgumentParser(prog="explain.py", description=__doc__, formatter_class=as_written)
     parser.add_argument("mesh", metavar="MESH")
     parser.add_argument("claim", metavar="CLAIM")
-    parser.add_argument("table", metavar="TABLE", nargs="?", help="a borehole table")
+    add_table(parser)
     parser.add_argument("--json", action="store_true", help="print JSON instead of words")
     parser.add_argument("--full", action="store_true", help=f"write more than {IN_FULL} reasons or open rows in full")
     parser.add_argument("--svg", metavar="FILE", help="draw the mesh into this file")
-    given = parser.parse_args()
+    given = parsed(parser)
     inputs = [path for path in (given.mesh, given.claim, given.table) if path]
     if given.svg is not None and any(same_file(given.svg, path) for path in inputs):
         parser.error(f"--svg {given.svg}: this is an input, which is not overwritten")
@@ -171,7 +174,7 @@ def main():
     try:
         if given.svg is not None:
             may_be_drawn(given.svg)
-        files = reasons.Files(read(given.mesh), read(given.table) if given.table else b"", read(given.claim))
+        files = reasons.Files(read(given.mesh), read(given.table) if given.table is not None else b"", read(given.claim))
         told, mesh = reasons.explanation(files)
         told["archive"] = archive_answer(files)
         told["differs"] = differ(told)
