@@ -21,8 +21,8 @@ import sys
 
 import archive
 import drawing
+import file_lines
 import json_form
-import line_reasons
 import reasons
 from table_option import add_table, parsed
 
@@ -53,7 +53,7 @@ def may_be_drawn(path):
     data = read(path)
     if data.startswith((b"<svg", b"<?xml")):
         return
-    if any(line_reasons.header_numbers(data, start) for start in (line_reasons.MESH_START, line_reasons.CLAIM_START)):
+    if any(file_lines.header_numbers(data, start) for start in (file_lines.MESH_START, file_lines.CLAIM_START)):
         raise Unusable(f"--svg {path}: this is a mesh or a claim: give another name")
     raise Unusable(f"--svg {path}: this is there and is no drawing: give another name")
 

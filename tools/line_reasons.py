@@ -1,97 +1,8 @@
 """Why a line of a file is refused: its form (1, 11), its numbers' limits (2, 12), 3, and the names in it (4)."""
 
-from collections import namedtuple
-
+import line_hints
 import rows
-
-# what: what a line of it is; names: its columns; limits: what they may hold; count: how many lines there are.
-Section = namedtuple("Section", "what names limits count")
-# index: which of the section's lines, from 1; start: the line's first byte, from 0.
-Line = namedtuple("Line", "section index start")
-
-HEADER = "nodes", "elements", "soils", "edges", "sides", "jumps"
-SOIL = "p", "q", "h", "cohesion", "dead force x", "dead force y", "live force x", "live force y", "kind", "cv"
-ELEMENT = "first node", "second node", "third node", "fourth node", "soil"
-EDGE = "from", "to", "fixed", "dead normal", "dead shear", "live normal", "live shear"
-JUMP = "from", "to", "facing from", "facing to"
-LAYER = "bottom", "top", "soil"
-CLAIM_HEADER = "field there", "multipliers there", "n", "l"
-FOUR_ROWS = "normal at from", "shear at from", "normal at to", "shear at to"
-
-MESH_START = Section("the header", HEADER, rows.HEADER, 1)
-CLAIM_START = Section("the header", CLAIM_HEADER, rows.CLAIM_HEADER, 1)
-
-
-def width(section):
-    """The bytes of a line, its byte 10 counted."""
-    return rows.WIDTH * len(section.names) + 1
-
-
-def header_numbers(data, section):
-    """The numbers of line 1, or None where it is refused."""
-    try:
-        return rows.take_line(rows.FileLines(data, 1), section.limits, 2)
-    except rows.Refused:
-        return None
-
-
-def mesh_sections(data):
-    """The sections of a mesh file, as far as its header tells them."""
-    numbers = header_numbers(data, MESH_START)
-    if numbers is None:
-        return [MESH_START]
-    nodes, elements, soils, edges, _, jumps = numbers
-    return [
-        MESH_START,
-        Section("soil", SOIL, rows.SOIL_LINE, soils),
-        Section("node", ("x", "y"), rows.NODE_LINE, nodes),
-        Section("element", ELEMENT, rows.ELEMENT_LINE, elements),
-        Section("edge", EDGE, rows.EDGE_LINE, edges),
-        Section("jump", JUMP, rows.JUMP_LINE, jumps),
-    ]
-
-
-def table_sections(data):
-    """A table has as many lines as it holds, 32 at most."""
-    layer = Section("layer", LAYER, rows.LAYER_LINE, 0)
-    return [layer._replace(count=min(-(-len(data) // width(layer)), rows.MOST_LAYERS))]
-
-
-def claim_sections(data, mesh):
-    """The sections of a claim file on a mesh, as far as its header tells them."""
-    numbers = header_numbers(data, CLAIM_START)
-    if numbers is None:
-        return [CLAIM_START]
-    sections = [CLAIM_START]
-    if numbers[0]:
-        sections.append(Section("the stresses of node", ("sx", "sy", "t"), [rows.STRESS] * 3, len(mesh.nodes)))
-    if numbers[1]:
-        sides = tuple(f"side {side}" for side in range(1, mesh.sides + 1))
-        names = ("balance x", "balance y"), FOUR_ROWS, FOUR_ROWS, sides
-        for what, names, group in zip(("element", "edge", "jump", "pair"), names, rows.multiplier_groups(mesh)):
-            count, columns, limits = group
-            sections.append(Section(f"the multipliers of {what}", names, [limits] * columns, count))
-    return sections
-
-
-def line_at(sections, line, first):
-    """The line of this number, or None where it comes after the last."""
-    start, before = 0, first
-    for section in sections:
-        if line < before + section.count:
-            return Line(section, line - before + 1, start + (line - before) * width(section))
-        before += section.count
-        start += section.count * width(section)
-    return None
-
-
-def length(sections):
-    return sum(section.count * width(section) for section in sections)
-
-
-def title(line):
-    section, index, _ = line
-    return section.what if section.what == "the header" else f"{section.what} {index}"
+from file_lines import MESH_START, length, line_at, physical_line, title, width
 
 
 def shown(data, most=80):
@@ -104,12 +15,6 @@ def shown(data, most=80):
 def byte_words(byte):
     names = {9: "a tab", 13: "byte 13 (CR)", 46: "a point", 44: "a comma", 43: "a plus", 0: "byte 0"}
     return names.get(byte) or (f"'{chr(byte)}'" if 32 < byte < 127 else f"byte {byte}")
-
-
-def physical_line(data, start):
-    """The bytes from a line's start to its byte 10, that counted; it may be shorter or longer than it should be."""
-    end = data.find(b"\n", start)
-    return data[start:] if end < 0 else data[start : end + 1]
 
 
 def wrong_length(data, line):
@@ -174,29 +79,6 @@ def fault_in_line(data, line):
     return None, width(line.section) - 1, end_fault(data, line)
 
 
-OTHER_STARTS = {4: "a claim's header or a jump", 6: "a mesh's header"}
-OTHER_LINES = {2: "a node", 3: "a node's stresses or a layer", 5: "an element", 7: "an edge", 10: "a soil"}
-LIKE_COLUMNS = OTHER_STARTS | OTHER_LINES
-
-
-def hints(data, line):
-    """What the line looks like instead, where it has another number of columns."""
-    rest = physical_line(data, line.start).rstrip(b"\r\n")
-    columns, odd = divmod(len(rest), rows.WIDTH)
-    if rest.startswith(b"\xef\xbb\xbf"):
-        yield "the file begins with a byte order mark, which a text editor wrote; a file begins with its first column"
-    if b"\t" in rest:
-        yield "it has tabs; only spaces fill a column"
-    if odd or columns == len(line.section.names) or not data[line.start :]:
-        return
-    if line.section in (MESH_START, CLAIM_START) and columns in OTHER_STARTS:
-        yield f"it has {columns} columns, as {OTHER_STARTS[columns]} has: are mesh and claim swapped?"
-    elif line.section == MESH_START and columns == 5 or line.section.what == "soil" and columns == 8:
-        yield f"it has {columns} columns, as in an older form: tools/convert_mesh.py writes such a mesh in today's"
-    elif columns in LIKE_COLUMNS:
-        yield f"it has {columns} columns, as {LIKE_COLUMNS[columns]} has: do the header's counts fit the lines?"
-
-
 def form_reason(file, data, sections, number, first):
     """Why the form is refused at a line: the line, the column, the bytes, what was expected."""
     line = line_at(sections, number, first)
@@ -221,7 +103,7 @@ def form_reason(file, data, sections, number, first):
         "byte_of_line": byte + 1,
         "byte_of_file": line.start + byte + 1,
         "bytes": shown(there, 140),
-        "words": [*told, *hints(data, line)],
+        "words": [*told, *line_hints.of_line(file, data, sections, line)],
     }
 
 
@@ -236,6 +118,8 @@ def leftover_reason(file, data, sections, number):
     ]
     if not rest.strip(b" \r\n\t\x1a"):
         words.append("they are white space only: an empty line or spaces at the end of the file")
+    elif file == "the claim":
+        words += line_hints.of_claim(data, sections)
     return {
         "what": f"{file}, line {number}: bytes are left over behind the last line, {len(rest)} in all",
         "line": number,

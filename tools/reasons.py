@@ -4,6 +4,7 @@ accepted claim says, and warnings. `words` and `what` are for readers, all else 
 from collections import namedtuple
 from fractions import Fraction
 
+import file_lines
 import line_reasons
 import mesh_reasons
 import row_names
@@ -67,12 +68,12 @@ def line_reason_list(number, line, file, data, sections, first, counts, with_tab
 
 def mesh_line_reasons(number, line, files):
     """Of a line of the mesh, or of the table, whose lines count from 1,001."""
-    mesh_sections = line_reasons.mesh_sections(files.mesh)
+    mesh_sections = file_lines.mesh_sections(files.mesh)
     counts = {rows.NODE: 0, rows.SOIL: 0} | {section.what: section.count for section in mesh_sections}
     if line < rows.FIRST_LAYER_LINE:
         of = "the mesh", files.mesh, mesh_sections, 1
     else:
-        of = "the table", files.table, line_reasons.table_sections(files.table), rows.FIRST_LAYER_LINE
+        of = "the table", files.table, file_lines.table_sections(files.table), rows.FIRST_LAYER_LINE
     return line_reason_list(number, line, *of, counts, bool(files.table))
 
 
@@ -88,7 +89,7 @@ def layer_reasons(number, files, mesh):
 
 def empty_reasons(claim_data):
     """13: what of the claim's header can't be."""
-    field, multipliers, n, l = line_reasons.header_numbers(claim_data, line_reasons.CLAIM_START)
+    field, multipliers, n, l = file_lines.header_numbers(claim_data, file_lines.CLAIM_START)
     words = [f"the header says field {field}, multipliers {multipliers}, n {n}, l {l}"]
     if not (field or multipliers):
         what = "both parts are absent: neither a field nor multipliers"
@@ -113,7 +114,7 @@ def reasons_of(verdict, files, mesh):
     if number in mesh_reasons.REASONS:
         return list(mesh_reasons.REASONS[number](mesh))
     if number in (11, 12):
-        sections = line_reasons.claim_sections(files.claim, mesh)
+        sections = file_lines.claim_sections(files.claim, mesh)
         return line_reason_list(number, verdict.place, "the claim", files.claim, sections, 1, {}, False)
     if number == 13:
         return empty_reasons(files.claim)

@@ -208,6 +208,10 @@ def jump_far_away():
     return files._replace(mesh="\n".join(lines).encode("ascii"))
 
 
+def other_claim(mesh, claim):
+    return sheet(mesh)._replace(claim=sheet(claim).claim)
+
+
 def damaged():
     """(number, place, files, words that must be told)."""
     base = sheet("worked")
@@ -269,6 +273,13 @@ def damaged():
         (11, 1, base._replace(claim=b""), "the claim, line 1 (the header), column 1 (field there): the file is empty"),
         (11, 14, claim_bytes(lambda claim: claim + b"0"), "bytes left over: [0]"),
         (11, 7, claim_bytes(lambda claim: claim[: len(claim) // 8 * 2]), "the multipliers of"),
+        (11, 22, other_claim("footing_20", "footing_12"), "it has 2 columns, as the multipliers of an element have"),
+        (11, 22, other_claim("footing_20", "footing_12"), "is the claim of another mesh? This one has 35 nodes, 24"),
+        (11, 22, other_claim("footing_20", "footing_12"), "the claim's lines are those of 20 nodes, 12 elements, 6"),
+        (11, 56, other_claim("joint_fan_20", "joint_fan_12"), "lines are those of 26 nodes, 15 elements, 13 edges and"),
+        (11, 6, other_claim("worked", "footing_field"), "the claim's lines are those of 63 nodes"),
+        (11, 5, claim_bytes(lambda claim: claim[:160]), "is the claim of another mesh, or is it cut short?"),
+        (11, 1, sheet("table_slope")._replace(claim=sheet("table_slope").table), "are the files in their order"),
         (12, 2, claim_changed("worked", (2, 2, -2_000_000_000)), "column 2 (sy): -2000000000, where"),
         (12, 10, claim_changed("worked", (10, 4, 10_001)), "column 4 (side 4): 10001, where 0 to 10000"),
         (13, 1, claim_changed("worked", (1, 1, 0), (1, 2, 0)), "both parts are absent"),
