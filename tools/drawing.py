@@ -505,6 +505,7 @@ def verdict_lines(name, told):
         yield reason["what"]
     if len(told["reasons"]) > 1:
         yield f"and {counted(len(told['reasons']) - 1, 'more reason')}"
+    yield from (part["what"] for part in told["summary"])
     if told["open_rows"]:
         nodes = {row["node"] for row in told["open_rows"]}
         yield f"{counted(len(told['open_rows']), 'open row')} at {counted(len(nodes), 'node')}"

@@ -28,7 +28,7 @@ from table_option import add_table, parsed
 
 # The desk program's limit: a longer file is refused as its first bytes are.
 LONGEST = 65_536
-IN_FULL = 12
+IN_FULL, IN_A_LINE = 12, 60
 
 
 class Unusable(Exception):
@@ -78,7 +78,7 @@ def arguments():
     parser.add_argument("claim", metavar="CLAIM")
     add_table(parser)
     parser.add_argument("--json", action="store_true", help="print JSON instead of words")
-    parser.add_argument("--full", action="store_true", help=f"write more than {IN_FULL} reasons or open rows in full")
+    parser.add_argument("--full", action="store_true", help=f"write out more than {IN_FULL} reasons or open rows")
     parser.add_argument("--svg", metavar="FILE", help="draw the mesh into this file")
     given = parsed(parser)
     inputs = [path for path in (given.mesh, given.claim, given.table) if path]
@@ -109,17 +109,19 @@ def differ(told):
 
 
 def listed(title, items, full):
-    """The items under a title: the first ones in full, the rest a line each."""
+    """The items under a title: the first ones in full, the next a line each, and how many more there are."""
     if not items:
         return
     yield ""
     yield title
-    for count, item in enumerate(items):
+    for count, item in enumerate(items if full else items[:IN_A_LINE]):
         yield f"- {item['what']}"
         if full or count < IN_FULL:
             yield from (f"    {line}" for line in item["words"])
         elif count == IN_FULL and item["words"]:
             yield "    (from here on a line each; --full has them all in full)"
+    if not full and len(items) > IN_A_LINE:
+        yield f"and {len(items) - IN_A_LINE} more; --full has them all"
 
 
 def by_refusal(found):
@@ -150,6 +152,7 @@ def in_words(told, full):
     yield f"report: {' '.join(told['report'].split())}"
     yield source_words(told)
     yield from told["load_words"]
+    yield from listed("in short:", told["summary"], True)
     yield from listed(f"why, {len(told['reasons'])} in all{by_refusal(told['reasons'])}:", told["reasons"], full)
     yield from told["open_row_words"]
     yield from listed(f"open rows, {len(told['open_rows'])} in all:", told["open_rows"], full)
@@ -174,7 +177,8 @@ def main():
     try:
         if given.svg is not None:
             may_be_drawn(given.svg)
-        files = reasons.Files(read(given.mesh), read(given.table) if given.table is not None else b"", read(given.claim))
+        table = b"" if given.table is None else read(given.table)
+        files = reasons.Files(read(given.mesh), table, read(given.claim))
         told, mesh = reasons.explanation(files)
         told["archive"] = archive_answer(files)
         told["differs"] = differ(told)

@@ -10,6 +10,7 @@ import mesh_reasons
 import row_names
 import row_reasons
 import rows
+import summary
 from row_reasons import decimal
 
 # The bytes of a mesh file, a table file and a claim file.
@@ -39,6 +40,10 @@ MEANINGS = {
     32: "the sum of a column isn't 0",
     33: "m is 0 or less",
 }
+
+
+# The refusals that say what row or column of a claim fails.
+CLAIM_AS_A_WHOLE = 21, 22, 31, 32, 33
 
 
 def mesh_to_show(files):
@@ -203,6 +208,7 @@ def explanation(files):
         "kind_of_place": verdict.kind,
         "meaning": MEANINGS[verdict.number],
         "report": rows.told(report),
+        "summary": [],
         "reasons": [],
         "loads": {},
         "load_words": [],
@@ -212,6 +218,8 @@ def explanation(files):
     }
     if verdict.number:
         told["reasons"] = [with_file(verdict.number, reason) for reason in reasons_of(verdict, files, mesh)]
+        if verdict.number in CLAIM_AS_A_WHOLE:
+            told["summary"] = summary.summary(mesh, rows.rows_of(mesh), told["reasons"])
     else:
         told["loads"], told["load_words"] = loads(mesh, verdict)
         all_rows, claim = judged_parts(files, mesh)

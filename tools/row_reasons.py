@@ -13,7 +13,9 @@ FIXED = {1: "its normal alone", 2: "its shear alone", 3: "both"}
 
 
 def decimal(number, places=6):
-    """A fraction in decimals, 'about' where they aren't all of it."""
+    """A fraction in decimals, 'about' where they aren't all of it; a small one with its first three digits."""
+    while number and abs(number) * 10**places < 100 and Fraction(number) * 10**places % 1:
+        places += 1
     scaled = round(Fraction(number) * 10**places)
     digits = f"{abs(scaled):0{places + 1}d}"
     text = f"{digits[:-places]}.{digits[-places:]}".rstrip("0").rstrip(".")
@@ -218,15 +220,21 @@ def two_sides(mesh, row, claim):
 # Refusals
 
 
+def off_words(refusal, sides):
+    """By how much a row fails, in stresses."""
+    left, right, difference = (decimal(Fraction(sides[f"{part}_stress"])) for part in ("left", "right", "difference"))
+    unit = "in stresses per unit of length" if sides["row_kind"] == "balance" else "in stresses"
+    if refusal == 21:
+        return f"{unit} {left} isn't {right}, off by {difference}"
+    return f"{unit} {left} is {difference} above {right}"
+
+
 def failing_reasons(mesh, all_rows, claim):
     """21, then 22: each row that the field doesn't meet."""
     for refusal, row in rows.failing(all_rows, claim):
         sides = two_sides(mesh, row, claim)
-        difference = sides["difference"]
-        much = f"{sides['left']} is {difference} above {sides['right']}"
-        if refusal == 21:
-            much = f"{sides['left']} isn't {sides['right']}, off by {difference}"
-        yield {"refusal": refusal, "what": f"{row_name(row)}: {row_words(mesh, row)}: {much}", **sides}
+        what = f"{row_name(row)}: {row_words(mesh, row)}: {off_words(refusal, sides)}"
+        yield {"refusal": refusal, "what": what, **sides}
 
 
 def unfixed_reasons(mesh, all_rows, multipliers):

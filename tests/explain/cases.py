@@ -68,7 +68,23 @@ def hold_spare(name, files, mesh, told):
     found = [item for item in told["reasons"] if item["refusal"] in (21, 22)]
     found = [(item["refusal"], item["row_kind"], item["row"], item["right"] - item["left"]) for item in found]
     hold(found == expected, f"{name}: failing rows {found}, expected {expected}")
+    hold_summary(name, all_rows, told)
     hold(all(row["spare"] == row["right"] - row["left"] > 0 for row in told["open_rows"]), f"{name}: open rows")
+
+
+def hold_summary(name, all_rows, told):
+    """Each kind of row that fails is told with how many do, and none is off by more than the worst."""
+    failing = [reason for reason in told["reasons"] if reason["refusal"] in (21, 22)]
+    for part in told["summary"]:
+        alike = [reason for reason in failing if reason["row_kind"] == part.get("row_kind")]
+        if part["refusal"] in (21, 22):
+            off = [abs(Fraction(reason["left"] - reason["right"], reason["divisor"])) for reason in alike]
+            worst = [reason for reason, much in zip(alike, off) if much == max(off)]
+            hold(part["failing"] == len(alike) and part["row"] == worst[0]["row"], f"{name}: in short, {part['what']}")
+            hold(worst[0]["what"] in part["what"], f"{name}: in short, {part['what']}")
+    kinds = {reason["row_kind"] for reason in failing} if len(told["reasons"]) > 1 else set()
+    told_kinds = {part["row_kind"] for part in told["summary"] if part["refusal"] in (21, 22)}
+    hold(kinds == told_kinds, f"{name}: in short, {told_kinds} of {kinds}")
 
 
 def hold_picture(name, mesh, told):
@@ -212,6 +228,16 @@ def other_claim(mesh, claim):
     return sheet(mesh)._replace(claim=sheet(claim).claim)
 
 
+def doubled(name):
+    """A field twice as strong, with twice the load."""
+    files, numbers = sheet(name), [line.split() for line in lines_of(sheet(name).claim)]
+    nodes = int(lines_of(files.mesh)[0].split()[0])
+    numbers[0][3] = 2 * int(numbers[0][3])
+    for line in numbers[1 : 1 + nodes]:
+        line[:] = [2 * int(number) for number in line]
+    return files._replace(claim=rows.text_of([map(int, line) for line in numbers[:-1]]))
+
+
 def damaged():
     """(number, place, files, words that must be told)."""
     base = sheet("worked")
@@ -285,18 +311,23 @@ def damaged():
         (13, 1, claim_changed("worked", (1, 1, 0), (1, 2, 0)), "both parts are absent"),
         (13, 1, claim_changed("worked", (1, 3, 0)), "there is a field and n is 0"),
         (13, 1, claim_changed("worked", (1, 1, 0)), "there is no field, and n or l isn't 0"),
-        (21, 1, claim_changed("worked", (2, 1, 5)), "balance x of element 1 (nodes 1, 2, 3, 4): -5 isn't 0"),
-        (21, 3, sheet("worked_unbalanced"), "the from end of edge 1 (line 8, nodes 3 to 4): -21 isn't -20"),
+        (21, 1, claim_changed("worked", (2, 1, 5)), "(nodes 1, 2, 3, 4): in stresses per unit of length -2.5 isn't 0"),
+        (21, 3, sheet("worked_unbalanced"), "the from end of edge 1 (line 8, nodes 3 to 4): in stresses -21 isn't -20"),
         (21, 29, sheet("joint_blocks_uneven"), "the normal is -20 at node 2 and -19 at node 3"),
         (22, 1, sheet("worked_above"), "15*sx1 - 15*sy1 + 10*t1 = 15*0 - 15*(-21) + 10*0 = 315"),
         (22, 37, sheet("seam_fault"), "with soil 2, side 1 of the polygon's 12, for ground pulled most, or pressed"),
-        (22, 37, sheet("seam_fault"), "pulled most, or pressed least, at about 9.2 degrees from x: 900 is"),
+        (22, 37, sheet("seam_fault"), "least, at about 9.2 degrees from x: in stresses 30 is 20 above 10"),
         (22, 37, sheet("seam_fault"), "the plane of (sx - sy, 2t), with the normal (3, 1) at 18.43 degrees there"),
         (22, 37, sheet("seam_fault"), "By this field node 3 is pulled most, or pressed least, at 0 degrees from x"),
         (22, None, claim_changed("bedded_block_half", (1, 3, 5)), "whose normal in the ground, (4, 3)/5, is at 36.87"),
         (31, None, claim_changed("wall_passive_sand", (16, 2, 7)), "the multiplier is 7, and this row asks nothing"),
         (32, 7, sheet("worked_column"), "-29 * 1 = -29   equality row 9: normal at node 3"),
         (33, 0, claim_changed("worked", *nothing), "no row with a live load has a multiplier"),
+        # in short
+        (22, 1, doubled("footing_largest_108"), "1431 of 4320 strength rows fail, of 40 pairs of node and soil; the"),
+        (22, 1, doubled("footing_largest_108"), "rom x: in stresses about 19.998129 is about 9.998129 above 10"),
+        (21, 1, claim_changed("worked", (2, 1, 5)), "1 of 2 balance rows fails, of 1 element; the worst is equality"),
+        (32, 1, claim_changed("worked", (6, 1, 3)), "8 of 12 columns fail; the worst is column 1, sx of node 1 at"),
         # accepted
         (0, 0, sheet("worked_below"), "W*n - m*l = 600*1 - 30*19 = 30"),
         (0, 0, sheet("worked_below"), "multiplier 1, 15 to spare, in stress 0.5; 1 * 15 = 15"),
@@ -317,6 +348,17 @@ def hold_damaged():
         text = "\n".join(explain.in_words(told, True))
         hold(words in text, f"{name}: not in\n{text}")
     return len(cases), {case[0] for case in cases}
+
+
+def hold_long():
+    """A long refusal is cut short unless all of it is asked for, and has its worst row before the others."""
+    told, _ = reasons.explanation(doubled("footing_largest_108"))
+    told["archive"] = None
+    text = "\n".join(explain.in_words(told, False))
+    hold("and 1371 more; --full has them all" in text and len(text) < 32_000, f"long: {len(text)} characters")
+    hold(text.index("in short:") < text.index("strength row 116") < text.index("why, 1431 in all"), "long: the order")
+    whole = "\n".join(explain.in_words(told, True))
+    hold(whole.count("\n- strength row") == 1431 and "--full" not in whole, "long: not all with --full")
 
 
 def hold_directions():
@@ -359,6 +401,7 @@ def main():
         hold(set(reasons.MEANINGS) == changed_numbers, f"not damaged: {set(reasons.MEANINGS) ^ changed_numbers}")
         hold(case_numbers <= set(reasons.MEANINGS), f"not explained: {case_numbers - set(reasons.MEANINGS)}")
         hold_bedded()
+        hold_long()
         hold_directions()
         hold_places()
         hold_members()
