@@ -6,6 +6,7 @@ from xml.sax.saxutils import escape, quoteattr
 
 import mesh_reasons
 import rows
+import unlined_sides
 
 MARGIN = 80
 LINE = 17
@@ -280,7 +281,7 @@ def hatched(a, b, outward, along):
 
 
 def unlined_drawings(page):
-    for _, side in mesh_reasons.unlined_sides(page.mesh):
+    for _, side in unlined_sides.unlined_sides(page.mesh):
         a, b, along, outward = page.side(side)
         yield from hatched(a, b, outward, along)
 
@@ -455,7 +456,7 @@ def legend_items(mesh, told):
     if mesh.jumps:
         names = "j1" if len(mesh.jumps) == 1 else f"j1 to j{len(mesh.jumps)}"
         yield doubled(a, b), f"{names}: stress may jump here, normal and shear agree"
-    if mesh_reasons.unlined_sides(mesh):
+    if unlined_sides.unlined_sides(mesh):
         yield "".join(hatched(b, a, up, (-1, 0))), "no edge line: this side may carry anything"
     if any(any(edge.live) for edge in mesh.edges) or any(any(soil.live) for soil in mesh.soils):
         yield arrow(a, b, LIVE), "live load, times the load factor"

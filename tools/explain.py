@@ -156,8 +156,10 @@ def in_words(told, full):
     yield from listed(f"why, {len(told['reasons'])} in all{by_refusal(told['reasons'])}:", told["reasons"], full)
     yield from told["open_row_words"]
     yield from listed(f"open rows, {len(told['open_rows'])} in all:", told["open_rows"], full)
-    sides = f"warning, outer sides without an edge line, {len(told['warnings'])} in all:"
-    yield from listed(sides, told["warnings"], full)
+    sides = told["warnings"]
+    asked = sum(side["question"] for side in sides)
+    first = f", first {asked} with a question" if asked else ""
+    yield from listed(f"warning, outer sides without an edge line, {len(sides)} in all{first}:", sides, full)
 
 
 def difference_words(told):

@@ -1,5 +1,5 @@
 """Why a mesh whose lines pass is refused as a whole: 46, 45, 5, 6, 7, 47, 8, 44 and 42, each everywhere that it
-applies, the refusal's own place first; and the outer sides that no line speaks of."""
+applies, the refusal's own place first."""
 
 from fractions import Fraction
 
@@ -281,38 +281,3 @@ REASONS = {
     44: jump_reasons,
     42: pair_reasons,
 }
-
-
-def unlined_sides(mesh):
-    """The outer sides without an edge line or a jump, in the order of the elements: they may carry anything."""
-    lined = {(edge.start, edge.end) for edge in mesh.edges}
-    for jump in mesh.jumps:
-        lined |= {(jump.start, jump.end), (jump.facing_end, jump.facing_start)}
-    free = rows.outer_sides(mesh) - lined
-    sides = [(number, side) for number, element in enumerate(mesh.elements) for side in rows.sides_of(element)]
-    return [(number, side) for number, side in sides if side in free]
-
-
-def lines_beside(mesh, side):
-    """The edges that go on straight from a side, before or after it."""
-    a, b = side
-    for number, edge in enumerate(mesh.edges):
-        third = edge.start if edge.end == a else edge.end if edge.start == b else None
-        if third not in (None, a, b) and rows.turn(mesh.nodes[a], mesh.nodes[b], mesh.nodes[third]) == 0:
-            yield number
-
-
-def unlined_reasons(mesh):
-    """A warning for each of them; with a question where an edge goes on straight from it."""
-    for number, side in unlined_sides(mesh):
-        beside = [edge + 1 for edge in lines_beside(mesh, side)]
-        words = f"no edge line at {side_words(mesh, side)}, of element {number + 1}: this side may carry anything"
-        if beside:
-            words += f"; it goes on straight as edge {' and edge '.join(map(str, beside))}: is its line forgotten?"
-        yield {
-            "what": words,
-            "element": number + 1,
-            "side": [side[0] + 1, side[1] + 1],
-            "edges_beside": beside,
-            "words": [],
-        }

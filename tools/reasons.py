@@ -11,6 +11,7 @@ import row_names
 import row_reasons
 import rows
 import summary
+import unlined_sides
 from row_reasons import decimal
 
 # The bytes of a mesh file, a table file and a claim file.
@@ -227,5 +228,5 @@ def explanation(files):
             told["open_rows"] = list(row_reasons.open_row_reasons(mesh, all_rows, claim))
             told["open_row_words"] = open_row_words(claim, all_rows, told["open_rows"])
     if mesh and verdict.number not in (45, 46, 5, 6):
-        told["warnings"] = list(mesh_reasons.unlined_reasons(mesh))
+        told["warnings"] = list(unlined_sides.unlined_reasons(mesh))
     return told, mesh

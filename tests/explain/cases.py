@@ -20,6 +20,7 @@ import json_form
 import reasons
 import row_names
 import rows
+import sides
 
 CALLS = archive.library()
 SVG = "{http://www.w3.org/2000/svg}"
@@ -333,7 +334,7 @@ def damaged():
         (0, 0, sheet("worked_below"), "multiplier 1, 15 to spare, in stress 0.5; 1 * 15 = 15"),
         (0, 0, sheet("bedded_unused"), "though no element has it: its rows bound the strength of some planes only"),
         (0, 0, sheet("third"), "1/3 = 0.333333 (rounded down)"),
-        (0, 0, free_edge_lost(), "may carry anything; it goes on straight as edge 5: is its line forgotten?"),
+        (0, 0, free_edge_lost(), "anything; it goes on straight as edge 5 (free): is its line forgotten?"),
     ]
 
 
@@ -403,6 +404,7 @@ def main():
         hold_bedded()
         hold_long()
         hold_directions()
+        sides.hold_sides()
         hold_places()
         hold_members()
         with tempfile.TemporaryDirectory() as out:
