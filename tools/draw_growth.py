@@ -11,10 +11,10 @@ import csv
 import sys
 from collections import namedtuple
 
-from drawing import circle, label, line, titles, whole
+from svg import circle, label, line, whole
 
 WIDTH, HEIGHT = 960, 560
-TITLE = ["Instructions of one check by the nodes of its mesh (callgrind)"]
+TITLE = "Instructions of one check by the nodes of its mesh (callgrind)"
 COLOURS = "#1f5fbf", "#2a8a2a", "#cc1f1f", "#8a3fb0", "#9a5b13"
 # The dashes of a program's lines.
 PROGRAMS = {"proved": "none", "independent": "6 4"}
@@ -105,7 +105,7 @@ def main():
     grids = {name: rows for name, rows in series.items() if name not in fans}
     first = Panel(Box(80, 460, 90, 450), grids, "grids of squares", (1_000, "thousand"), COLOURS)
     second = Panel(Box(600, 900, 90, 450), fans, "a fan of triangles, 36 sides", (1_000_000, "million"), COLOURS[2:])
-    parts = [*titles(TITLE), *first.drawn(), *second.drawn(), *legend(grids, 512)]
+    parts = [label((20, 22), TITLE, 13, anchor="start"), *first.drawn(), *second.drawn(), *legend(grids, 512)]
     with open(target, "w", encoding="utf-8") as file:
         file.write(whole(WIDTH, HEIGHT, parts) + "\n")
 

@@ -185,7 +185,8 @@ def main():
         told["archive"] = archive_answer(files)
         told["differs"] = differ(told)
         if given.svg:
-            write(given.svg, drawing.picture(printable(os.path.basename(given.mesh)), mesh, told))
+            names = [printable(os.path.basename(path)) for path in (given.mesh, given.claim, given.table) if path]
+            write(given.svg, drawing.picture(names, mesh, told))
         print(json_form.json_text(told) if given.json else "\n".join(in_words(told, given.full)), flush=True)
     except Unusable as problem:
         sys.exit(report_problem(problem))

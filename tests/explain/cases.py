@@ -6,7 +6,6 @@ import os
 import re
 import sys
 import tempfile
-import xml.etree.ElementTree
 from fractions import Fraction
 
 from held import ROOT, SHEETS, TOOLS, claim_bytes, claim_changed, failures, files_of, hold, lines_of, mesh_bytes
@@ -14,16 +13,15 @@ from held import mesh_changed, sheet, table_changed, with_line, with_number
 
 import archive
 import command
-import drawing
 import explain
 import json_form
+import pictures
 import reasons
 import row_names
 import rows
 import sides
 
 CALLS = archive.library()
-SVG = "{http://www.w3.org/2000/svg}"
 members = set()
 
 
@@ -86,16 +84,6 @@ def hold_summary(name, all_rows, told):
     kinds = {reason["row_kind"] for reason in failing} if len(told["reasons"]) > 1 else set()
     told_kinds = {part["row_kind"] for part in told["summary"] if part["refusal"] in (21, 22)}
     hold(kinds == told_kinds, f"{name}: in short, {told_kinds} of {kinds}")
-
-
-def hold_picture(name, mesh, told):
-    root = xml.etree.ElementTree.fromstring(drawing.picture(name, mesh, told))
-    texts = [text.text for text in root.iter(SVG + "text")]
-    places = [(float(text.get("x")), float(text.get("y"))) for text in root.iter(SVG + "text")]
-    width, height = float(root.get("width")), float(root.get("height"))
-    hold(all(0 <= x <= width and 0 <= y <= height for x, y in places), f"{name}: words outside the picture")
-    for number in range(1, len(mesh.nodes) + 1 if mesh else 1):
-        hold(str(number) in texts, f"{name}: no node number {number} in the picture")
 
 
 def leaves(value, member=None):
@@ -177,7 +165,7 @@ def explained(name, files):
             hold(load["width"] == width and Fraction(load["gap"]) == gap, f"{name}: the loads {load}")
             hold(sum(products) == width, f"{name}: open rows make {sum(products)}, the bracket {width}")
     hold_json_form(name, told)
-    hold_picture(name, mesh, told)
+    pictures.hold_picture(name, mesh, told)
     return told
 
 
@@ -188,6 +176,7 @@ def hold_sheets():
         name, report = line.split(" ", 1)
         told = explained(name, sheet(name))
         hold(told["report"] == report, f"{name}: {told['report']}, expected {report}")
+        pictures.hold_apart(name, sheet(name), told)
     return len(lines)
 
 
@@ -405,6 +394,7 @@ def main():
         hold_long()
         hold_directions()
         sides.hold_sides()
+        pictures.hold_pictures()
         hold_places()
         hold_members()
         with tempfile.TemporaryDirectory() as out:
