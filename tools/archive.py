@@ -11,6 +11,7 @@ import rows
 TARGET = os.path.join(os.path.dirname(os.path.abspath(__file__)), "..", "target")
 LIBRARY = os.path.join(TARGET, "shared", "libpechuvo.so")
 ARCHIVE = os.path.join(TARGET, "staticlib", "libpechuvo.a")
+SONAME = "libpechuvo.so.1"
 
 
 class Answer(ctypes.Structure):
@@ -29,17 +30,25 @@ def shared_of_archive():
             return None
 
 
+def installed():
+    """The library that the system's loader finds, or None."""
+    try:
+        return ctypes.CDLL(SONAME)
+    except OSError:
+        return None
+
+
 @functools.cache
 def library():
     """The archive's calls: of the shared library that PECHUVO_LIBRARY names; else of the one that is built here,
-    unless the archive is newer, or of one made of the archive; None where nothing is built. A library that can't be
-    loaded is an OSError."""
+    unless the archive is newer, or of one made of the archive; where nothing is built, of an installed one; None where
+    there is none. A library that is named or built and can't be loaded is an OSError."""
     named = os.environ.get("PECHUVO_LIBRARY")
     if named:
         return ctypes.CDLL(named)
     if os.path.exists(ARCHIVE) and not newer(LIBRARY, ARCHIVE):
         return shared_of_archive()
-    return ctypes.CDLL(LIBRARY) if os.path.exists(LIBRARY) else None
+    return ctypes.CDLL(LIBRARY) if os.path.exists(LIBRARY) else installed()
 
 
 def newer(one, other):
@@ -58,6 +67,6 @@ def ask(calls, mesh, table, claim, decimals=6):
 
 
 def check(mesh, table, claim):
-    """The same of the library that is here, or None where nothing is built."""
+    """The same of the library that is here, or None where there is none."""
     calls = library()
     return None if calls is None else ask(calls, mesh, table, claim)

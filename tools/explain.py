@@ -8,8 +8,9 @@
 
 The table may also be given as --table TABLE.
 
-Number and place are the archive's, from the shared library that PECHUVO_LIBRARY names, or from target/shared or
-target/staticlib (tests/archive builds it); where there is none they are this tool's own, and that is said.
+Number and place are the archive's, from the shared library that PECHUVO_LIBRARY names, from target/shared or
+target/staticlib (tests/archive builds it), or from an installed libpechuvo.so.1; where there is none they are this
+tool's own, and that is said.
 
 Status: 0 accepted, 1 refused, 2 usage or a file that can't be read or written, 3 the archive's answer is another one
 than this tool's."""
@@ -141,7 +142,8 @@ def verdict_words(told):
 
 def source_words(told):
     if told["archive"] is None:
-        return "number and place are this tool's own and not the archive's: none is built (tests/archive builds it)"
+        none = "none is built (tests/archive builds it) and none installed"
+        return f"number and place are this tool's own and not the archive's: {none}"
     if differ(told):
         return "THE ARCHIVE SAYS SOMETHING ELSE, see below"
     return "number, place and report are the archive's"

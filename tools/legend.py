@@ -161,7 +161,7 @@ def verdict_lines(names, told):
     else:
         yield f"{files}: refused with {told['number']} at {told['kind_of_place']} {told['place']}"
     if told["archive"] is None:
-        yield "number and place are this tool's own: no archive is built"
+        yield "number and place are this tool's own: no archive is here"
     if told["differs"]:
         yield "THE ARCHIVE SAYS SOMETHING ELSE"
     yield from reason_words(told)

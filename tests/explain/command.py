@@ -9,6 +9,8 @@ import xml.etree.ElementTree
 
 from held import SHEETS, TOOLS, hold
 
+import archive
+
 COMMAND = os.path.join(TOOLS, "explain.py")
 SVG = "{http://www.w3.org/2000/svg}"
 
@@ -112,11 +114,23 @@ def hold_json(mesh, claim, picture):
     hold(xml.etree.ElementTree.parse(picture).getroot().tag == SVG + "svg", "--svg: no picture")
 
 
-def hold_differing(out, mesh, claim):
-    source, library = os.path.join(out, "fake.c"), os.path.join(out, "fake.so")
+def fake_library(path):
+    """A library that answers something else."""
+    source = path + ".c"
     with open(source, "w", encoding="ascii") as file:
         file.write(FAKE)
-    subprocess.run(["gcc", "-shared", "-fPIC", "-o", library, source], check=True)
+    subprocess.run(["gcc", "-shared", "-fPIC", "-o", path, source], check=True)
+    return path
+
+
+def shared_library(path):
+    """The archive as a library."""
+    whole = ["-Wl,--whole-archive", archive.ARCHIVE, "-Wl,--no-whole-archive"]
+    subprocess.run(["gcc", "-shared", "-o", path, *whole], check=True)
+
+
+def hold_differing(out, mesh, claim):
+    library = fake_library(os.path.join(out, "fake.so"))
     done = hold_run(3, "THE TWO ANSWERS DIFFER", mesh, claim, PECHUVO_LIBRARY=library)
     hold("the archive: number 22, place 2" in done.stderr, "differing, the archive's answer")
     hold("THE ARCHIVE SAYS SOMETHING ELSE" in done.stdout, "differing, on standard output")
@@ -124,8 +138,19 @@ def hold_differing(out, mesh, claim):
 
 
 def hold_without_archive(out, mesh, claim):
-    """The tools alone, where nothing is built."""
-    copied = os.path.join(out, "tools")
+    """The tools alone, where nothing is built; then with a library that is installed, which counts last."""
+    copied, folder = os.path.join(out, "tools"), os.path.join(out, "lib")
     shutil.copytree(TOOLS, copied, ignore=shutil.ignore_patterns("__pycache__"))
-    words = "number and place are this tool's own and not the archive's"
-    hold_run(0, words, mesh, claim, command=os.path.join(copied, "explain.py"), PECHUVO_LIBRARY="")
+    os.mkdir(folder)
+    tool = {"command": os.path.join(copied, "explain.py"), "PECHUVO_LIBRARY": ""}
+    if archive.installed() is None:
+        words = "number and place are this tool's own and not the archive's"
+        hold_run(0, words, mesh, claim, **tool)
+        picture = os.path.join(out, "own.svg")
+        run(mesh, claim, "--svg", picture, **tool)
+        hold(b"own: no archive is here" in content(picture), "whose number it is, in the picture")
+    shared_library(os.path.join(folder, archive.SONAME))
+    hold_run(0, "number, place and report are the archive's", mesh, claim, **tool, LD_LIBRARY_PATH=folder)
+    fake_library(os.path.join(folder, archive.SONAME))
+    hold_run(3, "THE TWO ANSWERS DIFFER", mesh, claim, **tool, LD_LIBRARY_PATH=folder)
+    hold_run(0, "number, place and report are the archive's", mesh, claim, PECHUVO_LIBRARY="", LD_LIBRARY_PATH=folder)

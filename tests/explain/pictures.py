@@ -65,7 +65,7 @@ def hold_titles():
         found = words_of(sheet(name))
         hold(words in found, f"{name}: the title lacks '{words}': {found[:300]}")
     found = words_of(sheet("worked"), archive=None)
-    hold("this tool's own: no archive is built" in found, f"no archive: {found[:300]}")
+    hold("this tool's own: no archive is here" in found, f"no archive: {found[:300]}")
     told, _ = told_of(sheet("table_seam"))
     found = " ".join(legend.title_lines(["a.mesh", "b.claim", "c.table"], told, NARROWEST))
     hold("a.mesh with b.claim and c.table: accepted" in found, f"three files: {found}")
