@@ -13,6 +13,7 @@ from held import mesh_changed, sheet, table_changed, with_line, with_number
 
 import archive
 import command
+import conversion
 import explain
 import json_form
 import pictures
@@ -399,6 +400,8 @@ def main():
         hold_members()
         with tempfile.TemporaryDirectory() as out:
             command.hold_command(out)
+        with tempfile.TemporaryDirectory() as out:
+            conversion.hold_conversion(out)
         print(f"{sheets} sheets, {cases} cases, {changed} damaged or telling inputs explained")
     print("\n".join(failures), end="\n" if failures else "")
     sys.exit(bool(failures))
