@@ -1,6 +1,5 @@
 -- What the promises say of any answer that accepts a claim on the sheet of `MixedSheet`: each promise, with what it
--- asks of
--- the mesh computed by antt once for every number of sides and either kind.
+-- asks of the mesh computed by antt once for every number of sides and either kind.
 use mathlib.Core.Path.{◌≡◌, refl, subst, subst₂}
 use mathlib.Core.Logic.{inl, ◌≢◌}
 use mathlib.Core.List.{List}

@@ -1,6 +1,5 @@
 -- The promise of N10 applied to bars that cross, and to two blocks that touch along a side: antt computes the answer,
--- and
--- the promise says the rest.
+-- and the promise says the rest.
 use mathlib.Core.Path.{refl}
 use mathlib.Core.List.{[]}
 use lib.IntN.{pos}

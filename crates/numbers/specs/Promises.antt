@@ -3,7 +3,7 @@
 -- claim.
 -- Each is proved of every answer (`proofs/Promises.antt`, `Reported.antt`), applied to document 01's sheet
 -- (`proofs/PromisesApplied.antt`) and to one that has all that document 02 adds (`MixedApplied.antt`). Those about the
--- number and the place alone serve the check of two files too.
+-- number and the place alone serve the check of files too.
 use Rattle.std.specs.Prelude.{◌≡◌, ◌↔◌, ◌⊎◌, ◌≢◌, List, ◌∷◌, ℕ, suc, ◌+◌, ◌*◌, ◌≤◌, ◌<◌, ℤ, pos, ◌≤ℤ◌, ◌<ℤ◌}
 use Rattle.std.specs.Prelude.{length, Result}
 use Rattle.integer.specs.Fraction.{Frac, ◌over◌, ◌≈ᶠ◌, ◌≤ᶠ◌}
@@ -45,11 +45,12 @@ use Rattle.scope.specs.PolygonRule.{PolygonAsked}
 use Rattle.numbers.specs.declared.numbers_answer.NumbersAnswer.{NumbersAnswer}
 use Rattle.numbers.specs.NumbersAnswer.{answer_of}
 
--- the contract of `check`, and of `pechuvo_check_numbers`
+-- what is answered where there is no table; with one, `TableAnswers` is the contract of `check` and of
+-- `pechuvo_check_numbers`
 abbrev pub Answers : List ℤ → List ℤ → NumbersAnswer → Type 0
 Answers m c r = r ≡ answer_of (has_field c) (verdict m c)
 
--- the verdict's number and place: every answer returns them, and so does the check of two files
+-- the verdict's number and place: every answer returns them, and so does the check of files
 pub record Returned (m c : List ℤ) (number place : ℕ) : Type 0 where
   pub number_is : number ≡ number_of (verdict m c)
   pub place_is : place ≡ place_of (verdict m c)
@@ -57,9 +58,8 @@ pub record Returned (m c : List ℤ) (number place : ℕ) : Type 0 where
 -- ==== Demand 2: what is accepted, and what is refused
 
 -- "Accepted returns 0, place 0": 0 exactly when the mesh passes 1 to 8, 47, 44 and 42, the claim passes 11 to 13, a
--- field
--- that is there meets every row, and multipliers that are there are zero on every unfixed row, make all 3·nodes columns
--- 0 and have m above 0
+-- field that is there meets every row, and multipliers that are there are zero on every unfixed row, make all 3·nodes
+-- columns 0 and have m above 0
 pub record ReturnsZero (m c : List ℤ) (number place : ℕ) : Type 0 where
   pub exactly : (number ≡ 0) ↔ ClaimAccepted m c
   pub place_zero : number ≡ 0 → place ≡ 0
@@ -68,7 +68,8 @@ pub record ReturnsZero (m c : List ℤ) (number place : ℕ) : Type 0 where
 pub record RefusesExactly (m c : List ℤ) (number place : ℕ) : Type 0 where
   pub exactly : (k j : ℕ) → k ≢ 0 → ((number ≡ k) × (place ≡ j)) ↔ Refusal m c k (place_for k j)
 
--- the numbers of the table that numbers handed over can get, and 0; a file can get 41 too
+-- the numbers that numbers handed over without a table can get, and 0; files can get 41 and 43 too, and with a table
+-- both can get 45 and 46
 abbrev pub returned_numbers : List ℕ
 returned_numbers = 0 ∷ table_numbers
 
@@ -148,8 +149,7 @@ pub record PairsAsked (m : List ℤ) (number place : ℕ) : Type 0 where
 
 -- "A mesh is refused if two elements share a point inside both, fractions included; .. Absent such a point the mesh is
 -- never refused for this. .. Refused: 47, with the higher element of the pair whose higher number is least" (document
--- 02,
--- N10)
+-- 02, N10)
 pub record OverlapsAsked (m : List ℤ) (number place : ℕ) : Type 0 where
   pub sound : MeshSound m → NoneOnEachOther m
   pub refused : number ≡ 47 → OnEachOther m place

@@ -138,8 +138,7 @@ bounds lower lower_over upper upper_over count = record {
 }
 
 -- the sheet's 20/1 and 600/30 move 39/2 and 25/1, whose numerators are higher and lower, and neither 40/2 nor 20/1,
--- which
--- equal them
+-- which equal them
 pub both_moved : CommitAnswers (bounds 39 2 25 1 7) 7 (at 0).mesh [] (at 0).claim
     (record { number = 0; place = 0; book = bounds 20 1 600 30 8 })
 unfolding with_book

@@ -16,7 +16,6 @@ use Rattle.scope.specs.Verdict.{line_at, mesh_check}
 use Rattle.scope.specs.Statements.{Complete, HasMultipliers}
 use Rattle.scope.specs.Refusals.{SoundTo}
 use Rattle.scope.specs.SideLimits.{strength_at, strength_line}
-use Rattle.scope.specs.RefusedRows.{PairsFail}
 use Rattle.scope.proofs.Refusals.{line_passed, mesh_passed}
 use Rattle.scope.specs.Pairs.{PairsFail}
 use Rattle.pechuvo.specs.Sheets.{Sheet, sheet}

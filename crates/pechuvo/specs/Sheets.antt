@@ -366,8 +366,7 @@ tabled_sheets =
     ""
     "                          45                          24                        none                        none\n"
     -- corners 0, 0, 2 and 1 high: three quarters, in the lower layer, whose soil holds; 0, 0, 3 and 2: five, in the
-    -- upper one,
-    -- whose soil does not: 22, row 1; and a triangle of 0, 1 and twice 2: five too
+    -- upper one, whose soil does not: 22, row 1; and a triangle of 0, 1 and twice 2: five too
     ∷ sheet_with "4 1 2 0 12 0 / 0 1 1 10 0 0 0 0 0 0 / 0 1 1 5 0 0 0 0 0 0 / 0 0 / 2 0 / 2 2 / 0 1 / 1 2 3 4 0"
     "0 1 1 / 1 4 2"
     "1 0 1 0 / 0 -15 0 / 0 -15 0 / 0 -15 0 / 0 -15 0"

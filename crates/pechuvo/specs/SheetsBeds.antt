@@ -52,8 +52,7 @@ bedded_sheets =
     ""
     "                           3                           2                        none                        none\n"
     -- friction and shear: at the strength of pN - qT on the plane (4, 3), and beyond it: 22, row 4; of pN + qT on (3,
-    -- 4), and
-    -- beyond it: row 5; of pN + qT on (-4, 3), and beyond it: row 11
+    -- 4), and beyond it: row 5; of pN + qT on (-4, 3), and beyond it: row 11
     ∷ sheet "4 1 1 0 12 0 / 3 4 5 10 0 0 0 0 1 5 / 0 0 / 1 0 / 1 1 / 0 1 / 1 2 3 4 1"
     "1 0 1 0 / 4 -12 1 / 4 -12 1 / 4 -12 1 / 4 -12 1"
     "                           0                        none                        none                        none\n"

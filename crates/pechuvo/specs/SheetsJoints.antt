@@ -1,6 +1,5 @@
 -- Sheets with joints (document 02, N6), beside those in Sheets, whose joints are upright: what may jump on a sloping
--- one,
--- and which sides make no joint.
+-- one, and which sides make no joint.
 use Rattle.std.specs.Prelude.{List, [], ◌∷◌}
 use Rattle.pechuvo.specs.Sheets.{Sheet, sheet}
 

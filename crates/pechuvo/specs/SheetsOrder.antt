@@ -5,8 +5,7 @@ use Rattle.pechuvo.specs.Sheets.{Sheet, sheet, sheet_with}
 unfoldable pub order_sheets : List Sheet
 order_sheets =
     -- a node in no element, and two elements on each other: 7; these and an edge that is no side: 47; an edge that is
-    -- no side
-    -- and a jump that is no joint: 8
+    -- no side and a jump that is no joint: 8
     sheet "9 2 1 0 12 0 / 0 1 1 10 0 0 0 0 0 0 / 0 2 / 6 2 / 6 4 / 0 4 / 2 0 / 4 0 / 4 6 / 2 6 / 9 9 / 1 2 3 4 1 / 5 6 7 8 1"
     ""
     "                           7                           9                        none                        none\n"

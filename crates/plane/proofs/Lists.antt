@@ -1,6 +1,5 @@
 -- Members of lists, by the two cases of a membership: what holds of the first and of the others holds of each; a
--- search;
--- members of two lists, sorted.
+-- search; members of two lists, sorted.
 use mathlib.Core.Path.{◌≡◌, refl, sym, subst}
 use mathlib.Core.List.Memᴰ
 use mathlib.Core.List.{List, [], ◌∷◌, ◌++◌}

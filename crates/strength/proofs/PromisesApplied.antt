@@ -137,8 +137,7 @@ unfolding next_answer next_strength accepted usable hyperbola term eq sub mul di
 rounded_each = refl
 
 -- K 0.1 at L 0.2 and K 0.1 at L 0.3: with K before L the last digit would be f, with L·K first a, with two quotients
--- and
--- then their difference c
+-- and then their difference c
 order_told :
     to_bits binary64
     ((next_answer
