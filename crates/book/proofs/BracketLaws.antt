@@ -30,8 +30,8 @@ use Rattle.scope.proofs.Parts.{parts_bracket}
 use Rattle.scope.proofs.SameRows.{same_rows_joined, same_rows_turned}
 use Rattle.judge.specs.Handed.{Handed, mesh_of, claim_of, handed_verdict}
 use Rattle.book.specs.Book.{most_commits}
-use Rattle.book.specs.History.{Call, asks, commits, Loads, committed_after, FirstOf, Best, judged_call, book_after}
-use Rattle.book.specs.History.{OnMesh, InOrder, TheBookIsABracket}
+use Rattle.book.specs.History.{AskOrCommit, asks, commits, Loads, committed_after, FirstOf, Best, judged_call, book_after}
+use Rattle.book.specs.History.{EachOnMesh, InOrder, TheBookIsABracket}
 use Rattle.book.proofs.VerdictLaws.{accepted_read}
 use Rattle.book.proofs.HistoryLaws.{the_book_is_the_best}
 
@@ -94,7 +94,7 @@ module _ (d : List ℤ) where
 
   -- ---- of each claim committed
 
-  each_committed : (k : ℕ) (ks : List (Call Handed)) → OnMesh d ks → (p : Loads)
+  each_committed : (k : ℕ) (ks : List (AskOrCommit Handed)) → EachOnMesh d ks → (p : Loads)
       → p ∈ committed_after k (map judged_call ks) → FromClaim p
   unfolding committed_after judged_call
   each_committed k [] on p i = absurd (Memᴰ.not-nil i)

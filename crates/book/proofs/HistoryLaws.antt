@@ -27,7 +27,7 @@ use Rattle.book.specs.declared.bounds.Bound.{Bound}
 use Rattle.book.specs.declared.bounds.Bound.TheVariants.{Lower, Upper}
 use Rattle.book.specs.Book.{Kept, Told, Unjudged, Judged, most_commits, proper, takes_ask, takes_commit, better}
 use Rattle.book.specs.Book.{moved, followed, unjudged, judged, asked, committed, empty_book}
-use Rattle.book.specs.History.{Call, asks, commits, left, left_by_all, OnlyAsks, AskAndCommitAgree, RefusedLeaves}
+use Rattle.book.specs.History.{AskOrCommit, asks, commits, left, left_by_all, OnlyAsks, AskAndCommitAgree, RefusedLeaves}
 use Rattle.book.specs.History.{NotAbove0, Shut, UnjudgedExactly, Loads, committed_after, NoBetter, FirstOf, Best}
 use Rattle.book.specs.History.{judged_call, TheBookIsTheBest}
 use Rattle.book.proofs.BookLaws.{holds, both, takes_room, takes_lower, takes_upper}
@@ -244,16 +244,16 @@ followed_count : (b : Kept) (o : OpenRows) (x y : Load) → (followed b (Accepte
 unfolding followed
 followed_count b o x y = add-one b.count
 
-verdict_of : Call Verdict → Verdict
+verdict_of : AskOrCommit Verdict → Verdict
 verdict_of (asks v) = v
 verdict_of (commits count v) = v
 
-AllProper : List (Call Verdict) → Type 0
+AllProper : List (AskOrCommit Verdict) → Type 0
 AllProper [] = Unit {0}
 AllProper (k ∷ ks) = (verdict_proper (verdict_of k) ≡ true) × AllProper ks
 
 -- the calls that are left, from a book that is the best of h
-whole : (ks : List (Call Verdict)) (b : Kept) (h : List Loads) → Holds b h → AllProper ks
+whole : (ks : List (AskOrCommit Verdict)) (b : Kept) (h : List Loads) → Holds b h → AllProper ks
     → Holds (left_by_all b ks) (h ++ committed_after b.count ks)
 unfolding left_by_all committed_after AllProper verdict_of
 whole [] b h H S = subst (Holds b) (sym (append-nil h)) H
@@ -289,14 +289,14 @@ whole (commits count (Accepted o x y) ∷ ks) b h H S =
 empty_holds : Holds empty_book []
 empty_holds = record { count = refl; low = none_kept upward; high = none_kept downward }
 
-all_proper : (ks : List (Call Handed)) → AllProper (map judged_call ks)
+all_proper : (ks : List (AskOrCommit Handed)) → AllProper (map judged_call ks)
 unfolding AllProper verdict_of judged_call
 all_proper [] = tt
 all_proper (asks a ∷ ks) = (handed_proper a, all_proper ks)
 all_proper (commits count a ∷ ks) = (handed_proper a, all_proper ks)
 
 -- one call more is given the book that those before it left
-pub one_call_more : (b : Kept) (ks : List (Call Handed)) (k : Call Handed)
+pub one_call_more : (b : Kept) (ks : List (AskOrCommit Handed)) (k : AskOrCommit Handed)
     → left_by_all b (map judged_call (ks ++ (k ∷ []))) ≡ left (left_by_all b (map judged_call ks)) (judged_call k)
 unfolding left_by_all
 one_call_more b [] k = refl
@@ -310,7 +310,7 @@ the_book_is_the_best ks =
 
 -- ---- one call
 
-only_asks : (b : Kept) (ks : List (Call Verdict)) → OnlyAsks ks → left_by_all b ks ≡ b
+only_asks : (b : Kept) (ks : List (AskOrCommit Verdict)) → OnlyAsks ks → left_by_all b ks ≡ b
 unfolding left_by_all left
 only_asks b [] h = refl
 only_asks b (asks v ∷ ks) h = only_asks b ks h

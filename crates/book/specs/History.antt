@@ -14,16 +14,16 @@ use Rattle.book.specs.Book.{Kept, Unjudged, most_commits, followed, asked, commi
 -- ---- calls, each given the book that the last one left
 
 -- an ask, and a commit that names a count: of a verdict, or of what is handed over
-pub data Call (A : Type 0) : Type 0 where
-  asks : A → Call A
-  commits : ℕ → A → Call A
+pub data AskOrCommit (A : Type 0) : Type 0 where
+  asks : A → AskOrCommit A
+  commits : ℕ → A → AskOrCommit A
 
 -- the book that a call leaves: an ask changes nothing
-unfoldable pub left : Kept → Call Verdict → Kept
+unfoldable pub left : Kept → AskOrCommit Verdict → Kept
 left b (asks v) = b
 left b (commits count v) = (committed b count v).kept
 
-unfoldable pub left_by_all : Kept → List (Call Verdict) → Kept
+unfoldable pub left_by_all : Kept → List (AskOrCommit Verdict) → Kept
 left_by_all b [] = b
 left_by_all b (k ∷ ks) = left_by_all (left b k) ks
 
@@ -31,13 +31,13 @@ left_by_all b (k ∷ ks) = left_by_all (left b k) ks
 
 -- "An ask and its commit agree if no commit came between": after an ask, and then asks alone, a commit that names the
 -- count that the ask saw answers what the ask told
-abbrev pub OnlyAsks : List (Call Verdict) → Type 0
+abbrev pub OnlyAsks : List (AskOrCommit Verdict) → Type 0
 OnlyAsks [] = Unit {0}
 OnlyAsks (asks v ∷ ks) = OnlyAsks ks
 OnlyAsks (commits count v ∷ ks) = ⊥
 
 abbrev pub AskAndCommitAgree : Type 0
-AskAndCommitAgree = (b : Kept) (v : Verdict) (ks : List (Call Verdict)) → OnlyAsks ks
+AskAndCommitAgree = (b : Kept) (v : Verdict) (ks : List (AskOrCommit Verdict)) → OnlyAsks ks
     → committed (left_by_all b ks) b.count v ≡ asked b v
 
 -- "a refused claim leaves the book"
@@ -69,7 +69,7 @@ pub record Loads : Type 0 where
 
 -- of these calls, after k accepted claims were committed: a commit of an accepted claim counts where it names how many
 -- came before it, and these are below 1,000,000
-unfoldable pub committed_after : ℕ → List (Call Verdict) → List Loads
+unfoldable pub committed_after : ℕ → List (AskOrCommit Verdict) → List Loads
 committed_after k [] = []
 committed_after k (asks v ∷ ks) = committed_after k ks
 committed_after k (commits count (Refused number place) ∷ ks) = committed_after k ks
@@ -105,17 +105,17 @@ pub record BestBook (b : Kept) (claims : List Loads) : Type 0 where
 
 -- ---- of files and of numbers handed over, each with its table
 
-unfoldable pub judged_call : Call Handed → Call Verdict
+unfoldable pub judged_call : AskOrCommit Handed → AskOrCommit Verdict
 judged_call (asks a) = asks (handed_verdict a)
 judged_call (commits count a) = commits count (handed_verdict a)
 
-abbrev pub book_after : List (Call Handed) → Kept
+abbrev pub book_after : List (AskOrCommit Handed) → Kept
 book_after ks = left_by_all empty_book (map judged_call ks)
 
 -- "After any calls .., from an empty book and each given the book that the last one left, the book equals the best of
 -- the accepted claims committed, compared as exact fractions."
 abbrev pub TheBookIsTheBest : Type 0
-TheBookIsTheBest = (ks : List (Call Handed)) → BestBook (book_after ks) (committed_after 0 (map judged_call ks))
+TheBookIsTheBest = (ks : List (AskOrCommit Handed)) → BestBook (book_after ks) (committed_after 0 (map judged_call ks))
 
 -- "A book takes no carried load from such a mesh" (document 02, N14): whatever is handed over with a mesh that lists a
 -- soil by direction leaves the lower bound
@@ -124,12 +124,12 @@ NoLoadByDirection = (b : Kept) (a : Handed) → ListsDirection (mesh_of a)
     → (followed b (handed_verdict a)).lower ≡ b.lower
 
 -- "any calls on the same mesh": each on rows that are those of d
-abbrev pub handed_of : Call Handed → Handed
+abbrev pub handed_of : AskOrCommit Handed → Handed
 handed_of (asks a) = a
 handed_of (commits count a) = a
 
-abbrev pub OnMesh : List ℤ → List (Call Handed) → Type 0
-OnMesh d ks = (k : Call Handed) → k ∈ ks → SameRows (mesh_of (handed_of k)) d
+abbrev pub EachOnMesh : List ℤ → List (AskOrCommit Handed) → Type 0
+EachOnMesh d ks = (k : AskOrCommit Handed) → k ∈ ks → SameRows (mesh_of (handed_of k)) d
 
 -- then the two bounds are a bracket
 abbrev pub InOrder : Load → Load → Type 0
@@ -138,5 +138,5 @@ InOrder (Exact n d) Absent = Unit {0}
 InOrder (Exact n d) (Exact m e) = n over d ≤ᶠ m over e
 
 abbrev pub TheBookIsABracket : Type 0
-TheBookIsABracket = (d : List ℤ) (ks : List (Call Handed)) → OnMesh d ks
+TheBookIsABracket = (d : List ℤ) (ks : List (AskOrCommit Handed)) → EachOnMesh d ks
     → InOrder (book_after ks).lower (book_after ks).upper

@@ -188,7 +188,7 @@ module _ {g : Polygon} {n radius step product : ℕ} (f : PolygonFits g n radius
 
   corner-within : (v : Point) → v ∈ g.corners → Within most_radius v.px × Within most_radius v.py
   corner-within v i =
-      let h = legs_within g.radius v (f.rule.on_circle_lem v i) in
+      let h = legs_within g.radius v (f.rule.on_circle v i) in
       let r : nat_abs g.radius ≤ most_radius = rw f.radius_is f.radius_fits in
       (record { within = le_trans h.0 r }, record { within = le_trans h.1 r })
 

@@ -17,7 +17,7 @@ use Rattle.scope.specs.NumberRanges.{Between, MeshFacts}
 use Rattle.scope.specs.Rows.{first_where}
 use Rattle.scope.specs.Layers.{layers, soil, has, soil_at}
 use Rattle.scope.specs.Filled.{height_of, soil_place, given, filled, with_soils}
-use Rattle.scope.specs.LayerRows.{OneLayer}
+use Rattle.scope.specs.LayerRefusals.{OneLayer}
 use Rattle.scope.proofs.Layers.{soil_found, soil-at}
 use Rattle.scope.proofs.Filled.{given-length, given_cong, given_kept, given_set, given_facts, soil-there, element_layer}
 use Rattle.scope.proofs.Filled.{height_kept, place_kept, nodes_kept, elements_kept, soils_kept, edges_kept}

@@ -8,7 +8,7 @@ use Rattle.scope.specs.Mesh.{soils}
 use Rattle.scope.specs.NumberRanges.{Between}
 use Rattle.scope.specs.Layers.{most_layers, most_level, layers, bottom, top, soil, soil_at, lowest, highest}
 use Rattle.scope.specs.Filled.{height_of, with_soils}
-use Rattle.scope.specs.LayerRows.{TableSound}
+use Rattle.scope.specs.LayerRefusals.{TableSound}
 use Rattle.mesh.specs.declared.sizes.Sizes.{Sizes}
 use Rattle.mesh.specs.MeshContracts.{Sized}
 use Rattle.layers.specs.declared.table.Layer.{Layer}

@@ -1,7 +1,7 @@
 // Refusals 46 and 45 of a table whose lines have passed, for a mesh whose lines have passed.
 ghost use Rattle.std.specs.Prelude.{◌≡◌, ◌<◌};
 ghost use Rattle.scope.specs.Answer.{outcome_of};
-ghost use Rattle.scope.specs.Layers.{most_layers, layer_line, tops_phase, apart_phase, gaps_phase, layer_phases};
+ghost use Rattle.scope.specs.Layers.{most_layers, layer_line, tops_phase, layers_apart_phase, gaps_phase, layer_phases};
 ghost use Rattle.scope.specs.Phases.{check_phase, check_phases};
 
 use crate::heights::Heights;
@@ -30,7 +30,7 @@ fn tops_check(layers: &Layers) -> Outcome
 
 // 46, else: no layer shares one of the heights with an earlier one.
 fn apart_check(layers: &Layers, heights: Heights) -> Outcome
-    ensures { outcome_of result ≡ check_phase (apart_phase layers.now.numbers.now heights.lo heights.hi) }
+    ensures { outcome_of result ≡ check_phase (layers_apart_phase layers.now.numbers.now heights.lo heights.hi) }
 {
     for i in 0..layers.count {
         demand(layers.apart_from_earlier(i, heights), layer_refusal(i))?;

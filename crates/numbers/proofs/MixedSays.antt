@@ -28,7 +28,7 @@ use Rattle.scope.specs.Layers.{top_above, apart, in_layer}
 use Rattle.scope.specs.Filled.{height_of, soil_place, soil_of, given_number, given, filled, with_soils}
 use Rattle.scope.specs.Table.{layer_lines, table_lines, table_layout, has_table, mesh_read, tabled_check}
 use Rattle.scope.specs.TableVerdict.{tabled_verdict, TableFits}
-use Rattle.scope.specs.LayerRows.{Reordered, SameLine}
+use Rattle.scope.specs.LayerRefusals.{Reordered, SameLine}
 use Rattle.scope.specs.Worked.{zeros}
 use Rattle.scope.proofs.Computed.{computed}
 use Rattle.numbers.specs.declared.numbers_answer.NumbersAnswer.{NumbersAnswer}
@@ -284,8 +284,8 @@ unfolding opened
 turned = record {
   to = other;
   from = other;
-  to_there_lem = λ i l. below i;
-  from_there_lem = λ i l. below i;
+  to_there = λ i l. below i;
+  from_there = λ i l. below i;
   from_to = twice;
   to_from = twice;
   same = same_line;

@@ -24,7 +24,7 @@ use Rattle.scope.specs.Phases.{FirstFails}
 use Rattle.scope.specs.Refusals.{rule_number, rule_steps, line_steps, line_phases, shape_phases, mesh_phases}
 use Rattle.scope.specs.Refusals.{field_part, multiplier_part, part_phases, claim_phases, Refusal}
 use Rattle.scope.proofs.Phases.{EachIn, each_refusal, each_join, each_part, own_number}
-use Rattle.scope.proofs.TableNumbers.{in_table}
+use Rattle.scope.proofs.RefusalNumbers.{number_listed}
 use Rattle.numbers.specs.Promises.{returned_numbers}
 
 -- ---- one number
@@ -172,7 +172,7 @@ multipliers_placed m c = each_part InItsPlace (has_multipliers c) _ (
 pub refusal_listed : {m c : List ℤ} {k : ℕ} {p : Place} → Refusal m c k p → (k ∈ returned_numbers) × InItsPlace k p
 unfolding claim_layout
 refusal_listed {m} {c} {k} {p} r = (
-  Memᴰ.tail (in_table m c k p r),
+  Memᴰ.tail (number_listed m c k p r),
   each_refusal InItsPlace (mesh_phases m ++ claim_phases m c) all r.by,
 )
   where

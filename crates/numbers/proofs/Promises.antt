@@ -22,10 +22,10 @@ use Rattle.scope.specs.Claim.{stress}
 use Rattle.scope.specs.Verdict.{verdict, lower_load, upper_load, open_count}
 use Rattle.scope.specs.Refusals.{mesh_phases, claim_phases, MeshRefusal, Refusal}
 use Rattle.scope.specs.SideLimits.{strength_line}
-use Rattle.scope.specs.RefusalTable.{TableRow}
+use Rattle.scope.specs.RefusalTable.{RefusalRow}
 use Rattle.scope.specs.Accepted.{FieldAccepted}
 use Rattle.scope.proofs.PlaceKinds.{place_kind, place_number_lem, mesh_exactly}
-use Rattle.scope.proofs.RefusalTable.{table_row}
+use Rattle.scope.proofs.RefusalTable.{refusal_row}
 use Rattle.scope.proofs.RefusedRows.{refused_equality, refused_strength}
 use Rattle.scope.proofs.RefusedColumns.{refused_unfixed, refused_column}
 use Rattle.scope.proofs.PairsRefused.{pairs_fail}
@@ -140,8 +140,8 @@ module _ (m c : List ℤ) (number place : ℕ) (h : Returned m c number place) w
     column = λ e. refused_column m c (row 32 (λ z. omega arith) e);
   }
     where
-      row : (k : ℕ) → k ≢ 0 → number ≡ k → TableRow m c k (place_for k place)
-      row k nonzero e = table_row m c k (place_for k place) ((refuses_exactly.exactly k place nonzero).0 (e, refl))
+      row : (k : ℕ) → k ≢ 0 → number ≡ k → RefusalRow m c k (place_for k place)
+      row k nonzero e = refusal_row m c k (place_for k place) ((refuses_exactly.exactly k place nonzero).0 (e, refl))
 
   tells_field : FieldAccepted m c → TellsField c number
   tells_field a = (a.there, by (verdict_cases m c))

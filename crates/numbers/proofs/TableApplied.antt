@@ -8,8 +8,8 @@ use native.Mathlib.Omega.{arith}
 use lib.IntN.{ℤ, pos}
 use Rattle.scope.specs.declared.Place.TheVariants.{Line}
 use Rattle.scope.specs.Answer.{place_for}
-use Rattle.scope.specs.LayerRows.{LowestGap}
-use Rattle.scope.specs.TabledRows.{OwnFormFails, OwnLimitsFail, OwnSoilFails, LinesPass, LayersRefused, TabledRow}
+use Rattle.scope.specs.LayerRefusals.{LowestGap}
+use Rattle.scope.specs.TabledRefusals.{OwnFormFails, OwnLimitsFail, OwnSoilFails, LinesPass, LayersRefused, TabledRefusalRow}
 use Rattle.scope.specs.Worked.{worked_mesh}
 use Rattle.scope.specs.WorkedTable.{layer}
 use Rattle.numbers.specs.TablePromises.{TableAnswers, TableExactly, FirstLayerFails}
@@ -53,7 +53,7 @@ pub no_soil_named : OwnSoilFails no_soil worked_mesh 0
 no_soil_named = ((asked no_soil 4 1001 no_soil_answered).own_lines_asked.soil 0).0 (refl, refl)
 
 -- as rows of the whole table of refusals
-pub high_row : TabledRow high worked_mesh [] 2 (Line 1001)
+pub high_row : TabledRefusalRow high worked_mesh [] 2 (Line 1001)
 unfolding place_for
 high_row = ((asked high 2 1001 high_answered).row 2 1001 (λ e. omega arith)).0 (refl, refl)
 

@@ -13,8 +13,8 @@ use Rattle.scope.specs.Columns.{has_field}
 use Rattle.scope.specs.Answer.{place_number, place_for, number_of, place_of}
 use Rattle.scope.specs.Table.{mesh_read}
 use Rattle.scope.specs.TableVerdict.{tabled_verdict, TabledRefusal, TablePasses, TableFits}
-use Rattle.scope.specs.LayerRows.{LowestGap, LayerRow, forty_six, forty_six_else, forty_five}
-use Rattle.scope.specs.TabledRows.{LayersRefused, TabledRow}
+use Rattle.scope.specs.LayerRefusals.{LowestGap, LayerRefusalRow, forty_six, forty_six_else, forty_five}
+use Rattle.scope.specs.TabledRefusals.{LayersRefused, TabledRefusalRow}
 use Rattle.scope.specs.Filled.{with_soils}
 use Rattle.scope.proofs.Exactly.{refused_exactly}
 use Rattle.scope.proofs.PlaceKinds.{place_kind, place_number_lem}
@@ -22,7 +22,7 @@ use Rattle.scope.proofs.Filled.{element_layer, filled_from_lem, reordered_filled
 use Rattle.scope.proofs.Table.{named_facts}
 use Rattle.scope.proofs.TableVerdict.{Came, early, late, came, fits_late, tabled_refused, early_number, early_kind}
 use Rattle.scope.proofs.TableVerdict.{tabled_zero, read_lines_lem, no_table_verdict}
-use Rattle.scope.proofs.TabledRows.{tabled_exactly, layers_exactly}
+use Rattle.scope.proofs.TabledRefusals.{tabled_exactly, layers_exactly}
 use Rattle.scope.proofs.TabledPlaces.{one_of_line, two_of_line, four_of_line}
 use Rattle.numbers.proofs.Promises.{of_verdict, refused_not_zero}
 use Rattle.numbers.specs.declared.numbers_answer.NumbersAnswer.{NumbersAnswer}
@@ -54,13 +54,13 @@ refused_kind t m c {k} {p} e = by (came t m c)
     by (late f d) = place_kind ((refused_exactly (mesh_read t m) c k p).0 (sym d ∙ e))
 
 -- what a row of 46 or 45 says of its place
-line_row : {t : List ℤ} {lo hi k : ℕ} {p : Place} → LayerRow t lo hi k p → k ≡ 46
+line_row : {t : List ℤ} {lo hi k : ℕ} {p : Place} → LayerRefusalRow t lo hi k p → k ≡ 46
     → (i : ℕ) × FirstLayerFails t lo hi i × (place_number p ≡ 1001 + i)
 line_row (forty_six i h) e = (i, inl h, refl)
 line_row (forty_six_else i a h) e = (i, inr (a, h), refl)
 line_row (forty_five q a b g) e = absurd (omega (arith, e))
 
-gap_row : {t : List ℤ} {lo hi k : ℕ} {p : Place} → LayerRow t lo hi k p → k ≡ 45 → LowestGap t lo hi (place_number p)
+gap_row : {t : List ℤ} {lo hi k : ℕ} {p : Place} → LayerRefusalRow t lo hi k p → k ≡ 45 → LowestGap t lo hi (place_number p)
 gap_row (forty_six i h) e = absurd (omega (arith, e))
 gap_row (forty_six_else i a h) e = absurd (omega (arith, e))
 gap_row (forty_five q a b g) e = g
@@ -112,14 +112,14 @@ module _ (t m c : List ℤ) (number place : ℕ) (h : TableReturned t m c number
         ((is_refused e).0, (is_refused e).1 ∙ place_number_lem k j),
   )
 
-  row : (k j : ℕ) → k ≢ 0 → ((number ≡ k) × (place ≡ j)) ↔ TabledRow t m c k (place_for k j)
+  row : (k j : ℕ) → k ≢ 0 → ((number ≡ k) × (place ≡ j)) ↔ TabledRefusalRow t m c k (place_for k j)
   row k j nonzero = (
     λ e. (tabled_exactly t m c k (place_for k j)).0 ((refuses k j nonzero).0 e),
     λ r. (refuses k j nonzero).1 ((tabled_exactly t m c k (place_for k j)).1 r),
   )
 
   -- the same in other words
-  told_as : {k j : ℕ} {A : Type 0} → k ≢ 0 → TabledRow t m c k (place_for k j) ↔ A
+  told_as : {k j : ℕ} {A : Type 0} → k ≢ 0 → TabledRefusalRow t m c k (place_for k j) ↔ A
       → ((number ≡ k) × (place ≡ j)) ↔ A
   told_as {k} {j} nonzero e = (λ h. e.0 ((row k j nonzero).0 h), λ a. (row k j nonzero).1 (e.1 a))
 

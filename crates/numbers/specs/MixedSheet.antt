@@ -29,11 +29,11 @@ use Rattle.scope.specs.Bracket.{Open, NoneOpen}
 use Rattle.scope.specs.Parts.{carried, NumberOf, PartsBracket}
 use Rattle.scope.specs.Blends.{BlendedClaims}
 use Rattle.scope.specs.Tests.{row_at}
-use Rattle.scope.specs.LayerRows.{OneLayer, FilledFrom}
+use Rattle.scope.specs.LayerRefusals.{OneLayer, FilledFrom}
 use Rattle.scope.specs.Statements.{LinesSound}
 use Rattle.scope.specs.Filled.{height_of, filled}
 use Rattle.scope.specs.TableVerdict.{TabledRefusal, TableFits}
-use Rattle.scope.specs.TabledRows.{LayersRefused}
+use Rattle.scope.specs.TabledRefusals.{LayersRefused}
 use Rattle.scope.specs.Worked.{zeros}
 use Rattle.scope.specs.WorkedTable.{layer}
 use Rattle.numbers.specs.declared.numbers_answer.NumbersAnswer.{NumbersAnswer}

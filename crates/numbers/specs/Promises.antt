@@ -21,7 +21,7 @@ use Rattle.scope.specs.Answer.{outcome_of, place_for, number_of, place_of}
 use Rattle.scope.specs.AnsweredMesh.{MeshExactly}
 use Rattle.scope.specs.Statements.{Complete, LinesSound, MeshSound, HasField, HasMultipliers}
 use Rattle.scope.specs.Refusals.{SoundTo, Refusal}
-use Rattle.scope.specs.Refusals.{table_numbers}
+use Rattle.scope.specs.Refusals.{refusal_numbers}
 use Rattle.scope.specs.Accepted.{FieldAccepted, MultipliersAccepted, ClaimAccepted}
 use Rattle.scope.specs.Printed.{MeetsPrinted}
 use Rattle.scope.specs.RefusedRows.{Lowest, None, EqualityFails, StrengthFails}
@@ -71,7 +71,7 @@ pub record RefusesExactly (m c : List ℤ) (number place : ℕ) : Type 0 where
 -- the numbers that numbers handed over without a table can get, and 0; files can get 41 and 43 too, and with a table
 -- both can get 45 and 46
 abbrev pub returned_numbers : List ℕ
-returned_numbers = 0 ∷ table_numbers
+returned_numbers = 0 ∷ refusal_numbers
 
 -- no other number is returned; "13, line 1"; "33, column 0"
 pub record NumbersListed (number place : ℕ) : Type 0 where

@@ -9,11 +9,11 @@ use Rattle.scope.specs.Mesh.{mesh_layout, elements}
 use Rattle.scope.specs.Statements.{LinesSound}
 use Rattle.scope.specs.RefusalTable.{LowestFails, AtAll}
 use Rattle.scope.specs.Layers.{layers, TopAbove, Apart}
-use Rattle.scope.specs.LayerRows.{LowestGap, OneLayer, FilledFrom, Reordered}
+use Rattle.scope.specs.LayerRefusals.{LowestGap, OneLayer, FilledFrom, Reordered}
 use Rattle.scope.specs.Filled.{height_of, filled}
 use Rattle.scope.specs.Table.{mesh_read}
 use Rattle.scope.specs.TableVerdict.{tabled_verdict, TabledRefusal, TableFits}
-use Rattle.scope.specs.TabledRows.{OwnFormFails, OwnLimitsFail, OwnSoilFails, LinesPass, LayersRefused, TabledRow}
+use Rattle.scope.specs.TabledRefusals.{OwnFormFails, OwnLimitsFail, OwnSoilFails, LinesPass, LayersRefused, TabledRefusalRow}
 use Rattle.numbers.specs.declared.numbers_answer.NumbersAnswer.{NumbersAnswer}
 use Rattle.numbers.specs.NumbersAnswer.{answer_of}
 use Rattle.numbers.specs.Promises.{Answers}
@@ -56,7 +56,7 @@ pub record TableExactly (t m c : List ℤ) (number place : ℕ) : Type 0 where
   pub zero : (number ≡ 0) ↔ (TableFits t m × ClaimAccepted (mesh_read t m) c)
   pub place_zero : number ≡ 0 → place ≡ 0
   pub refuses : (k j : ℕ) → k ≢ 0 → ((number ≡ k) × (place ≡ j)) ↔ TabledRefusal t m c k (place_for k j)
-  pub row : (k j : ℕ) → k ≢ 0 → ((number ≡ k) × (place ≡ j)) ↔ TabledRow t m c k (place_for k j)
+  pub row : (k j : ℕ) → k ≢ 0 → ((number ≡ k) × (place ≡ j)) ↔ TabledRefusalRow t m c k (place_for k j)
   pub own_lines_asked : OwnLinesAsked t m number place
   pub layers_asked : LayersAsked t m number place
   pub unfit : ¬ TableFits t m → (number ≤ 4) ⊎ ((number ≡ 45) ⊎ (number ≡ 46))

@@ -13,7 +13,7 @@ use Rattle.judge.specs.Handed.{Handed, files}
 use Rattle.reader.specs.File.{file_width}
 use Rattle.book.specs.Book.{proper, takes_ask, takes_commit, better, moved, followed, unjudged, judged, asked}
 use Rattle.book.specs.Book.{committed}
-use Rattle.book.specs.History.{Call, asks, commits}
+use Rattle.book.specs.History.{AskOrCommit, asks, commits}
 use Rattle.pechuvo.specs.declared.books.BookForC.{BookForC}
 use Rattle.pechuvo.specs.declared.books.BookAnswer.{BookAnswer}
 use Rattle.pechuvo.specs.BookInC.{bound_of, book_of, told_book}
@@ -91,7 +91,7 @@ unfolding with_book
 gap_asked = refl
 
 -- these calls one after another
-unfoldable pub calls : List (Call Handed)
+unfoldable pub calls : List (AskOrCommit Handed)
 calls =
     asks (files (at 0).mesh [] (at 0).claim)
     ∷ commits 0 (files (at 0).mesh [] (at 0).claim)

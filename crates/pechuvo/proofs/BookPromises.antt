@@ -16,7 +16,7 @@ use Rattle.judge.specs.Judge.{files_verdict}
 use Rattle.judge.specs.Handed.{Handed, files, mesh_of, handed_verdict}
 use Rattle.book.specs.Book.{Kept, Told, Judged, takes_ask, takes_commit, empty_book, followed, unjudged, judged}
 use Rattle.book.specs.Book.{asked, committed}
-use Rattle.book.specs.History.{Call, asks, commits, left, left_by_all, Shut, InOrder, judged_call, book_after}
+use Rattle.book.specs.History.{AskOrCommit, asks, commits, left, left_by_all, Shut, InOrder, judged_call, book_after}
 use Rattle.book.proofs.HistoryLaws.{not_taken, shut_not_taken, not_committed, shut_not_committed}
 use Rattle.book.proofs.HistoryLaws.{ask_and_commit_agree, one_call_more, the_book_is_the_best}
 use Rattle.book.proofs.BracketLaws.{the_book_is_a_bracket}
@@ -118,7 +118,7 @@ module _ (c : BookForC) (mesh table claim : List ℕ) where
 
 -- ---- any calls
 
-made_book : {ks : List (Call Handed)} {c : BookForC} → Made ks c → book_of c ≡ book_after ks
+made_book : {ks : List (AskOrCommit Handed)} {c : BookForC} → Made ks c → book_of c ≡ book_after ks
 unfolding left left_by_all judged_call handed_verdict committed
 made_book (begun c e) = e
 made_book (then_ask {ks = ks} made mesh table claim r e) = made_book made
@@ -130,7 +130,7 @@ made_book (then_commit {ks = ks} {c = c} made count mesh table claim r e) =
     ∙ ap (λ b. (committed b count v).kept) (made_book made)
     ∙ sym (one_call_more empty_book ks (commits count (files mesh table claim)))
 
-pub after_any_calls : {ks : List (Call Handed)} {c : BookForC} → AfterAnyCalls ks c
+pub after_any_calls : {ks : List (AskOrCommit Handed)} {c : BookForC} → AfterAnyCalls ks c
 after_any_calls {ks} {c} made =
     let same : book_after ks ≡ book_of c = sym (made_book made) in
     record {

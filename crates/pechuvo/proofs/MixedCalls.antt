@@ -25,7 +25,7 @@ use Rattle.judge.specs.Judge.{files_verdict}
 use Rattle.judge.specs.Room.{sizes_for, mesh_sizes}
 use Rattle.report.specs.Report.{report_bytes}
 use Rattle.judge.specs.Handed.{Handed, files, mesh_of}
-use Rattle.book.specs.History.{Call, asks, commits, handed_of, OnMesh}
+use Rattle.book.specs.History.{AskOrCommit, asks, commits, handed_of, EachOnMesh}
 use Rattle.run.specs.declared.RunAnswer.{RunAnswer}
 use Rattle.run.specs.Run.{own_bytes, verdict_on, ends_run, taken_of, line_of, claims_judged, ran, run}
 use Rattle.run.specs.InTurn.{claim_at, InTurn}
@@ -168,16 +168,16 @@ unfolding bound_of
 empty_made = begun empty_for_c refl
 
 -- both calls are on one mesh
-both_on : (s : Sheet) → OnMesh (mesh_of (files s.mesh s.table s.claim))
+both_on : (s : Sheet) → EachOnMesh (mesh_of (files s.mesh s.table s.claim))
     (asks (files s.mesh s.table s.claim) ∷ commits 0 (files s.mesh s.table s.claim) ∷ [])
 both_on s k there =
     ⊎_elim (λ e. same e refl)
     (λ later. ⊎_elim (λ e. same e refl) (λ none. absurd (Memᴰ.not-nil none)) (Memᴰ.cases_cons later))
     (Memᴰ.cases_cons there)
   where
-    same : {q : Call Handed} → k ≡ q → mesh_of (handed_of q) ≡ mesh_of (files s.mesh s.table s.claim)
+    same : {q : AskOrCommit Handed} → k ≡ q → mesh_of (handed_of q) ≡ mesh_of (files s.mesh s.table s.claim)
         → SameRows (mesh_of (handed_of k)) (mesh_of (files s.mesh s.table s.claim))
-    same e f = same_mesh (ap (λ (x : Call Handed). mesh_of (handed_of x)) e ∙ f)
+    same e f = same_mesh (ap (λ (x : AskOrCommit Handed). mesh_of (handed_of x)) e ∙ f)
 
 book_says : (s : Sheet) (b : BookForC) → AskAnswers empty_for_c s.mesh s.table s.claim (told b)
     → CommitAnswers empty_for_c 0 s.mesh s.table s.claim (told b) → BookSays s empty_for_c b

@@ -14,7 +14,7 @@ use Rattle.scope.specs.Statements.{MeshSound, LinesSound, HasMultipliers}
 use Rattle.scope.specs.Answer.{place_for}
 use Rattle.scope.specs.Phases.{RefusedBy}
 use Rattle.scope.specs.Table.{tabled_phases}
-use Rattle.scope.specs.TabledRows.{TabledMeshRow}
+use Rattle.scope.specs.TabledRefusals.{TabledMeshRefusalRow}
 use Rattle.scope.proofs.Refusals.{lines_passed}
 use Rattle.reader.specs.WellFormed.{bytes_of}
 use Rattle.judge.specs.declared.room.MeshSizes.{MeshSizes}
@@ -180,7 +180,7 @@ gap_refused r h =
 
 -- as a row: of the layers, with all lines before it
 pub gap_row : (r : MeshSizes) → SizesAsked gap.mesh gap.table r
-    → TabledMeshRow (table_in gap.table) (mesh_in gap.mesh) 45 (Height 4)
+    → TabledMeshRefusalRow (table_in gap.table) (mesh_in gap.mesh) 45 (Height 4)
 unfolding opened place_for
 gap_row r h =
     ((sizes_told gap.mesh gap.table r h).row 45 4 (λ e. omega arith)).0

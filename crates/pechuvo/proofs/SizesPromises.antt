@@ -29,8 +29,8 @@ use Rattle.scope.proofs.Checks.{passed_is_not_refused, then_refused}
 use Rattle.scope.proofs.PlaceKinds.{place_number_lem, mesh_place_kind, mesh_exactly}
 use Rattle.scope.proofs.Refusals.{lines_passed, mesh_passed, mesh_exact}
 use Rattle.scope.proofs.Table.{tabled_exact}
-use Rattle.scope.proofs.TabledRows.{tabled_mesh_exactly}
-use Rattle.scope.proofs.TableVerdict.{table_phases, table_exact, in_two, early_number, early_kind}
+use Rattle.scope.proofs.TabledRefusals.{tabled_mesh_exactly}
+use Rattle.scope.proofs.TableVerdict.{table_phases, refusal_rows_exact, in_two, early_number, early_kind}
 use Rattle.reader.specs.File.{file_width, line_bytes}
 use Rattle.judge.specs.declared.room.MeshSizes.{MeshSizes}
 use Rattle.judge.specs.Judge.{mesh_outcome}
@@ -71,7 +71,7 @@ module _ (t m : List ℤ) where
           ⊎ ((check_phases (table_phases t m) ≡ Passed) × (mesh_check (mesh_read t m) ≡ Refused n p))
           → (n ≢ 0) × (p ≡ place_for n (place_number p))
       by (inl d) =
-          let r = (table_exact t m).refuses.why n p d in
+          let r = (refusal_rows_exact t m).refuses.why n p d in
           (λ z. omega (arith, (early_number t m n p r).0), early_kind t m n p r)
       by (inr (a, d)) = (
         λ z. passed_is_not_refused
@@ -211,7 +211,7 @@ module _ (mesh table : List ℕ) (r : MeshSizes) (asked : SizesAsked mesh table 
       rows = all_rows_lem;
       columns = are_columns;
       lengths = kinds;
-      one_header_lem = header_once;
+      one_header_more = header_once;
     }
 
   refused_lem : (k j : ℕ) → k ≢ 0
@@ -230,6 +230,6 @@ module _ (mesh table : List ℕ) (r : MeshSizes) (asked : SizesAsked mesh table 
     row = λ k j h.
         let e = tabled_mesh_exactly (table_in table) (mesh_in mesh) k (place_for k j) in
         let x = refused_lem k j h in (λ p. e.0 (x.0 p), λ y. x.1 (e.1 y));
-    no_sizes_lem = none_of m r o told;
+    refused_sizes = none_of m r o told;
     sizes = sizes_of;
   }

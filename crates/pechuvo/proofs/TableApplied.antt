@@ -18,11 +18,11 @@ use Rattle.scope.specs.Columns.{at as number_at}
 use Rattle.scope.specs.Mesh.{elements, ListsDirection}
 use Rattle.scope.proofs.SameRows.{same_mesh}
 use Rattle.scope.specs.Filled.{height_of, soil_place}
-use Rattle.scope.specs.LayerRows.{LowestGap, OneLayer}
+use Rattle.scope.specs.LayerRefusals.{LowestGap, OneLayer}
 use Rattle.scope.specs.Statements.{HasField, HasMultipliers}
 use Rattle.scope.specs.Table.{has_table}
 use Rattle.scope.specs.TableVerdict.{TabledRefusal, TableFits}
-use Rattle.scope.specs.TabledRows.{OwnSoilFails, LinesPass, LayersRefused, TabledRow}
+use Rattle.scope.specs.TabledRefusals.{OwnSoilFails, LinesPass, LayersRefused, TabledRefusalRow}
 use Rattle.scope.specs.Worked as Numbers
 use Rattle.scope.specs.WorkedTable.{soil_zero}
 use Rattle.numbers.specs.declared.numbers_answer.NumbersAnswer.{NumbersAnswer}
@@ -190,7 +190,7 @@ pub own_soil_zero : OwnSoilFails (table_in (with_table 4).table) (mesh_in (with_
 own_soil_zero = ((on_table (with_table 4).mesh (with_table 4).table (with_table 4).claim (pos 6) room 4 1001
     (with_table 4).line own_soil_answered fits).exactly.own_lines_asked.soil 0).0 (refl, refl)
 
-pub cut_short_row : TabledRow (table_in (with_table 5).table) (mesh_in (with_table 5).mesh)
+pub cut_short_row : TabledRefusalRow (table_in (with_table 5).table) (mesh_in (with_table 5).mesh)
     (claim_in (mesh_with (with_table 5).mesh (with_table 5).table) (with_table 5).claim) 1 (Line 1002)
 unfolding place_for
 cut_short_row = ((on_table (with_table 5).mesh (with_table 5).table (with_table 5).claim (pos 6) room 1 1002

@@ -9,7 +9,7 @@ use Rattle.reader.specs.File.{file_width}
 use Rattle.judge.specs.Judge.{files_verdict}
 use Rattle.judge.specs.Handed.{Handed, files}
 use Rattle.book.specs.Book.{empty_book, followed, asked, committed}
-use Rattle.book.specs.History.{Call, asks, commits, Shut, committed_after, BestBook, judged_call, OnMesh, InOrder}
+use Rattle.book.specs.History.{AskOrCommit, asks, commits, Shut, committed_after, BestBook, judged_call, EachOnMesh, InOrder}
 use Rattle.pechuvo.specs.declared.books.BookForC.{BookForC}
 use Rattle.pechuvo.specs.declared.books.BookAnswer.{BookAnswer}
 use Rattle.pechuvo.specs.BookInC.{book_of, book_answer}
@@ -56,19 +56,19 @@ AskThenCommit c mesh table claim r s = AskAnswers c mesh table claim r → Commi
 -- ---- "any calls .., from an empty book and each given the book that the last one left"
 
 -- these calls were made, in this order, and the last one left c; an ask changes nothing
-pub data Made : List (Call Handed) → BookForC → Type 0 where
+pub data Made : List (AskOrCommit Handed) → BookForC → Type 0 where
   begun : (c : BookForC) → book_of c ≡ empty_book → Made [] c
-  then_ask : {ks : List (Call Handed)} {c : BookForC} → Made ks c → (mesh table claim : List ℕ) (r : BookAnswer)
+  then_ask : {ks : List (AskOrCommit Handed)} {c : BookForC} → Made ks c → (mesh table claim : List ℕ) (r : BookAnswer)
       → AskAnswers c mesh table claim r → Made (ks ++ (asks (files mesh table claim) ∷ [])) c
-  then_commit : {ks : List (Call Handed)} {c : BookForC} → Made ks c → (count : ℕ) (mesh table claim : List ℕ)
+  then_commit : {ks : List (AskOrCommit Handed)} {c : BookForC} → Made ks c → (count : ℕ) (mesh table claim : List ℕ)
       (r : BookAnswer) → CommitAnswers c count mesh table claim r
       → Made (ks ++ (commits count (files mesh table claim) ∷ [])) r.book
 
 -- "the book equals the best of the accepted claims committed, compared as exact fractions"; on the same mesh its two
 -- bounds are a bracket
-pub record KeepsTheBest (ks : List (Call Handed)) (c : BookForC) : Type 0 where
+pub record KeepsTheBest (ks : List (AskOrCommit Handed)) (c : BookForC) : Type 0 where
   pub best : BestBook (book_of c) (committed_after 0 (map judged_call ks))
-  pub bracket : (d : List ℤ) → OnMesh d ks → InOrder (book_of c).lower (book_of c).upper
+  pub bracket : (d : List ℤ) → EachOnMesh d ks → InOrder (book_of c).lower (book_of c).upper
 
-abbrev pub AfterAnyCalls : List (Call Handed) → BookForC → Type 0
+abbrev pub AfterAnyCalls : List (AskOrCommit Handed) → BookForC → Type 0
 AfterAnyCalls ks c = Made ks c → KeepsTheBest ks c

@@ -24,7 +24,7 @@ use Rattle.scope.specs.Phases.{RefusedBy}
 use Rattle.scope.specs.Filled.{soil_place}
 use Rattle.scope.specs.Table.{mesh_read, tabled_phases}
 use Rattle.scope.specs.TableVerdict.{TablePasses, TableFits}
-use Rattle.scope.specs.TabledRows.{TabledMeshRow}
+use Rattle.scope.specs.TabledRefusals.{TabledMeshRefusalRow}
 use Rattle.scope.specs.Bracket.{Open}
 use Rattle.scope.specs.Parts.{carried, allowed, SameRows, NumberOf}
 use Rattle.scope.specs.Tests.{row_at}
@@ -346,7 +346,7 @@ pub record SizesOf (m : List ℤ) (r : MeshSizes) : Type 0 where
   pub columns : r.columns ≡ 3 * nodes m
   pub lengths : (claim : List ℕ) → LinesSound (claim_layout m) (claim_in m claim) → ClaimLengths m r claim
   -- a claim with both parts has one header
-  pub one_header_lem : r.field_bytes + r.multipliers_bytes ≡ r.both_bytes + line_bytes file_width claim_header_columns
+  pub one_header_more : r.field_bytes + r.multipliers_bytes ≡ r.both_bytes + line_bytes file_width claim_header_columns
 
 pub record SizesTold (mesh table : List ℕ) (r : MeshSizes) : Type 0 where
   -- 0 exactly when the mesh is accepted; else "its refusal and no sizes"
@@ -356,6 +356,6 @@ pub record SizesTold (mesh table : List ℕ) (r : MeshSizes) : Type 0 where
   pub refused : (k j : ℕ) → k ≢ 0
       → ((r.number ≡ k) × (r.place ≡ j)) ↔ RefusedBy (tabled_phases (table_in table) (mesh_in mesh)) k (place_for k j)
   pub row : (k j : ℕ) → k ≢ 0
-      → ((r.number ≡ k) × (r.place ≡ j)) ↔ TabledMeshRow (table_in table) (mesh_in mesh) k (place_for k j)
-  pub no_sizes_lem : r.number ≢ 0 → r ≡ no_sizes r.number r.place
+      → ((r.number ≡ k) × (r.place ≡ j)) ↔ TabledMeshRefusalRow (table_in table) (mesh_in mesh) k (place_for k j)
+  pub refused_sizes : r.number ≢ 0 → r ≡ no_sizes r.number r.place
   pub sizes : r.number ≡ 0 → SizesOf (mesh_with mesh table) r

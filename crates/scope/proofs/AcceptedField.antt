@@ -28,7 +28,7 @@ accepted_criterion m c field a j d =
     record {
       n_above_0 = ⊎_elim (λ above. above) (λ e. absurd (claim.parts_fit.with_field field.there (sym e)))
           (≤ℤ_split claim.n_range.least);
-      right_angle_lem = soil.right_angle;
+      right_angle = soil.right_angle;
       p_not_below_0 = soil.p_range.least;
       q_above_0 = suc≤ℤ→<ℤ soil.q_range.least;
       h_above_0 = suc≤ℤ→<ℤ soil.h_range.least;

@@ -200,8 +200,8 @@ is_open_lem s l n p = let d = go p.1.kind refl in (d.holds, d.passes)
     go unfixed e = never unfixed e (λ f. let z : ◌≡◌ {A = ℕ} 0 1 = cc in omega arith)
     go strength e =
         said_as (both (belowℤ (pos 0) p.0) (belowℤ left right))
-        (λ h. record { is_strength = e; has-multiplier = h.0; has-spare = h.1 })
-        (λ o. (o.has-multiplier, o.has-spare))
+        (λ h. record { is_strength = e; has_multiplier = h.0; has_spare = h.1 })
+        (λ o. (o.has_multiplier, o.has_spare))
 
 -- ---- the bracket
 
@@ -236,11 +236,11 @@ module _ (s : ℕ → ℤ) (l n : ℤ) (w : ℕ → ℤ) (rs : List Row) (N : �
   none_open = (
     λ e p m o. (parts p m).if_zero
         (sum_zero (λ p. p.0 *ℤ to_spare s l n p.1) (weighed w rs) nonneg (sym gap ∙ rw (e, +ℤ_invr)) p m) o.is_strength
-        o.has-multiplier o.has-spare,
+        o.has_multiplier o.has_spare,
     λ f. sym (eq_of_diff _ _
         (gap ∙ sum_of_same (λ p. p.0 *ℤ to_spare s l n p.1) (λ p. pos 0) (weighed w rs)
         (λ p m. (parts p m).is_zero
-        (λ k weighs has. f p m (record { is_strength = k; has-multiplier = weighs; has-spare = has })))
+        (λ k weighs has. f p m (record { is_strength = k; has_multiplier = weighs; has_spare = has })))
         ∙ sum_of_zero (weighed w rs))),
   )
 

@@ -147,13 +147,13 @@ module _ (h sx sy t : ℤ) where
 pub criterion : {g : Polygon} {sides : ℕ} → PolygonRule g sides → WithinCriterion g
 unfolding cross
 criterion {g} rule p q h C n sx sy t rows =
-    let at = around (P h sx sy t) g.radius g.corners rule.has_radius rule.once_around_lem in
+    let at = around (P h sx sy t) g.radius g.corners rule.has_radius rule.once_around in
     let s = at.side in
     let on = sides_ends g.corners s at.listed in
     let both =
     inside g.radius (circle_radius p q C n sx sy) s.from s.to (P h sx sy t) (<ℤ→≤ℤ rule.has_radius)
-    (rule.on_circle_lem s.from on.from_corner) (rule.on_circle_lem s.to on.to_corner)
-    (rule.left_turns_lem s at.listed) at.before at.after
+    (rule.on_circle s.from on.from_corner) (rule.on_circle s.to on.to_corner)
+    (rule.left_turns s at.listed) at.before at.after
     (rw (in_row h sx sy t g.radius s) at (rows s at.listed)) in
     record { radius_not_below_0 = both.0; squares = rw (in_criterion h sx sy t) at both.1 }
 

@@ -28,7 +28,7 @@ use Rattle.scope.specs.NumberRanges.{MeshFacts}
 use Rattle.scope.specs.Mesh.{most_coordinate}
 use Rattle.scope.specs.Layers.{layers, soil, soil_at, lowest, highest}
 use Rattle.scope.specs.Filled.{height_of, soil_place, soil_of, given_number, given, filled, with_soils}
-use Rattle.scope.specs.LayerRows.{NodeHeights, OneLayer, TableSound, Reordered, soil_number, FilledFrom, RepeatTwice}
+use Rattle.scope.specs.LayerRefusals.{NodeHeights, OneLayer, TableSound, Reordered, soil_number, FilledFrom, RepeatTwice}
 use Rattle.scope.proofs.Decides.{Decides, is_yes, is_no, equal, opposite, equalℤ, first_where_lem}
 use Rattle.scope.proofs.Lists.{count-length, at_count, at_map}
 use Rattle.scope.proofs.Layers.{first_is, soil-at, same_heights, heights_of, node_heights}

@@ -19,7 +19,7 @@ use Rattle.scope.specs.Mesh.{jump_lines, mesh_layout, layout_with, mesh_groups, 
 use Rattle.scope.specs.Statements.{AllWithin, AllSay, LineSound, LinesSound}
 use Rattle.scope.specs.NumberRanges.{Between}
 use Rattle.scope.specs.Filled.{soil_place, given}
-use Rattle.scope.specs.LayerRows.{Named}
+use Rattle.scope.specs.LayerRefusals.{Named}
 use Rattle.scope.proofs.Decides.{Decides, equalℤ}
 use Rattle.scope.proofs.Lines.{group, line_in_group}
 use Rattle.scope.proofs.Filled.{NoSoil, given-length, given_other, given_own, given_zero, groups_kept}

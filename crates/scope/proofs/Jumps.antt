@@ -107,8 +107,8 @@ module _ (m : List ℤ) where
   sound_jumps s = record {
     outer = λ j h a i. (free j (s.joints j h) a i).outer;
     one_jump = λ j k h g a i l. once j k h g a i l (dec_lt j k) (dec_lt k j);
-    no_edge_lem = λ j g h k i. (free j (s.joints j h) (from_node m g, to_node m g) i).no_edge g k (refl, refl);
-    has-length = λ j h. long j (s.joints j h).side.outer.is_side;
+    no_edge = λ j g h k i. (free j (s.joints j h) (from_node m g, to_node m g) i).no_edge g k (refl, refl);
+    has_length = λ j h. long j (s.joints j h).side.outer.is_side;
     facing_step = λ j h. let p = s.joints j h in (
       turned p.at_from.0 p.at_to.0,
       turned p.at_from.1 p.at_to.1,
@@ -148,8 +148,8 @@ module _ (m : List ℤ) where
   pub same_traction : MeshSound m → (s : ℕ → ℤ) (l n : ℤ) → MeetsPrinted m s l n → (j : ℕ) → j < jumps m
       → SameTraction m s j
   same_traction sound s l n f j h =
-      let side = jump_meaning (jump_step_x m j) (jump_step_y m j) ((sound_jumps sound).has-length j h) in
+      let side = jump_meaning (jump_step_x m j) (jump_step_y m j) ((sound_jumps sound).has_length j h) in
       record {
         at_from = (side.same_traction _ _ _ _ _ _).0 (f.jump_normal_from j h, f.jump_shear_from j h);
-        at_to_lem = (side.same_traction _ _ _ _ _ _).0 (f.jump_normal_to j h, f.jump_shear_to j h);
+        at_to = (side.same_traction _ _ _ _ _ _).0 (f.jump_normal_to j h, f.jump_shear_to j h);
       }

@@ -6,7 +6,7 @@ use Prim.Native.Nat.{ℕ, ◌<◌}
 use lib.IntN.{ℤ, pos, ◌*ℤ◌}
 use lib.Signed.{◌≤ℤ◌, ◌<ℤ◌}
 use Rattle.scope.specs.Layers.{layers, bottom, top, soil, Has, soil_at, InLayer, TopAbove}
-use Rattle.scope.specs.LayerRows.{OneLayer, TableSound, LowestGap, SameLine, Reordered}
+use Rattle.scope.specs.LayerRefusals.{OneLayer, TableSound, LowestGap, SameLine, Reordered}
 use Rattle.scope.proofs.Layers.{soil-at}
 
 same_has : {t u : List ℤ} {i j : ℕ} → SameLine t u i j → (q : ℕ) → Has t q i → Has u q j
@@ -20,11 +20,11 @@ pub reordered_back : {t u : List ℤ} → Reordered t u → Reordered u t
 reordered_back {t} {u} r = record {
   to = r.from;
   from = r.to;
-  to_there_lem = r.from_there_lem;
-  from_there_lem = r.to_there_lem;
+  to_there = r.from_there;
+  from_there = r.to_there;
   from_to = r.to_from;
   to_from = r.from_to;
-  same = λ j l. back j l (r.same (r.from j) (r.from_there_lem j l));
+  same = λ j l. back j l (r.same (r.from j) (r.from_there j l));
 }
   where
     back : (j : ℕ) → j < layers u → SameLine t u (r.from j) (r.to (r.from j)) → SameLine u t j (r.from j)
@@ -46,14 +46,14 @@ module _ {t u : List ℤ} (r : Reordered t u) where
   from_has q j l h = same_has ((reordered_back r).same j l) q h
 
   pub reordered_in : (q : ℕ) → InLayer t q → InLayer u q
-  reordered_in q (i, l, h) = (r.to i, r.to_there_lem i l, to_has q i l h)
+  reordered_in q (i, l, h) = (r.to i, r.to_there i l, to_has q i l h)
 
   pub reordered_one : (q : ℕ) → OneLayer t q → OneLayer u q
   reordered_one q o = record {
     layer = r.to o.layer;
-    there = r.to_there_lem o.layer o.there;
+    there = r.to_there o.layer o.there;
     has = to_has q o.layer o.there o.has;
-    only = λ j l h. sym (r.to_from j l) ∙ ap r.to (o.only (r.from j) (r.from_there_lem j l) (from_has q j l h));
+    only = λ j l h. sym (r.to_from j l) ∙ ap r.to (o.only (r.from j) (r.from_there j l) (from_has q j l h));
   }
 
   -- each height has the same soil
@@ -66,7 +66,7 @@ module _ {t u : List ℤ} (r : Reordered t u) where
   reordered_tops h j l =
       let s = (reordered_back r).same j l in
       subst (λ (z : ℤ). z <ℤ top u j) (sym s.bottoms)
-      (subst (λ (z : ℤ). bottom t (r.from j) <ℤ z) (sym s.tops) (h (r.from j) (r.from_there_lem j l)))
+      (subst (λ (z : ℤ). bottom t (r.from j) <ℤ z) (sym s.tops) (h (r.from j) (r.from_there j l)))
 
   -- the table passes as before
   pub reordered_sound : (lo hi : ℕ) → TableSound t lo hi → TableSound u lo hi

@@ -21,8 +21,8 @@ use Rattle.scope.specs.Mesh.{most_coordinate}
 use Rattle.scope.specs.NumberRanges.{MeshFacts}
 use Rattle.scope.specs.Layers.{layers, bottom, top, soil, node_at, none_above, lowest, highest, quarters, Has, has}
 use Rattle.scope.specs.Layers.{soil_at, TopAbove, top_above, Apart, apart, InLayer, in_layer, layer_phases}
-use Rattle.scope.specs.LayerRows.{NodeHeights, LowestGap, LayerRow, forty_six, forty_six_else, forty_five, OneLayer}
-use Rattle.scope.specs.LayerRows.{TableSound}
+use Rattle.scope.specs.LayerRefusals.{NodeHeights, LowestGap, LayerRefusalRow, forty_six, forty_six_else, forty_five, OneLayer}
+use Rattle.scope.specs.LayerRefusals.{TableSound}
 use Rattle.scope.proofs.Decides.{Decides, First, first_where_lem, both, opposite, said_as, equal, at_most, at_mostℤ}
 use Rattle.scope.proofs.Decides.{belowℤ, some_below_lem, all_below_lem}
 use Rattle.scope.proofs.Phases.{Exact, Decided, EachIn, each_refusal, one_step, phases_exact}
@@ -101,7 +101,7 @@ module _ (t m : List ℤ) where
 
   -- the rows between this mesh's lowest node and its highest
   abbrev pub Row : ℕ → Place → Type 0
-  Row = LayerRow t (lowest m) (highest m)
+  Row = LayerRefusalRow t (lowest m) (highest m)
 
   pub layer_rows : EachIn Row (layer_phases t m)
   layer_rows = (

@@ -11,7 +11,7 @@ pub mod Lists
 pub mod Triangles
 pub mod Overlaps
 pub mod Refusals
-pub mod TableNumbers
+pub mod RefusalNumbers
 pub mod RefusalTable
 pub mod Exactly
 pub mod PlaceKinds
@@ -60,7 +60,7 @@ pub mod GivenLines
 pub mod Table
 pub mod TableVerdict
 pub mod TableLines
-pub mod TabledRows
+pub mod TabledRefusals
 pub mod TabledPlaces
 pub mod TableApplied
 pub mod Applied

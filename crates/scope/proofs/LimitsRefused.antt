@@ -27,7 +27,7 @@ use Rattle.scope.specs.Refusals.{line_phases, shape_phases, SoundTo, LimitFails,
 use Rattle.scope.specs.SideLimits.{strength_at, strength_line}
 use Rattle.scope.proofs.Lines.{group, line_below, line_within}
 use Rattle.scope.proofs.Phases.{join_refused}
-use Rattle.scope.proofs.TableNumbers.{mesh_line_numbers, claim_line_numbers}
+use Rattle.scope.proofs.RefusalNumbers.{mesh_line_numbers, claim_line_numbers}
 use Rattle.scope.proofs.LineRefusals.{line_of_claim}
 use Rattle.scope.proofs.NumberRanges.{mesh_facts}
 use Rattle.scope.proofs.ClaimNumberRanges.{claim_facts}

@@ -163,7 +163,7 @@ side_meaning r s p q h C n sx sy t =
     let R : ℤ = circle_radius p q C n sx sy in
     record {
       at_from = λ k. at-corner r h sx sy t R s.from.px s.from.py s k.along k.across ∙ from_corner R;
-      at_to_lem = λ k. at-corner r h sx sy t R s.to.px s.to.py s k.along k.across ∙ to_corner R;
+      at_to = λ k. at-corner r h sx sy t R s.to.px s.to.py s k.along k.across ∙ to_corner R;
       at_centre = λ e f turn room. rw (centre e f) (*ℤ_pos turn room);
     }
   where

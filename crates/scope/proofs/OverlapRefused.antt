@@ -10,22 +10,22 @@ use Rattle.scope.specs.Columns.{Rule, right_angle, naming, parts, at_most_where}
 use Rattle.scope.specs.Mesh.{layout_with}
 use Rattle.scope.specs.Claim.{claim_layout}
 use Rattle.scope.specs.Refusals.{rule_number}
-use Rattle.scope.specs.RefusalTable.{MeshRow, of_lines, five, six, seven, forty_seven, eight, forty_four, forty_two}
-use Rattle.scope.specs.RefusalTable.{TableRow, of_mesh, of_claim_lines, twenty_one, twenty_two, thirty_one, thirty_two}
+use Rattle.scope.specs.RefusalTable.{MeshRefusalRow, of_lines, five, six, seven, forty_seven, eight, forty_four, forty_two}
+use Rattle.scope.specs.RefusalTable.{RefusalRow, of_mesh, of_claim_lines, twenty_one, twenty_two, thirty_one, thirty_two}
 use Rattle.scope.specs.RefusalTable.{thirty_three}
 use Rattle.scope.specs.Overlaps.{OnEachOther, OverlapNamed, NeverForThis}
 use Rattle.scope.proofs.LineRefusals.{mesh_line_number, claim_line_number}
 use Rattle.scope.proofs.Overlaps.{on_each_other}
-use Rattle.scope.proofs.RefusalTable.{table_row}
+use Rattle.scope.proofs.RefusalTable.{refusal_row}
 
 module _ (m c : List ℤ) where
-  of_row : {p : Place} → TableRow m c 47 p → OnEachOther m (place_number p)
+  of_row : {p : Place} → RefusalRow m c 47 p → OnEachOther m (place_number p)
   of_row (of_mesh (of_lines r)) = absurd (omega (arith, mesh_line_number m r))
   of_row (of_mesh (forty_seven e l turns b d h)) = on_each_other m turns e h
   of_row (of_claim_lines s r) = absurd (omega (arith, claim_line_number m c r))
 
   pub overlap_named : OverlapNamed m c
-  overlap_named p r = of_row (table_row m c 47 p r)
+  overlap_named p r = of_row (refusal_row m c 47 p r)
 
   pub never_for_this : NeverForThis m c
   never_for_this none p r =

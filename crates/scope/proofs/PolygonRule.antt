@@ -297,11 +297,11 @@ unfolding polygon_test on_circle turns_left
 tested g sides t = record {
   has_radius = lt_z_yes (search (and_l, and_r) depth 10);
   count = eqb→eq (length g.corners) sides (search (and_l, and_r) depth 10);
-  on_circle_lem = λ v m. eq_z_yes (every_yes (on_circle g.radius) g.corners (search (and_l, and_r) depth 10) v m);
+  on_circle = λ v m. eq_z_yes (every_yes (on_circle g.radius) g.corners (search (and_l, and_r) depth 10) v m);
   none_left_out = none_left_out g.corners g.radius (2 * nat_abs g.radius + 2) (search (and_l, and_r) depth 10);
-  once_around_lem = once_around_lem g.radius g.corners (search (and_l, and_r) depth 10);
-  half_turn_lem = half_turn_lem g.radius g.corners (search (and_l, and_r) depth 10);
-  left_turns_lem = λ s m. lt_z_yes
+  once_around = once_around_lem g.radius g.corners (search (and_l, and_r) depth 10);
+  first_half = half_turn_lem g.radius g.corners (search (and_l, and_r) depth 10);
+  left_turns = λ s m. lt_z_yes
       (every_yes turns_left (polygon_sides g.corners) (search (and_l, and_r) depth 10) s m);
 }
 

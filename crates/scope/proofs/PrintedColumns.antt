@@ -25,7 +25,7 @@ use Rattle.scope.specs.Printed.{FixesNormal, FixesShear, nth_corner}
 use Rattle.scope.specs.PrintedColumns.{less_x, less_y, less_normal, less_shear, less_jump_normal, less_jump_shear}
 use Rattle.scope.specs.PrintedColumns.{less_strength}
 use Rattle.scope.specs.PrintedColumns.{sum_below, of_element, of_edge, of_jump, of_pair, weighed_rows, ColumnsPrinted}
-use Rattle.scope.specs.PrintedColumns.{MultipliersAsPrinted, MultipliersPrinted, less_plus, less_minus, weighed_sides}
+use Rattle.scope.specs.PrintedColumns.{ColumnsAndPrinted, MultipliersPrinted, less_plus, less_minus, weighed_sides}
 use Rattle.scope.specs.PrintedColumns.{weighed_planes, weighed_pair}
 use Rattle.scope.proofs.Decides.{Decides, either, equalℤ}
 use Rattle.scope.proofs.SumBelow.{sum_below_cong, sum_below_front, sum_below_add}
@@ -314,7 +314,7 @@ module _ (m : List ℤ) (listed : SidesListed (sides m)) (w : ℕ → ℤ) where
   column_of_lem v (suc (suc (suc i))) k f h = absurd (omega arith)
 
   -- "31 to 33 for multipliers", in the terms of the printed rows
-  pub multipliers_printed : MultipliersAsPrinted m w
+  pub multipliers_printed : ColumnsAndPrinted m w
   unfolding sx sy t row_at
   multipliers_printed = (
     λ f. record {

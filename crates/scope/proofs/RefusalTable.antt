@@ -16,8 +16,8 @@ use Rattle.scope.specs.Rows.{equality_rows, strength_rows, rows_of}
 use Rattle.scope.specs.Statements.{LinesSound, MeshSound, HasField, HasMultipliers}
 use Rattle.scope.specs.Refusals.{line_phases, shape_phases, mesh_phases, field_phases, multiplier_phases, field_part}
 use Rattle.scope.specs.Refusals.{multiplier_part, part_phases, claim_phases, LineRefusal, MeshRefusal, Refusal}
-use Rattle.scope.specs.RefusalTable.{LowestFails, MeshRow, of_lines, five, six, seven, forty_seven, eight, forty_four}
-use Rattle.scope.specs.RefusalTable.{forty_two, Before21, Before31, TableRow, of_mesh, of_claim_lines, twenty_one}
+use Rattle.scope.specs.RefusalTable.{LowestFails, MeshRefusalRow, of_lines, five, six, seven, forty_seven, eight, forty_four}
+use Rattle.scope.specs.RefusalTable.{forty_two, Before21, Before31, RefusalRow, of_mesh, of_claim_lines, twenty_one}
 use Rattle.scope.specs.RefusalTable.{twenty_two, thirty_one, thirty_two, thirty_three}
 use Rattle.scope.proofs.Phases.{EachIn, each_refusal, each_join, each_as, each_there, join_refused, refused_there}
 use Rattle.scope.proofs.Refusals.{lines_sound, sound_lines, mesh_sound, sound_mesh, field-there, multipliers_there}
@@ -49,28 +49,28 @@ line_rows f ns Q of = (
   ),
 )
 
-mesh_rows : (m : List ℤ) → EachIn (MeshRow m) (mesh_phases m)
+mesh_rows : (m : List ℤ) → EachIn (MeshRefusalRow m) (mesh_phases m)
 mesh_rows m =
-    each_join (MeshRow m) (line_phases mesh_layout m) (shape_phases m)
-    (line_rows mesh_layout m (MeshRow m) (λ k p r. of_lines r)) (λ a.
+    each_join (MeshRefusalRow m) (line_phases mesh_layout m) (shape_phases m)
+    (line_rows mesh_layout m (MeshRefusalRow m) (λ k p r. of_lines r)) (λ a.
     let lines = lines_sound mesh_layout m a in (
-      λ e c h l r. row (MeshRow m) r (λ x. five e lines (lowest_fails h l x)),
+      λ e c h l r. row (MeshRefusalRow m) r (λ x. five e lines (lowest_fails h l x)),
       λ turns. (
-        λ e c h l r. row (MeshRow m) r (λ x. six e lines (alone turns) (lowest_fails h l x)),
+        λ e c h l r. row (MeshRefusalRow m) r (λ x. six e lines (alone turns) (lowest_fails h l x)),
         λ sides. (
-          λ v c h l r. row (MeshRow m) r (λ x. seven v lines (alone turns) (alone sides) (lowest_fails h l x)),
+          λ v c h l r. row (MeshRefusalRow m) r (λ x. seven v lines (alone turns) (alone sides) (lowest_fails h l x)),
           λ nodes. (
-            λ e c h l r. row (MeshRow m) r
+            λ e c h l r. row (MeshRefusalRow m) r
                 (λ x. forty_seven e lines (alone turns) (alone sides) (alone nodes) (lowest_fails h l x)),
             λ apart. (
-              λ g c h l r. row (MeshRow m) r
+              λ g c h l r. row (MeshRefusalRow m) r
                   (λ x. eight g lines (alone turns) (alone sides) (alone nodes) (alone apart) (lowest_fails h l x)),
               λ edges. (
-                λ j c h l r. row (MeshRow m) r
+                λ j c h l r. row (MeshRefusalRow m) r
                     (λ x. forty_four j lines (alone turns) (alone sides) (alone nodes) (alone apart) (alone edges)
                     (lowest_fails h l x)),
                 λ joints. (
-                  λ v c h l r. row (MeshRow m) r
+                  λ v c h l r. row (MeshRefusalRow m) r
                       (λ x. forty_two v lines (alone turns) (alone sides) (alone nodes) (alone apart) (alone edges)
                       (alone joints) (lowest_fails h l x)),
                   λ pairs. tt,
@@ -82,52 +82,52 @@ mesh_rows m =
       ),
     ))
 
-pub mesh_row : (m : List ℤ) (k : ℕ) (p : Place) → MeshRefusal m k p → MeshRow m k p
-mesh_row m k p r = each_refusal (MeshRow m) (mesh_phases m) (mesh_rows m) r.by
+pub mesh_row : (m : List ℤ) (k : ℕ) (p : Place) → MeshRefusal m k p → MeshRefusalRow m k p
+mesh_row m k p r = each_refusal (MeshRefusalRow m) (mesh_phases m) (mesh_rows m) r.by
 
 module _ (m c : List ℤ) where
   before_21 : AllPass (mesh_phases m) → AllPass (line_phases (claim_layout m) c) → Before21 m c
   before_21 a b = record { mesh = mesh_sound m a; lines = lines_sound (claim_layout m) c b }
 
-  field_rows : Before21 m c → HasField c → EachIn (TableRow m c)
+  field_rows : Before21 m c → HasField c → EachIn (RefusalRow m c)
       (field_phases (equality_rows m) (strength_rows m) (stress m c) (l c) (n c))
   field_rows before there = (
-    λ k i h l r. row (TableRow m c) r (λ x. twenty_one k before there (lowest_fails h l x)),
+    λ k i h l r. row (RefusalRow m c) r (λ x. twenty_one k before there (lowest_fails h l x)),
     λ equalities. (
-      λ k i h l r. row (TableRow m c) r (λ x. twenty_two k before there (alone equalities) (lowest_fails h l x)),
+      λ k i h l r. row (RefusalRow m c) r (λ x. twenty_two k before there (alone equalities) (lowest_fails h l x)),
       λ strengths. tt,
     ),
   )
 
-  multiplier_rows : Before31 m c → HasMultipliers c → EachIn (TableRow m c)
+  multiplier_rows : Before31 m c → HasMultipliers c → EachIn (RefusalRow m c)
       (multiplier_phases (equality_rows m) (rows_of m) (3 * nodes m) (multiplier m c))
   multiplier_rows before there = (
-    λ k i h l r. row (TableRow m c) r (λ x. thirty_one k before there (lowest_fails h l x)),
+    λ k i h l r. row (RefusalRow m c) r (λ x. thirty_one k before there (lowest_fails h l x)),
     λ unfixed. (
-      λ j i h l r. row (TableRow m c) r (λ x. thirty_two j before there (alone unfixed) (lowest_fails h l x)),
+      λ j i h l r. row (RefusalRow m c) r (λ x. thirty_two j before there (alone unfixed) (lowest_fails h l x)),
       λ zero. (
-        λ j i h l r. row (TableRow m c) r (λ x. thirty_three before there (alone unfixed) (alone zero) x),
+        λ j i h l r. row (RefusalRow m c) r (λ x. thirty_three before there (alone unfixed) (alone zero) x),
         λ live. tt,
       ),
     ),
   )
 
-  all_rows_lem : EachIn (TableRow m c) (mesh_phases m ++ claim_phases m c)
+  all_rows_lem : EachIn (RefusalRow m c) (mesh_phases m ++ claim_phases m c)
   all_rows_lem =
-      each_join (TableRow m c) (mesh_phases m) (claim_phases m c)
-      (each_as (MeshRow m) (TableRow m c) (mesh_phases m) (λ k p x. of_mesh x) (mesh_rows m)) (λ a.
-      each_join (TableRow m c) (line_phases (claim_layout m) c) (part_phases m c)
-      (line_rows (claim_layout m) c (TableRow m c) (λ k p r. of_claim_lines (mesh_sound m a) r)) (λ b.
-      each_join (TableRow m c) (field_part m c) (multiplier_part m c)
-      (each_there (TableRow m c) (field_phases (equality_rows m) (strength_rows m) (stress m c) (l c) (n c))
+      each_join (RefusalRow m c) (mesh_phases m) (claim_phases m c)
+      (each_as (MeshRefusalRow m) (RefusalRow m c) (mesh_phases m) (λ k p x. of_mesh x) (mesh_rows m)) (λ a.
+      each_join (RefusalRow m c) (line_phases (claim_layout m) c) (part_phases m c)
+      (line_rows (claim_layout m) c (RefusalRow m c) (λ k p r. of_claim_lines (mesh_sound m a) r)) (λ b.
+      each_join (RefusalRow m c) (field_part m c) (multiplier_part m c)
+      (each_there (RefusalRow m c) (field_phases (equality_rows m) (strength_rows m) (stress m c) (l c) (n c))
       (field-there m c) (field_rows (before_21 a b)))
       (λ d.
-      each_there (TableRow m c) (multiplier_phases (equality_rows m) (rows_of m) (3 * nodes m) (multiplier m c))
+      each_there (RefusalRow m c) (multiplier_phases (equality_rows m) (rows_of m) (3 * nodes m) (multiplier m c))
       (multipliers_there m c)
       (multiplier_rows (record { before = before_21 a b; field = field_part_sound m c d })))))
 
-  pub table_row : (k : ℕ) (p : Place) → Refusal m c k p → TableRow m c k p
-  table_row k p r = each_refusal (TableRow m c) (mesh_phases m ++ claim_phases m c) all_rows_lem r.by
+  pub refusal_row : (k : ℕ) (p : Place) → Refusal m c k p → RefusalRow m c k p
+  refusal_row k p r = each_refusal (RefusalRow m c) (mesh_phases m ++ claim_phases m c) all_rows_lem r.by
 
 -- ---- and back
 
@@ -139,7 +139,7 @@ shape_refusal : (m : List ℤ) {k : ℕ} {p : Place} → LinesSound mesh_layout 
 shape_refusal m {k} {p} lines r = join_refused (line_phases mesh_layout m) (shape_phases m) k p
     (inr (sound_lines mesh_layout m lines, r))
 
-pub row_mesh : (m : List ℤ) {k : ℕ} {p : Place} → MeshRow m k p → RefusedBy (mesh_phases m) k p
+pub row_mesh : (m : List ℤ) {k : ℕ} {p : Place} → MeshRefusalRow m k p → RefusedBy (mesh_phases m) k p
 row_mesh m {k} {p} (of_lines r) = join_refused (line_phases mesh_layout m) (shape_phases m) k p (inl r.by)
 row_mesh m (five e lines h) =
     shape_refusal m lines
@@ -258,7 +258,7 @@ module _ (m c : List ℤ) where
             (multipliers_there m c) there k p r,
       )))
 
-  row_refusal : {k : ℕ} {p : Place} → TableRow m c k p → RefusedBy (mesh_phases m ++ claim_phases m c) k p
+  row_refusal : {k : ℕ} {p : Place} → RefusalRow m c k p → RefusedBy (mesh_phases m ++ claim_phases m c) k p
   row_refusal {k} {p} (of_mesh r) = join_refused (mesh_phases m) (claim_phases m c) k p (inl (row_mesh m r))
   row_refusal {k} {p} (of_claim_lines s r) =
       claim_refusal s (join_refused (line_phases (claim_layout m) c) (part_phases m c) k p (inl r.by))
@@ -295,5 +295,5 @@ module _ (m c : List ℤ) where
       ))
 
   -- refused with a number and a place exactly when the table has a row with them
-  pub table_exact : (k : ℕ) (p : Place) → Refusal m c k p ↔ TableRow m c k p
-  table_exact k p = (table_row m c k p, λ r. record { by = row_refusal r })
+  pub refusal_rows_exact : (k : ℕ) (p : Place) → Refusal m c k p ↔ RefusalRow m c k p
+  refusal_rows_exact k p = (refusal_row m c k p, λ r. record { by = row_refusal r })

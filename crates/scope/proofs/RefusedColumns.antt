@@ -17,7 +17,7 @@ use Rattle.scope.specs.Rows.{sx, sy, t, equality_rows, rows_of}
 use Rattle.scope.specs.Sums.{column_sum}
 use Rattle.scope.specs.Statements.{NoneOnUnfixed}
 use Rattle.scope.specs.Tests.{row_at}
-use Rattle.scope.specs.RefusalTable.{AtAll, of_lines, TableRow, of_mesh, of_claim_lines, thirty_one, thirty_two}
+use Rattle.scope.specs.RefusalTable.{AtAll, of_lines, RefusalRow, of_mesh, of_claim_lines, thirty_one, thirty_two}
 use Rattle.scope.specs.RefusedRows.{Lowest, None}
 use Rattle.scope.specs.RefusedColumns.{UnfixedRow, normal_from, shear_from, normal_to, shear_to, UnfixedWeighed}
 use Rattle.scope.specs.RefusedColumns.{ColumnFails, of_sx, of_sy, of_t}
@@ -103,7 +103,7 @@ module _ (m c : List ℤ) where
   row_there k (normal_to g h u) = omega (arith, equality_count_lem m)
   row_there k (shear_to g h u) = omega (arith, equality_count_lem m)
 
-  pub refused_unfixed : {p : Place} → TableRow m c 31 p → Lowest (UnfixedWeighed m c) (place_number p)
+  pub refused_unfixed : {p : Place} → RefusalRow m c 31 p → Lowest (UnfixedWeighed m c) (place_number p)
   refused_unfixed (of_mesh (of_lines r)) = absurd (omega (arith, mesh_line_number m r))
   refused_unfixed (of_claim_lines s r) = absurd (omega (arith, claim_line_number m c r))
   refused_unfixed (thirty_one k b h f) = lowest_number unfixed_weighed (λ k g. weighed_not_free k g.unfixed g.nonzero) f
@@ -143,7 +143,7 @@ module _ (m c : List ℤ) where
     column_not_zero k (of_sy v h f) = (omega arith, printed (sy v) f (omega arith))
     column_not_zero k (of_t v h f) = (omega arith, printed (t v) f (omega arith))
 
-  pub refused_column : {p : Place} → TableRow m c 32 p
+  pub refused_column : {p : Place} → RefusalRow m c 32 p
       → None (UnfixedWeighed m c) × Lowest (ColumnFails m c) (place_number p)
   refused_column (of_mesh (of_lines r)) = absurd (omega (arith, mesh_line_number m r))
   refused_column (of_claim_lines s r) = absurd (omega (arith, claim_line_number m c r))

@@ -24,7 +24,7 @@ use Rattle.scope.specs.Tests.{row_at}
 use Rattle.scope.specs.Meets.{RowMet}
 use Rattle.scope.specs.RowNumbers.{side_at, corner_at, side_row, direction_row}
 use Rattle.scope.specs.Printed.{NormalAt, NormalAgreesAt, StrengthAt, PlanePlusAt, PlaneMinusAt, nth_corner, nth_side}
-use Rattle.scope.specs.RefusalTable.{LowestFails, AtAll, of_lines, TableRow, of_mesh, of_claim_lines, twenty_one}
+use Rattle.scope.specs.RefusalTable.{LowestFails, AtAll, of_lines, RefusalRow, of_mesh, of_claim_lines, twenty_one}
 use Rattle.scope.specs.RefusalTable.{twenty_two}
 use Rattle.scope.specs.RefusedRows.{Lowest, None, EqualityFails, balance_along_x, balance_along_y, normal_from}
 use Rattle.scope.specs.RefusedRows.{shear_from, normal_to, shear_to, jump_normal_from, jump_shear_from}
@@ -297,12 +297,12 @@ module _ (m c : List ℤ) where
       by (yes l) = all (k - 1) l
       by (no g) = past_met (equality_rows m) (k - 1) (omega arith)
 
-  pub refused_equality : {p : Place} → TableRow m c 21 p → Lowest (EqualityFails m c) (place_number p)
+  pub refused_equality : {p : Place} → RefusalRow m c 21 p → Lowest (EqualityFails m c) (place_number p)
   refused_equality (of_mesh (of_lines r)) = absurd (omega (arith, mesh_line_number m r))
   refused_equality (of_claim_lines s r) = absurd (omega (arith, claim_line_number m c r))
   refused_equality (twenty_one k b h f) = lowest_number equality_fails equality_not_met f
 
-  pub refused_strength : {p : Place} → TableRow m c 22 p
+  pub refused_strength : {p : Place} → RefusalRow m c 22 p
       → None (EqualityFails m c) × Lowest (StrengthFails m c) (place_number p)
   refused_strength (of_mesh (of_lines r)) = absurd (omega (arith, mesh_line_number m r))
   refused_strength (of_claim_lines s r) = absurd (omega (arith, claim_line_number m c r))

@@ -10,7 +10,7 @@ use Rattle.integer.proofs.Order.{pos_≤ℤ}
 use Rattle.scope.specs.Columns.{at}
 use Rattle.scope.specs.Layout.{groups}
 use Rattle.scope.specs.Mesh.{element_lines, layout_with, nodes, soils}
-use Rattle.scope.specs.LayerRows.{Named, SoilAllowed, LinesWithTable}
+use Rattle.scope.specs.LayerRefusals.{Named, SoilAllowed, LinesWithTable}
 
 pub zero_or_named : (k : ℕ) (z : ℤ) → pos 0 ≤ℤ z → z ≤ℤ pos k → (z ≡ pos 0) ⊎ Named k z
 zero_or_named k (pos zero) l h = inl refl

@@ -72,7 +72,7 @@ module _ {k : ℕ} (g : ListedPolygon k) (one : 1 ≤ kind_with k) where
   pub plane_corner : (v : Point) → v ∈ (polygon_of k).corners
       → Within most_plane_radius v.px × Within most_plane_radius v.py
   plane_corner v m =
-      let legs = legs_within (polygon_of k).radius v (g.fits.rule.on_circle_lem v m) in (
+      let legs = legs_within (polygon_of k).radius v (g.fits.rule.on_circle v m) in (
         record { within = omega (arith, legs.0, plane_radius.within) },
         record { within = omega (arith, legs.1, plane_radius.within) },
       )
@@ -187,7 +187,7 @@ module _ (m : List ℤ) (f : MeshFacts m) where
       let s = f.soil a.soil (((pairs m).exactly a).0 i).1 in
       let one = kind_sides s e in
       let r = plane_radius g one in
-      let x = (plane_corner g one v ((g.fits.rule.half_turn_lem v).0 j).0).0 in
+      let x = (plane_corner g one v ((g.fits.rule.first_half v).0 j).0).0 in
       let right =
       Within-le
       (Within-*ℤ (from_0 s.q_range)

@@ -21,7 +21,7 @@ use Rattle.scope.specs.Verdict.{mesh_check}
 use Rattle.scope.specs.Layers.{most_layers, layer_columns, most_level, layers, bottom, top, soil, soil_at, lowest}
 use Rattle.scope.specs.Layers.{highest, layer_phases}
 use Rattle.scope.specs.Filled.{height_of, soil_place, given, filled, with_soils}
-use Rattle.scope.specs.LayerRows.{TableSound}
+use Rattle.scope.specs.LayerRefusals.{TableSound}
 use Rattle.scope.specs.Table.{layer_lines, table_lines, table_layout, table_line_phases, LayerFacts, TableFacts}
 use Rattle.scope.specs.Table.{has_table, mesh_read, tabled_phases, tabled_check}
 use Rattle.scope.proofs.Phases.{Exact, Decided, phases_exact, decided_join, decided_part}

@@ -1,5 +1,5 @@
 -- The lines of a table by hand: a line of its layout passes, or fails at one of its three steps, exactly where its
--- numbers say so; so all lines pass, and each refusal of them comes, exactly as `TabledRows` says.
+-- numbers say so; so all lines pass, and each refusal of them comes, exactly as `TabledRefusals` says.
 use mathlib.Core.Path.{◌≡◌, refl, sym, ◌∙◌, ap, subst, subst₂}
 use mathlib.Core.Logic.{◌⊎◌, inl, inr}
 use mathlib.Core.List.{List, [], ◌∷◌}
@@ -17,8 +17,8 @@ use Rattle.scope.specs.Phases.{Step, FirstFails, AllHold, AllPass, RefusedBy}
 use Rattle.scope.specs.Statements.{AllWithin}
 use Rattle.scope.specs.Refusals.{rule_number, line_steps}
 use Rattle.scope.specs.Table.{layer_lines, table_lines, table_layout, table_line_phases}
-use Rattle.scope.specs.LayerRows.{Named}
-use Rattle.scope.specs.TabledRows.{Begun, OwnForm, Level, OwnLimits, OwnSoil, OwnLine, OwnTo, OwnLines}
+use Rattle.scope.specs.LayerRefusals.{Named}
+use Rattle.scope.specs.TabledRefusals.{Begun, OwnForm, Level, OwnLimits, OwnSoil, OwnLine, OwnTo, OwnLines}
 use Rattle.scope.proofs.Lines.{line_here, line_after}
 
 -- ---- a line of the table

@@ -104,8 +104,8 @@ module _ (t m : List ℤ) where
       (λ a. decided_join (table_line_phases t m) (layer_phases t m) (table_lines_decided t m)
       (λ b. layers_decided t m)))
 
-  pub table_exact : Exact (check_phases (table_phases t m)) (TableFits t m) (RefusedBy (table_phases t m))
-  table_exact = exact_as (phases_exact (table_phases t m) table_decided) table_fits fits_table (λ k p r. r) (λ k p r. r)
+  pub refusal_rows_exact : Exact (check_phases (table_phases t m)) (TableFits t m) (RefusedBy (table_phases t m))
+  refusal_rows_exact = exact_as (phases_exact (table_phases t m) table_decided) table_fits fits_table (λ k p r. r) (λ k p r. r)
 
   -- a check that passes where the one before it has
   once_more : (a b c : Outcome) → (a ≡ Passed → b ≡ Passed) → a then c ≡ a then (b then c)
@@ -130,7 +130,7 @@ module _ (t m : List ℤ) where
           ∙ once_more (check_phases (lines ++ own)) (lines_check mesh_layout (filled t m))
           (check_phases (shape_phases (filled t m)))
           (λ d. (lines_passed mesh_layout (filled t m)).passed
-          (read_lines_lem (table_exact.passes.says
+          (read_lines_lem (refusal_rows_exact.passes.says
           (ap (λ (b : Bool). check_phases (if_part b (lines ++ own))) e ∙ d) e)))
           ∙ ap (λ (o : Outcome). check_phases (lines ++ own) then o) (sym (mesh_checked (filled t m)))
           ∙ sym (ap (λ (b : Bool). check_phases (if_part b (lines ++ own)) then mesh_check (cond b (filled t m) m)) e)
@@ -190,21 +190,21 @@ module _ (t m : List ℤ) where
     came = by (check_phases (table_phases t m)) refl
       where
         by : (o : Outcome) → check_phases (table_phases t m) ≡ o → Came
-        by Passed e = late (table_exact.passes.says e)
+        by Passed e = late (refusal_rows_exact.passes.says e)
             (verdict_in_two ∙ ap (λ (o : Outcome). answer o (verdict (mesh_read t m) c)) e)
-        by (Fails k p) e = early k p (table_exact.refuses.why k p e)
+        by (Fails k p) e = early k p (refusal_rows_exact.refuses.why k p e)
             (verdict_in_two ∙ ap (λ (o : Outcome). answer o (verdict (mesh_read t m) c)) e)
 
     -- as the order before 5 has it
     pub early_refused : {k : ℕ} {p : Place} → RefusedBy (table_phases t m) k p → tabled_verdict t m c ≡ Refused k p
     unfolding answer
     early_refused {k} {p} r = verdict_in_two ∙ ap (λ (o : Outcome). answer o (verdict (mesh_read t m) c))
-        (table_exact.refuses.refused k p r)
+        (refusal_rows_exact.refuses.refused k p r)
 
     pub fits_late : TableFits t m → tabled_verdict t m c ≡ verdict (mesh_read t m) c
     unfolding answer
     fits_late f = verdict_in_two ∙ ap (λ (o : Outcome). answer o (verdict (mesh_read t m) c))
-        (table_exact.passes.passed f)
+        (refusal_rows_exact.passes.passed f)
 
     -- a refusal with its place exactly when the order has it
     pub tabled_refused : (k : ℕ) (p : Place) → (tabled_verdict t m c ≡ Refused k p) ↔ TabledRefusal t m c k p

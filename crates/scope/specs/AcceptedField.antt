@@ -15,7 +15,7 @@ use Rattle.scope.specs.Planes.{PlaneHoldsAt}
 
 pub record MeetsCriterion (m c : List ℤ) (a : Pair) : Type 0 where
   pub n_above_0 : pos 0 <ℤ n c
-  pub right_angle_lem : p m a.soil *ℤ p m a.soil +ℤ q m a.soil *ℤ q m a.soil ≡ h m a.soil *ℤ h m a.soil
+  pub right_angle : p m a.soil *ℤ p m a.soil +ℤ q m a.soil *ℤ q m a.soil ≡ h m a.soil *ℤ h m a.soil
   pub p_not_below_0 : pos 0 ≤ℤ p m a.soil
   pub q_above_0 : pos 0 <ℤ q m a.soil
   pub h_above_0 : pos 0 <ℤ h m a.soil

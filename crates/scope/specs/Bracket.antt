@@ -43,8 +43,8 @@ to_spare s l n r = spare r.kind (left_side s l r) (right_side n r)
 -- an open row: "strength rows with multiplier above 0 and left side below right"
 pub record Open (s : ℕ → ℤ) (l n : ℤ) (c : ℤ) (r : Row) : Type 0 where
   pub is_strength : r.kind ≡ strength
-  pub has-multiplier : pos 0 <ℤ c
-  pub has-spare : left_side s l r <ℤ right_side n r
+  pub has_multiplier : pos 0 <ℤ c
+  pub has_spare : left_side s l r <ℤ right_side n r
 
 abbrev pub NoneOpen : (ℕ → ℤ) → ℤ → ℤ → (ℕ → ℤ) → List Row → Type 0
 NoneOpen s l n w rs = (k : ℕ) → k < length rs → ¬ Open s l n (w k) (row_at rs k)

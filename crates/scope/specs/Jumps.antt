@@ -37,7 +37,7 @@ jump_force_y m s j v = traction_y (jump_step_x m j) (jump_step_y m j) (s (sy v))
 pub record SameTraction (m : List ℤ) (s : ℕ → ℤ) (j : ℕ) : Type 0 where
   pub at_from : (jump_force_x m s j (jump_from m j) ≡ jump_force_x m s j (facing_from m j))
       × (jump_force_y m s j (jump_from m j) ≡ jump_force_y m s j (facing_from m j))
-  pub at_to_lem : (jump_force_x m s j (jump_to m j) ≡ jump_force_x m s j (facing_to m j))
+  pub at_to : (jump_force_x m s j (jump_to m j) ≡ jump_force_x m s j (facing_to m j))
       × (jump_force_y m s j (jump_to m j) ≡ jump_force_y m s j (facing_to m j))
 
 -- the two sides of jump j, each as its element has it
@@ -50,9 +50,9 @@ pub record SoundJumps (m : List ℤ) : Type 0 where
   pub outer : (j : ℕ) → j < jumps m → (a : ℕ × ℕ) → a ∈ jump_sides m j → OuterSide m a.0 a.1
   -- each outer side is used once: by one jump, or by an edge
   pub one_jump : (j k : ℕ) → j < jumps m → k < jumps m → (a : ℕ × ℕ) → a ∈ jump_sides m j → a ∈ jump_sides m k → j ≡ k
-  pub no_edge_lem : (j g : ℕ) → j < jumps m → g < edges m → ¬ ((from_node m g, to_node m g) ∈ jump_sides m j)
+  pub no_edge : (j g : ℕ) → j < jumps m → g < edges m → ¬ ((from_node m g, to_node m g) ∈ jump_sides m j)
   -- the joint has a length, and the facing side goes the other way, so that its outward normal is the opposite one
-  pub has-length : (j : ℕ) → j < jumps m
+  pub has_length : (j : ℕ) → j < jumps m
       → pos 0 <ℤ (jump_step_x m j *ℤ jump_step_x m j +ℤ jump_step_y m j *ℤ jump_step_y m j)
   pub facing_step : (j : ℕ) → j < jumps m
       → (x m (facing_from m j) -ℤ x m (facing_to m j) ≡ neg_ℤ (jump_step_x m j))

@@ -97,8 +97,8 @@ Apart t lo hi i = (q : ℕ) → 4 * lo ≤ q → q ≤ 4 * hi → Has t q i → 
 unfoldable pub apart : List ℤ → ℕ → ℕ → ℕ → Bool
 apart t lo hi i = not (some_below (λ k. has t (4 * lo + k) i && some_below (has t (4 * lo + k)) i) (quarters lo hi))
 
-abbrev pub apart_phase : List ℤ → ℕ → ℕ → Phase
-apart_phase t lo hi = phase 46 (layers t) (Apart t lo hi) (apart t lo hi) layer_line
+abbrev pub layers_apart_phase : List ℤ → ℕ → ℕ → Phase
+layers_apart_phase t lo hi = phase 46 (layers t) (Apart t lo hi) (apart t lo hi) layer_line
 
 -- ---- 45, "with the lowest such height in no layer, counted in quarters"
 
@@ -116,6 +116,6 @@ gaps_phase t lo hi =
 abbrev pub layer_phases : List ℤ → List ℤ → List Phase
 layer_phases t m =
     tops_phase t
-    ∷ apart_phase t (lowest m) (highest m)
+    ∷ layers_apart_phase t (lowest m) (highest m)
     ∷ gaps_phase t (lowest m) (highest m)
     ∷ []

@@ -2,7 +2,7 @@
 -- A reader must believe the definitions: Cases to Tests, Phases, Refusals and Verdict, and for a borehole table Layers,
 -- Filled, Table and TableVerdict; Bounds and RowNumbers are for contracts. The other files are statements, which say
 -- the same a second time (Statements, RefusalTable, Printed, PrintedColumns, RefusedRows, RefusedColumns, Triangles,
--- Pairs, SideLimits, Overlaps, PolygonRule, Criterion, Meaning, Planes, Jumps, NumberRanges, LayerRows, TabledRows), or
+-- Pairs, SideLimits, Overlaps, PolygonRule, Criterion, Meaning, Planes, Jumps, NumberRanges, LayerRefusals, TabledRefusals), or
 -- what follows from them (Accepted, Bracket, Fractions, Parts, Blends ..). They share what a mesh's numbers are (Mesh),
 -- and the steps and areas of Rows, which Meaning ties to what they mean, and no list of rows, phases or pairs.
 -- Worked has the numbers of document 01's sheet. 001 and 003, where a comment names them, are sources that document 01
@@ -32,10 +32,10 @@ pub mod NumberRanges
 pub mod Bounds
 pub mod Layers
 pub mod Filled
-pub mod LayerRows
+pub mod LayerRefusals
 pub mod Table
 pub mod TableVerdict
-pub mod TabledRows
+pub mod TabledRefusals
 pub mod PolygonRule
 pub mod RowNumbers
 pub mod Printed

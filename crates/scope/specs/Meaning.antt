@@ -86,6 +86,6 @@ pub record AtCorner (r : ℤ) (v : Point) (p q h C n sx sy t : ℤ) : Type 0 whe
 -- the row of a side holds with equality at its two corners, and with strength to spare at the centre
 pub record SideMeaning (r : ℤ) (s : Side) (p q h C n sx sy t : ℤ) : Type 0 where
   pub at_from : AtCorner r s.from p q h C n sx sy t → deviator r s h sx sy t ≡ resistance s p q C n sx sy
-  pub at_to_lem : AtCorner r s.to p q h C n sx sy t → deviator r s h sx sy t ≡ resistance s p q C n sx sy
+  pub at_to : AtCorner r s.to p q h C n sx sy t → deviator r s h sx sy t ≡ resistance s p q C n sx sy
   pub at_centre : sx ≡ sy → t ≡ pos 0 → pos 0 <ℤ cross s.from s.to → pos 0 <ℤ circle_radius p q C n sx sy
       → deviator r s h sx sy t <ℤ resistance s p q C n sx sy

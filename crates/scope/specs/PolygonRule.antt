@@ -32,11 +32,11 @@ HalfTurn r corners = (v : Point)
 pub record PolygonRule (g : Polygon) (sides : ℕ) : Type 0 where
   pub has_radius : pos 0 <ℤ g.radius
   pub count : length g.corners ≡ sides
-  pub on_circle_lem : (v : Point) → v ∈ g.corners → OnCircle g.radius v
+  pub on_circle : (v : Point) → v ∈ g.corners → OnCircle g.radius v
   pub none_left_out : (v : Point) → OnCircle g.radius v → v ∈ g.corners
-  pub once_around_lem : OnceAround g.radius g.corners
-  pub half_turn_lem : HalfTurn g.radius g.corners
-  pub left_turns_lem : (s : Side) → s ∈ polygon_sides g.corners → pos 0 <ℤ cross s.from s.to
+  pub once_around : OnceAround g.radius g.corners
+  pub first_half : HalfTurn g.radius g.corners
+  pub left_turns : (s : Side) → s ∈ polygon_sides g.corners → pos 0 <ℤ cross s.from s.to
 
 -- "radius r = 5, 25 or 65 (12, 20 or 36 sides)", and 1105 with 108
 abbrev pub RadiusFor : ℕ → ℤ → Type 0

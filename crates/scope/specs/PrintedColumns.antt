@@ -178,5 +178,5 @@ module _ (m : List ℤ) (w : ℕ → ℤ) where
     pub live : pos 0 <ℤ printed_live
 
   -- they meet the columns of the rows' data exactly when they meet these
-  abbrev pub MultipliersAsPrinted : Type 0
-  MultipliersAsPrinted = MeetsColumns (equality_rows m) (rows_of m) (3 * nodes m) w ↔ MultipliersPrinted
+  abbrev pub ColumnsAndPrinted : Type 0
+  ColumnsAndPrinted = MeetsColumns (equality_rows m) (rows_of m) (3 * nodes m) w ↔ MultipliersPrinted

@@ -231,8 +231,8 @@ pub record ClaimLineNumbers (m c : List ℤ) : Type 0 where
 
 -- ---- all numbers of document 01's table and of document 02's requests, and no other
 
-abbrev pub table_numbers : List ℕ
-table_numbers = 1 ∷ 2 ∷ 3 ∷ 4 ∷ 5 ∷ 6 ∷ 7 ∷ 8 ∷ 11 ∷ 12 ∷ 13 ∷ 21 ∷ 22 ∷ 31 ∷ 32 ∷ 33 ∷ 42 ∷ 44 ∷ 47 ∷ []
+abbrev pub refusal_numbers : List ℕ
+refusal_numbers = 1 ∷ 2 ∷ 3 ∷ 4 ∷ 5 ∷ 6 ∷ 7 ∷ 8 ∷ 11 ∷ 12 ∷ 13 ∷ 21 ∷ 22 ∷ 31 ∷ 32 ∷ 33 ∷ 42 ∷ 44 ∷ 47 ∷ []
 
-abbrev pub InTable : List ℤ → List ℤ → Type 0
-InTable m c = (k : ℕ) (p : Place) → Refusal m c k p → k ∈ table_numbers
+abbrev pub RefusalListed : List ℤ → List ℤ → Type 0
+RefusalListed m c = (k : ℕ) (p : Place) → Refusal m c k p → k ∈ refusal_numbers

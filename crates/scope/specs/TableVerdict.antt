@@ -9,7 +9,7 @@ use Rattle.scope.specs.Statements.{LinesSound}
 use Rattle.scope.specs.Refusals.{claim_phases}
 use Rattle.scope.specs.Verdict.{answer, claim_verdict}
 use Rattle.scope.specs.Layers.{lowest, highest}
-use Rattle.scope.specs.LayerRows.{TableSound}
+use Rattle.scope.specs.LayerRefusals.{TableSound}
 use Rattle.scope.specs.Table.{table_layout, has_table, mesh_read, tabled_phases, tabled_check}
 
 unfoldable pub tabled_verdict : List ℤ → List ℤ → List ℤ → Verdict

@@ -28,16 +28,16 @@ pub record TableSheets : Type 0 where
   pub gap : tabled_check (layer (pos 0) (pos 1) (pos 1)) worked_mesh ≡ Refused 45 (Height 4)
   pub passes : tabled_check (layer (pos 0) (pos 2) (pos 1)) worked_mesh ≡ Passed
   -- the lowest gap, not the gap at the highest node; a height of 0 is a place
-  pub gap_at-0 : tabled_check (layer (pos 2) (pos 3) (pos 1)) worked_mesh ≡ Refused 45 (Height 0)
+  pub gap_at_0 : tabled_check (layer (pos 2) (pos 3) (pos 1)) worked_mesh ≡ Refused 45 (Height 0)
   -- soil 0: without a table, with one, and what the mesh then is
-  pub soil-0_alone : tabled_check [] soil_zero ≡ Refused 4 (Line 7)
-  pub soil-0_passes : tabled_check (layer (pos 0) (pos 2) (pos 1)) soil_zero ≡ Passed
-  pub soil-0-filled : filled (layer (pos 0) (pos 2) (pos 1)) soil_zero ≡ worked_mesh
+  pub soil_0_alone : tabled_check [] soil_zero ≡ Refused 4 (Line 7)
+  pub soil_0_passes : tabled_check (layer (pos 0) (pos 2) (pos 1)) soil_zero ≡ Passed
+  pub soil_0_filled : filled (layer (pos 0) (pos 2) (pos 1)) soil_zero ≡ worked_mesh
   -- lines: too short, outside its limits, soil 0 in the table itself, a number after the 32nd line
   pub short_line : tabled_check (layer (pos 0) (pos 2) (pos 1) ++ pos 2 ∷ []) worked_mesh ≡ Refused 1 (Line 1002)
   pub too_high : tabled_check (layer (pos 0) (pos 2001) (pos 1)) worked_mesh ≡ Refused 2 (Line 1001)
   pub too_low : tabled_check (layer (neg_ℤ (pos 1001)) (pos 2) (pos 1)) worked_mesh ≡ Refused 2 (Line 1001)
-  pub own_soil-0 : tabled_check (layer (pos 0) (pos 2) (pos 0)) worked_mesh ≡ Refused 4 (Line 1001)
+  pub own_soil_0 : tabled_check (layer (pos 0) (pos 2) (pos 0)) worked_mesh ≡ Refused 4 (Line 1001)
   pub line_33 : tabled_check (joined (λ l. l) (replicate 32 (layer (pos 0) (pos 2) (pos 1))) ++ pos 0 ∷ []) worked_mesh
       ≡ Refused 1 (Line 1033)
   -- 46: a top that is its bottom, wherever it stands, comes before an overlap; an overlap at the highest node's height

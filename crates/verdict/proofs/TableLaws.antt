@@ -17,9 +17,9 @@ use Rattle.scope.specs.NumberRanges.{MeshFacts}
 use Rattle.scope.specs.Phases.{check_phases}
 use Rattle.scope.specs.Refusals.{shape_phases}
 use Rattle.scope.specs.Statements.{LinesSound}
-use Rattle.scope.specs.Layers.{lowest, highest, tops_phase, apart_phase, gaps_phase, layer_phases}
+use Rattle.scope.specs.Layers.{lowest, highest, tops_phase, layers_apart_phase, gaps_phase, layer_phases}
 use Rattle.scope.specs.Filled.{given, filled, with_soils}
-use Rattle.scope.specs.LayerRows.{TableSound}
+use Rattle.scope.specs.LayerRefusals.{TableSound}
 use Rattle.scope.specs.Table.{table_layout, table_line_phases, TableFacts, has_table, mesh_read, tabled_check}
 use Rattle.scope.specs.TableVerdict.{tabled_verdict}
 use Rattle.scope.specs.Verdict.{line_check, line_at, lines_check, answer, claim_verdict, verdict}
@@ -43,7 +43,7 @@ use Rattle.verdict.proofs.Handed.{answer_then}
 
 -- without a table
 pub plain_lines : (m : List ℤ) → lines_check (layout_with false) m ≡ lines_check mesh_layout m
-unfolding layout_with 
+unfolding layout_with
 plain_lines m = refl
 
 -- the numbers of a mesh whose lines have passed have room in a copy
@@ -123,7 +123,7 @@ module _ {t m : List ℤ} (p : LinesPassed t m) where
   unfolding with_soils
   same_heights =
       let h = heights_kept (λ e. pos 1) m (named_facts m lines_are) in
-      ap₂ (λ (lo hi : ℕ). check_phases (tops_phase t ∷ apart_phase t lo hi ∷ gaps_phase t lo hi ∷ [])) h.0 h.1
+      ap₂ (λ (lo hi : ℕ). check_phases (tops_phase t ∷ layers_apart_phase t lo hi ∷ gaps_phase t lo hi ∷ [])) h.0 h.1
 
   pub layers_same : {u n : List ℤ} → u ≡ t → n ≡ with_soils m
       → check_phases (layer_phases u n) ≡ check_phases (layer_phases t m)

@@ -4,14 +4,14 @@ use mathlib.Core.List.{List, [], ◌∷◌}
 use Prim.Native.Nat.{ℕ}
 use lib.IntN.{ℤ}
 use Rattle.scope.specs.Cases.Outcome.{Outcome}
-use Rattle.scope.specs.Layers.{lowest, highest, apart_phase, gaps_phase}
+use Rattle.scope.specs.Layers.{lowest, highest, layers_apart_phase, gaps_phase}
 use Rattle.scope.specs.Phases.{check_phase, check_phases}
 use Rattle.scope.proofs.Answered.{first_refuses, second_decides}
 use Rattle.layers.proofs.layer_checks.layers_check.Goals as goal
 
 -- what follows the tops
 abbrev between_nodes : List ℤ → ℕ → ℕ → Outcome
-between_nodes t lo hi = check_phases (apart_phase t lo hi ∷ gaps_phase t lo hi ∷ [])
+between_nodes t lo hi = check_phases (layers_apart_phase t lo hi ∷ gaps_phase t lo hi ∷ [])
 
 pub returns-in_err-tops_check : goal.returns-in_err-tops_check
 unfolding check_phases

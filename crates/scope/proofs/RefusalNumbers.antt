@@ -26,7 +26,7 @@ use Rattle.scope.specs.Statements.{Says, AllSay, Complete}
 use Rattle.scope.specs.Refusals.{rule_number, rule_steps, line_steps, lines_phase, leftover_phase, line_phases}
 use Rattle.scope.specs.Refusals.{shape_phases, mesh_phases, field_phases, multiplier_phases, field_part}
 use Rattle.scope.specs.Refusals.{multiplier_part, part_phases, claim_phases, LineRefusal, SoundTo, CountFails}
-use Rattle.scope.specs.Refusals.{LimitFails, RuleFails, MeshLineNumbers, ClaimLineNumbers, table_numbers, InTable}
+use Rattle.scope.specs.Refusals.{LimitFails, RuleFails, MeshLineNumbers, ClaimLineNumbers, refusal_numbers, RefusalListed}
 use Rattle.scope.specs.Refusals.{Refusal}
 use Rattle.scope.proofs.Decides.{either, equal}
 use Rattle.scope.proofs.Lines.{line_after}
@@ -321,42 +321,42 @@ is_in_lem k (a ∷ rest) h =
     of later (inl e) = Memᴰ.head e
     of later (inr t) = Memᴰ.tail (later t)
 
-abbrev InTableNumbers : ℕ → Place → Type 0
-InTableNumbers k p = k ∈ table_numbers
+abbrev IsRefusalNumber : ℕ → Place → Type 0
+IsRefusalNumber k p = k ∈ refusal_numbers
 
-listed : (k : ℕ) → T (is_in k table_numbers) → k ∈ table_numbers
-listed k h = is_in_lem k table_numbers h
+listed : (k : ℕ) → T (is_in k refusal_numbers) → k ∈ refusal_numbers
+listed k h = is_in_lem k refusal_numbers h
 
-rule_listed : (r : Rule) → rule_number r ∈ table_numbers
+rule_listed : (r : Rule) → rule_number r ∈ refusal_numbers
 unfolding rule_number is_in
 rule_listed right_angle = listed 3 tt
 rule_listed (naming cs) = listed 4 tt
 rule_listed parts = listed 13 tt
 rule_listed (at_most_where c k d z) = listed 2 tt
 
-step_listed : (f : Layout) (ns : List ℤ) (k c : ℕ) → f.form_number ∈ table_numbers → f.limit_number ∈ table_numbers
-    → FirstFails (line_steps f (group_at f ns k) (numbers_at f ns k)) c → c ∈ table_numbers
-step_listed f ns k c a b (inl h) = subst (λ i. i ∈ table_numbers) h.1 a
-step_listed f ns k c a b (inr (x, inl h)) = subst (λ i. i ∈ table_numbers) h.1 b
+step_listed : (f : Layout) (ns : List ℤ) (k c : ℕ) → f.form_number ∈ refusal_numbers → f.limit_number ∈ refusal_numbers
+    → FirstFails (line_steps f (group_at f ns k) (numbers_at f ns k)) c → c ∈ refusal_numbers
+step_listed f ns k c a b (inl h) = subst (λ i. i ∈ refusal_numbers) h.1 a
+step_listed f ns k c a b (inr (x, inl h)) = subst (λ i. i ∈ refusal_numbers) h.1 b
 step_listed f ns k c a b (inr (x, inr (y, h))) = let (r, e) =
-    rule_number_lem (group_at f ns k).rules (numbers_at f ns k) c h in subst (λ i. i ∈ table_numbers) (sym e)
+    rule_number_lem (group_at f ns k).rules (numbers_at f ns k) c h in subst (λ i. i ∈ refusal_numbers) (sym e)
     (rule_listed r)
 
-own_listed : {number c : ℕ} {H : Type 0} → number ∈ table_numbers → ((¬ H) × (number ≡ c)) ⊎ (H × ⊥) → c ∈ table_numbers
-own_listed a r = subst (λ i. i ∈ table_numbers) (own_number refl r) a
+own_listed : {number c : ℕ} {H : Type 0} → number ∈ refusal_numbers → ((¬ H) × (number ≡ c)) ⊎ (H × ⊥) → c ∈ refusal_numbers
+own_listed a r = subst (λ i. i ∈ refusal_numbers) (own_number refl r) a
 
-lines_listed : (f : Layout) (ns : List ℤ) → f.form_number ∈ table_numbers → f.limit_number ∈ table_numbers
-    → EachIn InTableNumbers (line_phases f ns)
+lines_listed : (f : Layout) (ns : List ℤ) → f.form_number ∈ refusal_numbers → f.limit_number ∈ refusal_numbers
+    → EachIn IsRefusalNumber (line_phases f ns)
 lines_listed f ns a b = (λ k c h l r. step_listed f ns k c a b r, λ e. (λ k c h l r. own_listed a r, λ i. tt))
 
-pub in_table : (m c : List ℤ) → InTable m c
+pub number_listed : (m c : List ℤ) → RefusalListed m c
 unfolding layout_with claim_layout is_in
-in_table m c k p r = each_refusal InTableNumbers (mesh_phases m ++ claim_phases m c) all r.by
+number_listed m c k p r = each_refusal IsRefusalNumber (mesh_phases m ++ claim_phases m c) all r.by
   where
-    all : EachIn InTableNumbers (mesh_phases m ++ claim_phases m c)
+    all : EachIn IsRefusalNumber (mesh_phases m ++ claim_phases m c)
     all =
-        each_join InTableNumbers (mesh_phases m) (claim_phases m c)
-        (each_join InTableNumbers (line_phases mesh_layout m) (shape_phases m)
+        each_join IsRefusalNumber (mesh_phases m) (claim_phases m c)
+        (each_join IsRefusalNumber (line_phases mesh_layout m) (shape_phases m)
         (lines_listed mesh_layout m (listed 1 tt) (listed 2 tt)) (λ a. (
           λ k c h l r. own_listed (listed 5 tt) r,
           λ e. (
@@ -375,15 +375,15 @@ in_table m c k p r = each_refusal InTableNumbers (mesh_phases m ++ claim_phases 
           ),
         )))
         (λ mesh.
-        each_join InTableNumbers (line_phases (claim_layout m) c) (part_phases m c)
+        each_join IsRefusalNumber (line_phases (claim_layout m) c) (part_phases m c)
         (lines_listed (claim_layout m) c (listed 11 tt) (listed 12 tt)) (λ lines.
-        each_join InTableNumbers (field_part m c) (multiplier_part m c)
-        (each_part InTableNumbers (has_field c)
+        each_join IsRefusalNumber (field_part m c) (multiplier_part m c)
+        (each_part IsRefusalNumber (has_field c)
         (field_phases (equality_rows m) (strength_rows m) (stress m c) (l c) (n c)) (
           λ k c h l r. own_listed (listed 21 tt) r,
           λ e. (λ k c h l r. own_listed (listed 22 tt) r, λ i. tt),
         ))
-        (λ field. each_part InTableNumbers (has_multipliers c)
+        (λ field. each_part IsRefusalNumber (has_multipliers c)
         (multiplier_phases (equality_rows m) (rows_of m) (3 * nodes m) (multiplier m c)) (
           λ k c h l r. own_listed (listed 31 tt) r,
           λ e. (λ k c h l r. own_listed (listed 32 tt) r, λ e. (λ k c h l r. own_listed (listed 33 tt) r, λ i. tt)),
@@ -401,5 +401,5 @@ in_is k [] h = elim h [ ]
 -- neither 45 nor 46, which are a table's
 pub no_layers : {m c : List ℤ} {k : ℕ} {p : Place} → Refusal m c k p → ¬ ((k ≡ 45) ⊎ (k ≡ 46))
 unfolding is_in
-no_layers {m} {c} {k} {p} r (inl e) = in_is 45 table_numbers (subst (λ i. i ∈ table_numbers) e (in_table m c k p r))
-no_layers {m} {c} {k} {p} r (inr e) = in_is 46 table_numbers (subst (λ i. i ∈ table_numbers) e (in_table m c k p r))
+no_layers {m} {c} {k} {p} r (inl e) = in_is 45 refusal_numbers (subst (λ i. i ∈ refusal_numbers) e (number_listed m c k p r))
+no_layers {m} {c} {k} {p} r (inr e) = in_is 46 refusal_numbers (subst (λ i. i ∈ refusal_numbers) e (number_listed m c k p r))

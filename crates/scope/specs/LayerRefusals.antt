@@ -1,5 +1,5 @@
 -- What 46 and 45 say, and what a filled mesh is, in plain statements (document 02, N8): the two among themselves (with
--- all lines before them in `TabledRows`), each height in exactly one layer, lines in another order, the soil of each
+-- all lines before them in `TabledRefusals`), each height in exactly one layer, lines in another order, the soil of each
 -- element.
 use Rattle.std.specs.Prelude.{◌≡◌, ◌↔◌, ◌⊎◌, true, List, [], ℕ, ◌+◌, ◌*◌, ◌≤◌, ◌<◌, ℤ, pos, ◌≤ℤ◌, length, get_or}
 use Rattle.std.specs.Prelude.{take, drop}
@@ -32,12 +32,12 @@ pub record LowestGap (t : List ℤ) (lo hi q : ℕ) : Type 0 where
 -- the rows of 46 and 45 of a table whose lines have passed, from the lowest node's height to the highest's: "46, with
 -- the first line whose top isn't above its bottom, else the first that shares such a height with an earlier line; then
 -- 45, with the lowest such height in no layer, counted in quarters"
-pub data LayerRow (t : List ℤ) (lo hi : ℕ) : ℕ → Place → Type 0 where
-  forty_six : (i : ℕ) → LowestFails (layers t) (TopAbove t) i → LayerRow t lo hi 46 (Line (1001 + i))
+pub data LayerRefusalRow (t : List ℤ) (lo hi : ℕ) : ℕ → Place → Type 0 where
+  forty_six : (i : ℕ) → LowestFails (layers t) (TopAbove t) i → LayerRefusalRow t lo hi 46 (Line (1001 + i))
   forty_six_else : (i : ℕ) → AtAll (layers t) (TopAbove t) → LowestFails (layers t) (Apart t lo hi) i
-      → LayerRow t lo hi 46 (Line (1001 + i))
+      → LayerRefusalRow t lo hi 46 (Line (1001 + i))
   forty_five : (q : ℕ) → AtAll (layers t) (TopAbove t) → AtAll (layers t) (Apart t lo hi) → LowestGap t lo hi q
-      → LayerRow t lo hi 45 (Height q)
+      → LayerRefusalRow t lo hi 45 (Height q)
 
 -- ---- where both pass
 
@@ -65,8 +65,8 @@ pub record SameLine (t u : List ℤ) (i j : ℕ) : Type 0 where
 pub record Reordered (t u : List ℤ) : Type 0 where
   pub to : ℕ → ℕ
   pub from : ℕ → ℕ
-  pub to_there_lem : (i : ℕ) → i < layers t → to i < layers u
-  pub from_there_lem : (j : ℕ) → j < layers u → from j < layers t
+  pub to_there : (i : ℕ) → i < layers t → to i < layers u
+  pub from_there : (j : ℕ) → j < layers u → from j < layers t
   pub from_to : (i : ℕ) → i < layers t → from (to i) ≡ i
   pub to_from : (j : ℕ) → j < layers u → to (from j) ≡ j
   pub same : (i : ℕ) → i < layers t → SameLine t u i (to i)

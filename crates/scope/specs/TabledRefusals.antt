@@ -9,9 +9,9 @@ use Rattle.scope.specs.Columns.{right_angle, naming, at_most_where, at}
 use Rattle.scope.specs.Mesh.{layout_with, soils}
 use Rattle.scope.specs.Statements.{LinesSound}
 use Rattle.scope.specs.Refusals.{CountFails, LimitFails, RuleFails}
-use Rattle.scope.specs.RefusalTable.{MeshRow, TableRow}
+use Rattle.scope.specs.RefusalTable.{MeshRefusalRow, RefusalRow}
 use Rattle.scope.specs.NumberRanges.{Between}
-use Rattle.scope.specs.LayerRows.{NodeHeights, LayerRow, TableSound, Named}
+use Rattle.scope.specs.LayerRefusals.{NodeHeights, LayerRefusalRow, TableSound, Named}
 use Rattle.scope.specs.Filled.{filled}
 
 -- ---- the lines of the mesh
@@ -88,7 +88,7 @@ pub record LayersRefused (t m : List ℤ) (k : ℕ) (p : Place) : Type 0 where
   pub lowest : ℕ
   pub highest : ℕ
   pub before : LinesPass t m lowest highest
-  pub row : LayerRow t lowest highest k p
+  pub row : LayerRefusalRow t lowest highest k p
 
 -- all before 5 passes: "The table has no gap and no overlap at any quarter unit from the lowest node to the highest"
 pub record TableLaid (t m : List ℤ) : Type 0 where
@@ -100,33 +100,33 @@ pub record TableLaid (t m : List ℤ) : Type 0 where
 -- ---- the rows
 
 -- those before 5, where there is a table
-pub data EarlyRow (t m : List ℤ) : ℕ → Place → Type 0 where
+pub data EarlyRefusalRow (t m : List ℤ) : ℕ → Place → Type 0 where
   -- "mesh lines front to back, in each line 1, 2, 3, 4"
-  mesh_one : (k : ℕ) → t ≢ [] → CountFails (layout_with true) m k → EarlyRow t m 1 (Line (suc k))
-  mesh_two : (k : ℕ) → t ≢ [] → LimitFails (layout_with true) m k → EarlyRow t m 2 (Line (suc k))
-  mesh_three : (k : ℕ) → t ≢ [] → RuleFails (layout_with true) m right_angle k → EarlyRow t m 3 (Line (suc k))
+  mesh_one : (k : ℕ) → t ≢ [] → CountFails (layout_with true) m k → EarlyRefusalRow t m 1 (Line (suc k))
+  mesh_two : (k : ℕ) → t ≢ [] → LimitFails (layout_with true) m k → EarlyRefusalRow t m 2 (Line (suc k))
+  mesh_three : (k : ℕ) → t ≢ [] → RuleFails (layout_with true) m right_angle k → EarlyRefusalRow t m 3 (Line (suc k))
   mesh_four : (cs : List (ℕ × ℕ × ℕ)) (k : ℕ) → t ≢ [] → RuleFails (layout_with true) m (naming cs) k
-      → EarlyRow t m 4 (Line (suc k))
+      → EarlyRefusalRow t m 4 (Line (suc k))
   -- 2 too: with 108 sides "at most 40 nodes" (N9)
   mesh_two_with : (a n d z k : ℕ) → t ≢ [] → RuleFails (layout_with true) m (at_most_where a n d z) k
-      → EarlyRow t m 2 (Line (suc k))
+      → EarlyRefusalRow t m 2 (Line (suc k))
   -- "The table's own form, limits and soil numbers are judged as a mesh's, with 1, 2 and 4, after the mesh lines and
   -- before 5; its lines are numbered from 1,001, above any of the mesh's, and a 33rd gets 1"
-  own_one : (i : ℕ) → OwnFormFails t m i → EarlyRow t m 1 (Line (1001 + i))
-  own_two : (i : ℕ) → OwnLimitsFail t m i → EarlyRow t m 2 (Line (1001 + i))
-  own_four : (i : ℕ) → OwnSoilFails t m i → EarlyRow t m 4 (Line (1001 + i))
+  own_one : (i : ℕ) → OwnFormFails t m i → EarlyRefusalRow t m 1 (Line (1001 + i))
+  own_two : (i : ℕ) → OwnLimitsFail t m i → EarlyRefusalRow t m 2 (Line (1001 + i))
+  own_four : (i : ℕ) → OwnSoilFails t m i → EarlyRefusalRow t m 4 (Line (1001 + i))
   -- 46 and 45
-  of_layers : {k : ℕ} {p : Place} → LayersRefused t m k p → EarlyRow t m k p
+  of_layers : {k : ℕ} {p : Place} → LayersRefused t m k p → EarlyRefusalRow t m k p
 
 -- the rows of a table and a mesh: "Without a table, soil 0 still gets 4"; and 5 and all after it are those of the mesh
 -- that the table fills, whose lines pass (`FilledMesh`)
-pub data TabledMeshRow (t m : List ℤ) : ℕ → Place → Type 0 where
-  mesh_alone : {k : ℕ} {p : Place} → t ≡ [] → MeshRow m k p → TabledMeshRow t m k p
-  mesh_early : {k : ℕ} {p : Place} → EarlyRow t m k p → TabledMeshRow t m k p
-  mesh_filled : {k : ℕ} {p : Place} → TableLaid t m → MeshRow (filled t m) k p → TabledMeshRow t m k p
+pub data TabledMeshRefusalRow (t m : List ℤ) : ℕ → Place → Type 0 where
+  mesh_alone : {k : ℕ} {p : Place} → t ≡ [] → MeshRefusalRow m k p → TabledMeshRefusalRow t m k p
+  mesh_early : {k : ℕ} {p : Place} → EarlyRefusalRow t m k p → TabledMeshRefusalRow t m k p
+  mesh_filled : {k : ℕ} {p : Place} → TableLaid t m → MeshRefusalRow (filled t m) k p → TabledMeshRefusalRow t m k p
 
 -- the rows of a table, a mesh and a claim
-pub data TabledRow (t m c : List ℤ) : ℕ → Place → Type 0 where
-  of_alone : {k : ℕ} {p : Place} → t ≡ [] → TableRow m c k p → TabledRow t m c k p
-  of_early : {k : ℕ} {p : Place} → EarlyRow t m k p → TabledRow t m c k p
-  of_filled : {k : ℕ} {p : Place} → TableLaid t m → TableRow (filled t m) c k p → TabledRow t m c k p
+pub data TabledRefusalRow (t m c : List ℤ) : ℕ → Place → Type 0 where
+  of_alone : {k : ℕ} {p : Place} → t ≡ [] → RefusalRow m c k p → TabledRefusalRow t m c k p
+  of_early : {k : ℕ} {p : Place} → EarlyRefusalRow t m k p → TabledRefusalRow t m c k p
+  of_filled : {k : ℕ} {p : Place} → TableLaid t m → RefusalRow (filled t m) c k p → TabledRefusalRow t m c k p

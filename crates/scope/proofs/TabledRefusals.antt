@@ -23,27 +23,27 @@ use Rattle.scope.specs.Refusals.{rule_number, line_phases, LineRefusal}
 use Rattle.scope.specs.Layers.{lowest, highest, layer_phases}
 use Rattle.scope.specs.Filled.{filled, with_soils}
 use Rattle.scope.specs.Table.{table_lines, table_layout, table_line_phases, has_table, mesh_read, tabled_phases}
-use Rattle.scope.specs.LayerRows.{NodeHeights, LayerRow, TableSound}
+use Rattle.scope.specs.LayerRefusals.{NodeHeights, LayerRefusalRow, TableSound}
 use Rattle.scope.specs.TableVerdict.{tabled_verdict, TabledRefusal, TablePasses, TableFits}
-use Rattle.scope.specs.TabledRows.{MeshLinesPass, Begun, OwnForm, OwnTo, OwnLines, OwnFormFails, LinesPass}
-use Rattle.scope.specs.TabledRows.{LayersRefused, TableLaid, EarlyRow, mesh_one, mesh_two, mesh_three, mesh_four}
-use Rattle.scope.specs.TabledRows.{mesh_two_with, own_one, own_two, own_four, of_layers, TabledMeshRow, mesh_alone}
-use Rattle.scope.specs.TabledRows.{mesh_early, mesh_filled, TabledRow, of_alone, of_early, of_filled}
-use Rattle.scope.specs.RefusalTable.{MeshRow, TableRow}
+use Rattle.scope.specs.TabledRefusals.{MeshLinesPass, Begun, OwnForm, OwnTo, OwnLines, OwnFormFails, LinesPass}
+use Rattle.scope.specs.TabledRefusals.{LayersRefused, TableLaid, EarlyRefusalRow, mesh_one, mesh_two, mesh_three, mesh_four}
+use Rattle.scope.specs.TabledRefusals.{mesh_two_with, own_one, own_two, own_four, of_layers, TabledMeshRefusalRow, mesh_alone}
+use Rattle.scope.specs.TabledRefusals.{mesh_early, mesh_filled, TabledRefusalRow, of_alone, of_early, of_filled}
+use Rattle.scope.specs.RefusalTable.{MeshRefusalRow, RefusalRow}
 use Rattle.scope.specs.Verdict.{mesh_check}
 use Rattle.scope.proofs.Checks.{then_refused}
 use Rattle.scope.proofs.Decides.{Decides, is_yes}
 use Rattle.scope.proofs.Phases.{EachIn, each_refusal, each_join, each_as, each_there, join_refused, refused_there}
 use Rattle.scope.proofs.Refusals.{lines_sound, sound_lines, mesh_exact}
-use Rattle.scope.proofs.TableNumbers.{no_layers, Cause, each_cause, count_refused, limit_refused, rule_refused}
-use Rattle.scope.proofs.RefusalTable.{mesh_row as row_of_mesh, row_mesh, table_row, table_exact}
+use Rattle.scope.proofs.RefusalNumbers.{no_layers, Cause, each_cause, count_refused, limit_refused, rule_refused}
+use Rattle.scope.proofs.RefusalTable.{mesh_row as row_of_mesh, row_mesh, refusal_row, refusal_rows_exact}
 use Rattle.scope.proofs.Exactly.{refused_exactly}
 use Rattle.scope.proofs.Layers.{same_heights, layer_rows, row_layers}
 use Rattle.scope.proofs.Filled.{heights}
 use Rattle.scope.proofs.Table.{named_facts, tabled_exact}
 use Rattle.scope.proofs.TableVerdict.{table_phases, OfTable, Came, early, late, came, early_number, early_refused}
 use Rattle.scope.proofs.TableVerdict.{fits_late, tabled_refused, sound_table, table_sound, in_two}
-use Rattle.scope.proofs.TableVerdict.{table_exact as table_phases_exact}
+use Rattle.scope.proofs.TableVerdict.{refusal_rows_exact as table_phases_exact}
 use Rattle.scope.proofs.TableLines.{OwnFails, own_count, own_fails, own_line, own_number_count, there, counted}
 use Rattle.scope.proofs.TableLines.{has_begun, of_layout, own_lines, lines_own, line_refused, left_refused}
 
@@ -67,10 +67,10 @@ heights_lem m s = heights (λ e. pos 1) m (named_facts m s)
 module _ (t m : List ℤ) where
   -- no line before 5 has a claim's rule, 13
   abbrev Early : ℕ → Place → Type 0
-  Early k p = OfTable k → EarlyRow t m k p
+  Early k p = OfTable k → EarlyRefusalRow t m k p
 
-  numbered : {i k : ℕ} {p : Place} → i ≡ k → EarlyRow t m i p → EarlyRow t m k p
-  numbered {p = p} e r = subst (λ (n : ℕ). EarlyRow t m n p) e r
+  numbered : {i k : ℕ} {p : Place} → i ≡ k → EarlyRefusalRow t m i p → EarlyRefusalRow t m k p
+  numbered {p = p} e r = subst (λ (n : ℕ). EarlyRefusalRow t m n p) e r
 
   mesh_row : t ≢ [] → (k n : ℕ) → Cause (layout_with true) m k n → Early n (Line (suc k))
   unfolding layout_with rule_number
@@ -87,7 +87,7 @@ module _ (t m : List ℤ) where
   mesh_row some k n (inr (inr (at_most_where a b d z, h))) o = numbered h.1 (mesh_two_with a b d z k some h.0)
 
   own_row : MeshLinesPass t m → (i n : ℕ) → Begun t i → OwnTo t m i → OwnFails t m i n
-      → EarlyRow t m n (Line (1001 + i))
+      → EarlyRefusalRow t m n (Line (1001 + i))
   own_row s i n b before (inl h) = numbered h.1
       (own_one i (record { mesh = s; before = before; begun = b; fails = h.0 }))
   own_row s i n b before (inr (f, inl h)) = numbered h.1
@@ -95,10 +95,10 @@ module _ (t m : List ℤ) where
   own_row s i n b before (inr (f, inr (w, h))) = numbered h.1
       (own_four i (record { mesh = s; before = before; form = f; limits = w; fails = h.0 }))
 
-  placed_at : {n i j : ℕ} → i ≡ j → EarlyRow t m n (Line i) → EarlyRow t m n (Line j)
-  placed_at {n} e r = subst (λ (a : ℕ). EarlyRow t m n (Line a)) e r
+  placed_at : {n i j : ℕ} → i ≡ j → EarlyRefusalRow t m n (Line i) → EarlyRefusalRow t m n (Line j)
+  placed_at {n} e r = subst (λ (a : ℕ). EarlyRefusalRow t m n (Line a)) e r
 
-  own_rows : MeshLinesPass t m → EachIn (EarlyRow t m) (table_line_phases t m)
+  own_rows : MeshLinesPass t m → EachIn (EarlyRefusalRow t m) (table_line_phases t m)
   unfolding table_lines table_layout
   own_rows s = (
     λ k n h l r. let b = counted t m h in
@@ -111,7 +111,7 @@ module _ (t m : List ℤ) where
       last : (n : ℕ) → OwnTo t m (table_lines t)
           → ((¬ (length t ≤ number_count (groups (table_layout m) t))) × (1 ≡ n))
           ⊎ ((length t ≤ number_count (groups (table_layout m) t)) × ⊥)
-          → EarlyRow t m n (Line (1000 + suc (line_count (groups (table_layout m) t))))
+          → EarlyRefusalRow t m n (Line (1000 + suc (line_count (groups (table_layout m) t))))
       last n before (inl h) =
           let more : 3 * table_lines t < length t = omega (arith, own_number_count t m, h.0) in
           numbered h.1
@@ -124,8 +124,8 @@ module _ (t m : List ℤ) where
           })))
       last n before (inr h) = absurd h.1
 
-  layers_row : MeshLinesPass t m → OwnLines t m → {k : ℕ} {p : Place} → LayerRow t (lowest m) (highest m) k p
-      → EarlyRow t m k p
+  layers_row : MeshLinesPass t m → OwnLines t m → {k : ℕ} {p : Place} → LayerRefusalRow t (lowest m) (highest m) k p
+      → EarlyRefusalRow t m k p
   layers_row s o r = of_layers (record {
     lowest = lowest m;
     highest = highest m;
@@ -139,11 +139,11 @@ module _ (t m : List ℤ) where
       (each_cause (layout_with true) m Early (mesh_row some))
       (λ a. let s : MeshLinesPass t m = record { table = some; lines = lines_sound (layout_with true) m a } in
       each_join Early (table_line_phases t m) (layer_phases t m)
-      (each_as (EarlyRow t m) Early (table_line_phases t m) (λ k p x o. x) (own_rows s))
-      (λ b. each_as (LayerRow t (lowest m) (highest m)) Early (layer_phases t m)
+      (each_as (EarlyRefusalRow t m) Early (table_line_phases t m) (λ k p x o. x) (own_rows s))
+      (λ b. each_as (LayerRefusalRow t (lowest m) (highest m)) Early (layer_phases t m)
       (λ k p x o. layers_row s (own_lines t m b) x) (layer_rows t m)))
 
-  early_row : {k : ℕ} {p : Place} → RefusedBy (table_phases t m) k p → EarlyRow t m k p
+  early_row : {k : ℕ} {p : Place} → RefusedBy (table_phases t m) k p → EarlyRefusalRow t m k p
   early_row {k} {p} r =
       each_refusal Early (table_phases t m)
       (each_there Early (line_phases (layout_with true) m ++ (table_line_phases t m ++ layer_phases t m)) (is_there t)
@@ -165,18 +165,18 @@ module _ (t m : List ℤ) where
       }
 
 -- the mesh that is read: the filled one, or without a table the mesh itself
-late_row : (t m c : List ℤ) {k : ℕ} {p : Place} → TableFits t m → TableRow (mesh_read t m) c k p → TabledRow t m c k p
+late_row : (t m c : List ℤ) {k : ℕ} {p : Place} → TableFits t m → RefusalRow (mesh_read t m) c k p → TabledRefusalRow t m c k p
 unfolding mesh_read has_table
 late_row [] m c f r = of_alone refl r
 late_row (z ∷ t) m c f r = of_filled (laid (z ∷ t) m (λ e. cc) (f refl)) r
 
-late_mesh_row : (t m : List ℤ) {k : ℕ} {p : Place} → TableFits t m → MeshRow (mesh_read t m) k p
-    → TabledMeshRow t m k p
+late_mesh_row : (t m : List ℤ) {k : ℕ} {p : Place} → TableFits t m → MeshRefusalRow (mesh_read t m) k p
+    → TabledMeshRefusalRow t m k p
 unfolding mesh_read has_table
 late_mesh_row [] m f r = mesh_alone refl r
 late_mesh_row (z ∷ t) m f r = mesh_filled (laid (z ∷ t) m (λ e. cc) (f refl)) r
 
-tabled_row : (t m c : List ℤ) {k : ℕ} {p : Place} → TabledRefusal t m c k p → TabledRow t m c k p
+tabled_row : (t m c : List ℤ) {k : ℕ} {p : Place} → TabledRefusal t m c k p → TabledRefusalRow t m c k p
 tabled_row t m c {k} {p} r = by (came t m c) ((tabled_refused t m c k p).1 r)
   where
     number_lem : {i j : ℕ} {q s : Place} → Refused i q ≡ Refused j s → i ≡ j
@@ -185,19 +185,19 @@ tabled_row t m c {k} {p} r = by (came t m c) ((tabled_refused t m c k p).1 r)
     place_lem : {i j : ℕ} {q s : Place} → Refused i q ≡ Refused j s → q ≡ s
     place_lem d = cc
 
-    by : Came t m c → tabled_verdict t m c ≡ Refused k p → TabledRow t m c k p
-    by (early i q x d) e = of_early (subst₂ (λ (n : ℕ) (s : Place). EarlyRow t m n s) (number_lem (sym d ∙ e))
+    by : Came t m c → tabled_verdict t m c ≡ Refused k p → TabledRefusalRow t m c k p
+    by (early i q x d) e = of_early (subst₂ (λ (n : ℕ) (s : Place). EarlyRefusalRow t m n s) (number_lem (sym d ∙ e))
         (place_lem (sym d ∙ e)) (early_row t m x))
-    by (late f d) e = late_row t m c f (table_row (mesh_read t m) c k p
+    by (late f d) e = late_row t m c f (refusal_row (mesh_read t m) c k p
         ((refused_exactly (mesh_read t m) c k p).0 (sym d ∙ e)))
 
-tabled_mesh_row : (t m : List ℤ) {k : ℕ} {p : Place} → RefusedBy (tabled_phases t m) k p → TabledMeshRow t m k p
+tabled_mesh_row : (t m : List ℤ) {k : ℕ} {p : Place} → RefusedBy (tabled_phases t m) k p → TabledMeshRefusalRow t m k p
 tabled_mesh_row t m {k} {p} r = by ((then_refused (check_phases (table_phases t m)) (mesh_check (mesh_read t m)) k p).0
     (sym (in_two t m) ∙ (tabled_exact t m).refuses.refused k p r))
   where
     by : (check_phases (table_phases t m) ≡ Fails k p)
         ⊎ ((check_phases (table_phases t m) ≡ Passed) × (mesh_check (mesh_read t m) ≡ Fails k p))
-        → TabledMeshRow t m k p
+        → TabledMeshRefusalRow t m k p
     by (inl d) = mesh_early (early_row t m ((table_phases_exact t m).refuses.why k p d))
     by (inr (a, d)) = late_mesh_row t m ((table_phases_exact t m).passes.says a)
         (row_of_mesh (mesh_read t m) k p ((mesh_exact (mesh_read t m)).refuses.why k p d))
@@ -252,7 +252,7 @@ module _ (t m : List ℤ) where
       (join_refused (table_line_phases t m) (layer_phases t m) k p
       (inr (
         lines_own t m r.before.own,
-        row_layers t m (at_heights (λ (lo hi : ℕ). LayerRow t lo hi k p) r.before r.row),
+        row_layers t m (at_heights (λ (lo hi : ℕ). LayerRefusalRow t lo hi k p) r.before r.row),
       )))
 
   laid_fits : TableLaid t m → TableFits t m
@@ -262,7 +262,7 @@ module _ (t m : List ℤ) where
     sound = at_heights (TableSound t) l.before l.sound;
   }
 
-  row_early : {k : ℕ} {p : Place} → EarlyRow t m k p → RefusedBy (table_phases t m) k p
+  row_early : {k : ℕ} {p : Place} → EarlyRefusalRow t m k p → RefusedBy (table_phases t m) k p
   unfolding layout_with rule_number
   row_early (mesh_one k some h) = mesh_refusal some (count_refused (layout_with true) m k h)
   row_early (mesh_two k some h) = mesh_refusal some (limit_refused (layout_with true) m k h)
@@ -284,19 +284,19 @@ unfolding mesh_read has_table
 alone_read t m e = ap (λ (u : List ℤ). mesh_read u m) e
 
 module _ (t m c : List ℤ) where
-  late_lem : {k : ℕ} {p : Place} → TableFits t m → TableRow (mesh_read t m) c k p → TabledRefusal t m c k p
+  late_lem : {k : ℕ} {p : Place} → TableFits t m → RefusalRow (mesh_read t m) c k p → TabledRefusal t m c k p
   late_lem {k} {p} f r = (tabled_refused t m c k p).0
-      (fits_late t m c f ∙ (refused_exactly (mesh_read t m) c k p).1 ((table_exact (mesh_read t m) c k p).1 r))
+      (fits_late t m c f ∙ (refused_exactly (mesh_read t m) c k p).1 ((refusal_rows_exact (mesh_read t m) c k p).1 r))
 
-  row_tabled : {k : ℕ} {p : Place} → TabledRow t m c k p → TabledRefusal t m c k p
+  row_tabled : {k : ℕ} {p : Place} → TabledRefusalRow t m c k p → TabledRefusal t m c k p
   row_tabled {k} {p} (of_alone e r) = late_lem (alone_fits t m e)
-      (subst (λ (f : List ℤ). TableRow f c k p) (sym (alone_read t m e)) r)
+      (subst (λ (f : List ℤ). RefusalRow f c k p) (sym (alone_read t m e)) r)
   row_tabled {k} {p} (of_early r) = (tabled_refused t m c k p).0 (early_refused t m c (row_early t m r))
   row_tabled {k} {p} (of_filled l r) = late_lem (laid_fits t m l)
-      (subst (λ (f : List ℤ). TableRow f c k p) (sym (filled_there t m l.before.mesh.table)) r)
+      (subst (λ (f : List ℤ). RefusalRow f c k p) (sym (filled_there t m l.before.mesh.table)) r)
 
   -- refused with a number and a place exactly when there is a row with them
-  pub tabled_exactly : (k : ℕ) (p : Place) → TabledRefusal t m c k p ↔ TabledRow t m c k p
+  pub tabled_exactly : (k : ℕ) (p : Place) → TabledRefusal t m c k p ↔ TabledRefusalRow t m c k p
   tabled_exactly k p = (tabled_row t m c, row_tabled)
 
 -- and so without a claim
@@ -308,25 +308,25 @@ module _ (t m : List ℤ) where
   by_check {k} {p} h = (tabled_exact t m).refuses.why k p
       (in_two t m ∙ (then_refused (check_phases (table_phases t m)) (mesh_check (mesh_read t m)) k p).1 h)
 
-  late_mesh : {k : ℕ} {p : Place} → TableFits t m → MeshRow (mesh_read t m) k p → RefusedBy (tabled_phases t m) k p
+  late_mesh : {k : ℕ} {p : Place} → TableFits t m → MeshRefusalRow (mesh_read t m) k p → RefusedBy (tabled_phases t m) k p
   late_mesh {k} {p} f r =
       let refused = (mesh_exact (mesh_read t m)).refuses.refused k p (record { by = row_mesh (mesh_read t m) r }) in
       by_check (inr ((table_phases_exact t m).passes.passed f, refused))
 
-  row_tabled_mesh : {k : ℕ} {p : Place} → TabledMeshRow t m k p → RefusedBy (tabled_phases t m) k p
+  row_tabled_mesh : {k : ℕ} {p : Place} → TabledMeshRefusalRow t m k p → RefusedBy (tabled_phases t m) k p
   row_tabled_mesh {k} {p} (mesh_alone e r) = late_mesh (alone_fits t m e)
-      (subst (λ (f : List ℤ). MeshRow f k p) (sym (alone_read t m e)) r)
+      (subst (λ (f : List ℤ). MeshRefusalRow f k p) (sym (alone_read t m e)) r)
   row_tabled_mesh {k} {p} (mesh_early r) =
       by_check (inl ((table_phases_exact t m).refuses.refused k p (row_early t m r)))
   row_tabled_mesh {k} {p} (mesh_filled l r) = late_mesh (laid_fits t m l)
-      (subst (λ (f : List ℤ). MeshRow f k p) (sym (filled_there t m l.before.mesh.table)) r)
+      (subst (λ (f : List ℤ). MeshRefusalRow f k p) (sym (filled_there t m l.before.mesh.table)) r)
 
-  pub tabled_mesh_exactly : (k : ℕ) (p : Place) → RefusedBy (tabled_phases t m) k p ↔ TabledMeshRow t m k p
+  pub tabled_mesh_exactly : (k : ℕ) (p : Place) → RefusedBy (tabled_phases t m) k p ↔ TabledMeshRefusalRow t m k p
   tabled_mesh_exactly k p = (tabled_mesh_row t m, row_tabled_mesh)
 
 -- ---- 46 and 45 come exactly where the layers are refused with all lines before them
 
-only_layers : {t m : List ℤ} {k : ℕ} {p : Place} → EarlyRow t m k p → (k ≡ 45) ⊎ (k ≡ 46) → LayersRefused t m k p
+only_layers : {t m : List ℤ} {k : ℕ} {p : Place} → EarlyRefusalRow t m k p → (k ≡ 45) ⊎ (k ≡ 46) → LayersRefused t m k p
 only_layers (mesh_one k some x) h = absurd (neither (omega arith) h)
 only_layers (mesh_two k some x) h = absurd (neither (omega arith) h)
 only_layers (mesh_three k some x) h = absurd (neither (omega arith) h)
@@ -338,10 +338,10 @@ only_layers (own_four i x) h = absurd (neither (omega arith) h)
 only_layers (of_layers r) h = r
 
 pub layers_exactly : (t m c : List ℤ) (k : ℕ) (p : Place) → (k ≡ 45) ⊎ (k ≡ 46)
-    → TabledRow t m c k p ↔ LayersRefused t m k p
+    → TabledRefusalRow t m c k p ↔ LayersRefused t m k p
 layers_exactly t m c k p h = (to, λ r. of_early (of_layers r))
   where
-    to : TabledRow t m c k p → LayersRefused t m k p
-    to (of_alone e r) = absurd (no_layers ((table_exact m c k p).1 r) h)
+    to : TabledRefusalRow t m c k p → LayersRefused t m k p
+    to (of_alone e r) = absurd (no_layers ((refusal_rows_exact m c k p).1 r) h)
     to (of_early r) = only_layers r h
-    to (of_filled l r) = absurd (no_layers ((table_exact (filled t m) c k p).1 r) h)
+    to (of_filled l r) = absurd (no_layers ((refusal_rows_exact (filled t m) c k p).1 r) h)
