@@ -84,7 +84,7 @@ class Maker:
             self.missing("multipliers", "the result has none")
             return None
         if self.given:
-            multipliers, how = whole_multipliers.given_multipliers(self.mesh, self.rows, self.given)
+            multipliers, how = whole_multipliers.given_multipliers(self.mesh, self.rows, self.given, seconds)
         else:
             solution = glpsol.solve(self.rows, self.columns, spread=spread)
             make = whole_multipliers.make_multipliers

@@ -1,15 +1,17 @@
 """Multipliers in whole numbers, near the optimum of a mesh's linear program.
 
-A column sum is 0 or it isn't, so rounding must not disturb any. Three ways:
+A column sum is 0 or it isn't, so rounding must not disturb any. Four ways:
 - the optimum itself, where its fractions are short;
 - where the mesh has nice numbers, round the equality multipliers, the motion of the mesh, and let strength multipliers
   of each node follow;
-- else round in the lattice of whole multipliers, and search there for better ones (multiplier_search.py)."""
+- else round in the lattice of whole multipliers, and search there for better ones (multiplier_search.py);
+- and round the middle of those near the optimum in the lattice of whole motions (motion_search.py)."""
 
 import math
 
 import glpsol
 import rows as exact
+from motion_search import moved_multipliers
 from multiplier_search import NEAR, Finder, largest_scale, limit, multipliers_fit
 from polygon_sides import node_multipliers
 from whole_numbers import Equalities, common_denominator
@@ -138,14 +140,21 @@ def useful(rows, made, load):
     return made
 
 
+def best_of(rows, found):
+    """Of (multipliers, how) or None, or None."""
+    return min(filter(None, found), key=lambda pair: limit(rows, pair[0]), default=None)
+
+
 def near_multipliers(mesh, rows, solution, seconds, best):
-    """The best of those that are there and those that the lattice has."""
-    if best and limit(rows, best[0]) <= solution.load + NEAR * abs(solution.load):
+    """The best of those that are there and those that the lattices have."""
+    is_near = lambda pair: pair and limit(rows, pair[0]) <= solution.load + NEAR * abs(solution.load)
+    if is_near(best):
         return best
-    found = Finder(mesh, rows, solution).search(seconds)
-    if not best or not found[0]:
-        return best or found
-    return min(best, found, key=lambda pair: limit(rows, pair[0]))
+    searched, why = Finder(mesh, rows, solution).search(seconds)
+    best = best_of(rows, [best, searched and (searched, why)])
+    if not is_near(best):
+        best = best_of(rows, [best, moved_multipliers(mesh, rows, solution, seconds)])
+    return best or (None, why)
 
 
 def make_multipliers(mesh, rows, solution, spread=0.0, tries=0, seconds=0):
@@ -160,13 +169,14 @@ def make_multipliers(mesh, rows, solution, spread=0.0, tries=0, seconds=0):
     return useful(rows, near_multipliers(mesh, rows, solution, seconds, best), solution.load)
 
 
-def given_multipliers(mesh, rows, solution):
+def given_multipliers(mesh, rows, solution, seconds=0):
     """The same for a result from elsewhere, where no solver is asked again."""
     whole = vertex_multipliers(rows, 3 * len(mesh.nodes), solution.multipliers)
     if whole:
         return whole, "the vertex itself"
     quick = filled_multipliers(mesh, rows, solution.multipliers, 0)
-    found = quick and (quick[1], f"rounded, filling {quick[0]:g}"), Finder(mesh, rows, solution).rounded()
-    none = None, "rounding found none within the limits"
-    best = min(filter(None, found), key=lambda pair: limit(rows, pair[0]), default=none)
+    found = [quick and (quick[1], f"rounded, filling {quick[0]:g}"), Finder(mesh, rows, solution).rounded()]
+    if seconds:
+        found.append(moved_multipliers(mesh, rows, solution, seconds, 0))
+    best = best_of(rows, found) or (None, "rounding found none within the limits")
     return useful(rows, best, solution.load)
