@@ -12,7 +12,7 @@ import math
 from polygon_sides import cross, side_table, small_totals, vector_multipliers
 
 FEW = {12: 6, 20: 5, 36: 4, 108: 3}  # by the number of sides, how many make up a rest
-KEPT = 8  # what is kept free below the limit for them
+KEPT = 16  # what is kept free below the limit for them
 BACK = 5  # how many of the two sides next to V may be taken back again
 
 
@@ -61,19 +61,18 @@ def what_is_left(sides, y, vector):
 
 def without_friction(sides, vector, most):
     """y with Σ y·S = vector and Z near its least, or None."""
-    if vector == (0, 0):
-        return [0] * sides
+    y = vector_multipliers(sides, vector)
+    if y is None or max(y) <= most:
+        return y
     filled = most_of(sides, vector, most - KEPT)
     if filled is None:
         return None
     y, *ends = filled
     for k, count in ends:
-        y[k] += count
+        y[k] += max(0, count - BACK)
     rest = vector_multipliers(sides, what_is_left(sides, y, vector))
-    if rest is None:
-        return None
-    y = [a + b for a, b in zip(y, rest)]
-    return y if max(y) <= most else None
+    y = rest and [a + b for a, b in zip(y, rest)]
+    return y if y and max(y) <= most else None
 
 
 @functools.cache
@@ -85,8 +84,18 @@ def pairs_by_total(sides):
     return found
 
 
+@functools.cache
+def whole_turn(sides):
+    """(Z of all sides together, more than which is left for opposite pairs to sum up to)."""
+    _, modulus, best = small_totals(sides)
+    return sum(z for _, z in side_table(sides)), max(least for least, _ in best.values()) + modulus
+
+
 def pair_counts(sides, total):
-    """How many opposite pairs of each Z sum up to the total, or None."""
+    """(how many of each side, how many opposite pairs of each Z besides) that sum up to the total, or None."""
+    turn, kept = whole_turn(sides)
+    turns = max(0, (total - kept) // turn)
+    total -= turns * turn
     _, modulus, best = small_totals(sides)
     least, pair = best.get(total % modulus, (math.inf, None))
     if total < least:
@@ -96,12 +105,13 @@ def pair_counts(sides, total):
         counts[pair] = counts.get(pair, 0) + 1
         least -= pair
         pair = best[least % modulus][1]
-    return counts
+    return turns, counts
 
 
-def with_pairs(sides, y, counts, most):
-    """y with these opposite pairs, spread over those of the same Z, or None where they don't fit."""
-    y, half = list(y), sides // 2
+def with_pairs(sides, y, turns, counts, most):
+    """y with so many of each side and these opposite pairs, spread over those of the same Z, or None where they don't
+    fit."""
+    y, half = [m + turns for m in y], sides // 2
     for size, count in counts.items():
         places = pairs_by_total(sides)[size]
         shares = [-(-count // len(places))] * len(places) + [count] * len(places)
@@ -128,7 +138,7 @@ def with_friction(sides, vector, total, most):
         left = total - sum(m * z for m, (_, z) in zip(y, side_table(sides)) if m)
         for z, chosen in few_sums(sides).get(what_is_left(sides, y, vector), ()) if left >= 0 else ():
             counts = pair_counts(sides, left - z)
-            answer = counts and with_pairs(sides, added(y, chosen), counts, most)
+            answer = counts and with_pairs(sides, added(y, chosen), *counts, most)
             if answer and max(answer) <= most:
                 return answer
     return None

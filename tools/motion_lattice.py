@@ -10,16 +10,12 @@ import math
 import rows as exact
 from capped_multipliers import with_friction, without_friction
 from lattice import Measure, add_multiple, kernel
+from multiplier_search import divided
 from pair_lattice import pair_lattice
 from plane_multipliers import plane_multipliers
 
 FINE = 2.0**22  # the largest factor of a measure
 STEP = 0.05  # no strength multiplier has less room than this, in whole steps
-
-
-def divided(equation):
-    divisor = math.gcd(*equation.values())
-    return {k: c // divisor for k, c in equation.items()}
 
 
 def lower_inverse(matrix):
@@ -104,9 +100,8 @@ class MotionLattice:
         return wanted
 
     def measure(self, multipliers, scale):
-        """Of a motion's distance from these multipliers times the scale: what a pair's sums are
-        off counts by the room that its multipliers have above 0. Where the length is below the unit, real ones that
-        are not below 0 answer it."""
+        """Of a motion's distance from these multipliers times the scale: what a pair's sums are off counts by the room
+        that its multipliers have above 0."""
         roots, columns = {}, {k: {k: 1} for k in self.equality}
         for pair in self.deform:
             count = len(self.lattice_of(pair).basis)

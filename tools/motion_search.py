@@ -9,8 +9,8 @@ from dual_path import DualPath, field_vectors
 from lattice import Lattice
 from motion_lattice import MotionLattice
 from motion_walk import Walk, step_of
+from multiplier_search import NEAR, USED, multipliers_fit, neighbourhood
 
-USED = 1e-7  # a multiplier above this part of the largest is in use
 GAPS = (8.0, 4.0, 2.0, 1.0, 0.5, 0.25, 0.12, 0.06, 0.03, 0.015, 0.007, 0.0035, 0.0017)  # above the optimum, in parts
 FILLINGS = [0.98 * 0.95**k for k in range(50)]  # how much of the limits roundings take
 SPREAD = 3  # multipliers of a node may be spread over so many times as many sides
@@ -18,22 +18,13 @@ WALKS = 3  # of the roundings at one gap, so many are walked from
 HIGH = 100  # from above this none is
 WORSE = 3  # gaps without anything better, after which no nearer one is tried
 WARM, COLD = 0.02, 0.0002  # of the last walk: how much worse a step may be by chance
-NEAR = 1e-4  # a limit so near to the optimum, relative to it, is good enough
 HOPELESS = 3.0  # from above this a walk doesn't come to what fits
-WALKED = 3  # of the seconds of a search, how many times the last walk takes
-
-
-def neighbourhood(mesh, nodes):
-    """The nodes and all that share an element with them."""
-    result = set(nodes)
-    for element in mesh.elements:
-        if set(nodes).intersection(element.nodes):
-            result.update(element.nodes)
-    return result
+WALKED = 3  # how many times the seconds of a search the last walk takes
 
 
 def choices(mesh, rows, multipliers):
-    """Which pairs may deform: all, those of nodes beside one that deforms at the optimum, or those that do."""
+    """Which pairs may deform: all, those of nodes beside one that deforms at the optimum, or those that do. None
+    whose soil has friction and is stronger one way, for its sums aren't answered."""
     pairs = exact.strength_pairs(mesh)
     first = len(rows) - len(pairs) * mesh.sides
     least = USED * max(multipliers[first:])
@@ -41,7 +32,8 @@ def choices(mesh, rows, multipliers):
     used = {pair for pair, k in enumerate(begins) if max(multipliers[k : k + mesh.sides]) > least}
     beside = neighbourhood(mesh, {pairs[pair][0] for pair in used})
     around = {pair for pair, (node, _) in enumerate(pairs) if node in beside}
-    return dict.fromkeys(map(frozenset, (range(len(pairs)), around, used)))
+    able = {pair for pair, (_, soil) in enumerate(pairs) if not (mesh.soils[soil].kind and mesh.soils[soil].p)}
+    return dict.fromkeys(frozenset(some & able) for some in (able, around, used) if some & able)
 
 
 class MotionSearch:
@@ -93,6 +85,16 @@ class MotionSearch:
             if worse == WORSE:
                 break
 
+    def walk_from(self, multipliers, seconds):
+        """From a claim's multipliers, where they deform none but these pairs."""
+        motions = self.motions
+        others = set(range(len(motions.pairs))) - set(motions.deform)
+        if any(multipliers[k] for pair in others for k in motions.strength_rows(pair)):
+            return
+        walk = self.walk({k: c for k, c in motions.target(multipliers).items() if c})
+        walk.descend(self.best[2] if self.best else self.steps, seconds)
+        self.keep(walk.height, walk.vector)
+
     def improve(self, seconds):
         """Walks on from the best one."""
         _, vector, steps = self.best
@@ -104,16 +106,20 @@ class MotionSearch:
 
     def multipliers(self):
         """A claim's, where the best motion fits, or None."""
-        walk = self.best and self.walk(self.best[1])
-        return self.motions.finish(walk.vector) if walk and walk.fits() else None
+        walk = self.walk(self.best[1])
+        whole = walk.fits() and self.motions.finish(walk.vector)
+        return whole if whole and multipliers_fit(self.motions.rows, self.motions.columns, whole) else None
 
 
-def moved_multipliers(mesh, rows, solution, seconds, more=WALKED):
-    """(multipliers, how) or None. seconds: of each search; more: how many times that the last walk may take."""
+def moved_multipliers(mesh, rows, solution, seconds, start=None, more=WALKED):
+    """(multipliers, how) or None. seconds: of each search; start: multipliers to walk from as well; more: how many
+    times the seconds the last walk takes."""
     vectors, found = field_vectors(rows, 3 * len(mesh.nodes)), []
     for deform in choices(mesh, rows, solution.multipliers):
         search = MotionSearch(mesh, rows, solution, deform, vectors)
         search.search(seconds)
+        if start and not found:
+            search.walk_from(start, seconds)
         if search.best:
             found.append(search)
             if search.best[0] < NEAR:

@@ -153,7 +153,7 @@ def near_multipliers(mesh, rows, solution, seconds, best):
     searched, why = Finder(mesh, rows, solution).search(seconds)
     best = best_of(rows, [best, searched and (searched, why)])
     if not is_near(best):
-        best = best_of(rows, [best, moved_multipliers(mesh, rows, solution, seconds)])
+        best = best_of(rows, [best, moved_multipliers(mesh, rows, solution, seconds, best and best[0])])
     return best or (None, why)
 
 
@@ -177,6 +177,6 @@ def given_multipliers(mesh, rows, solution, seconds=0):
     quick = filled_multipliers(mesh, rows, solution.multipliers, 0)
     found = [quick and (quick[1], f"rounded, filling {quick[0]:g}"), Finder(mesh, rows, solution).rounded()]
     if seconds:
-        found.append(moved_multipliers(mesh, rows, solution, seconds, 0))
+        found.append(moved_multipliers(mesh, rows, solution, seconds, more=0))
     best = best_of(rows, found) or (None, "rounding found none within the limits")
     return useful(rows, best, solution.load)

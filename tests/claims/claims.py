@@ -1,6 +1,7 @@
 """Tests of tools/claim_from_solver.py; ends with words where something isn't as it should be."""
 
 import os
+import random
 import shutil
 import subprocess
 import sys
@@ -14,7 +15,11 @@ sys.path.insert(0, TOOLS)
 
 import archive
 import rows as exact
+from capped_multipliers import with_friction, without_friction
 from measure_claims import kind_of
+from pair_lattice import pair_lattice
+from plane_multipliers import plane_multipliers
+from polygon_sides import side_table
 from random_meshes import random_mesh
 
 # The stored results: the status, and the most that each part may be off the result's load, relative to it. They were
@@ -28,6 +33,8 @@ STORED = {
 }
 # Random meshes by number, small ones: a field alone is made, or both parts.
 FIELDS, BOTH = (4, 8, 11), (2, 28)
+# A random mesh whose multipliers are whole motions (motion_search.py): there are none by other ways.
+MOVED = 57
 # A random mesh on which n up to 100,000 leaves no field within 0.1 % of the optimum.
 RULED_OUT = 77
 
@@ -176,6 +183,45 @@ def random_meshes(folder):
     return multipliers
 
 
+def whole_motions(folder):
+    mesh, table = random_files(folder, MOVED)
+    claim = os.path.join(folder, "moved.claim")
+    words = [mesh, claim, "--table", table, "--part", "multipliers", "--seconds", "1"]
+    expect(3, words, "whole motions")
+    verdict(mesh, claim, table)
+
+
+def answers():
+    """What multipliers of a pair sum to is answered by multipliers within the limits that sum to the same."""
+    chance, count = random.Random(1), 0
+    for sides, most in ((12, 10_000), (20, 10_000), (36, 10_000), (108, 300)):
+        table = side_table(sides)
+        for _ in range(40):
+            y = [chance.randint(0, 3 * most // sides) for _ in range(sides)]
+            x, z = tuple(sum(m * step[k] for m, (step, _) in zip(y, table)) for k in range(2)), total(y, table)
+            for found in (with_friction(sides, x, z, most), without_friction(sides, x, most)):
+                same = found and all(sum(m * s[k] for m, (s, _) in zip(found, table)) == x[k] for k in range(2))
+                if not same or not 0 <= min(found) <= max(found) <= most or total(found, table) > z:
+                    raise SystemExit(f"FAILED: {sides} sides, V {x}, Z {z}: {found}")
+            if total(with_friction(sides, x, z, most), table) != z:
+                raise SystemExit(f"FAILED: {sides} sides, V {x}: not Z {z}")
+            count += 2
+        soil = exact.Soil(0, 1, 1, 10, (0, 0), (0, 0), 1, 5)
+        for _ in range(0 if sides == 108 else 40):
+            rows = pair_lattice(sides, soil).rows
+            y = [chance.randint(0, most // 20) for _ in rows]
+            wanted = tuple(sum(m * row[k] for m, row in zip(y, rows)) for k in range(2))
+            found = plane_multipliers(sides, soil, wanted, most)
+            if not found or tuple(sum(m * row[k] for m, row in zip(found, rows)) for k in range(2)) != wanted:
+                raise SystemExit(f"FAILED: {sides} planes, {wanted}: {found}")
+            count += 1
+    return count
+
+
+def total(y, table):
+    return sum(m * z for m, (_, z) in zip(y, table))
+
+
 def ruled_out(folder):
     """Where the limits leave no field near the optimum, the best one is written, and that is said."""
     mesh, table = random_files(folder, RULED_OUT)
@@ -196,6 +242,7 @@ def main():
             stored_result(folder, name, no_solver)
         count = mistakes(folder, no_solver)
         texts = programs(folder, no_solver)
+        print(f"{answers()} sums of a pair's multipliers answered")
         by = "the archive and rows.py" if archive.library() else "rows.py alone"
         print(f"{len(STORED)} stored results, {count} mistakes, 2 formats; claims checked by {by}")
         if not shutil.which("glpsol"):
@@ -203,8 +250,9 @@ def main():
             return
         solved(folder, texts)
         multipliers = random_meshes(folder)
+        whole_motions(folder)
         ruled_out(folder)
-        print(f"{len(FIELDS + BOTH) + 1} random meshes with glpsol, of them {multipliers} with multipliers")
+        print(f"{len(FIELDS + BOTH) + 2} random meshes with glpsol, of them {multipliers + 1} with multipliers")
 
 
 if __name__ == "__main__":
