@@ -16,6 +16,7 @@ FILLINGS = [0.98 * 0.95**k for k in range(50)]  # how much of the limits roundin
 SPREAD = 3  # multipliers of a node may be spread over so many times as many sides
 WALKS = 3  # of the roundings at one gap, so many are walked from
 HIGH = 100  # from above this none is
+LONGEST = 5.0  # seconds that the walks of one gap take at most
 WORSE = 3  # gaps without anything better, after which no nearer one is tried
 WARM, COLD = 0.02, 0.0002  # of the last walk: how much worse a step may be by chance
 HOPELESS = 3.0  # from above this a walk doesn't come to what fits
@@ -74,12 +75,12 @@ class MotionSearch:
 
     def search(self, seconds):
         """Keeps the best motion of the roundings, whether it fits or not. seconds: at each gap."""
-        worse = 0
+        worse, seconds = 0, min(seconds, LONGEST) / WALKS
         for gap in GAPS:
             better = False
             for walk in self.roundings(gap)[:WALKS]:
                 if walk.height < HIGH:
-                    walk.descend(self.steps, seconds / WALKS)
+                    walk.descend(self.steps, seconds)
                     better |= self.keep(walk.height, walk.vector)
             worse = 0 if better else worse + 1
             if worse == WORSE:
