@@ -7,7 +7,7 @@ import subprocess
 import sys
 import xml.etree.ElementTree
 
-from held import SHEETS, TOOLS, hold
+from held import SHEETS, TOOLS, content, hold, written
 
 import archive
 
@@ -69,17 +69,6 @@ def hold_command(out):
     hold_drawn_over(out)
     hold_differing(out, mesh, claim)
     hold_without_archive(out, mesh, claim)
-
-
-def written(path, data):
-    with open(path, "wb") as file:
-        file.write(data)
-    return path
-
-
-def content(path):
-    with open(path, "rb") as file:
-        return file.read()
 
 
 def hold_drawn_over(out):

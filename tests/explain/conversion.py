@@ -5,7 +5,7 @@ import shutil
 import subprocess
 import sys
 
-from held import SHEETS, TOOLS, hold, sheet
+from held import SHEETS, TOOLS, content, hold, sheet, written
 
 TOOL = os.path.join(TOOLS, "convert_mesh.py")
 
@@ -15,17 +15,6 @@ def older(mesh, soils):
     lines = mesh.split(b"\n")
     lines[0] = lines[0][:60]
     return b"\n".join(line[:96] if 0 < k <= soils else line for k, line in enumerate(lines))
-
-
-def written(path, data):
-    with open(path, "wb") as file:
-        file.write(data)
-    return path
-
-
-def content(path):
-    with open(path, "rb") as file:
-        return file.read()
 
 
 def hold_run(status, words, *given):

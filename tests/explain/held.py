@@ -27,6 +27,20 @@ def sheet(name):
     return files_of(SHEETS, name)
 
 
+# Files
+
+
+def written(path, data):
+    with open(path, "wb") as file:
+        file.write(data)
+    return path
+
+
+def content(path):
+    with open(path, "rb") as file:
+        return file.read()
+
+
 # Changed files
 
 

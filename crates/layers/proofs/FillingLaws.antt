@@ -19,7 +19,8 @@ use Rattle.scope.specs.Layers.{layers, soil, has, soil_at}
 use Rattle.scope.specs.Filled.{height_of, soil_place, given, filled, with_soils}
 use Rattle.scope.specs.LayerRefusals.{OneLayer}
 use Rattle.scope.proofs.Layers.{soil_found, soil-at}
-use Rattle.scope.proofs.Filled.{given-length, given_cong, given_kept, given_set, given_facts, soil-there, element_layer}
+use Rattle.scope.proofs.Filled.{given_facts, soil-there, element_layer}
+use Rattle.scope.proofs.Given.{given-length, given_cong, given_kept, given_set}
 use Rattle.scope.proofs.Filled.{height_kept, place_kept, nodes_kept, elements_kept, soils_kept, edges_kept}
 use Rattle.scope.proofs.Filled.{sides_kept, jumps_kept}
 use Rattle.mesh.specs.declared.sizes.Sizes.{Sizes}

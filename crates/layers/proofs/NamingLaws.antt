@@ -15,7 +15,7 @@ use Rattle.scope.specs.Columns.{at}
 use Rattle.scope.specs.Mesh.{elements}
 use Rattle.scope.specs.Filled.{soil_place, given, with_soils}
 use Rattle.scope.proofs.Decides.{equalℤ, yes_is, no_is}
-use Rattle.scope.proofs.Filled.{given-length, given_cong, given_kept, given_set, given_still, given_none, given-beyond}
+use Rattle.scope.proofs.Given.{given-length, given_cong, given_kept, given_set, given_still, given_none, given-beyond}
 use Rattle.layers.specs.LayerContracts.{ones_to, named}
 
 -- ---- one number

@@ -30,7 +30,7 @@ use Rattle.scope.proofs.PlaceKinds.{place_number_lem, mesh_place_kind, mesh_exac
 use Rattle.scope.proofs.Refusals.{lines_passed, mesh_passed, mesh_exact}
 use Rattle.scope.proofs.Table.{tabled_exact}
 use Rattle.scope.proofs.TabledRefusals.{tabled_mesh_exactly}
-use Rattle.scope.proofs.TableVerdict.{table_phases, refusal_rows_exact, in_two, early_number, early_kind}
+use Rattle.scope.proofs.TableVerdict.{table_phases, table_phases_exact, in_two, early_number, early_kind}
 use Rattle.reader.specs.File.{file_width, line_bytes}
 use Rattle.judge.specs.declared.room.MeshSizes.{MeshSizes}
 use Rattle.judge.specs.Judge.{mesh_outcome}
@@ -71,7 +71,7 @@ module _ (t m : List ℤ) where
           ⊎ ((check_phases (table_phases t m) ≡ Passed) × (mesh_check (mesh_read t m) ≡ Refused n p))
           → (n ≢ 0) × (p ≡ place_for n (place_number p))
       by (inl d) =
-          let r = (refusal_rows_exact t m).refuses.why n p d in
+          let r = (table_phases_exact t m).refuses.why n p d in
           (λ z. omega (arith, (early_number t m n p r).0), early_kind t m n p r)
       by (inr (a, d)) = (
         λ z. passed_is_not_refused

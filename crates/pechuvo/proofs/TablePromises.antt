@@ -20,7 +20,7 @@ use Rattle.scope.specs.TableVerdict.{tabled_verdict, TableFits}
 use Rattle.scope.proofs.Checks.{then_passed}
 use Rattle.scope.proofs.Table.{no_table}
 use Rattle.scope.proofs.Refusals.{mesh_passed}
-use Rattle.scope.proofs.TableVerdict.{table_phases, OfTable, Came, early, late, came, refusal_rows_exact, in_two, fits_late}
+use Rattle.scope.proofs.TableVerdict.{table_phases, OfTable, Came, early, late, came, table_phases_exact, in_two, fits_late}
 use Rattle.scope.proofs.TableVerdict.{early_number, no_table_verdict, read_as_it_was}
 use Rattle.numbers.specs.Promises.{returned_numbers, Returned, TellsField}
 use Rattle.numbers.specs.TablePromises.{TableReturned}
@@ -88,14 +88,14 @@ module _ (mesh table : List ℕ) where
   accepted_mesh e =
       let (a, b) = (then_passed (check_phases (table_phases t m)) (mesh_check (mesh_read t m))).0
       (sym (in_two t m) ∙ e) in
-      record { fits = (refusal_rows_exact t m).passes.says a; sound = (mesh_passed (mesh_read t m)).says b }
+      record { fits = (table_phases_exact t m).passes.says a; sound = (mesh_passed (mesh_read t m)).says b }
 
   pub mesh_accepted : MeshAccepted mesh table → mesh_outcome file_width mesh table ≡ Passed
   unfolding mesh_outcome mesh_from
   mesh_accepted a =
       in_two t m
       ∙ (then_passed (check_phases (table_phases t m)) (mesh_check (mesh_read t m))).1
-      ((refusal_rows_exact t m).passes.passed a.fits, (mesh_passed (mesh_read t m)).passed a.sound)
+      ((table_phases_exact t m).passes.passed a.fits, (mesh_passed (mesh_read t m)).passed a.sound)
 
 module _ (mesh table claim : List ℕ) where
   abbrev c : List ℤ

@@ -22,7 +22,8 @@ use Rattle.scope.specs.Filled.{soil_place, given}
 use Rattle.scope.specs.LayerRefusals.{Named}
 use Rattle.scope.proofs.Decides.{Decides, equalℤ}
 use Rattle.scope.proofs.Lines.{group, line_in_group}
-use Rattle.scope.proofs.Filled.{NoSoil, given-length, given_other, given_own, given_zero, groups_kept}
+use Rattle.scope.proofs.Filled.{groups_kept}
+use Rattle.scope.proofs.Given.{NoSoil, given-length, given_other, given_own, given_zero}
 use Rattle.scope.proofs.SoilAllowed.{soil-allowed}
 
 -- ---- every line is one of a group

@@ -54,6 +54,7 @@ pub mod SumBounds
 pub mod AnswerBounds
 pub mod Layers
 pub mod LayerOrder
+pub mod Given
 pub mod Filled
 pub mod SoilAllowed
 pub mod GivenLines

@@ -6,13 +6,8 @@ use native.Mathlib.Omega.{arith}
 use lib.IntN.{ℤ}
 use Rattle.scope.specs.declared.Place.{Place}
 use Rattle.scope.specs.Answer.{place_number}
-use Rattle.scope.specs.Columns.{Rule, right_angle, naming, parts, at_most_where}
-use Rattle.scope.specs.Mesh.{layout_with}
-use Rattle.scope.specs.Claim.{claim_layout}
-use Rattle.scope.specs.Refusals.{rule_number}
-use Rattle.scope.specs.RefusalTable.{MeshRefusalRow, of_lines, five, six, seven, forty_seven, eight, forty_four, forty_two}
-use Rattle.scope.specs.RefusalTable.{RefusalRow, of_mesh, of_claim_lines, twenty_one, twenty_two, thirty_one, thirty_two}
-use Rattle.scope.specs.RefusalTable.{thirty_three}
+use Rattle.scope.specs.RefusalTable.{of_lines, forty_seven}
+use Rattle.scope.specs.RefusalTable.{RefusalRow, of_mesh, of_claim_lines}
 use Rattle.scope.specs.Overlaps.{OnEachOther, OverlapNamed, NeverForThis}
 use Rattle.scope.proofs.LineRefusals.{mesh_line_number, claim_line_number}
 use Rattle.scope.proofs.Overlaps.{on_each_other}

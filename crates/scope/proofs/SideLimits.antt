@@ -17,9 +17,8 @@ use Rattle.scope.specs.Columns.{Rule, at_most_where, at}
 use Rattle.scope.specs.Layout.{groups, line_of, line_numbers, line_count, numbers_at}
 use Rattle.scope.specs.Mesh.{most_pairs, most_sides, most_strength, nodes_for_108, pairs_for_108, strength_for_108}
 use Rattle.scope.specs.Mesh.{nodes_with, pairs_with, strength_multiplier, mesh_header_columns, mesh_header}
-use Rattle.scope.specs.Mesh.{mesh_layout, layout_with, nodes, sides, kind_with, soil_kind, soil_lines}
-use Rattle.scope.specs.Rows.{pair_count, pair_at}
-use Rattle.scope.specs.Claim.{strength_multipliers}
+use Rattle.scope.specs.Mesh.{mesh_layout, layout_with, nodes, sides, kind_with, soil_kind}
+use Rattle.scope.specs.Rows.{pair_count}
 use Rattle.scope.specs.Pairs.{PairsFail}
 use Rattle.scope.specs.Statements.{Says, InLimits, RulesHold, PairsFit}
 use Rattle.scope.specs.Refusals.{rule_number, line_phases, shape_phases, MeshRefusal}
@@ -29,7 +28,7 @@ use Rattle.scope.proofs.Decides.{Decides}
 use Rattle.scope.proofs.Statements.{all_within_lem}
 use Rattle.scope.proofs.Phases.{join_refused}
 use Rattle.scope.proofs.NumberRanges.{count_is, mesh_facts}
-use Rattle.scope.proofs.Pairs.{pairs, few_pairs_lem, brings_one_more}
+use Rattle.scope.proofs.Pairs.{few_pairs_lem, brings_one_more}
 use Rattle.scope.proofs.LimitsRefused.{over_limit, kind_refused_lem, strength_refused_lem, strength_few_lem}
 
 -- ---- the most, whatever the number of sides

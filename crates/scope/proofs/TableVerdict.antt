@@ -40,7 +40,7 @@ use Rattle.scope.proofs.Exactly.{answer_refused, returns_zero}
 use Rattle.scope.proofs.AnswerBounds.{line_places, mesh_lines_lem}
 use Rattle.scope.proofs.Layers.{layers_decided, sound_of, of_sound}
 use Rattle.scope.proofs.Decides.{first_where_lem}
-use Rattle.scope.proofs.Filled.{given_all_own}
+use Rattle.scope.proofs.Given.{given_all_own}
 use Rattle.scope.proofs.GivenLines.{lines_as_many}
 use Rattle.scope.proofs.PlaceKinds.{Kind, OfLine, step_of_line, line_kinds, one_kind}
 use Rattle.scope.proofs.Table.{tabled_decided, with_table, table_lines_decided, table_facts, tabled_header}
@@ -104,8 +104,9 @@ module _ (t m : List ℤ) where
       (λ a. decided_join (table_line_phases t m) (layer_phases t m) (table_lines_decided t m)
       (λ b. layers_decided t m)))
 
-  pub refusal_rows_exact : Exact (check_phases (table_phases t m)) (TableFits t m) (RefusedBy (table_phases t m))
-  refusal_rows_exact = exact_as (phases_exact (table_phases t m) table_decided) table_fits fits_table (λ k p r. r) (λ k p r. r)
+  pub table_phases_exact : Exact (check_phases (table_phases t m)) (TableFits t m) (RefusedBy (table_phases t m))
+  table_phases_exact = exact_as (phases_exact (table_phases t m) table_decided) table_fits fits_table
+      (λ k p r. r) (λ k p r. r)
 
   -- a check that passes where the one before it has
   once_more : (a b c : Outcome) → (a ≡ Passed → b ≡ Passed) → a then c ≡ a then (b then c)
@@ -130,7 +131,7 @@ module _ (t m : List ℤ) where
           ∙ once_more (check_phases (lines ++ own)) (lines_check mesh_layout (filled t m))
           (check_phases (shape_phases (filled t m)))
           (λ d. (lines_passed mesh_layout (filled t m)).passed
-          (read_lines_lem (refusal_rows_exact.passes.says
+          (read_lines_lem (table_phases_exact.passes.says
           (ap (λ (b : Bool). check_phases (if_part b (lines ++ own))) e ∙ d) e)))
           ∙ ap (λ (o : Outcome). check_phases (lines ++ own) then o) (sym (mesh_checked (filled t m)))
           ∙ sym (ap (λ (b : Bool). check_phases (if_part b (lines ++ own)) then mesh_check (cond b (filled t m) m)) e)
@@ -190,21 +191,21 @@ module _ (t m : List ℤ) where
     came = by (check_phases (table_phases t m)) refl
       where
         by : (o : Outcome) → check_phases (table_phases t m) ≡ o → Came
-        by Passed e = late (refusal_rows_exact.passes.says e)
+        by Passed e = late (table_phases_exact.passes.says e)
             (verdict_in_two ∙ ap (λ (o : Outcome). answer o (verdict (mesh_read t m) c)) e)
-        by (Fails k p) e = early k p (refusal_rows_exact.refuses.why k p e)
+        by (Fails k p) e = early k p (table_phases_exact.refuses.why k p e)
             (verdict_in_two ∙ ap (λ (o : Outcome). answer o (verdict (mesh_read t m) c)) e)
 
     -- as the order before 5 has it
     pub early_refused : {k : ℕ} {p : Place} → RefusedBy (table_phases t m) k p → tabled_verdict t m c ≡ Refused k p
     unfolding answer
     early_refused {k} {p} r = verdict_in_two ∙ ap (λ (o : Outcome). answer o (verdict (mesh_read t m) c))
-        (refusal_rows_exact.refuses.refused k p r)
+        (table_phases_exact.refuses.refused k p r)
 
     pub fits_late : TableFits t m → tabled_verdict t m c ≡ verdict (mesh_read t m) c
     unfolding answer
     fits_late f = verdict_in_two ∙ ap (λ (o : Outcome). answer o (verdict (mesh_read t m) c))
-        (refusal_rows_exact.passes.passed f)
+        (table_phases_exact.passes.passed f)
 
     -- a refusal with its place exactly when the order has it
     pub tabled_refused : (k : ℕ) (p : Place) → (tabled_verdict t m c ≡ Refused k p) ↔ TabledRefusal t m c k p

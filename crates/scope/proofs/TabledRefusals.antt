@@ -43,7 +43,7 @@ use Rattle.scope.proofs.Filled.{heights}
 use Rattle.scope.proofs.Table.{named_facts, tabled_exact}
 use Rattle.scope.proofs.TableVerdict.{table_phases, OfTable, Came, early, late, came, early_number, early_refused}
 use Rattle.scope.proofs.TableVerdict.{fits_late, tabled_refused, sound_table, table_sound, in_two}
-use Rattle.scope.proofs.TableVerdict.{refusal_rows_exact as table_phases_exact}
+use Rattle.scope.proofs.TableVerdict.{table_phases_exact}
 use Rattle.scope.proofs.TableLines.{OwnFails, own_count, own_fails, own_line, own_number_count, there, counted}
 use Rattle.scope.proofs.TableLines.{has_begun, of_layout, own_lines, lines_own, line_refused, left_refused}
 

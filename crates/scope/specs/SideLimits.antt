@@ -1,13 +1,13 @@
 -- The limits that go by a mesh's number of sides (document 02, N9 and N14), said number by number: "Such a mesh has at
 -- most 40 nodes and 40 node-and-soil pairs, and its strength multipliers are at most 300; over these, 2, 42 and 12 are
 -- given as for other limits." "Kind 1 with 108 sides gets 2, with the soil's line."
-use Rattle.std.specs.Prelude.{◌≡◌, ◌↔◌, List, ℕ, suc, ◌+◌, ◌*◌, ◌≤◌, ◌<◌, ℤ, pos, ◌<ℤ◌, length, ◌≤ℤ◌, replicate, get_or}
+use Rattle.std.specs.Prelude.{◌≡◌, ◌↔◌, List, ℕ, suc, ◌+◌, ◌*◌, ◌≤◌, ◌<◌, ℤ, pos, ◌<ℤ◌, length, ◌≤ℤ◌}
 use Rattle.scope.specs.declared.Place.TheVariants.{Line}
-use Rattle.scope.specs.Columns.{at, has_field, between, free}
+use Rattle.scope.specs.Columns.{at, has_field}
 use Rattle.scope.specs.Mesh.{mesh_header_columns, mesh_layout, nodes, elements, soils, edges, sides, jumps, soil_kind}
-use Rattle.scope.specs.Mesh.{equality_count, soil_lines}
-use Rattle.scope.specs.Claim.{if_there, claim_layout, multiplier, strength_multipliers}
-use Rattle.scope.specs.Rows.{pair_count, pair_at}
+use Rattle.scope.specs.Mesh.{equality_count}
+use Rattle.scope.specs.Claim.{if_there, claim_layout, multiplier}
+use Rattle.scope.specs.Rows.{pair_count}
 use Rattle.scope.specs.NumberRanges.{Between}
 use Rattle.scope.specs.Statements.{Complete, LinesSound, PairsFit, MeshSound, HasMultipliers}
 use Rattle.scope.specs.Refusals.{SoundTo, MeshRefusal, Refusal}

@@ -67,11 +67,14 @@ has_table (z ∷ rest) = true
 unfoldable pub mesh_read : List ℤ → List ℤ → List ℤ
 mesh_read t m = cond (has_table t) (filled t m) m
 
+-- the phases of a table that is there: its lines, then 46 and 45
+abbrev pub table_part : List ℤ → List ℤ → List Phase
+table_part t m = if_part (has_table t) (table_line_phases t m ++ layer_phases t m)
+
 -- the table is judged "after the mesh lines and before 5", whether or not an element has soil 0
 abbrev pub tabled_phases : List ℤ → List ℤ → List Phase
 tabled_phases t m =
-    line_phases (layout_with (has_table t)) m
-    ++ (if_part (has_table t) (table_line_phases t m ++ layer_phases t m) ++ shape_phases (mesh_read t m))
+    line_phases (layout_with (has_table t)) m ++ (table_part t m ++ shape_phases (mesh_read t m))
 
 unfoldable pub tabled_check : List ℤ → List ℤ → Outcome
 tabled_check t m = check_phases (tabled_phases t m)

@@ -19,11 +19,11 @@ use Rattle.scope.specs.Refusals.{line_phases, shape_phases}
 use Rattle.scope.specs.Table.{table_line_phases, has_table, mesh_read, tabled_check}
 use Rattle.scope.specs.Verdict.{lines_check}
 use Rattle.scope.proofs.Checks.{then_passed}
-use Rattle.scope.proofs.Filled.{given-length}
+use Rattle.scope.proofs.Given.{given-length}
 use Rattle.scope.proofs.Phases.{check_join}
 use Rattle.scope.proofs.TableVerdict.{read_filled}
 use Rattle.verdict.specs.JudgeContracts.{LinesPassed}
-use Rattle.verdict.specs.NumbersLeft.{before_shape, left_by, numbers_left}
+use Rattle.verdict.specs.NumbersLeft.{before_shape, left_after, numbers_left}
 
 -- the front of a list that a copy is made in
 module _ (m before : List ℤ) {after : List ℤ} (e : after ≡ m ++ drop (length m) before) where
@@ -35,10 +35,10 @@ module _ (m before : List ℤ) {after : List ℤ} (e : after ≡ m ++ drop (leng
 
 -- without a table they stay, whatever is answered
 pub left_alone : (m : List ℤ) → m ≡ numbers_left [] m
-unfolding numbers_left left_by mesh_read has_table
+unfolding numbers_left left_after mesh_read has_table
 left_alone m = by (check_phases (before_shape [] m))
   where
-    by : (o : Outcome) → m ≡ left_by o [] m
+    by : (o : Outcome) → m ≡ left_after o [] m
     by Passed = refl
     by (Fails k p) = refl
 
@@ -53,20 +53,20 @@ module _ (t m : List ℤ) where
 
   -- they are as many as before
   pub left-length : length (numbers_left t m) ≡ length m
-  unfolding numbers_left left_by
+  unfolding numbers_left left_after
   left-length = by (check_phases (before_shape t m))
     where
-      by : (o : Outcome) → length (left_by o t m) ≡ length m
+      by : (o : Outcome) → length (left_after o t m) ≡ length m
       by Passed = read-length
       by (Fails k p) = refl
 
   stays : {k : ℕ} {p : Place} → Fails k p ≡ check_phases (before_shape t m) → m ≡ numbers_left t m
-  unfolding numbers_left left_by
-  stays e = ap (λ (o : Outcome). left_by o t m) e
+  unfolding numbers_left left_after
+  stays e = ap (λ (o : Outcome). left_after o t m) e
 
   is_read : Passed ≡ check_phases (before_shape t m) → mesh_read t m ≡ numbers_left t m
-  unfolding numbers_left left_by
-  is_read e = ap (λ (o : Outcome). left_by o t m) e
+  unfolding numbers_left left_after
+  is_read e = ap (λ (o : Outcome). left_after o t m) e
 
   -- where all passes, all before 5 does
   pub left_read : Passed ≡ tabled_check t m → numbers_left t m ≡ mesh_read t m

@@ -27,7 +27,8 @@ use Rattle.scope.proofs.NumberRanges.{mesh_facts}
 use Rattle.scope.proofs.Refusals.{lines_passed, line_passed}
 use Rattle.scope.proofs.Phases.{phases_exact}
 use Rattle.scope.proofs.Layers.{layers_passed}
-use Rattle.scope.proofs.Filled.{given-length, heights_kept, nodes_kept, elements_kept, soils_kept, edges_kept}
+use Rattle.scope.proofs.Filled.{heights_kept, nodes_kept, elements_kept, soils_kept, edges_kept}
+use Rattle.scope.proofs.Given.{given-length}
 use Rattle.scope.proofs.Filled.{sides_kept, jumps_kept}
 use Rattle.scope.proofs.Table.{table_facts, named_facts, table_lines_decided}
 use Rattle.scope.proofs.TableVerdict.{sound_table, read_lines_lem, by_stages, no_table_verdict, empty_table}
