@@ -1,18 +1,18 @@
--- The units of a load: numerator and 10^d are far below 2^127 together, and Euclid's quotient of them is the floor.
-use mathlib.Core.Path.{◌≡◌, refl, sym, ap, ap₂, ◌∙◌}
+-- Long division: what was divided is always the quotient so far times the divisor, and the rest. At the end quotient
+-- and rest are the only numbers that do this.
+use mathlib.Core.Path.{◌≡◌, sym, ap, subst, ◌∙◌}
 use mathlib.Core.Bool.{Bool, true, false}
-use Prim.Native.Nat.{ℕ, ◌*◌, ◌-◌, ◌^◌, ◌≤◌, ◌<◌}
-use native.Mathlib.Nat.{pow-le-pow_right, mul-le-mul_left, div-le_self}
+use mathlib.Core.Logic.{◌⊎◌, inl, inr}
+use Prim.Native.Nat.{ℕ, zero, suc, ◌+◌, ◌*◌, ◌-◌, ◌/◌, ◌%◌, ◌^◌, ◌≤◌, ◌<◌}
+use native.Mathlib.Nat.{pow-suc, one-le-pow, pow-le-pow_right, mul-le-mul_left, div-add-mod', mod-lt}
+use native.Mathlib.Nat.{mul-lt-mul_of_pos_right, lt_of_mul-lt-mul_right, div-lt_iff_lt-mul, div-le_self}
+use native.Mathlib.Numerals.{add-one}
 use native.Mathlib.Omega.{arith}
-use lib.IntN.{ℤ, pos, negsuc, neg_ℤ, nat_abs, ◌-ℤ◌, ◌*ℤ◌, +ℤ_idl}
-use lib.Signed.{mag, ◌<ℤ◌, nat_abs-le}
-use mir.Syntax.{w64, w128}
-use mir.Val.{SFits, of_z}
-use mir.Facts.{to_z-of_z}
-use Rattle.std.specs.Int.{int_div_euclid, NotMinOverMinusOne}
+use lib.Dec.{T}
+use lib.Arith.{digits_div, digits_mod}
+use lib.IntN.{ℤ, pos, negsuc, neg_ℤ, nat_abs, ◌*ℤ◌}
 use Rattle.integer.specs.Round.{floor_div, ceil_div}
 use Rattle.integer.proofs.RingLaws.{nat_abs_neg_ℤ, nat_abs_*ℤ}
-use Rattle.integer.proofs.Wide.{read, wide, fits_wide, is_wide}
 use Rattle.report.specs.Spelled.{round_to}
 
 pub power_small : (d : ℕ) → d ≤ 7 → 10 ^ d ≤ 10000000
@@ -28,85 +28,126 @@ pub ceil_small : (z : ℤ) (den : ℕ) → nat_abs (ceil_div z den) ≤ nat_abs 
 ceil_small z den =
     rw (nat_abs_neg_ℤ (floor_div (neg_ℤ z) den)) (rw (nat_abs_neg_ℤ z) at (floor_small (neg_ℤ z) den))
 
-pub round_small : (up : Bool) (z : ℤ) (den : ℕ) → nat_abs (round_to up z den) ≤ nat_abs z
-round_small false = floor_small
-round_small true = ceil_small
-
--- ---- the quotient
-
-euclid_floor : (z den : ℤ) → pos 0 <ℤ den → int_div_euclid z den ≡ floor_div z (nat_abs den)
-euclid_floor (pos n) (pos k) h = refl
-euclid_floor (negsuc n) (pos k) h = refl
-euclid_floor z (negsuc k) h = absurd h.lt
-
 pub units_small : (num : ℤ) (d : ℕ) → nat_abs num ≤ 2 ^ 63 → nat_abs (num *ℤ pos (10 ^ d)) ≤ 10 ^ d * 2 ^ 63
 units_small num d h =
     let m : 10 ^ d * nat_abs num ≤ 10 ^ d * 2 ^ 63 = mul-le-mul_left (10 ^ d) h in
     omega (arith, nat_abs_*ℤ num (pos (10 ^ d)))
 
--- n, ten and by are numerator, power and denominator as the code has them
-module _ (num den : ℤ) (d : ℕ) (f : SFits w64 num) (g : SFits w64 den) (h : d ≤ 7) {n ten by : ℤ} {power : ℕ}
-    (en : n ≡ read num) (ep : power ≡ 10 ^ d) (et : ten ≡ pos power) (eb : by ≡ read den) where
-  abbrev units : ℤ
-  units = num *ℤ pos (10 ^ d)
+-- ---- the next digit
 
-  small : nat_abs units < 2 ^ 127
-  small = omega (arith, units_small num d (nat_abs-le num f.sfits), power_small d h)
+-- the rest was added i times
+pub record Adds (rest den i digit sum : ℕ) : Type 0 where
+  pub few : digit ≤ i
+  pub below : sum < den
+  pub value : digit * den + sum ≡ i * rest
 
-  product_is : wide n *ℤ wide ten ≡ units
-  product_is =
-      let p = power_small d h in
-      ap₂ ◌*ℤ◌
-      (is_wide num (omega (arith, nat_abs-le num f.sfits)) (en ∙ to_z-of_z f))
-      (is_wide (pos (10 ^ d)) (omega arith) (et ∙ ap pos ep))
+pub adds_none : (rest den : ℕ) → rest < den → Adds rest den 0 0 0
+adds_none rest den h = record { few = omega arith; below = omega arith; value = omega arith }
 
-  by_is : wide by ≡ den
-  by_is = is_wide den (omega (arith, nat_abs-le den g.sfits)) (eb ∙ to_z-of_z g)
+module _ {rest den i digit sum : ℕ} (p : Adds rest den i digit sum) where
+  pub adds_plain : sum + rest < den → Adds rest den (i + 1) digit (sum + rest)
+  adds_plain l =
+      let v : digit * den + (sum + rest) ≡ (i + 1) * rest = omega (arith, p.value) in
+      record { few = omega (arith, p.few); below = l; value = v }
 
-  opposite : pos 0 -ℤ wide (wide n *ℤ wide ten) ≡ neg_ℤ units
-  opposite = ap (λ z. pos 0 -ℤ z) (is_wide units small product_is) ∙ +ℤ_idl (neg_ℤ units)
+  pub adds_carry : rest < den → den ≤ sum + rest → Adds rest den (i + 1) (digit + 1) (sum + rest - den)
+  adds_carry k l =
+      let v : (digit + 1) * den + (sum + rest - den) ≡ (i + 1) * rest = omega (arith, p.value) in
+      record { few = omega (arith, p.few); below = omega (arith, p.below); value = v }
 
-  opposite_small : nat_abs (neg_ℤ units) < 2 ^ 127
-  opposite_small = omega (arith, small, nat_abs_neg_ℤ units)
+-- ---- digit after digit
 
-  pub opposite_fits : SFits w128 (pos 0 -ℤ wide (wide n *ℤ wide ten))
-  opposite_fits = rw opposite (fits_wide (neg_ℤ units) opposite_small)
+-- i digits of rest / den are there
+pub record Divides (rest den i units left : ℕ) : Type 0 where
+  pub below : left < den
+  pub short : units < 10 ^ i
+  pub value : units * den + left ≡ rest * 10 ^ i
 
-  opposite_is : wide (pos 0 -ℤ wide (wide n *ℤ wide ten)) ≡ neg_ℤ units
-  opposite_is = is_wide (neg_ℤ units) opposite_small opposite
+pub divides_none : (rest den : ℕ) → rest < den → Divides rest den 0 0 rest
+divides_none rest den h = record { below = h; short = omega arith; value = omega arith }
 
-  -- den is not -1
-  pub not_minus_one : (x : ℤ) → pos 0 <ℤ den → NotMinOverMinusOne w128 x (wide by)
-  not_minus_one x above e m = go den above g.sfits (sym (ap (of_z w128) by_is) ∙ e)
-    where
-      go : (k : ℤ) → pos 0 <ℤ k → mag k < 2 ^ 63 → of_z w128 k ≡ 2 ^ 128 - 1 → ⊥
-      go (pos k) h l e = omega arith
-      go (negsuc k) h l e = absurd h.lt
+one_more : (i : ℕ) → 10 ^ (i + 1) ≡ 10 ^ i * 10
+one_more i = rw (add-one, pow-suc)
 
-  module _ (above : pos 0 <ℤ den) {q : ℤ} where
-    module _ (e : q ≡ int_div_euclid (wide (pos 0 -ℤ wide (wide n *ℤ wide ten))) (wide by)) where
-      ceil_is : pos 0 -ℤ wide q ≡ ceil_div units (nat_abs den)
-      ceil_is =
-          let v = floor_div (neg_ℤ units) (nat_abs den) in
-          let l = floor_small (neg_ℤ units) (nat_abs den) in
-          ap (λ z. pos 0 -ℤ z)
-          (is_wide v (omega (arith, opposite_small))
-          (e ∙ ap₂ int_div_euclid opposite_is by_is ∙ euclid_floor (neg_ℤ units) den above))
-          ∙ +ℤ_idl (neg_ℤ v)
+pub digit_small : (left den : ℕ) → left < den → 10 * left / den < 10
+digit_small left den h =
+    let v = div-add-mod' (10 * left) den in
+    lt_of_mul-lt-mul_right den (omega (arith, v))
 
-      ceil_short : nat_abs (ceil_div units (nat_abs den)) < 2 ^ 127
-      ceil_short = omega (arith, small, ceil_small units (nat_abs den))
+pub divides_more : {rest den i units left digit next : ℕ} → Divides rest den i units left → digit ≡ 10 * left / den
+    → next ≡ 10 * left % den → Divides rest den (i + 1) (10 * units + digit) next
+divides_more {rest} {den} {i} {units} {left} p e f =
+    let x = 10 * left / den in
+    let y = 10 * left % den in
+    let t : x * den + y ≡ 10 * left = div-add-mod' (10 * left) den in
+    let s : x < 10 = digit_small left den p.below in
+    let l : y < den = mod-lt (10 * left) (omega (arith, p.below)) in
+    let v : (10 * units + x) * den + y ≡ rest * (10 ^ i * 10) = omega (arith, p.value) in
+    let short : 10 * units + x < 10 ^ i * 10 = omega (arith, p.short) in
+    rw (e, f)
+    (record {
+      below = l;
+      short = rw (one_more i) short;
+      value = v ∙ ap (λ n. rest * n) (sym (one_more i));
+    })
 
-      pub ceil_fits : SFits w128 (pos 0 -ℤ wide q)
-      ceil_fits = rw ceil_is (fits_wide (ceil_div units (nat_abs den)) ceil_short)
+-- quotient and rest are the only numbers with this sum
+pub quotient_is : {n den : ℕ} (units left : ℕ) → units * den + left ≡ n → left < den → units ≡ n / den
+quotient_is {n} {den} units left e l = sym (ap (λ x. x / den) (sym e) ∙ digits_div units l)
 
-      pub rounded_up : (up : Bool) → up ≡ true → wide (pos 0 -ℤ wide q) ≡ round_to up units (nat_abs den)
-      rounded_up up t = rw t (is_wide (ceil_div units (nat_abs den)) ceil_short ceil_is)
+pub rest_is : {n den : ℕ} (units left : ℕ) → units * den + left ≡ n → left < den → left ≡ n % den
+rest_is {n} {den} units left e l = sym (ap (λ x. x % den) (sym e) ∙ digits_mod units l)
 
-    pub rounded_down : (up : Bool) → up ≡ false → q ≡ int_div_euclid (wide (wide n *ℤ wide ten)) (wide by)
-        → wide q ≡ round_to up units (nat_abs den)
-    rounded_down up t e =
-        let v = floor_div units (nat_abs den) in
-        rw t
-        (is_wide v (omega (arith, small, floor_small units (nat_abs den)))
-        (e ∙ ap₂ int_div_euclid (is_wide units small product_is) by_is ∙ euclid_floor units den above))
+-- ---- up to a whole number
+
+ceil_exact : (n : ℕ) {den : ℕ} (u : ℕ) → u * den ≡ n → 0 < den → ceil_div (pos n) den ≡ pos u
+ceil_exact zero {den} zero e h =
+    let t : 0 * den + 0 ≡ 0 = omega arith in
+    ap (λ x. neg_ℤ (pos x)) (sym (quotient_is 0 0 t h))
+ceil_exact zero (suc v) e h = absurd (omega (arith, e))
+ceil_exact (suc k) zero e h = absurd (omega (arith, e))
+ceil_exact (suc k) {den} (suc v) e h =
+    let t : v * den + (den - 1) ≡ k = omega (arith, e) in
+    ap (λ x. pos (suc x)) (sym (quotient_is v (den - 1) t (omega arith)))
+
+ceil_more : (n : ℕ) {den : ℕ} (u r : ℕ) → u * den + r ≡ n → 0 < r → r < den → ceil_div (pos n) den ≡ pos (u + 1)
+ceil_more zero u r e s l = absurd (omega (arith, e))
+ceil_more (suc k) {den} u r e s l =
+    let t : u * den + (r - 1) ≡ k = omega (arith, e) in
+    ap (λ x. pos (suc x)) (sym (quotient_is u (r - 1) t (omega arith))) ∙ ap pos (sym (add-one u))
+
+module _ (m den d : ℕ) (some : 0 < den) {part left : ℕ} (e : part ≡ m % den * 10 ^ d / den)
+    (f : left ≡ m % den * 10 ^ d % den) where
+  abbrev units : ℕ
+  units = m / den * 10 ^ d + part
+
+  left_below : left < den
+  left_below = rw f (mod-lt (m % den * 10 ^ d) some)
+
+  pub part_short : part < 10 ^ d
+  part_short =
+      let p = one-le-pow d 10 (omega arith) in
+      let l : m % den * 10 ^ d < 10 ^ d * den = omega (arith, mul-lt-mul_of_pos_right (mod-lt m some) p) in
+      rw e ((div-lt_iff_lt-mul some).1 l)
+
+  whole_sum : units * den + left ≡ m * 10 ^ d
+  whole_sum =
+      let p : part * den + left ≡ m % den * 10 ^ d = rw (e, f) (div-add-mod' (m % den * 10 ^ d) den) in
+      let w : m / den * den + m % den ≡ m = div-add-mod' m den in
+      let t : (m / den * den + m % den) * 10 ^ d ≡ m * 10 ^ d = ap (λ x. x * 10 ^ d) w in
+      omega (arith, p, t)
+
+  -- down, or up where nothing is left
+  pub rounded_kept : (up : Bool) → (up ≡ false) ⊎ ((up ≡ true) × (left ≡ 0))
+      → pos units ≡ round_to up (pos (m * 10 ^ d)) den
+  rounded_kept false h = ap pos (quotient_is units left whole_sum left_below)
+  rounded_kept true (inl h) = absurd (subst T h tt)
+  rounded_kept true (inr h) =
+      let t : units * den ≡ m * 10 ^ d = omega (arith, whole_sum, h.1) in
+      sym (ceil_exact (m * 10 ^ d) units t some)
+
+  pub rounded_more : (up : Bool) {n : ℕ} → up ≡ true → (left ≡ 0 → ⊥) → n ≡ units + 1
+      → pos n ≡ round_to up (pos (m * 10 ^ d)) den
+  rounded_more false u z k = absurd (subst T (sym u) tt)
+  rounded_more true u z k =
+      ap pos k ∙ sym (ceil_more (m * 10 ^ d) units left whole_sum (omega (arith, z)) left_below)

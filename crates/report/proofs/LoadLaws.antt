@@ -1,16 +1,19 @@
 -- A load's text: the decimals behind a one that keeps their zeros, the whole part and the minus, each put before what
 -- stands already.
-use mathlib.Core.Path.{◌≡◌, refl, sym, ap, ap₂, ◌∙◌}
-use mathlib.Core.Bool.{Bool, true, false}
+use mathlib.Core.Path.{◌≡◌, refl, sym, ap, ap₂, subst, ◌∙◌}
+use mathlib.Core.Bool.{Bool, true, false, not}
+use mathlib.Core.Logic.{◌⊎◌, inl, inr}
 use mathlib.Core.List.{List, [], ◌∷◌, ◌++◌, append-nil}
 use Prim.Native.Nat.{ℕ, zero, suc, ◌+◌, ◌*◌, ◌-◌, ◌/◌, ◌%◌, ◌^◌, ◌≤◌, ◌<◌}
-use native.Mathlib.Nat.{pow-suc, one-le-pow, div-add-mod', mod-lt, div-le_of_le-mul}
+use native.Mathlib.Nat.{pow-suc, one-le-pow, div-add-mod'}
 use native.Mathlib.Omega.{arith}
-use lib.IntN.{ℤ, pos, negsuc, nat_abs, ◌*ℤ◌}
+use lib.Arith.{digits_div, digits_mod}
+use lib.Dec.{T}
+use lib.IntN.{ℤ, pos, negsuc, neg_ℤ, nat_abs, ◌*ℤ◌, neg_ℤ-neg_ℤ}
 use lib.ListN.{length, take, drop, set, length-append, length-replicate}
 use lib.Seq.{set_at}
-use lib.Signed.{◌≤ℤ◌, ◌<ℤ◌, lt_z, lt_z_yes, lt_z_no, clash_ℤ, nat_abs-le}
-use mir.Syntax.{w64, w128}
+use lib.Signed.{◌≤ℤ◌, ◌<ℤ◌, lt_z, lt_z_yes, lt_z_no, clash_ℤ}
+use mir.Syntax.{w64}
 use mir.Val.{SFits}
 use mir.Facts.{to_z-of_z}
 use Rattle.std.specs.Fmt.{decimal}
@@ -21,9 +24,10 @@ use Rattle.integer.proofs.DecimalLaws.{digits_one, digits_more, last_digits-leng
 use Rattle.scope.specs.Cases.Load.{Exact}
 use Rattle.report.specs.Text.{pointed, fixed, none_text}
 use Rattle.report.specs.Report.{load_text}
-use Rattle.report.specs.Spelled.{decimals_text, round_to}
-use Rattle.integer.proofs.Wide.{read, wide, is_wide}
-use Rattle.report.proofs.DivisionLaws.{power_small, round_small, units_small}
+use Rattle.report.specs.Spelled.{decimals_text, signed, round_to}
+use Rattle.integer.proofs.Wide.{read}
+use Rattle.integer.specs.Round.{floor_div}
+use Rattle.report.proofs.DivisionLaws.{power_small}
 use Rattle.report.proofs.ColumnLaws.{decimal_digits, decimal_short, spaces, put_before, byte_before, justified}
 
 -- ---- the decimals: after a one, each of the last d digits is written, and the point takes the one's place
@@ -115,76 +119,114 @@ pieces (suc d) k =
     ap (λ l. digits (k / n) ++ (46 ∷ l))
     (sym (last_of (suc d) (k / n) (k % n)) ∙ ap (last_digits (suc d)) (div-add-mod' k n))
 
-fixed_above : (d : ℕ) (v : ℤ) → pos 0 ≤ℤ v → fixed d v ≡ pointed d (nat_abs v)
-unfolding fixed
-fixed_above d (pos k) h = refl
-fixed_above d (negsuc k) h = absurd h.le
+-- "a zero has no minus"
+none_signed : (d n : ℕ) (minus : Bool) → (minus ≡ false) ⊎ ((minus ≡ true) × (n ≡ 0))
+    → fixed d (signed minus n) ≡ pointed d n
+unfolding fixed signed
+none_signed d n false h = refl
+none_signed d zero true h = refl
+none_signed d (suc n) true (inl h) = absurd (subst T h tt)
+none_signed d (suc n) true (inr h) = absurd (omega (arith, h.1))
 
-fixed_below : (d : ℕ) (v : ℤ) → v <ℤ pos 0 → fixed d v ≡ 45 ∷ pointed d (nat_abs v)
-unfolding fixed
-fixed_below d (pos k) h = clash_ℤ h (nonneg k)
-fixed_below d (negsuc k) h = refl
+some_signed : (d n : ℕ) (minus : Bool) → minus ≡ true → 0 < n → fixed d (signed minus n) ≡ 45 ∷ pointed d n
+unfolding fixed signed
+some_signed d n false h k = absurd (subst T (sym h) tt)
+some_signed d zero true h k = absurd (omega arith)
+some_signed d (suc n) true h k = refl
 
--- units, power and ten are v's magnitude and 10^d as the code has them
-module _ (v : ℤ) (d : ℕ) (f : SFits w128 v) {units power ten : ℕ} (u : units ≡ nat_abs (wide v)) (p : power ≡ 10 ^ d)
-    (t : ten ≡ power) where
-  ten_is : ten ≡ 10 ^ d
-  ten_is = t ∙ p
+-- units are none where whole and part are
+no_units : (d whole part : ℕ) → whole + part ≤ 0 → whole * 10 ^ d + part ≡ 0
+no_units d zero part h = omega arith
+no_units d (suc whole) part h = absurd (omega arith)
 
-  units_are : units ≡ nat_abs v
-  units_are = u ∙ ap nat_abs (to_z-of_z f)
+some_units : (d whole part : ℕ) → 0 < whole + part → 0 < whole * 10 ^ d + part
+some_units d zero part h = omega arith
+some_units d (suc whole) part h = omega (arith, one-le-pow d 10 (omega arith))
 
-  pub ten_some : 0 < ten
-  ten_some = rw ten_is (one-le-pow d 10 (omega arith))
+module _ (d whole part : ℕ) (few : d ≤ 7) (w : whole ≤ 2 ^ 63) (p : part < 10 ^ d) where
+  abbrev units : ℕ
+  units = whole * 10 ^ d + part
 
-  pub part_small : units % ten < 10 ^ d
-  part_small = rw (← ten_is) (mod-lt units ten_some)
+  whole_short : length (decimal whole) ≤ 19
+  whole_short = decimal_short 19 whole (omega (arith, w)) (omega (arith, w)) (omega arith)
 
-  module _ (h : nat_abs v ≤ 10 ^ d * 2 ^ 63) where
-    pub whole_small : units / ten ≤ 2 ^ 63
-    whole_small = rw (ten_is, units_are) (div-le_of_le-mul (10 ^ d) h)
+  body_is : decimal whole ++ decimals_text d part ≡ pointed d units
+  body_is =
+      ap (λ x. x ++ decimals_text d part) (decimal_digits whole (omega (arith, w)))
+      ∙ sym (ap₂ (λ n k. digits n ++ decimals_text d k) (digits_div whole p) (digits_mod whole p))
+      ∙ pieces d units
 
-    whole_short : length (decimal (units / ten)) ≤ 19
-    whole_short = let l = whole_small in decimal_short 19 (units / ten) (omega arith) (omega arith) (omega arith)
+  module _ {point : ℕ} (place : point + length (decimals_text d part) ≡ 28) where
+    pub whole_room : length (decimal whole) ≤ point
+    whole_room = omega (arith, whole_short, decimals_short d part few)
 
-    body_is : decimal (units / ten) ++ decimals_text d (units % ten) ≡ pointed d (nat_abs v)
-    body_is =
-        let l = whole_small in
-        ap (λ x. x ++ decimals_text d (units % ten)) (decimal_digits (units / ten) (omega arith))
-        ∙ ap₂ (λ n m. digits (n / m) ++ decimals_text d (n % m)) units_are ten_is
-        ∙ pieces d (nat_abs v)
+    module _ (from : ℕ) (e : from + length (decimal whole) ≡ point) where
+      pub minus_room : 1 ≤ from
+      minus_room = omega (arith, whole_short, decimals_short d part few)
 
-    module _ (few : d ≤ 7) {point : ℕ} (place : point + length (decimals_text d (units % ten)) ≡ 28) where
-      pub whole_room : length (decimal (units / ten)) ≤ point
-      whole_room = omega (arith, whole_short, decimals_short d (units % ten) few)
+      body_ends : from + length (pointed d units) ≡ 28
+      body_ends = omega (arith, ap length body_is, length-append (decimal whole) (decimals_text d part))
 
-      module _ (from : ℕ) (e : from + length (decimal (units / ten)) ≡ point) where
-        pub minus_room : 1 ≤ from
-        minus_room = omega (arith, whole_short, decimals_short d (units % ten) few)
+      module _ (now : List ℕ) {dec : List ℕ} (b : dec ≡ spaces point ++ decimals_text d part)
+          (t : drop from now ≡ decimal whole ++ drop point dec) (k : take from now ≡ take from dec) where
+        body_put : now ≡ spaces from ++ pointed d units
+        body_put =
+            put_before point from (decimal whole) (decimals_text d part) b e t k ∙ ap (λ x. spaces from ++ x) body_is
 
-        body_ends : from + length (pointed d (nat_abs v)) ≡ 28
-        body_ends =
-            omega (arith, ap length body_is, length-append (decimal (units / ten)) (decimals_text d (units % ten)))
+        without : {minus : Bool} → (minus ≡ false) ⊎ ((minus ≡ true) × (whole + part ≤ 0))
+            → (minus ≡ false) ⊎ ((minus ≡ true) × (units ≡ 0))
+        without (inl h) = inl h
+        without (inr h) = inr (h.0, no_units d whole part h.1)
 
-        module _ (now : List ℕ) {dec : List ℕ} (b : dec ≡ spaces point ++ decimals_text d (units % ten))
-            (w : drop from now ≡ decimal (units / ten) ++ drop point dec) (k : take from now ≡ take from dec) where
-          body_put : now ≡ spaces from ++ pointed d (nat_abs v)
-          body_put =
-              put_before point from (decimal (units / ten)) (decimals_text d (units % ten)) b e w k
-              ∙ ap (λ x. spaces from ++ x) body_is
+        pub plain_put : (minus : Bool) → (minus ≡ false) ⊎ ((minus ≡ true) × (whole + part ≤ 0))
+            → now ≡ right_justified 28 (fixed d (signed minus units))
+        plain_put minus h =
+            body_put ∙ justified 28 from (pointed d units) body_ends
+            ∙ ap (right_justified 28) (sym (none_signed d units minus (without h)))
 
-          pub above_put : lt_z (wide v) (pos 0) ≡ false → now ≡ right_justified 28 (fixed d v)
-          above_put s =
-              let a = lt_z_no (is_false (ap (λ z. lt_z z (pos 0)) (to_z-of_z f)) s) in
-              body_put ∙ justified 28 from (pointed d (nat_abs v)) body_ends
-              ∙ ap (right_justified 28) (sym (fixed_above d v a))
+        pub minus_put : (minus : Bool) → minus ≡ true → 0 < whole + part
+            → set now (from - 1) 45 ≡ right_justified 28 (fixed d (signed minus units))
+        minus_put minus h s =
+            byte_before from 45 (pointed d units) body_put (omega (arith, minus_room))
+            ∙ justified 28 (from - 1) (45 ∷ pointed d units) (omega (arith, body_ends, minus_room))
+            ∙ ap (right_justified 28) (sym (some_signed d units minus h (some_units d whole part s)))
 
-          pub below_put : lt_z (wide v) (pos 0) ≡ true → set now (from - 1) 45 ≡ right_justified 28 (fixed d v)
-          below_put s =
-              let a = lt_z_yes (is_true (ap (λ z. lt_z z (pos 0)) (to_z-of_z f)) s) in
-              byte_before from 45 (pointed d (nat_abs v)) body_put (omega (arith, minus_room))
-              ∙ justified 28 (from - 1) (45 ∷ pointed d (nat_abs v)) (omega (arith, body_ends, minus_room))
-              ∙ ap (right_justified 28) (sym (fixed_below d v a))
+-- ---- below 0 the size goes the other way
+
+round_opposite : (up : Bool) (z : ℤ) (den : ℕ) → round_to up (neg_ℤ z) den ≡ neg_ℤ (round_to (not up) z den)
+round_opposite false z den = sym (neg_ℤ-neg_ℤ (floor_div (neg_ℤ z) den))
+round_opposite true z den = ap (λ x. neg_ℤ (floor_div x den)) (neg_ℤ-neg_ℤ z)
+
+module _ (num : ℤ) (f : SFits w64 num) (d m n den : ℕ) (up : Bool) (k : m ≡ nat_abs (read num)) where
+  size_is : m ≡ nat_abs num
+  size_is = k ∙ ap nat_abs (to_z-of_z f)
+
+  pub exact_above : {now : List ℕ} → lt_z (read num) (pos 0) ≡ false → pos n ≡ round_to up (pos (m * 10 ^ d)) den
+      → now ≡ right_justified 28 (fixed d (signed false n))
+      → now ≡ right_justified 28 (fixed d (round_to up (num *ℤ pos (10 ^ d)) den))
+  unfolding signed
+  exact_above l e g =
+      let h = lt_z_no (is_false (ap (λ z. lt_z z (pos 0)) (to_z-of_z f)) l) in
+      let s : pos (m * 10 ^ d) ≡ num *ℤ pos (10 ^ d) = above num h size_is in
+      g ∙ ap (λ z. right_justified 28 (fixed d z)) (e ∙ ap (λ z. round_to up z den) s)
+    where
+      above : (num : ℤ) → pos 0 ≤ℤ num → m ≡ nat_abs num → pos (m * 10 ^ d) ≡ num *ℤ pos (10 ^ d)
+      above (pos x) h e = ap (λ x. pos (x * 10 ^ d)) e
+      above (negsuc x) h e = absurd h.le
+
+  pub exact_below : {now : List ℕ} → lt_z (read num) (pos 0) ≡ true → pos n ≡ round_to (not up) (pos (m * 10 ^ d)) den
+      → now ≡ right_justified 28 (fixed d (signed true n))
+      → now ≡ right_justified 28 (fixed d (round_to up (num *ℤ pos (10 ^ d)) den))
+  unfolding signed
+  exact_below l e g =
+      let h = lt_z_yes (is_true (ap (λ z. lt_z z (pos 0)) (to_z-of_z f)) l) in
+      let s : neg_ℤ (pos (m * 10 ^ d)) ≡ num *ℤ pos (10 ^ d) = below num h size_is in
+      g ∙ ap (λ z. right_justified 28 (fixed d z))
+      (ap neg_ℤ e ∙ sym (round_opposite up (pos (m * 10 ^ d)) den) ∙ ap (λ z. round_to up z den) s)
+    where
+      below : (num : ℤ) → num <ℤ pos 0 → m ≡ nat_abs num → neg_ℤ (pos (m * 10 ^ d)) ≡ num *ℤ pos (10 ^ d)
+      below (pos x) h e = clash_ℤ h (nonneg x)
+      below (negsuc x) h e = ap (λ x. neg_ℤ (pos (x * 10 ^ d))) e
 
 -- ---- any load
 
@@ -208,25 +250,13 @@ module _ (num den : ℤ) (g : SFits w64 den) where
       let h = lt_z_no (is_false (ap (λ z. lt_z (pos 0) z) (to_z-of_z g)) l) in
       n ∙ ap (right_justified 28) (sym (none_text_of round d num den h))
 
-  module _ (f : SFits w64 num) (up : Bool) (d : ℕ) (few : d ≤ 7) {v : ℤ}
-      (r : v ≡ round_to up (read num *ℤ pos (10 ^ d)) (nat_abs (read den))) where
-    rounded_is : v ≡ round_to up (num *ℤ pos (10 ^ d)) (nat_abs den)
-    rounded_is = r ∙ ap₂ (λ n m. round_to up (n *ℤ pos (10 ^ d)) (nat_abs m)) (to_z-of_z f) (to_z-of_z g)
+  den_above : lt_z (pos 0) (read den) ≡ true → pos 0 <ℤ den
+  den_above l = lt_z_yes (is_true (ap (λ z. lt_z (pos 0) z) (to_z-of_z g)) l)
 
-    rounded_short : nat_abs v ≤ 10 ^ d * 2 ^ 63
-    rounded_short =
-        rw rounded_is
-        (omega (arith, round_small up (num *ℤ pos (10 ^ d)) (nat_abs den), units_small num d (nat_abs-le num f.sfits)))
-
-    rounded_wide : wide v ≡ v
-    rounded_wide = is_wide v (omega (arith, rounded_short, power_small d few)) refl
-
-    pub load_room : nat_abs (wide v) ≤ 10 ^ d * 2 ^ 63
-    load_room = rw rounded_wide rounded_short
-
-    pub load_column : {now : List ℕ} → lt_z (pos 0) (read den) ≡ true → now ≡ right_justified 28 (fixed d (wide v))
-        → now ≡ right_justified 28 (load_text (round_to up) d (Exact num den))
-    load_column l n =
-        let h = lt_z_yes (is_true (ap (λ z. lt_z (pos 0) z) (to_z-of_z g)) l) in
-        n ∙ ap (λ z. right_justified 28 (fixed d z)) (rounded_wide ∙ rounded_is)
-        ∙ ap (right_justified 28) (sym (exact_text (round_to up) d num den h))
+  pub load_column : (f : SFits w64 num) (up : Bool) (d by : ℕ) {now : List ℕ} → lt_z (pos 0) (read den) ≡ true
+      → by ≡ nat_abs (read den) → now ≡ right_justified 28 (fixed d (round_to up (read num *ℤ pos (10 ^ d)) by))
+      → now ≡ right_justified 28 (load_text (round_to up) d (Exact num den))
+  load_column f up d by l b n =
+      n ∙ ap₂ (λ z k. right_justified 28 (fixed d (round_to up (z *ℤ pos (10 ^ d)) k)))
+      (to_z-of_z f) (b ∙ ap nat_abs (to_z-of_z g))
+      ∙ ap (right_justified 28) (sym (exact_text (round_to up) d num den (den_above l)))

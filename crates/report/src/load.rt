@@ -1,14 +1,14 @@
 // A load in a column: decimals, whole part and minus, written from the end.
-ghost use Rattle.std.specs.Prelude.{◌≡◌, ◌++◌, ◌+◌, ◌*◌, ◌^◌, ◌≤◌, ◌<◌, nat_abs, length, replicate};
+ghost use Rattle.std.specs.Prelude.{◌≡◌, ◌++◌, ◌+◌, ◌*◌, ◌^◌, ◌≤◌, ◌<◌, pos, ◌*ℤ◌, length, replicate};
 ghost use Rattle.integer.specs.Decimal.{right_justified};
 ghost use Rattle.scope.specs.Answer.{load_of};
 ghost use Rattle.report.specs.Text.{fixed};
 ghost use Rattle.report.specs.Report.{column_bytes, load_text};
-ghost use Rattle.report.specs.Spelled.{decimals_text, round_to};
+ghost use Rattle.report.specs.Spelled.{decimals_text, signed, round_to};
 
 use crate::column::{Column, WIDTH, none_column};
 use crate::decimals::Decimals;
-use crate::division::rounded;
+use crate::division::{Units, rounded};
 use itoa::write_digits;
 use scope::Load;
 
@@ -28,22 +28,33 @@ fn put_decimals(column: &mut Column, part: u64, d: Decimals) -> usize
     point
 }
 
-// v / 10^d, with no point where d is 0.
-fn fixed_column(v: i128, d: Decimals) -> Column
-    requires { nat_abs v ≤ 10 ^ d.count * 2 ^ 63 }
-    ensures { result ≡ right_justified column_bytes (fixed d.count v) }
+// Units with a minus or without, which a zero never has; no point where d is 0.
+fn fixed_column(minus: bool, u: Units, d: Decimals) -> Column
+    requires whole { u.whole ≤ 2 ^ 63 }
+    requires part { u.part < 10 ^ d.count }
+    ensures { result ≡ right_justified column_bytes (fixed d.count (signed minus (u.whole * 10 ^ d.count + u.part))) }
 {
-    let units = v.unsigned_abs();
-    let ten = u128::from(d.power);
-    let whole = (units / ten) as u64;
-    let part = (units % ten) as u64;
     let mut column = [b' '; WIDTH];
-    let point = put_decimals(&mut column, part, d);
-    let from = write_digits(whole, &mut column, point);
-    if v < 0 {
+    let point = put_decimals(&mut column, u.part, d);
+    let from = write_digits(u.whole, &mut column, point);
+    if minus && 0 < u.whole + u.part {
         column[from - 1] = b'-';
     }
     column
+}
+
+// num / den, rounded once: below 0 the size goes the other way.
+fn exact_column(num: i64, den: u64, up: bool, d: Decimals) -> Column
+    requires some { 0 < den }
+    requires small { den < 2 ^ 63 }
+    ensures { result ≡ right_justified column_bytes (fixed d.count (round_to up (num *ℤ pos (10 ^ d.count)) den)) }
+{
+    let m = num.unsigned_abs();
+    if num < 0 {
+        fixed_column(true, rounded(m, den, !up, d), d)
+    } else {
+        fixed_column(false, rounded(m, den, up, d), d)
+    }
 }
 
 // A load rounded once, or none where there is none.
@@ -51,7 +62,7 @@ pub fn load_column(load: Option<Load>, up: bool, d: Decimals) -> Column
     ensures { result ≡ right_justified column_bytes (load_text (round_to up) d.count (load_of load)) }
 {
     match load {
-        Some(Load { num, den }) if 0 < den => fixed_column(rounded(num, den, up, d), d),
+        Some(Load { num, den }) if 0 < den => exact_column(num, den as u64, up, d),
         _ => none_column(),
     }
 }

@@ -1,11 +1,8 @@
 -- Each arm is a case of the text, and so is a denominator that is not above 0.
 use Rattle.report.specs.Report.{load_text}
-use Rattle.report.proofs.LoadLaws.{no_load_column, load_room, load_column}
+use Rattle.report.proofs.LoadLaws.{no_load_column, load_column}
 use Rattle.report.proofs.load.load_column.Goals as goal
 use Rattle.report.proofs.load.load_column.Goals.{in_default-via-in-Some+else-den-gt0, in_default-via-in_default}
-
-pub fixed_column-requires : goal.fixed_column-requires
-fixed_column-requires c = search load_room
 
 pub returns-in-Some : goal.returns-in-Some
 returns-in-Some c = rw c.in-Some.is (search load_column)
