@@ -54,7 +54,7 @@ pub fn side_slack(step: &Step, pair: &PairNumbers) -> i64
 }
 
 // The strength row of a side holds: its right side is not below its left.
-fn side_holds(step: &Step, pair: &PairNumbers) -> bool
+pub fn side_holds(step: &Step, pair: &PairNumbers) -> bool
     ensures { result ≡ le_z (pos 0) (side_slack pair.now step.now) }
 {
     0 <= side_slack(step, pair)

@@ -12,10 +12,10 @@ ghost use Rattle.scope.specs.Sums.{row_holds};
 ghost use Rattle.equality.specs.EqualityContracts.{ColumnsBelow, entries_of, row_of};
 ghost use Rattle.verdict.specs.FieldContracts.{passes, pass_from};
 
+use crate::field_checks::equality_holds;
 use criterion::fields::Field;
 use equality::axes::Axis;
 use equality::elements::Element;
-use equality::equality_rows::equality_row;
 use equality::row::EqualityRow;
 use equality::sides::Side;
 use mesh::limits::{EDGE_ROWS, ELEMENT_ROWS};
@@ -36,7 +36,7 @@ fn equality_passes(field: &Field, k: usize) -> bool
     requires { k < equality_count field.now.mesh.mesh.numbers.now }
     ensures { result ≡ passes field.now k }
 {
-    row_passes(field, &equality_row(&field.mesh.mesh, k))
+    equality_holds(&field.mesh.mesh, field.stresses, field.l, field.n, k)
 }
 
 // So do both rows of element e.

@@ -2,14 +2,28 @@
 ghost use Rattle.std.specs.Prelude.{◌≡◌, ◌+◌, ◌*◌, ◌<◌, ◌≤◌};
 ghost use Rattle.scope.specs.Answer.{outcome_of};
 ghost use Rattle.scope.specs.Columns.{at};
-ghost use Rattle.scope.specs.Mesh.{most_pairs, most_sides};
+ghost use Rattle.scope.specs.Mesh.{most_pairs, most_sides, equality_count};
 ghost use Rattle.scope.specs.Rows.{equality_rows, strength_rows};
+ghost use Rattle.scope.specs.Sums.{row_holds};
 ghost use Rattle.scope.specs.Phases.{check_phase, check_phases};
 ghost use Rattle.scope.specs.Refusals.{strengths_phase, field_phases};
+ghost use Rattle.scope.specs.Tests.{row_at};
+ghost use Rattle.verdict.specs.FieldContracts.{FieldFits};
 
 use crate::equality_checks::equalities_check;
 use criterion::fields::Field;
+use equality::equality_rows::equality_row;
+use mesh::Mesh;
 use scope::{Outcome, Place, Reason, demand};
+
+// Equality row k holds at the field x with l and n, or asks nothing.
+pub fn equality_holds(m: &Mesh, x: &[i64], l: i64, n: i64, k: usize) -> bool
+    requires there { k < equality_count m.now.numbers.now }
+    requires field_fits { FieldFits m.now.numbers.now x.now l n }
+    ensures { result ≡ row_holds (at x.now) l n (row_at (equality_rows m.now.numbers.now) k) }
+{
+    equality_row(m, k).holds(x, l, n)
+}
 
 // "Its number is (node-1)·sides + k", by pairs of a node and a soil (document 02, N2); a and k are counted from 0.
 fn strength_number(a: usize, sides: usize, k: usize) -> u32

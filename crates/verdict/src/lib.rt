@@ -39,7 +39,7 @@ pub fn judge_mesh(m: &[i64]) -> Result<Pairs, Refusal>
 
 // A mesh whose lines have passed, and a table, judged: 1, 2 and 4 of the table, 46 and 45, then 5 to 8, 47, 44 and 42.
 // `out` is a copy of the mesh's numbers. Where 46 and 45 pass it is filled, and else it is a copy again.
-fn judge_layers(m: &[i64], t: &[i64], out: &mut [i64]) -> Result<Pairs, Refusal>
+pub fn judge_layers(m: &[i64], t: &[i64], out: &mut [i64]) -> Result<Pairs, Refusal>
     requires lines_passed { LinesPassed t.now m.now }
     requires copied { out.old ≡ m.now }
     ensures outcome { outcome_of result ≡ tabled_check t.now m.now }
@@ -59,7 +59,7 @@ fn judge_layers(m: &[i64], t: &[i64], out: &mut [i64]) -> Result<Pairs, Refusal>
 }
 
 // The numbers m at the front of a list that has room for them; nothing behind them is touched.
-fn copy_numbers(m: &[i64], out: &mut [i64])
+pub fn copy_numbers(m: &[i64], out: &mut [i64])
     requires { length m.now ≤ length out.old }
     ensures { out.new ≡ m.now ++ drop (length m.now) out.old }
 {
