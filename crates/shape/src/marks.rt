@@ -3,7 +3,6 @@
 ghost use Rattle.std.specs.Prelude.{◌+◌, ◌<◌};
 ghost use Rattle.std.proofs.Props.{props};
 ghost use Rattle.scope.specs.Mesh.{elements};
-ghost use Rattle.outlines.specs.OutlineContracts.{Turned};
 ghost use Rattle.shape.specs.ShapeContracts.{MarkTable};
 
 use mesh::Mesh;
@@ -35,11 +34,10 @@ pub fn mark_table(m: &Mesh) -> Marks
     marks
 }
 
-// A mesh whose elements turn left, with the marks of them all, which are lent, since a move would copy them.
+// A mesh with the marks of all its elements. They are lent, since a move would copy them.
 #[derive(Clone, Copy)]
 pub struct MarkedMesh<'m, 't> {
     pub mesh: Mesh<'m>,
     pub marks: &'t Marks,
-    pub ghost turned: { Turned mesh.numbers.now } by { Prim.hlevel props },
     pub ghost marked: { MarkTable mesh.numbers.now (elements mesh.numbers.now) marks.now } by { Prim.hlevel props },
 }

@@ -38,9 +38,11 @@ fn edges_and_joints(m: &Mesh, sides: &mut [SideRow]) -> Outcome
     joints_check(m, sides)
 }
 
-// Refusals 6 to 8, 47 before 8, and 44, by a table in which no byte is given yet.
-fn checks_by_table(marked: &MarkedMesh, sides: &mut [SideRow]) -> Outcome
-    requires { SideTable marked.now.mesh.numbers.now 0 sides.old }
+// Refusals 6 to 8, 47 before 8, and 44, by a table in which no byte is given yet. The mesh comes twice: 47 asks that
+// its elements turn left, and 7 asks the marks.
+fn checks_by_table(turned: &TurnedMesh, marked: &MarkedMesh, sides: &mut [SideRow]) -> Outcome
+    requires same { turned.now.mesh.numbers.now ≡ marked.now.mesh.numbers.now }
+    requires none_given { SideTable marked.now.mesh.numbers.now 0 sides.old }
     ensures { outcome_of result ≡ check_phases (side_phases marked.now.mesh.numbers.now) }
 {
     side_table(&marked.mesh, sides);
@@ -49,19 +51,20 @@ fn checks_by_table(marked: &MarkedMesh, sides: &mut [SideRow]) -> Outcome
         rows: sides,
     })?;
     nodes_check(marked)?;
-    overlaps_check(&TurnedMesh { mesh: marked.mesh })?;
+    overlaps_check(turned)?;
     edges_and_joints(&marked.mesh, sides)
 }
 
 // The same. For speed a small mesh has a small table: the bytes that need no filling were 6 % of the time
 // of the worked sheet.
-fn sides_to_joints(marked: &MarkedMesh) -> Outcome
+fn sides_to_joints(turned: &TurnedMesh, marked: &MarkedMesh) -> Outcome
+    requires { turned.now.mesh.numbers.now ≡ marked.now.mesh.numbers.now }
     ensures { outcome_of result ≡ check_phases (side_phases marked.now.mesh.numbers.now) }
 {
     if marked.mesh.sizes.nodes <= SMALL_NODES {
-        checks_by_table(marked, &mut [[NONE; MOST_NODES]; SMALL_NODES])
+        checks_by_table(turned, marked, &mut [[NONE; MOST_NODES]; SMALL_NODES])
     } else {
-        checks_by_table(marked, &mut [[NONE; MOST_NODES]; MOST_NODES])
+        checks_by_table(turned, marked, &mut [[NONE; MOST_NODES]; MOST_NODES])
     }
 }
 
@@ -76,6 +79,6 @@ pub fn mesh_shape(m: &Mesh) -> Result<Pairs, Refusal>
         mesh: turned.mesh,
         marks: &marks,
     };
-    sides_to_joints(&marked)?;
+    sides_to_joints(&turned, &marked)?;
     pairs_check(&marked)
 }

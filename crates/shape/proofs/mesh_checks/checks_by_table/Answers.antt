@@ -31,11 +31,11 @@ returns-in_err-overlaps_check c =
     (second_decides c.in_ok-nodes_check.ensures refl
     (first_refuses c.from_residual-in_err-overlaps_check.result c.in_err-overlaps_check.field-0.0
     (check_phases (edges_phase m ∷ joints_phase m ∷ [])) c.from_residual-in_err-overlaps_check.ensures.1
-    c.in_err-overlaps_check.ensures refl))
+    (rw c.requires.same at c.in_err-overlaps_check.ensures) refl))
 
 pub returns : goal.returns
 unfolding check_phases
 returns c =
     second_decides c.in_ok-sides_check.ensures refl
     (second_decides c.in_ok-nodes_check.ensures refl
-    (second_decides c.in_ok-overlaps_check.ensures refl c.edges_and_joints.ensures))
+    (second_decides (rw c.requires.same at c.in_ok-overlaps_check.ensures) refl c.edges_and_joints.ensures))
