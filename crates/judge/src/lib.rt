@@ -35,7 +35,7 @@ use scope::{Refusal, Verdict};
 use verdict::{judge_claim, judge_mesh, judge_tabled, passed_mesh};
 
 // How many numbers a mesh file has, and what is said of them: a refusal, or the mesh's pairs of a node and a soil.
-#[derive(Drop)]
+#[derive(Clone, Copy)]
 pub struct JudgedMesh {
     pub count: usize,
     pub pairs: Result<Pairs, Refusal>,

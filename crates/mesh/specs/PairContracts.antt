@@ -8,6 +8,10 @@ use Rattle.mesh.specs.declared.pairs.Pair.{Pair}
 abbrev pub pair_of : Pair → R.Pair
 pair_of p = record { at = p.node; soil = p.soil }
 
+-- what lies behind a mesh's pairs
+abbrev pub no_pair : Pair
+no_pair = record { node = 0; soil = 0 }
+
 -- a list has the pairs of the mesh m, in their order
 abbrev pub PairsAre : List ℤ → List Pair → Type 0
 PairsAre m t = map pair_of t ≡ strength_pairs m
