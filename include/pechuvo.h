@@ -2,8 +2,7 @@
 
    One archive has every call: target/staticlib/libpechuvo.a, which tests/archive builds from
    crates/pechuvo_c; 'make install' puts it, a shared library and this header where a compiler finds
-   them. Of other libraries it takes memcpy, memmove and memset, and the compiler's division in 128 bits
-   (__udivti3), which gcc and clang link by themselves.
+   them. Of other libraries it takes memcpy and memset.
 
    The columns of the files, and which row, column or line is whose: docs/FILES.md of the repository,
    share/doc/pechuvo/FILES.md where it is installed. tools/explain.py of the repository says why a claim

@@ -4,3 +4,5 @@ pub mod Places
 pub mod PairLaws
 -- Counts are few, whatever mesh they are of.
 pub mod FewCounts
+-- A list copied over the front of another.
+pub mod Copied

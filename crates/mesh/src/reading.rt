@@ -1,5 +1,5 @@
-// A number of a list, as the definitions read it.
-ghost use Rattle.std.specs.Prelude.{◌≡◌, ◌<◌, ◌≤ℤ◌, pos, length};
+// A number of a list, as the definitions read it, and the numbers of a list copied.
+ghost use Rattle.std.specs.Prelude.{◌≡◌, ◌++◌, ◌<◌, ◌≤◌, ◌≤ℤ◌, pos, length, drop};
 ghost use Rattle.scope.specs.Columns.{at};
 ghost use Rattle.scope.specs.Layout.{count};
 
@@ -18,4 +18,15 @@ pub fn count_at(ns: &[i64], k: usize) -> usize
     ensures { result ≡ count (at ns.now k) }
 {
     ns[k] as usize
+}
+
+// The numbers m at the front of a list that has room for them; nothing behind them is touched. One after another, since
+// for lists of which it doesn't know that they lie apart the library's copy is a call of memmove.
+pub fn copy_numbers(m: &[i64], out: &mut [i64])
+    requires { length m.now ≤ length out.old }
+    ensures { out.new ≡ m.now ++ drop (length m.now) out.old }
+{
+    for i in 0..m.len() {
+        out[i] = m[i];
+    }
 }

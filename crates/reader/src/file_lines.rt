@@ -23,6 +23,7 @@ use crate::column::{COLUMN_BYTES, Entries};
 use lines::layout::{Group, Groups, claim_groups, has_part, mesh_groups};
 use mesh::limits::{LAYER_COLUMNS, MOST_LAYERS, MOST_SIDES};
 use mesh::pairs::ClaimSizes;
+use mesh::reading::copy_numbers;
 use mesh::sizes::Sizes;
 
 // How far a file is read: the place of its next byte, and how many numbers it has so far.
@@ -58,7 +59,7 @@ impl<'a> Source<'a> {
     {
         self.entries.read_line(&self.bytes[p.at..], line)?;
         let columns = line.len();
-        out[p.numbers..p.numbers + columns].copy_from_slice(line);
+        copy_numbers(line, &mut out[p.numbers..p.numbers + columns]);
         Some(Progress {
             at: p.at + columns * COLUMN_BYTES + 1,
             numbers: p.numbers + columns,

@@ -23,6 +23,7 @@ use lines::line_checks::{claim_lines, mesh_lines, table_lines};
 use mesh::Mesh;
 use mesh::limits::MESH_NUMBERS;
 use mesh::pairs::{Pair, PairedMesh, Pairs};
+pub use mesh::reading::copy_numbers;
 use mesh::sizes::Sizes;
 use scope::{Refusal, Verdict};
 use shape::mesh_checks::mesh_shape;
@@ -51,19 +52,11 @@ pub fn judge_layers(m: &[i64], t: &[i64], out: &mut [i64]) -> Result<Pairs, Refu
     let layers = Layers::new(t);
     name_soils(out, s);
     if let Err(refusal) = layers_check(&Mesh::new(out), &layers) {
-        out.copy_from_slice(m);
+        copy_numbers(m, out);
         return Err(refusal);
     }
     fill(m, s, &layers, out);
     mesh_shape(&Mesh::new(out))
-}
-
-// The numbers m at the front of a list that has room for them; nothing behind them is touched.
-pub fn copy_numbers(m: &[i64], out: &mut [i64])
-    requires { length m.now ≤ length out.old }
-    ensures { out.new ≡ m.now ++ drop (length m.now) out.old }
-{
-    out[..m.len()].copy_from_slice(m);
 }
 
 // A mesh and its table, judged. Where nothing before 5 refuses them the mesh's numbers are filled, and else they stay.

@@ -16,6 +16,7 @@ use Rattle.scope.proofs.TableVerdict.{read_filled}
 use Rattle.mesh.specs.declared.sizes.Sizes.{Sizes}
 use Rattle.mesh.specs.MeshContracts.{SizesAre}
 use Rattle.mesh.specs.PairContracts.{PairsAre}
+use Rattle.mesh.proofs.Copied.{copied_whole}
 use Rattle.layers.specs.LayerContracts.{Fillable}
 use Rattle.verdict.specs.JudgeContracts.{LinesPassed}
 use Rattle.verdict.proofs.TableLaws.{header_there, stages_left, TableKnown, table_known, named_facts_lem, layers_same}
@@ -71,7 +72,7 @@ returns-in-Err-clause-left c =
     let m = c.args.m.now in
     let passed = c.requires.lines_passed in
     let named = c.new.ensures ∙ c.name_soils.ensures ∙ ap with_soils c.requires.copied in
-    c.copy_from_slice.ensures.after
+    copied_whole m c.name_soils.new.out c.copy_numbers.ensures (omega arith)
     ∙ layers_leave passed (c.in_ok-table_lines.ensures m (sym c.of_header-s.ensures.soils_are))
     (c.in-Err.ensures ∙ layers_same passed c.new-layers.ensures named)
 
