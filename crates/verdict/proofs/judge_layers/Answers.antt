@@ -1,7 +1,9 @@
 -- `judge_layers` meets its contract: the table's lines, the layers, and where they pass the shape of the filled mesh.
 use mathlib.Core.Path.{◌≡◌, refl, sym, ◌∙◌, ap, subst}
 use mathlib.Core.List.{List}
+use native.Mathlib.Omega.{arith}
 use lib.IntN.{ℤ}
+use lib.ListN.{length}
 use Rattle.std.specs.Prelude.{IfOk}
 use Rattle.scope.specs.Cases.Outcome.{Outcome, Passed}
 use Rattle.scope.specs.Filled.{with_soils, filled}
@@ -72,7 +74,7 @@ returns-in-Err-clause-left c =
     let m = c.args.m.now in
     let passed = c.requires.lines_passed in
     let named = c.new.ensures ∙ c.name_soils.ensures ∙ ap with_soils c.requires.copied in
-    copied_whole m c.name_soils.new.out c.copy_numbers.ensures (omega arith)
+    copied_whole m c.name_soils.new.m c.copy_numbers.ensures (omega (arith, ap length c.requires.copied))
     ∙ layers_leave passed (c.in_ok-table_lines.ensures m (sym c.of_header-s.ensures.soils_are))
     (c.in-Err.ensures ∙ layers_same passed c.new-layers.ensures named)
 
