@@ -27,10 +27,13 @@ module _ (m before : List ℤ) where
       record {
         long = length-set after i z ∙ c.long;
         front = rw (add-one i) t;
-        rest = drop-set-lt (i + 1) after i z (omega arith) ∙ sym (drop-drop 1 i after) ∙ ap (drop 1) c.rest ∙ drop-drop 1 i before;
+        rest =
+            drop-set-lt (i + 1) after i z (omega arith) ∙ sym (drop-drop 1 i after) ∙ ap (drop 1) c.rest
+            ∙ drop-drop 1 i before;
       }
 
-  pub copied_all : {i : ℕ} {after : List ℤ} → Copied m before i after → i ≡ length m → after ≡ m ++ drop (length m) before
+  pub copied_all : {i : ℕ} {after : List ℤ} → Copied m before i after → i ≡ length m
+      → after ≡ m ++ drop (length m) before
   copied_all {i} {after} c e =
       sym (take-append-drop i after)
       ∙ ap₂ ◌++◌ (c.front ∙ take_all i m (omega (arith, e))) (c.rest ∙ ap (λ n. drop n before) e)
